@@ -1,0 +1,11 @@
+//! Keys: a place of the heap and a generation, packed into one number that is never used again. A layout says how
+//! many bits each part has; what is proved of packing is proved once, for every layout.
+#![tactic(auto)]
+
+pub mod layout;
+pub mod layouts;
+pub mod parts;
+
+pub use layout::KeyLayout;
+pub use layouts::Tiny;
+pub use parts::Parts;

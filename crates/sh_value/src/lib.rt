@@ -1,0 +1,13 @@
+//! What the heap stores and what it answers: values of at most 16 words, the holds that keep them readable, the
+//! refusals that a call may answer in place of doing its work, and records, which are types stored as words.
+#![tactic(auto)]
+
+pub mod hold;
+pub mod record;
+pub mod refusal;
+pub mod value;
+
+pub use hold::Hold;
+pub use record::Record;
+pub use refusal::Refusal;
+pub use value::Value;

@@ -1,0 +1,109 @@
+//! Values: at most 16 words.
+ghost use Rattle.std.specs.Prelude.{◌≡◌, ◌<◌, ◌≤◌, IfOk, IfErr, length, List, ◌∷◌, ℕ};
+
+use crate::Refusal;
+use arrayvec::ArrayVec;
+use std::marker::Model;
+
+/// What is stored under a key: at most 16 words of 64 bits, in order. A contract sees it as the list of its words.
+#[derive(Drop, Debug, PartialEq, Eq)]
+pub struct Value {
+    words: ArrayVec<u64, 16>,
+}
+
+impl Model for Value {
+    ghost Value = { List ℕ };
+
+    ghost view = { λ v. v.words.items };
+
+    ghost invariant = { λ v. length v.words.items ≤ 16 };
+
+    ghost inverse = { λ xs. record { words = record { items = xs } } };
+}
+
+impl Value {
+    /// The value with these words. More than 16 words are refused as `TooLong`.
+    pub fn new(words: &[u64]) -> Result<Value, Refusal>
+        ensures ok { IfOk result (λ value. (value ≡ words.now) × (length words.now ≤ 16)) }
+        ensures too_long { IfErr result (λ refusal. (refusal ≡ Refusal.TooLong) × (16 < length words.now)) }
+    {
+        match ArrayVec::try_from(words) {
+            Ok(words) => Ok(Value { words }),
+            Err(_) => Err(Refusal::TooLong),
+        }
+    }
+
+    /// The words, in order: at most 16.
+    pub fn words(&self) -> &[u64]
+        ensures words { result.now ≡ self.now }
+        ensures few { length self.now ≤ 16 }
+    {
+        self.words.as_slice()
+    }
+
+    /// A word and then the words of a value, of which there are at most 15.
+    pub fn prefixed(first: u64, rest: &Value) -> Value
+        requires { length rest.now ≤ 15 }
+        ensures { result ≡ first ∷ rest.now }
+    {
+        let mut words = ArrayVec::new();
+        words.push(first);
+        match words.try_extend_from_slice(rest.words()) {
+            Ok(()) => Value { words },
+            Err(_) => unreachable!(),
+        }
+    }
+
+    /// The same value again. It takes no memory.
+    pub fn copy(&self) -> Value
+        ensures { result ≡ self.now }
+    {
+        match ArrayVec::try_from(self.words()) {
+            Ok(words) => Value { words },
+            Err(_) => unreachable!(),
+        }
+    }
+}
+
+#[cfg(test)]
+mod tests {
+    use super::*;
+    use std::test::Fail;
+
+    #[test]
+    fn holds_up_to_sixteen_words(rt: HostRuntime) -> Result<(), Fail> {
+        let words = [1, 2, 3, 4, 5, 6, 7, 8, 9, 10, 11, 12, 13, 14, 15, 16, 17];
+        let whole = Value::new(&words[..16]).expect(&rt, "sixteen words fit");
+        assert_eq!(rt; whole.words(), &words[..16]);
+        assert_eq!(rt; whole.copy(), whole);
+        assert_eq!(rt; Value::new(&words), Err(Refusal::TooLong));
+        let empty = Value::new(&[]).expect(&rt, "no word fits");
+        assert_eq!(rt; empty.words().len(), 0);
+        let rest = Value::new(&[5, 6]).expect(&rt, "two words fit");
+        assert_eq!(rt; Value::prefixed(1, &rest).words(), [1, 5, 6].as_slice());
+        Ok(())
+    }
+
+    #[test]
+    fn refusals_have_numbers_and_names(rt: HostRuntime) {
+        let table = [
+            (Refusal::BadKey, 1, "BadKey"),
+            (Refusal::Gone, 2, "Gone"),
+            (Refusal::Crowded, 3, "Crowded"),
+            (Refusal::HoldsFull, 4, "HoldsFull"),
+            (Refusal::NotHeld, 5, "NotHeld"),
+            (Refusal::TooLong, 6, "TooLong"),
+            (Refusal::Full, 7, "Full"),
+            (Refusal::Memory, 8, "Memory"),
+            (Refusal::Taken, 9, "Taken"),
+            (Refusal::NoShard, 10, "NoShard"),
+            (Refusal::Waiting, 11, "Waiting"),
+            (Refusal::BadShape, 12, "BadShape"),
+            (Refusal::WrongKind, 13, "WrongKind"),
+        ];
+        for (refusal, number, name) in table {
+            assert_eq!(rt; refusal.number(), number, "{name}");
+            assert_eq!(rt; refusal.name(), name, "{name}");
+        }
+    }
+}
