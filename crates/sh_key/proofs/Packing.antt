@@ -1,14 +1,80 @@
 -- The laws of packing, for every layout.
-use Rattle.std.proofs.Common.{◌≡◌, ℕ, ◌+◌, ◌*◌, ◌^◌, ◌<◌, ◌≤◌, ◌/◌, ◌%◌, ◌∙◌, ap, sym, arith, refl, Some, None, Option, true, false, Bool, cond}
-use Rattle.std.proofs.lemmas.Nat.{mul-add-lt, div-mul-add, div-add-mod', pow-add}
-use Rattle.std.proofs.Math.Nat.{pow-le-pow_right, add-mul-mod_self_right, mod-eq_of_lt, add_comm}
+use Rattle.std.proofs.Common.{◌≡◌, ℕ, ◌+◌, ◌*◌, ◌^◌, ◌<◌, ◌≤◌, ◌/◌, ◌%◌, ◌∙◌, ap, sym, arith, refl, Some, None, Option, true, false, Bool, cond, subst, le-leb, leb-true}
+use Rattle.std.specs.Prelude.{◌&&◌, nat_le}
+use Rattle.std.proofs.lemmas.Nat.{mul-add-lt, div-mul-add, mod-mul-add, div-add-mod', pow-add, pow_pos}
+use Rattle.std.proofs.Math.Nat.{pow-le-pow_right, mod-lt}
 use Rattle.sh_key.specs.declared.parts.Parts.{Parts}
-use Rattle.sh_key.specs.Layout.{Layout, IsLayout, IsInRange, IsKeyOf, packed, unpacked, digits_of}
+use Rattle.sh_key.specs.Layout.{Layout, IsLayout, IsInRange, IsKeyOf, packed, unpacked, if_good, digits_of}
 
--- a key fits 64 bits
-pub packed-fits : (layout : Layout) (p : Parts) → IsLayout layout → IsInRange layout p → packed layout p < 2 ^ 64
-packed-fits layout p lawful range =
-    let two : 0 < 2 = omega arith in
-    let generation : p.generation < 2 ^ 32 = omega (arith, range.generation_fits, lawful.generations_fit) in
-    let e1 : p.generation * 2 ^ layout.shard_bits + p.shard < 2 ^ layout.shard_bits * 2 ^ 32 = mul-add-lt p.generation (2 ^ layout.shard_bits) p.shard (2 ^ 32) generation range.shard_fits in
-    ?
+-- a key fits 64 bits, where m and n are powers of two
+pub digits-fit : (a b m n g s p t : ℕ) → m ≡ 2 ^ a → n ≡ 2 ^ b → a + b ≤ 26
+    → g < 2 ^ 32 → s < 2 ^ a → p < 2 ^ b → t < 64 → ((g * m + s) * n + p) * 64 + t < 2 ^ 64
+digits-fit a b m n g s p t em en few hg hs hp ht =
+    let e1 : g * m + s < m * 2 ^ 32 = mul-add-lt g m s (2 ^ 32) hg (rw em hs) in
+    let e2 : (g * m + s) * n + p < n * (m * 2 ^ 32) = mul-add-lt (g * m + s) n p (m * 2 ^ 32) e1 (rw en hp) in
+    let e3 : m * n ≤ 2 ^ 26 = rw (em, en, ← pow-add 2 a b) (pow-le-pow_right (let two : 0 < 2 = omega arith in two) few) in
+    omega (arith, e2, e3)
+
+-- the digits of what parts in range are packed into are the parts
+pub digits_of-packed : (layout : Layout) (p : Parts) → IsInRange layout p → digits_of layout (packed layout p) ≡ p
+digits_of-packed layout p r =
+    let pages = (p.generation * 2 ^ layout.shard_bits + p.shard) * 2 ^ layout.page_bits + p.page in
+    let shards = p.generation * 2 ^ layout.shard_bits + p.shard in
+    let page_digit = div-mul-add pages 64 p.slot r.slot_fits in
+    let shard_digit = div-mul-add shards (2 ^ layout.page_bits) p.page r.page_fits in
+    rw (
+      page_digit,
+      shard_digit,
+      div-mul-add p.generation (2 ^ layout.shard_bits) p.shard r.shard_fits,
+      mod-mul-add p.generation (2 ^ layout.shard_bits) p.shard r.shard_fits,
+      mod-mul-add shards (2 ^ layout.page_bits) p.page r.page_fits,
+      mod-mul-add pages 64 p.slot r.slot_fits,
+    ) refl
+
+tests_true : (g m : ℕ) → 1 ≤ g → g ≤ m → (nat_le 1 g && nat_le g m) ≡ true
+tests_true g m low high = rw (le-leb _ _ low, le-leb _ _ high) refl
+
+-- what parts in range are packed into is unpacked to them
+pub unpacked-packed : (layout : Layout) (p : Parts) → IsInRange layout p → unpacked layout (packed layout p) ≡ Some p
+unpacked-packed layout p r =
+    let test = tests_true p.generation layout.gen_max r.some_generation r.generation_fits in
+    ap (if_good layout) (digits_of-packed layout p r) ∙ rw test refl
+
+pub unpacked_only : (layout : Layout) (p : Parts) (k : ℕ) → IsKeyOf layout p k → unpacked layout k ≡ Some p
+unpacked_only layout p k h = ap (unpacked layout) (sym h.is) ∙ unpacked-packed layout p h.in_range
+
+-- the digits of a number, packed again
+pub packed-digits_of : (layout : Layout) (k : ℕ) → packed layout (digits_of layout k) ≡ k
+packed-digits_of layout k =
+    rw (div-add-mod' (k / 64 / 2 ^ layout.page_bits) (2 ^ layout.shard_bits), div-add-mod' (k / 64) (2 ^ layout.page_bits), div-add-mod' k 64) refl
+
+-- digits with a good generation are in range
+pub digits_in_range : (layout : Layout) (k : ℕ) → 1 ≤ (digits_of layout k).generation
+    → (digits_of layout k).generation ≤ layout.gen_max → IsInRange layout (digits_of layout k)
+digits_in_range layout k low high = record {
+  some_generation = low;
+  generation_fits = high;
+  shard_fits = mod-lt (k / 64 / 2 ^ layout.page_bits) (pow_pos layout.shard_bits);
+  page_fits = mod-lt (k / 64) (pow_pos layout.page_bits);
+  slot_fits = mod-lt k (let some : 0 < 64 = omega arith in some);
+}
+
+chosen : {A : Type 0} (b : Bool) (x y : A) → cond b (Some x) None ≡ Some y → (b ≡ true) × (x ≡ y)
+chosen true x y e = (refl, let same : x ≡ y = cc in same)
+chosen false x y e = cc
+
+both_true : (a b : Bool) → (a && b) ≡ true → (a ≡ true) × (b ≡ true)
+both_true true b e = (refl, e)
+both_true false b e = cc
+
+-- a number is unpacked only to parts in range that are packed into it
+pub unpacked_is : (layout : Layout) (k : ℕ) (p : Parts) → unpacked layout k ≡ Some p → IsKeyOf layout p k
+unpacked_is layout k p e =
+    let d = digits_of layout k in
+    let c = chosen (nat_le 1 d.generation && nat_le d.generation layout.gen_max) d p e in
+    let b = both_true (nat_le 1 d.generation) (nat_le d.generation layout.gen_max) c.0 in
+    let found : IsKeyOf layout d k = record {
+      in_range = digits_in_range layout k (leb-true _ _ b.0) (leb-true _ _ b.1);
+      is = packed-digits_of layout k;
+    } in
+    let P : Parts → Type 0 = λ p. IsKeyOf layout p k in subst P c.1 found

@@ -17,6 +17,14 @@ pub record IsLayout (layout : Layout) : Type 0 where
   pub some_guard : 1 ≤ layout.guard_max
   pub guards_fit : layout.guard_max + 64 < 2 ^ 30
 
+-- these are the layout's numbers, which are within the limits
+pub record HasNumbers (layout : Layout) (shard_bits page_bits gen_max guard_max : ℕ) : Type 0 where
+  pub shard_bits_is : shard_bits ≡ layout.shard_bits
+  pub page_bits_is : page_bits ≡ layout.page_bits
+  pub gen_max_is : gen_max ≡ layout.gen_max
+  pub guard_max_is : guard_max ≡ layout.guard_max
+  pub lawful : IsLayout layout
+
 -- each part is within the layout
 pub record IsInRange (layout : Layout) (p : Parts) : Type 0 where
   pub some_generation : 1 ≤ p.generation
@@ -44,11 +52,13 @@ digits_of layout k = record {
   slot = k % 64;
 }
 
+-- the parts, where the generation is one of the layout
+abbrev pub if_good : Layout → Parts → Option Parts
+if_good layout p = if nat_le 1 p.generation && nat_le p.generation layout.gen_max then Some p else None
+
 -- the parts that a number is packed from, where it is a key
 abbrev pub unpacked : Layout → ℕ → Option Parts
-unpacked layout k =
-    let p = digits_of layout k in
-    if nat_le 1 p.generation && nat_le p.generation layout.gen_max then Some p else None
+unpacked layout k = if_good layout (digits_of layout k)
 
 -- the least key, and how many keys there are: the keys are the numbers from the least one on
 abbrev pub first_key : Layout → ℕ
