@@ -1,9 +1,10 @@
 -- What the code's operations on bits compute: packing by `<<` and `|`, and testing a bit by `&`.
-use Rattle.std.proofs.Common.{◌≡◌, ℕ, zero, suc, ◌+◌, ◌*◌, ◌%◌, ◌^◌, ◌<◌, ◌≤◌, ◌==◌, not, Bool, refl, ap, ◌∙◌, arith}
+use Rattle.std.proofs.Common.{◌≡◌, ℕ, ◌+◌, ◌*◌, ◌%◌, ◌^◌, ◌<◌, ◌≤◌, ◌==◌, not, ap, ◌∙◌, arith}
 use Rattle.std.specs.Prelude.{bit_or, bit_and}
 use Rattle.std.specs.Int.{bit_at}
-use Rattle.std.proofs.lemmas.Nat.{or_shifted}
+use Rattle.std.proofs.lemmas.Nat.{or_shifted, pow_pos}
 use Rattle.std.proofs.lemmas.Nat.Bits.{and_pow, bit_at-lt}
+use Rattle.std.proofs.lemmas.Bool.Decides.{nat_tests}
 
 -- Four fields side by side make their sum, each at its place.
 pub or_four : (g m p c : ℕ) → g < 2 ^ 32 → m ≤ 1 → p ≤ 1 → c < 2 ^ 30 →
@@ -18,8 +19,7 @@ or_four g m p c g_fits m_fits p_fits c_fits =
 
 -- A bit that `&` finds is 1.
 pub and_test : (n k : ℕ) → not (bit_and n (2 ^ k) == 0) ≡ (bit_at n k == 1)
-and_test n k = ap (λ (x : ℕ). not (x == 0)) (and_pow n k) ∙ go (bit_at n k) (bit_at-lt n k) where
-  go : (b : ℕ) → b < 2 → not (b * 2 ^ k == 0) ≡ (b == 1)
-  go zero h = ?
-  go (suc zero) h = ?
-  go (suc (suc b)) h = absurd (omega arith)
+and_test n k =
+    ap (λ (x : ℕ). not (x == 0)) (and_pow n k) ∙ go (bit_at n k) (2 ^ k) (bit_at-lt n k) (pow_pos k) where
+      go : (b m : ℕ) → b < 2 → 0 < m → not (b * m == 0) ≡ (b == 1)
+      go b m small above = grind (arith, nat_tests)

@@ -1,2 +1,3 @@
-pub mod Words
 mod Bits
+pub mod KindLaws
+pub mod Words

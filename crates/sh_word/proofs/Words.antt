@@ -1,13 +1,13 @@
 -- The laws of state words: fields and words are one to one, and each operation on a word changes one field.
-use Rattle.std.proofs.Common.{◌≡◌, ℕ, zero, suc, ◌+◌, ◌-◌, ◌*◌, ◌/◌, ◌%◌, ◌^◌, ◌<◌, ◌≤◌, ◌==◌, ◌≢◌, max, Bool, true, false, sym, refl, ap, ◌∙◌, arith}
+use Rattle.std.proofs.Common.{◌≡◌, ℕ, zero, suc, ◌+◌, ◌-◌, ◌/◌, ◌%◌, ◌^◌, ◌<◌, ◌≤◌, ◌==◌, ◌≢◌, max, Bool, true, false, sym, refl, ap, ◌∙◌, arith}
 use Rattle.std.specs.Prelude.{bit_or}
 use Rattle.std.specs.Int.{bit_at, from_bool}
 use Rattle.std.specs.Int.Bits.{or_zero_r}
-use Rattle.std.proofs.lemmas.Nat.{or_shr, or_mod}
+use Rattle.std.proofs.lemmas.Nat.{or_lt, or_mod, or_shr}
 use Rattle.std.proofs.lemmas.Nat.Bits.{bit_at-lt, bit_at_or, bit_at-pow_same, bit_at-pow_other}
 use Rattle.sh_word.specs.Fields.{Fields, FitsWord, fields_of, word_of}
 
--- ---- a mark as a number
+-- ---- a flag as a number
 
 pub from_bool-le_one : (b : Bool) → from_bool b ≤ 1
 from_bool-le_one true = omega arith
@@ -120,7 +120,15 @@ wrapping_sub_one w h above =
     let positive : 0 < w = count_above-word_above w above in
     omega arith
 
--- ---- setting a mark
+-- The fields of what `fetch_add(1)` stores, where the count has room.
+pub fields_of-wrapping_add : (w : ℕ) → w < 2 ^ 64 → (fields_of w).count < 2 ^ 30 - 1 → fields_of ((w + 1) % 2 ^ 64) ≡ record (fields_of w) { count = (fields_of w).count + 1 }
+fields_of-wrapping_add w h room = ap fields_of (wrapping_add_one w h room) ∙ fields_of-add w room
+
+-- The fields of what `fetch_sub(1)` stores, where the count is above 0.
+pub fields_of-wrapping_sub : (w : ℕ) → w < 2 ^ 64 → 0 < (fields_of w).count → fields_of ((w + (2 ^ 64 - 1)) % 2 ^ 64) ≡ record (fields_of w) { count = (fields_of w).count - 1 }
+fields_of-wrapping_sub w h above = ap fields_of (wrapping_sub_one w h above) ∙ fields_of-sub w above
+
+-- ---- setting a flag
 
 max_one : (n : ℕ) → n < 2 → max n 1 ≡ 1
 max_one n h = omega arith
@@ -152,3 +160,10 @@ fields_of-or_present w =
     let p : bit_at (bit_or w (2 ^ 30)) 30 ≡ 1 = bit_set_same w 30 in
     let c : bit_or w (2 ^ 30) % 2 ^ 30 ≡ w % 2 ^ 30 = or_mod w (2 ^ 30) 30 ∙ or_zero_r (w % 2 ^ 30) in
     same_fields _ _ g (ap (λ (x : ℕ). x == 1) m) (ap (λ (x : ℕ). x == 1) p) c
+
+-- Neither takes a word of 64 bits out of that range.
+pub or_mark_fits : (w : ℕ) → w < 2 ^ 64 → bit_or w (2 ^ 31) < 2 ^ 64
+or_mark_fits w h = or_lt 64 w (2 ^ 31) h (omega arith)
+
+pub or_present_fits : (w : ℕ) → w < 2 ^ 64 → bit_or w (2 ^ 30) < 2 ^ 64
+or_present_fits w h = or_lt 64 w (2 ^ 30) h (omega arith)

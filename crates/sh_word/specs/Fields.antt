@@ -13,7 +13,7 @@ pub record Fields : Type 0 where
 abbrev pub FitsWord : Fields → Type 0
 FitsWord f = (f.generation < 2 ^ 32) × (f.count < 2 ^ 30)
 
--- The fields packed into one number: the count lowest, then the two marks, then the generation.
+-- The fields packed into one number: the count lowest, then the two flags, then the generation.
 unfoldable pub word_of : Fields → ℕ
 word_of f = f.generation * 2 ^ 32 + from_bool f.marked * 2 ^ 31 + from_bool f.present * 2 ^ 30 + f.count
 

@@ -1,4 +1,4 @@
--- What the two marks of a slot say together.
+-- What the two flags of a slot say together.
 use Rattle.std.specs.Prelude.{ℕ, Bool, true, false}
 use Rattle.sh_word.specs.Fields.{Fields}
 use Rattle.sh_word.specs.declared.slot_state.Kind.{Kind}

@@ -16,8 +16,8 @@ SubtractingLowersCount =
 
 -- To `or` a word with this bit marks it.
 abbrev pub OrMarks : ℕ → Type 0
-OrMarks bit = (w : ℕ) → w < 2 ^ 64 → fields_of (bit_or w bit) ≡ record (fields_of w) { marked = true }
+OrMarks bit = (w : ℕ) → fields_of (bit_or w bit) ≡ record (fields_of w) { marked = true }
 
 -- To `or` a word with this bit makes it present.
 abbrev pub OrMakesPresent : ℕ → Type 0
-OrMakesPresent bit = (w : ℕ) → w < 2 ^ 64 → fields_of (bit_or w bit) ≡ record (fields_of w) { present = true }
+OrMakesPresent bit = (w : ℕ) → fields_of (bit_or w bit) ≡ record (fields_of w) { present = true }

@@ -1,15 +1,14 @@
 //! What the heap's operations on a state word do to what it says.
 
-use crate::{MARK_BIT, PRESENT_BIT};
-
 ghost use Rattle.sh_word.specs.Laws.{AddingRaisesCount, SubtractingLowersCount, OrMarks, OrMakesPresent};
 
+use crate::{MARK_BIT, PRESENT_BIT};
+
 /// Each operation changes one field of what a word says and leaves the others: adding 1 while the
-/// count has room, subtracting 1 while it is above 0, and setting either mark.
+/// count has room, subtracting 1 while it is above 0, and setting either flag.
 pub fn operations_change_one_field()
     ensures add { AddingRaisesCount }
     ensures subtract { SubtractingLowersCount }
     ensures mark { OrMarks MARK_BIT }
     ensures publish { OrMakesPresent PRESENT_BIT }
-{
-}
+{}

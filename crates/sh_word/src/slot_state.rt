@@ -2,16 +2,17 @@
 
 use std::marker::Model;
 
-/// The bit of a state word that marks the slot: its record is removed, or the slot is retired.
+/// The flag of a state word that says that the slot is marked: its record is removed, or the slot
+/// is retired.
 pub const MARK_BIT: u64 = 1 << 31;
 
-/// The bit of a state word that says that the slot's record is present.
+/// The flag of a state word that says that a record is present in the slot.
 pub const PRESENT_BIT: u64 = 1 << 30;
 
 /// Every count is below this.
 pub const COUNT_LIMIT: u32 = 1 << 30;
 
-/// How a slot stands, by its two marks.
+/// How a slot stands, by its two flags.
 #[derive(Clone, Copy, Debug, PartialEq, Eq)]
 pub enum Kind {
     /// Neither marked nor present: the slot has no record.
@@ -27,34 +28,54 @@ pub enum Kind {
 /// What a slot's state word says.
 #[derive(Clone, Copy, Debug, PartialEq, Eq)]
 pub struct State {
-    /// The number of the record that the slot has, or has next.
+    /// Which of the slot's records it has, has had last or has next: each record that a slot has
+    /// is of a later generation.
     pub generation: u32,
     /// Whether the record is removed, or the slot retired.
     pub marked: bool,
     /// Whether the slot has a record.
     pub present: bool,
-    /// How many holds and passing visits are on the slot: below [`COUNT_LIMIT`].
+    /// How many holds and visits of passes are on the slot: below [`COUNT_LIMIT`].
     pub count: u32,
 }
 
 impl Model for State {
-    ghost use Rattle.sh_word.specs.Fields.{Fields, FitsWord};
+    ghost use Rattle.std.specs.Prelude.{◌^◌, ◌<◌};
+    ghost use Rattle.sh_word.specs.Fields.{Fields};
 
     ghost Value = { Fields };
 
     ghost view = { λ s. record { generation = s.generation; marked = s.marked; present = s.present; count = s.count } };
 
-    ghost use Rattle.std.specs.Prelude.{◌^◌, ◌<◌};
-
-    ghost invariant = { λ s. (s.generation < 2 ^ 32) × (s.count < 2 ^ 30) };
+    ghost invariant = { λ s. s.count < 2 ^ 30 };
 
     ghost inverse = { λ f. record { generation = f.generation; marked = f.marked; present = f.present; count = f.count } };
 }
 
 impl State {
-    ghost use Rattle.std.specs.Prelude.{◌≡◌};
-    ghost use Rattle.sh_word.specs.Fields.{Fields, FitsWord, fields_of, word_of};
-    ghost use Rattle.sh_word.specs.Kinds.{kind_of};
+    ghost use Rattle.std.specs.Prelude.{◌≡◌, ◌^◌, ◌<◌};
+    ghost use Rattle.sh_word.specs.Fields.{FitsWord, fields_of, word_of};
+    ghost use Rattle.sh_word.specs.Kinds.{fields_at, kind_of};
+
+    /// The state of a slot of this kind and generation, with a count below [`COUNT_LIMIT`].
+    pub fn new(kind: Kind, generation: u32, count: u32) -> State
+        requires { count < 2 ^ 30 }
+        ensures fields { result ≡ fields_at kind generation count }
+        ensures kind { kind_of result ≡ kind }
+    {
+        let (marked, present) = match kind {
+            Kind::Empty => (false, false),
+            Kind::Live => (false, true),
+            Kind::Marked => (true, true),
+            Kind::Retired => (true, false),
+        };
+        State {
+            generation,
+            marked,
+            present,
+            count,
+        }
+    }
 
     /// What a word says. Every word says something.
     pub fn of(word: u64) -> State
@@ -65,7 +86,7 @@ impl State {
             generation: (word >> 32) as u32,
             marked: word & MARK_BIT != 0,
             present: word & PRESENT_BIT != 0,
-            count: (word % PRESENT_BIT) as u32,
+            count: (word % COUNT_LIMIT as u64) as u32,
         }
     }
 
@@ -83,7 +104,8 @@ impl State {
 
     /// How the slot stands.
     pub fn kind(&self) -> Kind
-        ensures { result ≡ kind_of self.now }
+        ensures value { result ≡ kind_of self.now }
+        ensures fields { fields_at result self.now.generation self.now.count ≡ self.now }
     {
         match (self.marked, self.present) {
             (false, false) => Kind::Empty,

@@ -1,3 +1,4 @@
+-- The body reads each field at its bits, and a word's fields give the word back.
 use Rattle.std.proofs.Common.{ap, ◌∙◌, refl}
 use Rattle.sh_word.specs.Fields.{fields_of, word_of}
 use Rattle.sh_word.proofs.Bits.{and_test}

@@ -1,0 +1,126 @@
+//! The checker of histories.
+ghost use Rattle.std.specs.Prelude.{◌≡◌, ◌↔◌, IsOk, IfErr, MatchOption};
+ghost use Rattle.sh_history.specs.History.{Allowed, Legal};
+ghost use Rattle.sh_history.specs.FirstFault.{IsWhy, IsFirstFault};
+
+use crate::Entry;
+use crate::look::{is_crowded, is_held_by, is_removed, value_of};
+
+/// Why an entry may not stand where it stands.
+#[derive(Clone, Copy, Debug, PartialEq, Eq)]
+pub enum Why {
+    NotNew,
+    NotIssued,
+    OtherValue,
+    AfterRemoval,
+    StillThere,
+    NotCrowded,
+    NotHeld,
+}
+
+fn why_not(before: &[Entry], entry: &Entry, passes: u32, guard_max: u32) -> Option<Why>
+    ensures { MatchOption result (Allowed passes guard_max before.now entry.now) (IsWhy passes guard_max before.now entry.now) }
+{
+    match entry {
+        Entry::Insert(_, key, _) => match value_of(before, *key) {
+            None => None,
+            Some(_) => Some(Why::NotNew),
+        },
+        Entry::Got(_, key, value) => match value_of(before, *key) {
+            None => Some(Why::NotIssued),
+            Some(issued) => {
+                if issued != value {
+                    Some(Why::OtherValue)
+                } else if is_removed(before, *key) {
+                    Some(Why::AfterRemoval)
+                } else {
+                    None
+                }
+            }
+        },
+        Entry::Gone(_, key) => match value_of(before, *key) {
+            None => None,
+            Some(_) => {
+                if is_removed(before, *key) {
+                    None
+                } else {
+                    Some(Why::StillThere)
+                }
+            }
+        },
+        Entry::Crowded(_, key) => match value_of(before, *key) {
+            None => Some(Why::NotIssued),
+            Some(_) => {
+                if is_removed(before, *key) {
+                    Some(Why::AfterRemoval)
+                } else if is_crowded(before, *key, passes, guard_max) {
+                    None
+                } else {
+                    Some(Why::NotCrowded)
+                }
+            }
+        },
+        Entry::Removed(_, key) => match value_of(before, *key) {
+            None => Some(Why::NotIssued),
+            Some(_) => {
+                if is_removed(before, *key) {
+                    Some(Why::AfterRemoval)
+                } else {
+                    None
+                }
+            }
+        },
+        Entry::Released(pass, key) => {
+            if is_held_by(before, *pass, *key) {
+                None
+            } else {
+                Some(Why::NotHeld)
+            }
+        }
+    }
+}
+
+/// Says yes exactly where each entry is allowed after those before it, and else names the first that is not,
+/// and why.
+pub fn check(entries: &[Entry], passes: u32, guard_max: u32) -> Result<(), (usize, Why)>
+    ensures yes { IsOk result ↔ Legal passes guard_max entries.now }
+    ensures no { IfErr result (λ fault. IsFirstFault passes guard_max entries.now fault.0 fault.1) }
+{
+    for (at, entry) in entries.iter().enumerate() {
+        if let Some(why) = why_not(&entries[..at], entry, passes, guard_max) {
+            return Err((at, why));
+        }
+    }
+    Ok(())
+}
+
+#[cfg(test)]
+mod tests {
+    use super::*;
+    use sh_value::Value;
+    use std::process::Abort;
+    use std::test::Fail;
+
+    fn value(words: &[u64], rt: &impl Abort) -> Value {
+        Value::new(words).expect(rt, "few words")
+    }
+
+    #[test]
+    fn names_the_first_fault(rt: HostRuntime) -> Result<(), Fail> {
+        let removed = [
+            Entry::Insert(0, 4096, value(&[7], &rt)),
+            Entry::Removed(0, 4096),
+            Entry::Got(0, 4096, value(&[7], &rt)),
+        ];
+        assert_eq!(rt; check(&removed, 1, 4), Err((2, Why::AfterRemoval)));
+        let crowded = [
+            Entry::Insert(0, 4096, value(&[], &rt)),
+            Entry::Got(0, 4096, value(&[], &rt)),
+            Entry::Got(0, 4096, value(&[], &rt)),
+            Entry::Got(0, 4096, value(&[], &rt)),
+            Entry::Crowded(0, 4096),
+        ];
+        assert_eq!(rt; check(&crowded, 1, 4), Err((4, Why::NotCrowded)));
+        Ok(())
+    }
+}
