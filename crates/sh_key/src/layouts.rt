@@ -61,11 +61,51 @@ mod tests {
         };
         let table = [
             (first, true),
-            (Parts { generation: 0, shard: 0, page: 0, slot: 0 }, false),
-            (Parts { generation: 4, shard: 0, page: 0, slot: 0 }, false),
-            (Parts { generation: 1, shard: 4, page: 0, slot: 0 }, false),
-            (Parts { generation: 1, shard: 0, page: 16, slot: 0 }, false),
-            (Parts { generation: 1, shard: 0, page: 0, slot: 64 }, false),
+            (
+                Parts {
+                    generation: 0,
+                    shard: 0,
+                    page: 0,
+                    slot: 0,
+                },
+                false,
+            ),
+            (
+                Parts {
+                    generation: 4,
+                    shard: 0,
+                    page: 0,
+                    slot: 0,
+                },
+                false,
+            ),
+            (
+                Parts {
+                    generation: 1,
+                    shard: 4,
+                    page: 0,
+                    slot: 0,
+                },
+                false,
+            ),
+            (
+                Parts {
+                    generation: 1,
+                    shard: 0,
+                    page: 16,
+                    slot: 0,
+                },
+                false,
+            ),
+            (
+                Parts {
+                    generation: 1,
+                    shard: 0,
+                    page: 0,
+                    slot: 64,
+                },
+                false,
+            ),
         ];
         for (parts, good) in table {
             assert_eq!(rt; Tiny::in_range(parts), good, "{parts:?}");

@@ -1,0 +1,40 @@
+-- Holds and values in the book of a plain store.
+use Rattle.std.proofs.Common.{◌≡◌, ℕ, ◌+◌, ◌-◌, ◌<◌, ◌≤◌, Bool, true, false, cond, List, [], ◌∷◌, ◌++◌, Option, Some, None, refl, sym, ◌∙◌, ap, subst, arith, rules, map, Ok, Err, Result}
+use Rattle.std.specs.Prelude.{◌==◌, ◌&&◌, count_by}
+use Rattle.std.proofs.lemmas.List.{map-append}
+use Rattle.sh_value.specs.declared.hold.Hold.{Hold}
+use Rattle.sh_key.specs.Layout.{Layout}
+use Rattle.sh_history.specs.declared.entry.Entry.{Entry}
+use Rattle.sh_history.specs.declared.entry.Entry.TheVariants.{Got}
+use Rattle.sh_history.specs.declared.log.LogEntry.TheVariants.{Known}
+use Rattle.sh_history.specs.History.{Legal, value_of, holds_by, is_got_by, is_release_by, got_count_by}
+use Rattle.sh_history.specs.Log.{logged_holds_by, filled, AllHaveValue}
+use Rattle.sh_history.proofs.LogLaws.{known_holds, known_filled, known_stands, releases_le, gets_have_value, issued_when_got, count_by-push}
+use Rattle.sh_plain.specs.Plain.{Plain, IsSound, plain_book, plain_setting}
+use Rattle.sh_plain.specs.Store.{IsBook, GetLeaves}
+
+-- the book of a sound store stands in a legal history, which it is itself
+pub book_stands : (layout : Layout) (inserted : ℕ) (entries : List Entry) (pass passes : ℕ) (s : Plain)
+    → IsSound layout entries pass passes inserted
+    → record { entries = entries; pass = pass; passes = passes } ≡ s → IsBook (plain_setting layout s) (plain_book s)
+book_stands layout inserted entries pass passes s sound is =
+    let P : Plain → Type 0 = λ s. IsBook (plain_setting layout s) (plain_book s) in
+    subst P is (known_stands passes layout.guard_max entries sound.legal)
+
+module _ (passes guard_max : ℕ) (entries : List Entry) (pass key : ℕ) (legal : Legal passes guard_max entries) where
+  -- a key that is held has a value
+  pub held_has_value : 0 < holds_by entries pass key → value_of entries key ≡ None → ⊥
+  held_has_value h none =
+      let some = issued_when_got passes guard_max pass key [] entries legal (omega (arith, h)) in
+      let is = some.1 in cc
+
+  -- who got a key holds it
+  pub got_is_held : (value : List ℕ) → 0 < logged_holds_by (map Known (entries ++ Got pass key value ∷ [])) pass key
+  got_is_held value =
+      let same : (n : ℕ) → (n == n) ≡ true = λ n. search rules in
+      let yes : is_got_by pass key (Got pass key value) ≡ true = rw (same pass, same key) refl in
+      let got : count_by (is_got_by pass key) (entries ++ Got pass key value ∷ []) ≡ got_count_by entries pass key + 1 =
+      rw (count_by-push (is_got_by pass key) entries (Got pass key value), yes) refl in
+      let released = count_by-push (is_release_by pass key) entries (Got pass key value) in
+      let le = releases_le passes guard_max pass key entries legal in
+      rw (known_holds (entries ++ Got pass key value ∷ []) pass key, got, released) (omega arith)

@@ -1,0 +1,79 @@
+-- What the calls of a plain store leave in its book.
+use Rattle.std.proofs.Common.{◌≡◌, ℕ, ◌<◌, Bool, true, false, cond, List, [], ◌∷◌, ◌++◌, Option, Some, None, refl, sym, ◌∙◌, ap, subst, arith, rules, map, Ok, Err, Result, ltb-true, ltb-false}
+use Rattle.std.specs.Prelude.{ok_or, nat_lt, nat_le, not, is_some}
+use Rattle.std.proofs.lemmas.List.{map-append}
+use Rattle.sh_value.specs.declared.hold.Hold.{Hold}
+use Rattle.sh_value.specs.declared.refusal.Refusal.{Refusal}
+use Rattle.sh_value.specs.declared.refusal.Refusal.TheVariants as refusal
+use Rattle.sh_key.specs.Layout.{Layout, unpacked}
+use Rattle.sh_history.specs.declared.entry.Entry.{Entry}
+use Rattle.sh_history.specs.declared.entry.Entry.TheVariants.{Got, Gone, Crowded}
+use Rattle.sh_history.specs.declared.log.LogEntry.TheVariants.{Known}
+use Rattle.sh_history.specs.History.{Legal, value_of, present_value, holds_by, holds_on, hold_count}
+use Rattle.sh_history.specs.Log.{logged_holds_by}
+use Rattle.sh_history.proofs.LogLaws.{known_holds, known_filled, gets_have_value}
+use Rattle.sh_plain.specs.Plain.{Plain, Reply, Replied, refused, got_reply, get_reply, read_answer, with_added, plain_book, plain_setting}
+use Rattle.sh_plain.specs.Store.{GetLeaves, ReadLeaves}
+use Rattle.sh_plain.proofs.Held.{held_has_value, got_is_held}
+
+module _ (layout : Layout) (s : Plain) (key : ℕ) (legal : Legal s.passes layout.guard_max s.entries) where
+  -- what a get with this reply leaves
+  abbrev Left : Reply Hold → Type 0
+  Left reply = GetLeaves (plain_setting layout s) key (plain_book s) reply.answer (plain_book (with_added s reply.adds))
+
+  left_either : (b : Bool) (x y : Reply Hold) → Left x → Left y → Left (cond b x y)
+  left_either true x y h k = h
+  left_either false x y h k = k
+
+  added : (e : Entry) → map Known (s.entries ++ e ∷ []) ≡ map Known s.entries ++ Known e ∷ []
+  added e = map-append Known s.entries (e ∷ [])
+
+  got_left : (present : Option (List ℕ)) → Left (got_reply layout s key present)
+  got_left None = added (Gone s.pass key)
+  got_left (Some value) =
+      let crowded : Reply Hold = record { answer = Err refusal.Crowded; adds = Some (Crowded s.pass key) } in
+      let got : Reply Hold = record { answer = Ok (record { key = key }); adds = Some (Got s.pass key value) } in
+      left_either (nat_le layout.guard_max (holds_on s.entries key)) crowded got (added (Crowded s.pass key))
+      (refl, (Known (Got s.pass key value), (refl, refl), added (Got s.pass key value)), got_is_held s.passes layout.guard_max s.entries s.pass key legal value)
+
+  get_left : Left (get_reply layout s key)
+  get_left =
+      let present = got_reply layout s key (present_value s.entries key) in
+      let full = nat_le 16 (hold_count s.entries s.pass) in
+      left_either (not (is_some (unpacked layout key))) (refused refusal.BadKey) (cond full (refused refusal.HoldsFull) present) refl
+      (left_either full (refused refusal.HoldsFull) present refl (got_left (present_value s.entries key)))
+
+  by_answer : (reply : Reply Hold) (result : Result Hold Refusal) (t : Plain) → Left reply → reply.answer ≡ result
+      → t ≡ with_added s reply.adds → GetLeaves (plain_setting layout s) key (plain_book s) result (plain_book t)
+  by_answer reply result t left is now =
+      let P : Result Hold Refusal → Type 0 = λ r. GetLeaves (plain_setting layout s) key (plain_book s) r (plain_book t) in
+      subst P is (rw now left)
+
+  by_reply : (reply : Reply Hold) (result : Result Hold Refusal) (t : Plain) → Left reply → Replied reply s result t
+      → GetLeaves (plain_setting layout s) key (plain_book s) result (plain_book t)
+  by_reply reply (Ok hold) t left h = by_answer reply (Ok hold) t left h.0 h.1
+  by_reply reply (Err refusal.Memory) t left h = ap plain_book h.1
+  by_reply reply (Err r) t left h = by_answer reply (Err r) t left h.0 h.1
+
+  pub get_leaves : (result : Result Hold Refusal) (t : Plain) → Replied (get_reply layout s key) s result t
+      → GetLeaves (plain_setting layout s) key (plain_book s) result (plain_book t)
+  get_leaves result t h = by_reply (get_reply layout s key) result t get_left h
+
+  no_holds : (n : ℕ) → nat_lt 0 n ≡ false → n ≡ 0
+  no_holds n e = let h = ltb-false 0 n e in omega arith
+
+  read_left : (b : Bool) → nat_lt 0 (holds_by s.entries s.pass key) ≡ b → (o : Option (List ℕ)) → value_of s.entries key ≡ o
+      → ReadLeaves (plain_setting layout s) key (plain_book s) (ok_or (cond b o None) refusal.NotHeld) (plain_book s)
+  read_left true held (Some value) is = (
+    rw (known_holds s.entries s.pass key) (ltb-true _ _ held),
+    sym (known_filled key value s.entries),
+    gets_have_value s.passes layout.guard_max key value [] s.entries legal is,
+  )
+  read_left true held None is = absurd (held_has_value s.passes layout.guard_max s.entries s.pass key legal (ltb-true _ _ held) is)
+  read_left false held o is = (rw (known_holds s.entries s.pass key) (no_holds _ held), refl)
+
+  pub read_leaves : (result : Result (List ℕ) Refusal) (t : Plain) → result ≡ read_answer s key → t ≡ s
+      → ReadLeaves (plain_setting layout s) key (plain_book s) result (plain_book t)
+  read_leaves result t is same =
+      let P : Result (List ℕ) Refusal → Type 0 = λ r. ReadLeaves (plain_setting layout s) key (plain_book s) r (plain_book t) in
+      subst P (sym is) (rw same (read_left (nat_lt 0 (holds_by s.entries s.pass key)) refl (value_of s.entries key) refl))

@@ -1,0 +1,122 @@
+//! The shape of a heap.
+ghost use Rattle.std.specs.Prelude.{◌≡◌, ◌↔◌, ◌^◌, IfOk, IfErr, IsOk, IsTrue};
+ghost use Rattle.sh_shape.specs.Shape.{Numbers, IsShape, Fits};
+
+use sh_key::KeyLayout;
+use sh_value::Refusal;
+use std::marker::Model;
+
+const SEGMENT_PAGES: u64 = 8;
+
+/// How many shards a heap has, how many segments of 8 pages each shard, and how many passes. A contract sees the three
+/// numbers, which are within the limits.
+#[derive(Clone, Copy, Debug, PartialEq, Eq)]
+pub struct Shape {
+    shards: u32,
+    segments: u32,
+    passes: u32,
+}
+
+impl Model for Shape {
+    ghost use Rattle.sh_shape.specs.Shape.{Numbers, IsShape};
+
+    ghost Value = { Numbers };
+
+    ghost view = { λ s. record { shards = s.shards; segments = s.segments; passes = s.passes } };
+
+    ghost invariant = { λ s. IsShape (record { shards = s.shards; segments = s.segments; passes = s.passes }) };
+
+    ghost inverse = { λ n. record { shards = n.shards; segments = n.segments; passes = n.passes } };
+}
+
+impl Shape {
+    /// The shape with these numbers: at least one of each, at most 256 segments in all shards together, at most 64
+    /// passes. Else it is refused as `BadShape`.
+    pub fn new(shards: u32, segments: u32, passes: u32) -> Result<Shape, Refusal>
+        ensures numbers { IfOk result (λ shape. shape ≡ record { shards = shards; segments = segments; passes = passes }) }
+        ensures within { IsOk result ↔ IsShape (record { shards = shards; segments = segments; passes = passes }) }
+        ensures outside { IfErr result (λ refusal. refusal ≡ Refusal.BadShape) }
+    {
+        let some = 1 <= shards && 1 <= segments && 1 <= passes;
+        if some && shards as u64 * segments as u64 <= 256 && passes <= 64 {
+            Ok(Shape {
+                shards,
+                segments,
+                passes,
+            })
+        } else {
+            Err(Refusal::BadShape)
+        }
+    }
+
+    /// How many shards, at least 1.
+    pub fn shards(&self) -> u32
+        ensures shards { result ≡ self.now.shards }
+        ensures shape { IsShape self.now }
+    {
+        self.shards
+    }
+
+    /// How many segments a shard has, at least 1: a segment is 8 pages.
+    pub fn segments(&self) -> u32
+        ensures segments { result ≡ self.now.segments }
+        ensures shape { IsShape self.now }
+    {
+        self.segments
+    }
+
+    /// How many passes, from 1 to 64.
+    pub fn passes(&self) -> u32
+        ensures passes { result ≡ self.now.passes }
+        ensures shape { IsShape self.now }
+    {
+        self.passes
+    }
+}
+
+/// Whether each shard and page of the shape has a number in the layout.
+pub fn fits<L: KeyLayout>(shape: &Shape) -> bool
+    ensures { IsTrue result ↔ Fits L.layout shape.now }
+{
+    let shards = shape.shards() as u64;
+    let pages = SEGMENT_PAGES * shape.segments() as u64;
+    shards <= 1 << L::SHARD_BITS && pages <= 1 << L::PAGE_BITS
+}
+
+#[cfg(test)]
+mod tests {
+    use super::*;
+    use sh_key::Tiny;
+
+    #[test]
+    fn shapes_are_within_the_limits(rt: HostRuntime) {
+        let table = [
+            (1, 1, 1, true, true),
+            (4, 2, 64, true, true),
+            (5, 1, 1, true, false),
+            (1, 3, 1, true, false),
+            (128, 2, 1, true, false),
+            (128, 3, 1, false, false),
+            (1, 1, 65, false, false),
+            (0, 1, 1, false, false),
+            (1, 0, 1, false, false),
+            (1, 1, 0, false, false),
+            (u32::MAX, u32::MAX, 1, false, false),
+        ];
+        for (shards, segments, passes, good, tiny) in table {
+            match Shape::new(shards, segments, passes) {
+                Ok(shape) => {
+                    assert!(rt; good, "{shards} {segments} {passes}");
+                    assert_eq!(rt; shape.shards(), shards);
+                    assert_eq!(rt; shape.segments(), segments);
+                    assert_eq!(rt; shape.passes(), passes);
+                    assert_eq!(rt; fits::<Tiny>(&shape), tiny, "{shards} {segments} {passes}");
+                }
+                Err(refusal) => {
+                    assert!(rt; !good, "{shards} {segments} {passes}");
+                    assert_eq!(rt; refusal, Refusal::BadShape);
+                }
+            }
+        }
+    }
+}
