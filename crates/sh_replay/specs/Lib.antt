@@ -1,0 +1,4 @@
+pub mod Replies
+pub mod PlainRun
+pub mod Ends
+pub mod Output

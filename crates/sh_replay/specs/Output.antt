@@ -1,0 +1,59 @@
+-- What a run writes for a script.
+use Rattle.std.specs.Prelude.{◌≡◌, ℕ, List, Option, ◌⊎◌}
+use Rattle.std.specs.Io.KnownBytes.{Appends, Keeps}
+use Rattle.sh_key.specs.Layout.{Layout}
+use Rattle.sh_shape.specs.Shape.{Numbers}
+use Rattle.sh_script.specs.Meaning.{layout_of}
+use Rattle.sh_script.specs.Grammar.{IsCalls, IsFault}
+use Rattle.sh_script.specs.declared.calls.CallLine.{CallLine}
+use Rattle.sh_script.specs.declared.calls.Header.{Header}
+use Rattle.sh_script.specs.declared.fault.Fault.{Fault}
+use Rattle.sh_script.specs.declared.fault.Fault.TheVariants as fault
+use Rattle.sh_replay.specs.declared.answer.Answer.{Answer}
+use Rattle.sh_replay.specs.declared.mode.Mode.{Mode}
+use Rattle.sh_replay.specs.declared.mode.Mode.TheVariants as mode
+use Rattle.sh_replay.specs.Replies.{replies_text}
+use Rattle.sh_replay.specs.PlainRun.{Run, Ran, opening}
+use Rattle.sh_replay.specs.Ends.{WroteBeginning}
+
+-- from one state of the run to another, the lines are answered somehow, and these are the reply lines
+pub record Writes (layout : Layout) (before : Run) (lines : List CallLine) (after : Run) (output : List ℕ) : Type 0 where
+  pub answers : List Answer
+  pub ran : Ran layout before lines answers after
+  pub is : output ≡ replies_text lines answers
+
+-- the output is what mode plain may write for these lines; it is one text alone unless memory is refused
+abbrev pub IsPlainOutput : Layout → Numbers → List CallLine → List ℕ → Type 0
+IsPlainOutput layout shape lines output =
+    (after : Run) × Writes layout (opening shape.shards shape.passes) lines after output
+
+abbrev pub IsOutput : Mode → Header → List CallLine → List ℕ → Type 0
+IsOutput mode.Plain header lines output = IsPlainOutput (layout_of header.layout) header.shape lines output
+
+-- the text is a script, and the whole output of its run was written
+pub record Runs (mode : Mode) (text : List ℕ) (old new : Option (List ℕ)) : Type 0 where
+  pub header : Header
+  pub lines : List CallLine
+  pub output : List ℕ
+  pub is_calls : IsCalls text header lines
+  pub is_output : IsOutput mode header lines output
+  pub written : Appends old new output
+
+-- the text is a script, and a beginning of an output of its run was written
+pub record Begins (mode : Mode) (text : List ℕ) (old new : Option (List ℕ)) : Type 0 where
+  pub header : Header
+  pub lines : List CallLine
+  pub output : List ℕ
+  pub is_calls : IsCalls text header lines
+  pub is_output : IsOutput mode header lines output
+  pub written : WroteBeginning old new output
+
+-- what a run that ends with a fault has written: nothing, or a beginning of an output
+abbrev pub Stops : Mode → List ℕ → Option (List ℕ) → Option (List ℕ) → Type 0
+Stops mode text old new = Keeps old new ⊎ Begins mode text old new
+
+-- memory may be refused and an end may fail at any text; any other fault is the text's
+abbrev pub IsFaultOf : List ℕ → Fault → Type 0
+IsFaultOf text fault.Memory = Unit {0}
+IsFaultOf text fault.Io = Unit {0}
+IsFaultOf text f = IsFault text f

@@ -1,0 +1,121 @@
+-- A run of calls on the plain store, line by line.
+use Rattle.std.specs.Prelude.{◌≡◌, ℕ, ◌<◌, nat_lt, nat_le, not, Bool, true, false, List, [], ◌∷◌, ◌++◌, length, replicate, slice_get, slice_index_or, slice_set, Option, Some, None, Result, Ok, Err, if◌then◌else◌}
+use Rattle.std.specs.Result.{result_ok}
+use Rattle.sh_value.specs.declared.hold.Hold.{Hold}
+use Rattle.sh_value.specs.declared.refusal.Refusal.{Refusal}
+use Rattle.sh_value.specs.declared.refusal.Refusal.TheVariants as refusal
+use Rattle.sh_key.specs.Layout.{Layout}
+use Rattle.sh_plain.specs.Plain.{Plain, Reply, Replied, refused, with_added, insert_reply, get_reply, read_answer}
+use Rattle.sh_script.specs.declared.calls.Reference.{Reference}
+use Rattle.sh_script.specs.declared.calls.Reference.TheVariants as reference
+use Rattle.sh_script.specs.declared.calls.Call.{Call}
+use Rattle.sh_script.specs.declared.calls.Call.TheVariants as call
+use Rattle.sh_script.specs.declared.calls.CallLine.{CallLine}
+use Rattle.sh_replay.specs.declared.answer.Answer.{Answer}
+use Rattle.sh_replay.specs.declared.answer.Answer.TheVariants as answer
+
+-- the store; for each pass whether it has a shard; for each name that is bound its key, or none where the insert was
+-- refused
+pub record Run : Type 0 where
+  pub shards : ℕ
+  pub store : Plain
+  pub owners : List Bool
+  pub keys : List (Option ℕ)
+
+abbrev pub run_of : ℕ → Plain → List Bool → List (Option ℕ) → Run
+run_of shards store owners keys = record { shards = shards; store = store; owners = owners; keys = keys }
+
+-- no pass has a shard, and no name is bound
+abbrev pub opening : (shards passes : ℕ) → Run
+opening shards passes =
+    run_of shards (record { entries = []; pass = 0; passes = passes }) (replicate 64 false) []
+
+-- the pass whose call is run
+abbrev pub at_turn : Run → ℕ → Run
+at_turn run pass = record run { store = record run.store { pass = pass } }
+
+-- whether that pass has a shard
+abbrev pub has_shard : Run → Bool
+has_shard run = slice_index_or run.owners run.store.pass false
+
+-- ---- adopt: whoever else adopted the shard
+
+abbrev pub adopt_answer : Run → ℕ → Answer
+adopt_answer run shard =
+    if has_shard run then answer.Refused refusal.Taken
+    else if nat_le run.shards shard then answer.Refused refusal.NoShard
+    else answer.Done
+
+abbrev pub adopts : Run → ℕ → Run
+adopts run shard =
+    if has_shard run then run
+    else if nat_le run.shards shard then run
+    else record run { owners = slice_set run.owners run.store.pass true }
+
+-- ---- insert
+
+-- what the store answers, once the words fit a value and the pass has a shard
+abbrev pub insert_attempt : Layout → Run → List ℕ → Reply ℕ
+insert_attempt layout run words =
+    if nat_lt 16 (length words) then refused refusal.TooLong
+    else if not (has_shard run) then refused refusal.NoShard
+    else insert_reply layout run.store words
+
+abbrev pub key_answer : Result ℕ Refusal → Answer
+key_answer (Ok key) = answer.Key key
+key_answer (Err r) = answer.Refused r
+
+-- the attempt was answered so, or its memory was refused; the name is bound to the key, if there is one
+pub record Inserts (layout : Layout) (run : Run) (words : List ℕ) (told : Answer) (next : Run) : Type 0 where
+  pub result : Result ℕ Refusal
+  pub replied : Replied (insert_attempt layout run words) run.store result next.store
+  pub is : told ≡ key_answer result
+  pub next_is : next ≡ record run { store = next.store; keys = run.keys ++ result_ok result ∷ [] }
+
+-- ---- get and read
+
+-- the key of a name, if its insert was not refused
+abbrev pub bound_key : Option (Option ℕ) → Option ℕ
+bound_key None = None
+bound_key (Some key) = key
+
+abbrev pub key_of : Run → Reference → Option ℕ
+key_of run (reference.Key key) = Some key
+key_of run (reference.Name i) = bound_key (slice_get run.keys i)
+
+abbrev pub done_answer : {A : Type 0} → Result A Refusal → Answer
+done_answer (Ok _) = answer.Done
+done_answer (Err r) = answer.Refused r
+
+abbrev pub value_answer : Result (List ℕ) Refusal → Answer
+value_answer (Ok words) = answer.Read words
+value_answer (Err r) = answer.Refused r
+
+abbrev pub Gets : Layout → Run → Option ℕ → Answer → Run → Type 0
+Gets layout run None told next = (told ≡ answer.Unbound) × (next ≡ run)
+Gets layout run (Some key) told next =
+    (told ≡ done_answer (get_reply layout run.store key).answer)
+    × (next ≡ record run { store = with_added run.store (get_reply layout run.store key).adds })
+
+abbrev pub Reads : Run → Option ℕ → Answer → Run → Type 0
+Reads run None told next = (told ≡ answer.Unbound) × (next ≡ run)
+Reads run (Some key) told next = (told ≡ value_answer (read_answer run.store key)) × (next ≡ run)
+
+-- ---- a line, and lines
+
+abbrev pub Calls : Layout → Run → Call → Answer → Run → Type 0
+Calls layout run (call.Adopt shard) told next = (told ≡ adopt_answer run shard) × (next ≡ adopts run shard)
+Calls layout run (call.Insert words) told next = Inserts layout run words told next
+Calls layout run (call.Get r) told next = Gets layout run (key_of run r) told next
+Calls layout run (call.Read r) told next = Reads run (key_of run r) told next
+
+abbrev pub Steps : Layout → Run → CallLine → Answer → Run → Type 0
+Steps layout run line told next = Calls layout (at_turn run line.pass) line.call told next
+
+-- these lines are answered so, one after the other
+abbrev pub Ran : Layout → Run → List CallLine → List Answer → Run → Type 0
+Ran layout run [] [] after = after ≡ run
+Ran layout run [] (a ∷ answers) after = ⊥
+Ran layout run (l ∷ lines) [] after = ⊥
+Ran layout run (l ∷ lines) (a ∷ answers) after =
+    (next : Run) × Steps layout run l a next × Ran layout next lines answers after

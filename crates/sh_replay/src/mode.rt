@@ -1,0 +1,8 @@
+//! The modes of a run.
+
+/// What runs a script.
+#[derive(Clone, Copy, Debug, PartialEq, Eq)]
+pub enum Mode {
+    /// The plain store, which keeps the history of its answers.
+    Plain,
+}

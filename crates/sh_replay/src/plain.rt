@@ -1,0 +1,155 @@
+//! Mode plain: the calls of a script on the plain store, in the order of their lines.
+ghost use Rattle.std.specs.Prelude.{◌≡◌, ◌<◌, ◌≤◌, ℕ, IsTrue, ◌↔◌, IfOk, IfErr, true};
+ghost use Rattle.sh_key.specs.Layout.{Layout};
+ghost use Rattle.sh_plain.specs.Plain.{Plain, Replied};
+ghost use Rattle.sh_replay.specs.PlainRun.{run_of, at_turn, has_shard, adopt_answer, adopts, opening, insert_attempt, Inserts, key_of, Gets, Reads, Steps};
+
+use crate::Answer;
+use sh_key::KeyLayout;
+use sh_plain::{PlainStore, Store};
+use sh_script::{Call, CallLine, Fault, Reference};
+use sh_value::{Hold, Refusal, Value};
+use std::alloc::Global;
+
+// As many passes as a shape may have.
+const PASSES_MAX: usize = 64;
+
+/// A run on the plain store: which passes have a shard, and which key each bound name has.
+#[derive(Drop)]
+pub struct PlainRun<L: KeyLayout> {
+    shards: u32,
+    store: PlainStore<L>,
+    owners: [bool; 64],
+    keys: Vec<Option<u64>>,
+}
+
+impl<L: KeyLayout> PlainRun<L> {
+    /// A run of this many shards and passes, in which nobody has a shard and nothing is bound.
+    pub fn new(alloc: Global, shards: u32, passes: u32) -> Self
+        requires some { 1 ≤ passes }
+        requires few { passes ≤ 64 }
+        ensures { run_of result.shards result.store result.owners result.keys.items ≡ opening shards passes }
+    {
+        PlainRun {
+            shards,
+            store: PlainStore::new(alloc, passes),
+            owners: [false; PASSES_MAX],
+            keys: Vec::new(alloc),
+        }
+    }
+
+    /// Runs one line. Want of memory for anything but an insert's entry ends the run.
+    pub fn step(&mut self, line: &CallLine) -> Result<Answer, Fault>
+        requires pass { line.now.pass < self.old.store.passes }
+        requires few { self.old.store.passes ≤ 64 }
+        ensures steps { IfOk result (λ answer. Steps L.layout
+            (run_of self.old.shards self.old.store self.old.owners self.old.keys.items) line.now answer
+            (run_of self.new.shards self.new.store self.new.owners self.new.keys.items)) }
+        ensures memory { IfErr result (λ fault. fault ≡ Fault.Memory) }
+        ensures passes { self.new.store.passes ≡ self.old.store.passes }
+    {
+        self.store.turn(line.pass);
+        match &line.call {
+            Call::Adopt(shard) => Ok(self.adopt(line.pass, *shard)),
+            Call::Insert(words) => self.insert(line.pass, words.as_slice()),
+            Call::Get(reference) => self.get(*reference),
+            Call::Read(reference) => Ok(self.read(*reference)),
+        }
+    }
+
+    fn adopt(&mut self, pass: u32, shard: u64) -> Answer
+        requires own { pass ≡ self.old.store.pass }
+        requires few { pass < 64 }
+        ensures answer { result ≡ adopt_answer (run_of self.old.shards self.old.store self.old.owners self.old.keys.items) shard }
+        ensures adopts { run_of self.new.shards self.new.store self.new.owners self.new.keys.items
+            ≡ adopts (run_of self.old.shards self.old.store self.old.owners self.old.keys.items) shard }
+    {
+        if self.owners[pass as usize] {
+            return Answer::Refused(Refusal::Taken);
+        }
+        if shard >= self.shards as u64 {
+            return Answer::Refused(Refusal::NoShard);
+        }
+        self.owners[pass as usize] = true;
+        Answer::Done
+    }
+
+    // What the store answers, once the words fit a value and the pass has a shard.
+    fn try_insert(&mut self, pass: u32, words: &[u64]) -> Result<u64, Refusal>
+        requires own { pass ≡ self.old.store.pass }
+        requires few { pass < 64 }
+        ensures replied { Replied (insert_attempt L.layout (run_of self.old.shards self.old.store self.old.owners self.old.keys.items) words.now)
+            self.old.store result self.new.store }
+        ensures same { self.new ≡ record self.old { store = self.new.store } }
+    {
+        let value = Value::new(words)?;
+        if !self.owners[pass as usize] {
+            return Err(Refusal::NoShard);
+        }
+        self.store.insert(&value)
+    }
+
+    fn insert(&mut self, pass: u32, words: &[u64]) -> Result<Answer, Fault>
+        requires own { pass ≡ self.old.store.pass }
+        requires few { pass < 64 }
+        ensures inserts { IfOk result (λ answer. Inserts L.layout
+            (run_of self.old.shards self.old.store self.old.owners self.old.keys.items) words.now answer
+            (run_of self.new.shards self.new.store self.new.owners self.new.keys.items)) }
+        ensures memory { IfErr result (λ fault. fault ≡ Fault.Memory) }
+        ensures passes { self.new.store.passes ≡ self.old.store.passes }
+    {
+        let result = self.try_insert(pass, words);
+        if self.keys.push(result.ok()).is_err() {
+            return Err(Fault::Memory);
+        }
+        match result {
+            Ok(key) => Ok(Answer::Key(key)),
+            Err(refusal) => Ok(Answer::Refused(refusal)),
+        }
+    }
+
+    // The key that a call speaks of, if its name has one.
+    fn key_of(&self, reference: Reference) -> Option<u64>
+        ensures { result ≡ key_of (run_of self.now.shards self.now.store self.now.owners self.now.keys.items) reference }
+    {
+        match reference {
+            Reference::Key(key) => Some(key),
+            Reference::Name(i) => match self.keys.get(i) {
+                Some(key) => *key,
+                None => None,
+            },
+        }
+    }
+
+    fn get(&mut self, reference: Reference) -> Result<Answer, Fault>
+        ensures gets { IfOk result (λ answer. Gets L.layout
+            (run_of self.old.shards self.old.store self.old.owners self.old.keys.items)
+            (key_of (run_of self.old.shards self.old.store self.old.owners self.old.keys.items) reference) answer
+            (run_of self.new.shards self.new.store self.new.owners self.new.keys.items)) }
+        ensures memory { IfErr result (λ fault. fault ≡ Fault.Memory) }
+        ensures passes { self.new.store.passes ≡ self.old.store.passes }
+    {
+        let Some(key) = self.key_of(reference) else {
+            return Ok(Answer::Unbound);
+        };
+        match self.store.get(key) {
+            Ok(_) => Ok(Answer::Done),
+            Err(Refusal::Memory) => Err(Fault::Memory),
+            Err(refusal) => Ok(Answer::Refused(refusal)),
+        }
+    }
+
+    fn read(&mut self, reference: Reference) -> Answer
+        ensures { Reads (run_of self.old.shards self.old.store self.old.owners self.old.keys.items)
+            (key_of (run_of self.old.shards self.old.store self.old.owners self.old.keys.items) reference) result
+            (run_of self.new.shards self.new.store self.new.owners self.new.keys.items) }
+    {
+        let Some(key) = self.key_of(reference) else {
+            return Answer::Unbound;
+        };
+        match self.store.read(Hold { key }) {
+            Ok(value) => Answer::Read(value),
+            Err(refusal) => Answer::Refused(refusal),
+        }
+    }
+}

@@ -1,0 +1,168 @@
+//! Whole runs over memory: worked scripts, faults, and ends that fail.
+use crate::{Mode, replay_alone};
+use sh_script::{Cause, Fault};
+use std::alloc::Global;
+use std::io;
+use std::io::{Read, Write};
+use std::process::Abort;
+use std::test::Fail;
+
+const FIRST: &str = "heap tiny 1 1 2\n0 adopt 0\n0 insert a 7\n0 get a\n0 read a\n";
+
+const FIRST_OUTPUT: &str = "0 adopt ok\n0 insert 4096\n0 get ok\n0 read 1 7\n";
+
+/// What mode plain writes for a script, and how its run ends.
+fn plain(alloc: Global, script: &str, out: &mut Vec<u8>) -> Result<(), Fault> {
+    let mut reader = script.as_bytes();
+    replay_alone(alloc, &mut reader, out, Mode::Plain, false)
+}
+
+/// Runs a script in mode plain and compares what it writes.
+fn expect(rt: &impl Abort, alloc: Global, script: &str, output: &str) {
+    let mut out = Vec::new(alloc);
+    assert_eq!(rt; plain(alloc, script, &mut out), Ok(()), "{script}");
+    assert_eq!(rt; out.as_slice(), output.as_bytes(), "{script}");
+}
+
+#[test]
+fn the_first_script_is_answered(rt: HostRuntime) {
+    expect(&rt, rt.alloc(), FIRST, FIRST_OUTPUT);
+}
+
+#[test]
+fn owners_and_forged_keys_are_refused(rt: HostRuntime) {
+    let script =
+        "heap tiny 1 1 2\n0 insert a 7\n0 adopt 1\n0 adopt 0\n0 adopt 0\n1 adopt 0\n1 get #0\n1 get #4096\n";
+    let output =
+        "0 insert refused 10 NoShard\n0 adopt refused 10 NoShard\n0 adopt ok\n0 adopt refused 9 Taken\n1 adopt ok\n1 get refused 1 BadKey\n1 get refused 2 Gone\n";
+    expect(&rt, rt.alloc(), script, output);
+}
+
+#[test]
+fn names_of_refused_inserts_are_unbound(rt: HostRuntime) {
+    let script =
+        "heap tiny 1 1 1\n0 insert a 1 2 3 4 5 6 7 8 9 10 11 12 13 14 15 16 17\n0 adopt 0\n0 insert b 1 2 3 4 5 6 7 8 9 10 11 12 13 14 15 16 17\n0 get b\n0 read a\n0 insert c\n0 read c\n0 get c\n0 read c\n";
+    let output =
+        "0 insert refused 6 TooLong\n0 adopt ok\n0 insert refused 6 TooLong\n0 get unbound\n0 read unbound\n0 insert 4096\n0 read refused 5 NotHeld\n0 get ok\n0 read 0\n";
+    expect(&rt, rt.alloc(), script, output);
+}
+
+#[test]
+fn faults_write_nothing(rt: HostRuntime) -> Result<(), Fail> {
+    let table = [
+        ("heap tiny 1 1 2\n0 adopt 0", Fault::Script(2, Cause::Cut)),
+        (
+            "heap tiny 1 1 1\n0 get a\n",
+            Fault::Script(2, Cause::Unbound),
+        ),
+        ("", Fault::Script(1, Cause::Header)),
+        ("heap tiny 5 1 1\n", Fault::BadShape),
+    ];
+    for (script, fault) in table {
+        let mut out = Vec::new(rt.alloc());
+        assert_eq!(rt; plain(rt.alloc(), script, &mut out), Err(fault), "{script}");
+        assert!(rt; out.is_empty(), "{script}");
+    }
+    Ok(())
+}
+
+/// A reader that gives at most so many bytes a read, and fails at a read.
+#[derive(Drop)]
+struct Reading<'a> {
+    rest: &'a [u8],
+    most: usize,
+    left: u64,
+}
+
+impl Read for Reading<'_> {
+    fn read(&mut self, buf: &mut [u8]) -> io::Result<usize> {
+        if self.left == 0 {
+            return Err(io::ErrorKind::Interrupted.into());
+        }
+        self.left -= 1;
+        let n = buf.len().min(self.most).min(self.rest.len());
+        let (front, rest) = self.rest.split_at(n);
+        buf[..n].copy_from_slice(front);
+        self.rest = rest;
+        Ok(n)
+    }
+}
+
+/// A writer that takes at most so many bytes a write, and fails at a write, by an error or by taking none.
+#[derive(Drop)]
+struct Writing {
+    taken: Vec<u8>,
+    most: usize,
+    left: u64,
+    errs: bool,
+}
+
+impl Write for Writing {
+    fn write(&mut self, buf: &[u8]) -> io::Result<usize> {
+        if self.left == 0 {
+            if self.errs {
+                return Err(io::ErrorKind::Interrupted.into());
+            }
+            return Ok(0);
+        }
+        self.left -= 1;
+        let n = buf.len().min(self.most);
+        self.taken.extend_from_slice(&buf[..n])?;
+        Ok(n)
+    }
+
+    fn flush(&mut self) -> io::Result<()> {
+        Ok(())
+    }
+}
+
+#[test]
+fn each_read_may_fail(rt: HostRuntime) -> Result<(), Fail> {
+    // The script has 56 bytes, so that one byte a read makes 56 reads, and one more that gives none.
+    for left in 0..58 {
+        let mut reader = Reading {
+            rest: FIRST.as_bytes(),
+            most: 1,
+            left,
+        };
+        let mut out = Vec::new(rt.alloc());
+        let result = replay_alone(rt.alloc(), &mut reader, &mut out, Mode::Plain, false);
+        if left < 57 {
+            assert_eq!(rt; result, Err(Fault::Io), "{left}");
+            assert!(rt; out.is_empty(), "{left}");
+        } else {
+            assert_eq!(rt; result, Ok(()));
+            assert_eq!(rt; out.as_slice(), FIRST_OUTPUT.as_bytes());
+        }
+    }
+    Ok(())
+}
+
+#[test]
+fn each_write_may_fail(rt: HostRuntime) -> Result<(), Fail> {
+    // The output has 45 bytes, written by one byte a write.
+    for left in 0..46 {
+        for errs in [true, false] {
+            let mut writer = Writing {
+                taken: Vec::new(rt.alloc()),
+                most: 1,
+                left,
+                errs,
+            };
+            let mut script = FIRST.as_bytes();
+            let result = replay_alone(rt.alloc(), &mut script, &mut writer, Mode::Plain, true);
+            if left < 45 {
+                assert_eq!(rt; result, Err(Fault::Io), "{left}");
+                assert!(rt;
+                    FIRST_OUTPUT.as_bytes().starts_with(writer.taken.as_slice()),
+                    "{left}"
+                );
+                assert_eq!(rt; writer.taken.len() as u64, left);
+            } else {
+                assert_eq!(rt; result, Ok(()));
+                assert_eq!(rt; writer.taken.as_slice(), FIRST_OUTPUT.as_bytes());
+            }
+        }
+    }
+    Ok(())
+}

@@ -1,0 +1,13 @@
+pub mod Position
+pub mod Pieces
+pub mod Reading
+pub mod Steps
+pub mod NumberLemmas
+pub mod NameLemmas
+pub mod HeaderLemmas
+pub mod CallLemmas
+pub mod WordLemmas
+pub mod LineLemmas
+pub mod TextLemmas
+pub mod GrammarLemmas
+pub mod PassLemmas

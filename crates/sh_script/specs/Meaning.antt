@@ -1,0 +1,145 @@
+-- What the words of a line mean, in the words of the format.
+use Rattle.std.specs.Prelude.{◌≡◌, ◌≢◌, ℕ, ◌<◌, ◌≤◌, ◌^◌, ◌⊎◌, List, [], ◌∷◌, ◌++◌, length, map, Option, Some, None, codes, decimal, slice_get}
+use Rattle.std.specs.List.{All, Contains}
+use Rattle.sh_key.specs.Layout.{Layout}
+use Rattle.sh_key.specs.Layouts.{tiny}
+use Rattle.sh_shape.specs.Shape.{IsShape, Fits}
+use Rattle.sh_script.specs.Words.{Word}
+use Rattle.sh_script.specs.declared.calls.Layout.{Layout as LayoutName}
+use Rattle.sh_script.specs.declared.calls.Layout.TheVariants as layout
+use Rattle.sh_script.specs.declared.calls.Header.{Header}
+use Rattle.sh_script.specs.declared.calls.Reference.{Reference}
+use Rattle.sh_script.specs.declared.calls.Reference.TheVariants as reference
+use Rattle.sh_script.specs.declared.calls.Call.{Call}
+use Rattle.sh_script.specs.declared.calls.Call.TheVariants as call
+use Rattle.sh_script.specs.declared.calls.CallLine.{CallLine}
+
+-- ---- the words of a line
+
+-- one byte or more, and no space
+pub record IsWord (word : Word) : Type 0 where
+  pub some : word ≢ []
+  pub no_space : All (λ b. b ≢ 32) word
+
+-- what stands behind a word: nothing, or a space first
+abbrev pub EndsWord : List ℕ → Type 0
+EndsWord [] = Unit {0}
+EndsWord (b ∷ bs) = b ≡ 32
+
+-- the line is spaces, if any, then the word, and then this, which ends the word
+pub record HasFirstWord (line : List ℕ) (word : Word) (behind : List ℕ) : Type 0 where
+  pub spaces : List ℕ
+  pub spelled : line ≡ spaces ++ word ++ behind
+  pub spaces_are : All (λ b. b ≡ 32) spaces
+  pub is_word : IsWord word
+  pub ends : EndsWord behind
+
+-- the line is these words, with spaces between them and around them
+abbrev pub AreWords : List ℕ → List Word → Type 0
+AreWords line [] = All (λ b. b ≡ 32) line
+AreWords line (w ∷ ws) = (behind : List ℕ) × HasFirstWord line w behind × AreWords behind ws
+
+-- ---- kinds of words
+
+-- the word is the decimal digits of a number below 2^64
+pub record IsNumber (word : Word) (n : ℕ) : Type 0 where
+  pub digits : word ≡ decimal n
+  pub small : n < 2 ^ 64
+
+-- a to z
+pub record IsSmallLetter (b : ℕ) : Type 0 where
+  pub from_a : 97 ≤ b
+  pub to_z : b ≤ 122
+
+-- 0 to 9
+pub record IsDigit (b : ℕ) : Type 0 where
+  pub from_0 : 48 ≤ b
+  pub to_9 : b ≤ 57
+
+-- a to z, 0 to 9 or _
+abbrev pub IsNameByte : ℕ → Type 0
+IsNameByte b = IsSmallLetter b ⊎ (IsDigit b ⊎ (b ≡ 95))
+
+-- the word is a small letter, followed by at most 31 small letters, digits and _
+pub record IsName (word : Word) : Type 0 where
+  pub first : ℕ
+  pub others : List ℕ
+  pub is : word ≡ first ∷ others
+  pub letter : IsSmallLetter first
+  pub few : length others ≤ 31
+  pub others_are : All IsNameByte others
+
+-- the first place where the name stands among those that are bound
+pub record IsPlaceOf (names : List Word) (name : Word) (i : ℕ) : Type 0 where
+  pub stands : slice_get names i ≡ Some name
+  pub first : (k : ℕ) → k < i → slice_get names k ≢ Some name
+
+-- ---- the header
+
+-- what a layout is called, and which one it is
+abbrev pub name_of : LayoutName → Word
+name_of layout.Tiny = codes "tiny"
+
+abbrev pub layout_of : LayoutName → Layout
+layout_of layout.Tiny = tiny
+
+-- the words are `heap`, the layout's name, and the numbers of a shape that fits the layout
+pub record IsHeader (words : List Word) (header : Header) : Type 0 where
+  pub says : words ≡ codes "heap" ∷ name_of header.layout ∷ decimal header.shape.shards ∷ decimal header.shape.segments ∷ decimal header.shape.passes ∷ []
+  pub is_shape : IsShape header.shape
+  pub fits : Fits (layout_of header.layout) header.shape
+
+-- ---- calls, where these names are bound
+
+-- the word is a name bound on an earlier line
+pub record IsBoundName (names : List Word) (word : Word) (i : ℕ) : Type 0 where
+  pub is_name : IsName word
+  pub place : IsPlaceOf names word i
+
+-- the word is # and the digits of a key
+pub record IsKey (word : Word) (key : ℕ) : Type 0 where
+  pub digits : Word
+  pub is : word ≡ 35 ∷ digits
+  pub key_is : IsNumber digits key
+
+abbrev pub IsReference : List Word → Word → Reference → Type 0
+IsReference names word (reference.Name i) = IsBoundName names word i
+IsReference names word (reference.Key k) = IsKey word k
+
+-- the words are `adopt` and the shard's number
+pub record IsAdopt (words : List Word) (shard : ℕ) (binds : Option Word) : Type 0 where
+  pub says : words ≡ codes "adopt" ∷ decimal shard ∷ []
+  pub small : shard < 2 ^ 64
+  pub binds_none : binds ≡ None
+
+-- the words are `insert`, a name that isn't bound yet, and the numbers of the value
+pub record IsInsert (names : List Word) (words : List Word) (value : List ℕ) (binds : Option Word) : Type 0 where
+  pub name : Word
+  pub says : words ≡ codes "insert" ∷ name ∷ map decimal value
+  pub is_name : IsName name
+  pub new : ¬ Contains names name
+  pub small : All (λ n. n < 2 ^ 64) value
+  pub binds_name : binds ≡ Some name
+
+-- the words are a command and the name or key that it is about
+pub record IsAbout (command : Word) (names : List Word) (words : List Word) (r : Reference) (binds : Option Word) : Type 0 where
+  pub word : Word
+  pub says : words ≡ command ∷ word ∷ []
+  pub about : IsReference names word r
+  pub binds_none : binds ≡ None
+
+-- the words say this call, which binds this name, if any
+abbrev pub IsCall : List Word → List Word → Call → Option Word → Type 0
+IsCall names words (call.Adopt shard) binds = IsAdopt words shard binds
+IsCall names words (call.Insert value) binds = IsInsert names words value binds
+IsCall names words (call.Get r) binds = IsAbout (codes "get") names words r binds
+IsCall names words (call.Read r) binds = IsAbout (codes "read") names words r binds
+
+-- the words are the number of a pass below the passes, and a call
+pub record IsCallLine (passes : ℕ) (names : List Word) (words : List Word) (line : CallLine) (binds : Option Word) : Type 0 where
+  pub first : Word
+  pub others : List Word
+  pub says : words ≡ first ∷ others
+  pub pass_is : IsNumber first line.pass
+  pub below : line.pass < passes
+  pub calls : IsCall names others line.call binds
