@@ -1,0 +1,61 @@
+//! The whole program, over the words of a command line, a reader and two writers.
+ghost use Rattle.std.specs.Prelude.{◌≡◌, ◌⊎◌, map};
+ghost use Rattle.clap.specs.Words.{kind_of};
+ghost use Rattle.shardheap.specs.Faults.{status_of};
+ghost use Rattle.shardheap.specs.Program.{EndsBy, EndsRefused, EndsRun};
+
+use crate::faults::{FaultLine, status};
+use crate::options::options;
+use clap::Error;
+use clap::error::ErrorKind;
+use sh_replay::replay_alone;
+use sh_script::Fault;
+use std::alloc::Global;
+use std::io::{Read, Write};
+
+/// Names a fault on one line of `errors`, and gives the exit status. The status tells it also where `errors` takes nothing.
+pub fn report<E: Write>(fault: Fault, errors: &mut E) -> u8
+    ensures { result ≡ status_of fault }
+{
+    let _ = writeln!(errors, "{}", FaultLine(fault));
+    status(fault)
+}
+
+/// Shows why clap gave no options, and gives the exit status: help goes to `output`, a mistake in the words to `errors`.
+fn show<W: Write, E: Write>(error: &Error, output: &mut W, errors: &mut E) -> u8
+    ensures { EndsBy (kind_of error.now) result }
+{
+    if error.kind() == ErrorKind::OutOfMemory {
+        return report(Fault::Memory, errors);
+    }
+    if error.use_stderr() {
+        let _ = write!(errors, "{error}");
+        return 2;
+    }
+    match write!(output, "{error}") {
+        Ok(()) => 0,
+        Err(_) => report(Fault::Io, errors),
+    }
+}
+
+/// Runs the program: the script that `input` gives, in the mode that `words` say, with the replies to `output` and what
+/// is wrong to `errors`. The first word is the program's name. Gives the exit status: 0, also for help; 2 for a mistake
+/// in the words or in the script; and 3 where memory, an owner, a read or a write failed.
+pub fn run<R: Read, W: Write, E: Write>(
+    alloc: Global,
+    words: &[&str],
+    input: &mut R,
+    output: &mut W,
+    errors: &mut E,
+) -> u8
+    ensures { EndsRefused (map (λ w. w.now) words.now) result ⊎ EndsRun (map (λ w. w.now) words.now) result }
+{
+    let (mode, accounts) = match options(alloc, words) {
+        Ok(chosen) => chosen,
+        Err(error) => return show(&error, output, errors),
+    };
+    match replay_alone(alloc, input, output, mode, accounts) {
+        Ok(()) => 0,
+        Err(fault) => report(fault, errors),
+    }
+}

@@ -1,0 +1,224 @@
+use crate::faults::{FaultLine, status};
+use crate::options::options;
+use crate::program::run;
+use clap::error::ErrorKind;
+use sh_replay::Mode;
+use sh_script::{Cause, Fault};
+use std::io;
+use std::io::{Read, Write};
+use std::test::Fail;
+
+const SCRIPT: &str = "heap tiny 1 1 2\n0 adopt 0\n0 insert a 7\n0 get a\n0 read a\n";
+
+const REPLIES: &str = "0 adopt ok\n0 insert 4096\n0 get ok\n0 read 1 7\n";
+
+/// A device of which each read and each write fails.
+#[derive(Drop)]
+struct Broken;
+
+impl Read for Broken {
+    fn read(&mut self, _buffer: &mut [u8]) -> io::Result<usize> {
+        Err(io::Error::from(io::ErrorKind::BrokenPipe))
+    }
+}
+
+impl Write for Broken {
+    fn write(&mut self, _buffer: &[u8]) -> io::Result<usize> {
+        Err(io::Error::from(io::ErrorKind::BrokenPipe))
+    }
+
+    fn flush(&mut self) -> io::Result<()> {
+        Ok(())
+    }
+}
+
+#[test]
+fn fault_lines(rt: HostRuntime) -> Result<(), Fail> {
+    let table = [
+        (
+            Fault::Script(2, Cause::Cut),
+            "shardheap: fault 14 Script line 2 Cut",
+            2,
+        ),
+        (
+            Fault::Script(2, Cause::Unbound),
+            "shardheap: fault 14 Script line 2 Unbound",
+            2,
+        ),
+        (
+            Fault::Script(1, Cause::Header),
+            "shardheap: fault 14 Script line 1 Header",
+            2,
+        ),
+        (Fault::BadShape, "shardheap: fault 12 BadShape", 2),
+        (Fault::Memory, "shardheap: fault 8 Memory", 3),
+        (Fault::Waiting, "shardheap: fault 11 Waiting", 3),
+        (Fault::Io, "shardheap: fault 15 Io", 3),
+    ];
+    for (fault, line, ends_with) in table {
+        let text = format!(in rt.alloc(); "{}", FaultLine(fault))?;
+        assert_eq!(rt; text.as_str(), line);
+        assert_eq!(rt; status(fault), ends_with, "{line}");
+    }
+    Ok(())
+}
+
+#[test]
+fn options_are_taken(rt: HostRuntime) -> Result<(), Fail> {
+    let alloc = rt.alloc();
+    assert!(rt; options(alloc, &["shardheap", "plain"])? == (Mode::Plain, false));
+    assert!(rt; options(alloc, &["shardheap", "plain", "--accounts"])? == (Mode::Plain, true));
+    assert!(rt; options(alloc, &["shardheap", "--accounts", "plain"])? == (Mode::Plain, true));
+    Ok(())
+}
+
+#[test]
+fn options_are_refused(rt: HostRuntime) -> Result<(), Fail> {
+    let table: [(&[&str], ErrorKind, bool); 5] = [
+        (&["shardheap"], ErrorKind::MissingRequiredArgument, true),
+        (&["shardheap", "steps"], ErrorKind::InvalidValue, true),
+        (
+            &["shardheap", "plain", "x"],
+            ErrorKind::UnknownArgument,
+            true,
+        ),
+        (&["shardheap", "--nope"], ErrorKind::UnknownArgument, true),
+        (&["shardheap", "--help"], ErrorKind::DisplayHelp, false),
+    ];
+    for (words, kind, is_mistake) in table {
+        let Err(error) = options(rt.alloc(), words) else {
+            assert!(rt; false, "{kind:?}");
+            return Ok(());
+        };
+        assert_eq!(rt; error.kind(), kind);
+        assert_eq!(rt; error.use_stderr(), is_mistake, "{kind:?}");
+    }
+    Ok(())
+}
+
+#[test]
+fn a_script_runs(rt: HostRuntime) -> Result<(), Fail> {
+    let table: [&[&str]; 2] = [
+        &["shardheap", "plain"],
+        &["shardheap", "plain", "--accounts"],
+    ];
+    for words in table {
+        let mut output = Vec::new(rt.alloc());
+        let mut errors = Vec::new(rt.alloc());
+        let mut input = SCRIPT.as_bytes();
+        let status = run(rt.alloc(), words, &mut input, &mut output, &mut errors);
+        assert_eq!(rt; status, 0);
+        assert!(rt; output.as_slice() == REPLIES.as_bytes());
+        assert!(rt; errors.is_empty());
+    }
+    Ok(())
+}
+
+#[test]
+fn a_faulty_script_is_named(rt: HostRuntime) -> Result<(), Fail> {
+    let table = [
+        (
+            "heap tiny 1 1 1\n0 adopt 0",
+            "shardheap: fault 14 Script line 2 Cut\n",
+        ),
+        (
+            "heap tiny 1 1 1\n0 get a\n",
+            "shardheap: fault 14 Script line 2 Unbound\n",
+        ),
+        ("", "shardheap: fault 14 Script line 1 Header\n"),
+        ("heap tiny 5 1 1\n", "shardheap: fault 12 BadShape\n"),
+    ];
+    for (script, line) in table {
+        let mut output = Vec::new(rt.alloc());
+        let mut errors = Vec::new(rt.alloc());
+        let mut input = script.as_bytes();
+        let status = run(
+            rt.alloc(),
+            &["shardheap", "plain"],
+            &mut input,
+            &mut output,
+            &mut errors,
+        );
+        assert_eq!(rt; status, 2, "{line}");
+        assert!(rt; output.is_empty(), "{line}");
+        assert!(rt; errors.as_slice() == line.as_bytes(), "{line}");
+    }
+    Ok(())
+}
+
+#[test]
+fn a_mistake_in_the_words_is_shown(rt: HostRuntime) -> Result<(), Fail> {
+    let table: [(&[&str], &str); 2] = [
+        (
+            &["shardheap"],
+            "error: the following required arguments were not provided:\n  <mode>\n\nUsage: shardheap <mode>\n\nFor more information, try '--help'.\n",
+        ),
+        (
+            &["shardheap", "steps"],
+            "error: invalid value 'steps' for '<mode>'\n  [possible values: plain]\n\nUsage: shardheap [OPTIONS] <mode>\n\nFor more information, try '--help'.\n",
+        ),
+    ];
+    for (words, text) in table {
+        let mut output = Vec::new(rt.alloc());
+        let mut errors = Vec::new(rt.alloc());
+        let status = run(rt.alloc(), words, &mut Broken, &mut output, &mut errors);
+        assert_eq!(rt; status, 2, "{text}");
+        assert!(rt; output.is_empty(), "{text}");
+        assert!(rt; errors.as_slice() == text.as_bytes(), "{text}");
+    }
+    Ok(())
+}
+
+#[test]
+fn help_is_output(rt: HostRuntime) -> Result<(), Fail> {
+    let mut output = Vec::new(rt.alloc());
+    let mut errors = Vec::new(rt.alloc());
+    let words = ["shardheap", "--help"];
+    assert_eq!(rt;
+        run(rt.alloc(), &words, &mut Broken, &mut output, &mut errors),
+        0
+    );
+    assert!(rt; output.starts_with("Runs a script".as_bytes()));
+    assert!(rt; errors.is_empty());
+    Ok(())
+}
+
+#[test]
+fn a_broken_device_is_named(rt: HostRuntime) -> Result<(), Fail> {
+    let mut output = Vec::new(rt.alloc());
+    let mut errors = Vec::new(rt.alloc());
+    let words = ["shardheap", "plain"];
+    assert_eq!(rt;
+        run(rt.alloc(), &words, &mut Broken, &mut output, &mut errors),
+        3
+    );
+    assert!(rt; output.is_empty());
+    assert_eq!(rt;
+        run(
+            rt.alloc(),
+            &words,
+            &mut SCRIPT.as_bytes(),
+            &mut Broken,
+            &mut errors
+        ),
+        3
+    );
+    assert_eq!(rt;
+        run(
+            rt.alloc(),
+            &["shardheap", "--help"],
+            &mut Broken,
+            &mut Broken,
+            &mut errors
+        ),
+        3
+    );
+    let line = "shardheap: fault 15 Io\n";
+    let lines = format!(in rt.alloc(); "{line}{line}{line}")?;
+    assert!(rt; errors.as_slice() == lines.as_bytes());
+    assert_eq!(rt;
+        run(rt.alloc(), &words, &mut Broken, &mut output, &mut Broken),
+        3
+    );
+    Ok(())
+}
