@@ -166,3 +166,26 @@ fn each_write_may_fail(rt: HostRuntime) -> Result<(), Fail> {
     }
     Ok(())
 }
+
+/// What the first script gives where memory for the entry of its insert is refused.
+const REFUSED_OUTPUT: &str =
+    "0 adopt ok\n0 insert refused 8 Memory\n0 get unbound\n0 read unbound\n";
+
+// With `rt try --test --fail-alloc N` the N-th allocation is refused, here in one of the runs at most.
+#[test]
+fn refused_memory_is_a_fault_or_a_reply(rt: HostRuntime) {
+    let mut whole = 0;
+    for _ in 0..3 {
+        let mut out = Vec::new(rt.alloc());
+        match plain(rt.alloc(), FIRST, &mut out) {
+            Ok(()) if out.as_slice() == FIRST_OUTPUT.as_bytes() => whole += 1,
+            Ok(()) => assert_eq!(rt; out.as_slice(), REFUSED_OUTPUT.as_bytes()),
+            // Memory that is refused to the writer is a failed write.
+            Err(fault) => {
+                assert!(rt; fault == Fault::Memory || fault == Fault::Io);
+                assert!(rt; out.is_empty());
+            }
+        }
+    }
+    assert!(rt; whole >= 2, "{whole}");
+}
