@@ -46,7 +46,7 @@ impl Numbers {
     ghost use Rattle.std.specs.Prelude.{◌≡◌, ◌++◌, ◌∷◌, [], OnOk, OnErr};
 
     /// No words.
-    pub fn new(alloc: Global) -> Numbers
+    pub(crate) fn new(alloc: Global) -> Numbers
         ensures { result ≡ [] }
     {
         Numbers {
@@ -55,7 +55,7 @@ impl Numbers {
     }
 
     /// Adds a word behind the others.
-    pub fn push(&mut self, word: u64) -> Result<(), AllocError>
+    pub(crate) fn push(&mut self, word: u64) -> Result<(), AllocError>
         ensures ok { OnOk result (self.new ≡ self.old ++ word ∷ []) }
         ensures err { OnErr result (self.new ≡ self.old) }
     {

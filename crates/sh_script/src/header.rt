@@ -45,7 +45,11 @@ fn shape(shards: u64, segments: u64, passes: u64) -> Option<Shape>
     let segments = u32::try_from(segments).ok()?;
     let passes = u32::try_from(passes).ok()?;
     let shape = Shape::new(shards, segments, passes).ok()?;
-    if fits::<Tiny>(&shape) { Some(shape) } else { None }
+    if fits::<Tiny>(&shape) {
+        Some(shape)
+    } else {
+        None
+    }
 }
 
 /// The header that the words of a line give.

@@ -12,11 +12,10 @@ mod header;
 mod line;
 mod names;
 mod script;
-mod trouble;
-mod words;
-
 #[cfg(test)]
 mod tests;
+mod trouble;
+mod words;
 
 pub use calls::{Call, CallLine, Calls, Header, Layout, Numbers, Reference};
 pub use fault::{Cause, Fault};

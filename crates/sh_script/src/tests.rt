@@ -51,7 +51,8 @@ fn the_first_script(rt: HostRuntime) {
 
 #[test]
 fn spaces_comments_and_blank_lines(rt: HostRuntime) {
-    let text = b"\n; a heap\n  heap  tiny 4 2 64 \n   \n;x 0 get b\n 63  insert  b_9 0 18446744073709551615\n0 insert c\n1 get #4096\n2 read c\n";
+    let text =
+        b"\n; a heap\n  heap  tiny 4 2 64 \n   \n;x 0 get b\n 63  insert  b_9 0 18446744073709551615\n0 insert c\n1 get #4096\n2 read c\n";
     let calls = parse_calls(rt.alloc(), text).expect(&rt, "it is a script");
     assert_eq!(rt; calls.header.shape.passes(), 64);
     assert_eq!(rt; calls.lines.len(), 4);
@@ -74,23 +75,65 @@ fn scripts_with_a_fault(rt: HostRuntime) {
         (b"heap tiny 01 1 1\n", Fault::Script(1, Cause::Header)),
         (b"heap tiny 1 1\n", Fault::Script(1, Cause::Header)),
         (b"heap tiny 1 1 1 1\n", Fault::Script(1, Cause::Header)),
-        (b"heap tiny 18446744073709551616 1 1\n", Fault::Script(1, Cause::Header)),
+        (
+            b"heap tiny 18446744073709551616 1 1\n",
+            Fault::Script(1, Cause::Header),
+        ),
         (b"heap vast 1 1 1\n", Fault::Script(1, Cause::Header)),
         (b"0 adopt 0\n", Fault::Script(1, Cause::Header)),
-        (b"heap tiny 1 1 1\n0 get a\n", Fault::Script(2, Cause::Unbound)),
-        (b"heap tiny 1 1 1\n0 adopt 00\n", Fault::Script(2, Cause::Number)),
-        (b"heap tiny 1 1 1\nx adopt 0\n", Fault::Script(2, Cause::Number)),
-        (b"heap tiny 1 1 1\n1 adopt 0\n", Fault::Script(2, Cause::Pass)),
+        (
+            b"heap tiny 1 1 1\n0 get a\n",
+            Fault::Script(2, Cause::Unbound),
+        ),
+        (
+            b"heap tiny 1 1 1\n0 adopt 00\n",
+            Fault::Script(2, Cause::Number),
+        ),
+        (
+            b"heap tiny 1 1 1\nx adopt 0\n",
+            Fault::Script(2, Cause::Number),
+        ),
+        (
+            b"heap tiny 1 1 1\n1 adopt 0\n",
+            Fault::Script(2, Cause::Pass),
+        ),
         (b"heap tiny 1 1 1\n0\n", Fault::Script(2, Cause::Count)),
-        (b"heap tiny 1 1 1\n0 jump\n", Fault::Script(2, Cause::Command)),
-        (b"heap tiny 1 1 1\n0 adopt\n", Fault::Script(2, Cause::Count)),
-        (b"heap tiny 1 1 1\n0 insert\n", Fault::Script(2, Cause::Count)),
-        (b"heap tiny 1 1 1\n0 insert A 1\n", Fault::Script(2, Cause::Name)),
-        (b"heap tiny 1 1 1\n0 insert a\n0 insert a\n", Fault::Script(3, Cause::Bound)),
-        (b"heap tiny 1 1 1\n0 get #x\n", Fault::Script(2, Cause::Number)),
-        (b"heap tiny 1 1 1\n0 insert a 18446744073709551616\n", Fault::Script(2, Cause::Number)),
-        (b"heap tiny 1 1 1\n0\tadopt 0\n", Fault::Script(2, Cause::Byte)),
-        (b"heap tiny 1 1 1\n0 adopt 0 0\n0 jump\n", Fault::Script(2, Cause::Count)),
+        (
+            b"heap tiny 1 1 1\n0 jump\n",
+            Fault::Script(2, Cause::Command),
+        ),
+        (
+            b"heap tiny 1 1 1\n0 adopt\n",
+            Fault::Script(2, Cause::Count),
+        ),
+        (
+            b"heap tiny 1 1 1\n0 insert\n",
+            Fault::Script(2, Cause::Count),
+        ),
+        (
+            b"heap tiny 1 1 1\n0 insert A 1\n",
+            Fault::Script(2, Cause::Name),
+        ),
+        (
+            b"heap tiny 1 1 1\n0 insert a\n0 insert a\n",
+            Fault::Script(3, Cause::Bound),
+        ),
+        (
+            b"heap tiny 1 1 1\n0 get #x\n",
+            Fault::Script(2, Cause::Number),
+        ),
+        (
+            b"heap tiny 1 1 1\n0 insert a 18446744073709551616\n",
+            Fault::Script(2, Cause::Number),
+        ),
+        (
+            b"heap tiny 1 1 1\n0\tadopt 0\n",
+            Fault::Script(2, Cause::Byte),
+        ),
+        (
+            b"heap tiny 1 1 1\n0 adopt 0 0\n0 jump\n",
+            Fault::Script(2, Cause::Count),
+        ),
     ];
     for (text, fault) in table {
         assert_eq!(rt; fault_of(rt.alloc(), text), Some(fault), "{fault}");
@@ -114,7 +157,12 @@ fn long_lines(rt: HostRuntime) -> Result<(), Fail> {
     let alloc = rt.alloc();
     let size = Some(Fault::Script(2, Cause::Size));
     let cut = Some(Fault::Script(2, Cause::Cut));
-    let table = [(512, true, None), (513, true, size), (512, false, cut), (513, false, size)];
+    let table = [
+        (512, true, None),
+        (513, true, size),
+        (512, false, cut),
+        (513, false, size),
+    ];
     for (bytes, ends, fault) in table {
         let text = long_line(alloc, bytes, ends)?;
         assert_eq!(rt; fault_of(alloc, text.as_slice()), fault, "{bytes}");
@@ -131,7 +179,10 @@ fn long_scripts(rt: HostRuntime) -> Result<(), Fail> {
     }
     assert_eq!(rt; fault_of(alloc, text.as_slice()), None);
     text.push(b'\n')?;
-    assert_eq!(rt; fault_of(alloc, text.as_slice()), Some(Fault::Script(0, Cause::Size)));
+    assert_eq!(rt;
+        fault_of(alloc, text.as_slice()),
+        Some(Fault::Script(0, Cause::Size))
+    );
     Ok(())
 }
 
@@ -139,7 +190,10 @@ fn long_scripts(rt: HostRuntime) -> Result<(), Fail> {
 fn faults_have_their_text(rt: HostRuntime) -> Result<(), Fail> {
     let alloc = rt.alloc();
     let table = [
-        (Fault::Script(3, Cause::Unbound), "fault 14 Script line 3 Unbound"),
+        (
+            Fault::Script(3, Cause::Unbound),
+            "fault 14 Script line 3 Unbound",
+        ),
         (Fault::BadShape, "fault 12 BadShape"),
         (Fault::Memory, "fault 8 Memory"),
         (Fault::Waiting, "fault 11 Waiting"),
