@@ -1,6 +1,5 @@
 -- Laws of legal histories.
-use Rattle.std.proofs.Common.{◌≡◌, ◌≢◌, ℕ, ◌+◌, ◌-◌, ◌<◌, ◌≤◌, Bool, true, false, List, [], ◌∷◌, ◌++◌, Option, Some, None, refl, sym, ◌∙◌, ap, subst, append_assoc, arith, rules, inl, inr, length, get_or, take, drop}
-use Rattle.std.specs.Prelude.{not}
+use Rattle.std.proofs.Common.{◌≡◌, ◌≢◌, ℕ, ◌+◌, ◌<◌, true, false, List, [], ◌∷◌, ◌++◌, append_assoc, arith, rules, inl, inr, length, get_or, take, drop}
 use Rattle.std.specs.Cmp.Lexicographic.{pointwise}
 use lib.Dec.{eqb}
 use Rattle.std.proofs.lemmas.List.{append-nil, take_more, take-append-drop}
@@ -9,7 +8,7 @@ use Rattle.sh_history.specs.declared.entry.Entry.{Entry}
 use Rattle.sh_history.specs.declared.entry.Entry.TheVariants.{Insert, Got, Gone, Crowded, Removed, Released}
 use Rattle.sh_history.specs.declared.checker.Why.{Why}
 use Rattle.sh_history.specs.declared.checker.Why.TheVariants.{NotNew, NotIssued, OtherValue, AfterRemoval, StillThere, NotCrowded, NotHeld}
-use Rattle.sh_history.specs.History.{value_of, is_removed, holds_on, holds_by, Allowed, LegalAfter, Legal}
+use Rattle.sh_history.specs.History.{Allowed, LegalAfter, Legal}
 use Rattle.sh_history.specs.FirstFault.{IsWhy}
 
 -- what the comparison of two values says

@@ -1,16 +1,15 @@
 -- Laws of histories and of logs that agree with them.
-use Rattle.std.proofs.Common.{◌≡◌, ◌≢◌, ℕ, ◌+◌, ◌-◌, ◌<◌, ◌≤◌, Bool, true, false, List, [], ◌∷◌, ◌++◌, Option, Some, None, refl, sym, ◌∙◌, ap, subst, append_assoc, arith, rules, inl, inr, map, cond, zero-add}
-use Rattle.std.specs.Prelude.{◌==◌, ◌&&◌, filter, count_by, sum_by, is_some}
-use Rattle.std.specs.List.{AllZip, list_any}
+use Rattle.std.proofs.Common.{◌≡◌, ℕ, ◌+◌, ◌<◌, ◌≤◌, Bool, true, false, List, [], ◌∷◌, ◌++◌, Option, Some, None, refl, sym, ◌∙◌, ap, subst, append_assoc, arith, rules, map, cond, zero-add}
+use Rattle.std.specs.Prelude.{◌==◌, ◌&&◌, filter, count_by}
+use Rattle.std.specs.List.{AllZip}
 use Rattle.std.proofs.lemmas.List.{append-nil}
 use Rattle.std.proofs.lemmas.List.Sums.{sum_by-append, sum_by-cons}
-use Rattle.std.proofs.lemmas.List.Folds.{list_any-append}
 use Rattle.sh_history.proofs.Laws.{legal_after_parts}
 use Rattle.sh_history.specs.declared.entry.Entry.{Entry}
-use Rattle.sh_history.specs.declared.entry.Entry.TheVariants.{Insert, Got, Gone, Crowded, Removed, Released}
-use Rattle.sh_history.specs.History.{value_of, is_removed, is_insert, insert_count, holds_on, holds_by, is_got_by, is_release_by, got_count_by, released_count_by, Allowed, LegalAfter, Legal}
+use Rattle.sh_history.specs.declared.entry.Entry.TheVariants.{Insert, Got, Released}
+use Rattle.sh_history.specs.History.{value_of, holds_by, is_got_by, is_release_by, got_count_by, released_count_by, Allowed, LegalAfter, Legal}
 use Rattle.sh_history.specs.declared.log.LogEntry.{LogEntry}
-use Rattle.sh_history.specs.declared.log.LogEntry.TheVariants.{Known, Unread}
+use Rattle.sh_history.specs.declared.log.LogEntry.TheVariants.{Known}
 use Rattle.sh_history.specs.Log.{Agrees, pass_of, entries_of, Stands, is_logged_got_by, is_logged_release_by, logged_holds_by, filled, HasValue, AllHaveValue}
 
 cond_kept : (b : Bool) (v w : List ℕ) (x y : Option (List ℕ)) → (x ≡ Some w → y ≡ Some w)

@@ -1,3 +1,4 @@
 pub mod History
 pub mod FirstFault
 pub mod Log
+pub mod Laws

@@ -9,15 +9,23 @@ use crate::look::{is_crowded, is_held_by, is_removed, value_of};
 /// Why an entry may not stand where it stands.
 #[derive(Clone, Copy, Debug, PartialEq, Eq)]
 pub enum Why {
+    /// An insert gives a key that was inserted before.
     NotNew,
+    /// The key was not inserted.
     NotIssued,
+    /// A get gives another value than the key was inserted with.
     OtherValue,
+    /// The key was removed.
     AfterRemoval,
+    /// A key is called gone that was inserted and not removed.
     StillThere,
+    /// A key is called crowded on which the passes could not have brought the holds above the greatest count.
     NotCrowded,
+    /// The pass has no hold on the key that it releases.
     NotHeld,
 }
 
+// Why the entry may not follow these, of several reasons the first of the list above, or `None` where it may.
 fn why_not(before: &[Entry], entry: &Entry, passes: u32, guard_max: u32) -> Option<Why>
     ensures { MatchOption result (Allowed passes guard_max before.now entry.now) (IsWhy passes guard_max before.now entry.now) }
 {
@@ -113,14 +121,40 @@ mod tests {
             Entry::Got(0, 4096, value(&[7], &rt)),
         ];
         assert_eq!(rt; check(&removed, 1, 4), Err((2, Why::AfterRemoval)));
-        let crowded = [
+        assert_eq!(rt; check(&removed[..2], 1, 4), Ok(()));
+        assert_eq!(rt; check(&[], 1, 4), Ok(()));
+        let again = [
+            Entry::Insert(0, 4096, value(&[], &rt)),
+            Entry::Insert(0, 4096, value(&[], &rt)),
+        ];
+        assert_eq!(rt; check(&again, 1, 4), Err((1, Why::NotNew)));
+        let gone = [
+            Entry::Insert(0, 4096, value(&[], &rt)),
+            Entry::Gone(0, 4096),
+        ];
+        assert_eq!(rt; check(&gone, 1, 4), Err((1, Why::StillThere)));
+        Ok(())
+    }
+
+    #[test]
+    fn crowded_depends_on_the_holds(rt: HostRuntime) -> Result<(), Fail> {
+        let three = [
             Entry::Insert(0, 4096, value(&[], &rt)),
             Entry::Got(0, 4096, value(&[], &rt)),
             Entry::Got(0, 4096, value(&[], &rt)),
             Entry::Got(0, 4096, value(&[], &rt)),
             Entry::Crowded(0, 4096),
         ];
-        assert_eq!(rt; check(&crowded, 1, 4), Err((4, Why::NotCrowded)));
+        assert_eq!(rt; check(&three, 1, 4), Err((4, Why::NotCrowded)));
+        let four = [
+            Entry::Insert(0, 4096, value(&[], &rt)),
+            Entry::Got(0, 4096, value(&[], &rt)),
+            Entry::Got(0, 4096, value(&[], &rt)),
+            Entry::Got(0, 4096, value(&[], &rt)),
+            Entry::Got(0, 4096, value(&[], &rt)),
+            Entry::Crowded(0, 4096),
+        ];
+        assert_eq!(rt; check(&four, 1, 4), Ok(()));
         Ok(())
     }
 }

@@ -4,9 +4,11 @@
 
 pub mod checker;
 pub mod entry;
+pub mod law;
 pub mod log;
 pub mod look;
 
 pub use checker::{Why, check};
 pub use entry::Entry;
+pub use law::{one_value_a_key, releases_are_got, removals_stand};
 pub use log::LogEntry;

@@ -1,10 +1,11 @@
 -- The laws of packing, for every layout.
-use Rattle.std.proofs.Common.{◌≡◌, ℕ, ◌+◌, ◌*◌, ◌^◌, ◌<◌, ◌≤◌, ◌/◌, ◌%◌, ◌∙◌, ap, sym, arith, refl, Some, None, Option, true, false, Bool, cond, subst, le-leb, leb-true}
-use Rattle.std.specs.Prelude.{◌&&◌, nat_le}
-use Rattle.std.proofs.lemmas.Nat.{mul-add-lt, div-mul-add, mod-mul-add, div-add-mod', pow-add, pow_pos}
-use Rattle.std.proofs.Math.Nat.{pow-le-pow_right, mod-lt}
+use Rattle.std.proofs.Common.{◌≡◌, ℕ, ◌+◌, ◌*◌, ◌^◌, ◌<◌, ◌≤◌, ◌/◌, ◌∙◌, ap, sym, arith, refl, Some, None, true, false, Bool, cond, subst, le-leb, leb-true}
+use Rattle.std.specs.Prelude.{◌&&◌, nat_le, IsSome}
+use Rattle.std.proofs.lemmas.Nat.{mul-add-lt, div-mul-add, mod-mul-add, div-add-mod', pow-add, pow_pos, shr-shr}
+use Rattle.std.proofs.Math.Nat.{pow-le-pow_right, mod-lt, le-div_iff_mul-le, div-lt_iff_lt-mul}
 use Rattle.sh_key.specs.declared.parts.Parts.{Parts}
-use Rattle.sh_key.specs.Layout.{Layout, IsLayout, IsInRange, IsKeyOf, packed, unpacked, if_good, digits_of}
+use Rattle.sh_key.specs.Layout.{Layout, IsLayout, IsInRange, IsKeyOf, packed, unpacked, if_good, digits_of, first_key}
+use Rattle.sh_key.specs.Laws.{KeysAreConsecutive}
 
 -- a key fits 64 bits, where m and n are powers of two
 pub digits-fit : (a b m n g s p t : ℕ) → m ≡ 2 ^ a → n ≡ 2 ^ b → a + b ≤ 26
@@ -78,3 +79,45 @@ unpacked_is layout k p e =
       is = packed-digits_of layout k;
     } in
     let P : Parts → Type 0 = λ p. IsKeyOf layout p k in subst P c.1 found
+
+-- a key fits 64 bits
+pub packed_fits : (layout : Layout) → IsLayout layout → (p : Parts) → IsInRange layout p → packed layout p < 2 ^ 64
+packed_fits layout lawful p r =
+    let few : p.generation < 2 ^ 32 = let a = r.generation_fits in let b = lawful.generations_fit in omega arith in
+    digits-fit layout.shard_bits layout.page_bits (2 ^ layout.shard_bits) (2 ^ layout.page_bits)
+    p.generation p.shard p.page p.slot refl refl lawful.few_bits few r.shard_fits r.page_fits r.slot_fits
+
+-- the generation of a number says how often the first key goes into it
+generation_is : (layout : Layout) (k : ℕ) → (digits_of layout k).generation ≡ k / first_key layout
+generation_is layout k =
+    let bits : 6 + layout.page_bits + layout.shard_bits ≡ layout.shard_bits + layout.page_bits + 6 = omega arith in
+    ap (λ n. n / 2 ^ layout.shard_bits) (shr-shr k 6 layout.page_bits)
+    ∙ shr-shr k (6 + layout.page_bits) layout.shard_bits
+    ∙ ap (λ n. k / 2 ^ n) bits
+
+some_test : (b : Bool) (p : Parts) → IsSome (cond b (Some p) None) → b ≡ true
+some_test true p h = refl
+some_test false p h = h
+
+test_some : (b : Bool) (p : Parts) → b ≡ true → IsSome (cond b (Some p) None)
+test_some true p h = refl
+test_some false p h = h
+
+-- the keys are the numbers from the first one on
+pub keys_are_consecutive : (layout : Layout) → KeysAreConsecutive layout
+keys_are_consecutive layout k =
+    let d = digits_of layout k in
+    let some : 0 < first_key layout = pow_pos (layout.shard_bits + layout.page_bits + 6) in
+    let is = generation_is layout k in
+    let low = le-div_iff_mul-le {k = first_key layout} {x = 1} {y = k} some in
+    let high = div-lt_iff_lt-mul {k = first_key layout} {x = k} {y = layout.gen_max + 1} some in (
+      λ h.
+          let b = both_true (nat_le 1 d.generation) (nat_le d.generation layout.gen_max) (some_test _ d h) in
+          let first : 1 ≤ k / first_key layout = rw (← is) (leb-true _ _ b.0) in
+          let last : k / first_key layout ≤ layout.gen_max = rw (← is) (leb-true _ _ b.1) in
+          (omega (arith, low.0 first), omega (arith, high.0 (omega (arith, last)))),
+      λ h.
+          let first : 1 ≤ d.generation = rw is (low.1 (omega (arith, h.0))) in
+          let last : d.generation ≤ layout.gen_max = rw is (omega (arith, high.1 (omega (arith, h.1)))) in
+          test_some _ d (tests_true d.generation layout.gen_max first last),
+    )

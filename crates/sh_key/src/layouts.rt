@@ -1,7 +1,14 @@
 //! The layouts.
-ghost use Rattle.sh_key.specs.Layouts.{tiny, tiny_numbers};
+ghost use Rattle.std.specs.Prelude.{◌≡◌, ◌≢◌, ℕ, ◌/◌, ◌%◌, ◌^◌, ◌<◌, ◌↔◌, IfSome, IsNone, Some};
+ghost use Rattle.sh_key.specs.Layouts.{tiny, tiny_numbers, wide, wide_numbers, tagged, tagged_numbers};
+ghost use Rattle.sh_key.specs.Tag.{with_tag, IsTaggedKey};
 
 use crate::KeyLayout;
+
+// The keys of `Tagged` are below this number, and a tag stands at this many.
+const TAGGED_KEYS: u64 = 1 << 52;
+
+const TAG_UNIT: u64 = 1 << 56;
 
 /// The small layout, in which each limit can be seen: 4 shards of 16 pages, 3 generations, 4 holds a key.
 #[derive(Drop)]
@@ -27,6 +34,84 @@ impl KeyLayout for Tiny {
     ghost layout = { tiny };
 
     ghost numbers = { tiny_numbers };
+}
+
+/// The layout for large heaps: 256 shards of 1024 pages, 2^32 - 1 generations, 2^20 holds a key.
+#[derive(Drop)]
+pub struct Wide;
+
+impl KeyLayout for Wide {
+    const SHARD_BITS: u32 = 8;
+
+    const PAGE_BITS: u32 = 10;
+
+    const GEN_MAX: u32 = u32::MAX;
+
+    const GUARD_MAX: u32 = 1048576;
+
+    ghost SHARD_BITS = { 8 };
+
+    ghost PAGE_BITS = { 10 };
+
+    ghost GEN_MAX = { 4294967295 };
+
+    ghost GUARD_MAX = { 1048576 };
+
+    ghost layout = { wide };
+
+    ghost numbers = { wide_numbers };
+}
+
+/// The layout whose keys leave room for 8 bits of the user's: 64 shards of 256 pages, 2^32 - 1 generations, 2^20 holds
+/// a key. Bits 52 to 63 of a key are zero.
+#[derive(Drop)]
+pub struct Tagged;
+
+impl KeyLayout for Tagged {
+    const SHARD_BITS: u32 = 6;
+
+    const PAGE_BITS: u32 = 8;
+
+    const GEN_MAX: u32 = u32::MAX;
+
+    const GUARD_MAX: u32 = 1048576;
+
+    ghost SHARD_BITS = { 6 };
+
+    ghost PAGE_BITS = { 8 };
+
+    ghost GEN_MAX = { 4294967295 };
+
+    ghost GUARD_MAX = { 1048576 };
+
+    ghost layout = { tagged };
+
+    ghost numbers = { tagged_numbers };
+}
+
+impl Tagged {
+    /// The key with 8 bits of the user's at bits 56 to 63.
+    pub fn tag(key: u64, tag: u8) -> u64
+        requires { key < 2 ^ 52 }
+        ensures { result ≡ with_tag key tag }
+    {
+        tag as u64 * TAG_UNIT + key
+    }
+
+    /// The user's bits and the key of a tagged number, or `None` where bits 52 to 55 are not all zero.
+    pub fn untag(number: u64) -> Option<(u8, u64)>
+        ensures none { IsNone result ↔ ((number / 2 ^ 52) % 16 ≢ 0) }
+
+        // Some tag and key are those that the number was tagged with, and those that it was, are found.
+        ensures tags { IfSome result (λ parts. IsTaggedKey number parts.0 parts.1) }
+        ensures only { (tag key : ℕ) → IsTaggedKey number tag key → result ≡ Some (tag, key) }
+    {
+        if number / TAGGED_KEYS % 16 == 0 {
+            Some(((number / TAG_UNIT) as u8, number % TAGGED_KEYS))
+        } else {
+            None
+        }
+    }
 }
 
 #[cfg(test)]
@@ -110,5 +195,32 @@ mod tests {
         for (parts, good) in table {
             assert_eq!(rt; Tiny::in_range(parts), good, "{parts:?}");
         }
+    }
+
+    #[test]
+    fn wide_packs_its_last_key(rt: HostRuntime) {
+        let last = Parts {
+            generation: 4294967295,
+            shard: 255,
+            page: 1023,
+            slot: 63,
+        };
+        assert!(rt; Wide::in_range(last));
+        assert_eq!(rt; Wide::pack(last), 72057594037927935);
+        assert_eq!(rt; Wide::unpack(72057594037927935), Some(last));
+        assert_eq!(rt; Wide::unpack(72057594037927936), None);
+        assert_eq!(rt; Wide::first_key(), 16777216);
+    }
+
+    #[test]
+    fn tags_stand_above_the_key(rt: HostRuntime) {
+        let key = 4503599627370495;
+        assert_eq!(rt; Tagged::unpack(key + 1), None);
+        assert!(rt; Tagged::unpack(key).is_some());
+        assert_eq!(rt; Tagged::tag(1048576, 0), 1048576);
+        assert_eq!(rt; Tagged::tag(0, 1), 72057594037927936);
+        assert_eq!(rt; Tagged::untag(Tagged::tag(key, 255)), Some((255, key)));
+        assert_eq!(rt; Tagged::untag(4503599627370496), None);
+        assert_eq!(rt; Tagged::untag(36028797018963968), None);
     }
 }

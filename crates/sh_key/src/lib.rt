@@ -2,10 +2,12 @@
 //! many bits each part has; what is proved of packing is proved once, for every layout.
 #![tactic(auto)]
 
+pub mod laws;
 pub mod layout;
 pub mod layouts;
 pub mod parts;
 
+pub use laws::{packing_laws, tagged_keys_fit};
 pub use layout::KeyLayout;
-pub use layouts::Tiny;
+pub use layouts::{Tagged, Tiny, Wide};
 pub use parts::Parts;

@@ -1,17 +1,15 @@
 -- Holds and values in the book of a plain store.
-use Rattle.std.proofs.Common.{◌≡◌, ℕ, ◌+◌, ◌-◌, ◌<◌, ◌≤◌, Bool, true, false, cond, List, [], ◌∷◌, ◌++◌, Option, Some, None, refl, sym, ◌∙◌, ap, subst, arith, rules, map, Ok, Err, Result}
-use Rattle.std.specs.Prelude.{◌==◌, ◌&&◌, count_by}
-use Rattle.std.proofs.lemmas.List.{map-append}
-use Rattle.sh_value.specs.declared.hold.Hold.{Hold}
+use Rattle.std.proofs.Common.{◌≡◌, ℕ, ◌+◌, ◌<◌, true, List, [], ◌∷◌, ◌++◌, None, refl, subst, arith, rules, map}
+use Rattle.std.specs.Prelude.{◌==◌, count_by}
 use Rattle.sh_key.specs.Layout.{Layout}
 use Rattle.sh_history.specs.declared.entry.Entry.{Entry}
 use Rattle.sh_history.specs.declared.entry.Entry.TheVariants.{Got}
 use Rattle.sh_history.specs.declared.log.LogEntry.TheVariants.{Known}
 use Rattle.sh_history.specs.History.{Legal, value_of, holds_by, is_got_by, is_release_by, got_count_by}
-use Rattle.sh_history.specs.Log.{logged_holds_by, filled, AllHaveValue}
-use Rattle.sh_history.proofs.LogLaws.{known_holds, known_filled, known_stands, releases_le, gets_have_value, issued_when_got, count_by-push}
+use Rattle.sh_history.specs.Log.{logged_holds_by}
+use Rattle.sh_history.proofs.LogLaws.{known_holds, known_stands, releases_le, issued_when_got, count_by-push}
 use Rattle.sh_plain.specs.Plain.{Plain, IsSound, plain_book, plain_setting}
-use Rattle.sh_plain.specs.Store.{IsBook, GetLeaves}
+use Rattle.sh_plain.specs.Store.{IsBook}
 
 -- the book of a sound store stands in a legal history, which it is itself
 pub book_stands : (layout : Layout) (inserted : ℕ) (entries : List Entry) (pass passes : ℕ) (s : Plain)

@@ -1,5 +1,5 @@
 -- What the calls of a plain store leave in its book.
-use Rattle.std.proofs.Common.{◌≡◌, ℕ, ◌<◌, Bool, true, false, cond, List, [], ◌∷◌, ◌++◌, Option, Some, None, refl, sym, ◌∙◌, ap, subst, arith, rules, map, Ok, Err, Result, ltb-true, ltb-false}
+use Rattle.std.proofs.Common.{◌≡◌, ℕ, Bool, true, false, cond, List, [], ◌∷◌, ◌++◌, Option, Some, None, refl, sym, ap, subst, arith, map, Ok, Err, Result, ltb-true, ltb-false}
 use Rattle.std.specs.Prelude.{ok_or, nat_lt, nat_le, not, is_some}
 use Rattle.std.proofs.lemmas.List.{map-append}
 use Rattle.sh_value.specs.declared.hold.Hold.{Hold}
@@ -10,7 +10,6 @@ use Rattle.sh_history.specs.declared.entry.Entry.{Entry}
 use Rattle.sh_history.specs.declared.entry.Entry.TheVariants.{Got, Gone, Crowded}
 use Rattle.sh_history.specs.declared.log.LogEntry.TheVariants.{Known}
 use Rattle.sh_history.specs.History.{Legal, value_of, present_value, holds_by, holds_on, hold_count}
-use Rattle.sh_history.specs.Log.{logged_holds_by}
 use Rattle.sh_history.proofs.LogLaws.{known_holds, known_filled, gets_have_value}
 use Rattle.sh_plain.specs.Plain.{Plain, Reply, Replied, refused, got_reply, get_reply, read_answer, with_added, plain_book, plain_setting}
 use Rattle.sh_plain.specs.Store.{GetLeaves, ReadLeaves}

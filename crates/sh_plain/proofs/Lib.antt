@@ -1,3 +1,4 @@
 pub mod Sound
 pub mod Held
 pub mod Leaves
+pub mod NewKey

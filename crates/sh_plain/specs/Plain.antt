@@ -95,6 +95,11 @@ Replied reply old (Err r) new = (reply.answer ≡ Err r) × (new ≡ with_added 
 
 -- ---- what is true of each plain store
 
+-- a key of the layout that was not issued
+pub record IsNewKey (layout : Layout) (entries : List Entry) (key : ℕ) : Type 0 where
+  pub is_key : IsSome (unpacked layout key)
+  pub not_issued : value_of entries key ≡ None
+
 -- its entries are a legal history, with this many inserts, of which none has a later key
 pub record IsSound (layout : Layout) (entries : List Entry) (pass passes inserted : ℕ) : Type 0 where
   pub legal : Legal passes layout.guard_max entries

@@ -1,5 +1,5 @@
 //! The plain store, which keeps its entries.
-ghost use Rattle.std.specs.Prelude.{◌≡◌, ◌<◌, ◌≤◌, ◌↔◌, IsTrue, Some, [], ◌∷◌, ◌++◌, false, IfErr, OnOk, OnErr};
+ghost use Rattle.std.specs.Prelude.{◌≡◌, ◌<◌, ◌≤◌, ◌↔◌, IsTrue, Some, [], ◌∷◌, ◌++◌, false, IfOk, IfErr, OnOk, OnErr};
 ghost use Rattle.sh_history.specs.History.{Allowed, Legal, is_insert, present_value, hold_count, holds_by, holds_on};
 ghost use Rattle.sh_history.specs.Log.{logged_holds_by};
 
@@ -204,7 +204,7 @@ impl<L: KeyLayout> PlainStore<L> {
 }
 
 impl<L: KeyLayout> Store for PlainStore<L> {
-    ghost use Rattle.sh_plain.specs.Plain.{plain_book, plain_setting, Replied, insert_reply, get_reply, read_answer, remove_reply, release_reply};
+    ghost use Rattle.sh_plain.specs.Plain.{IsNewKey, plain_book, plain_setting, Replied, insert_reply, get_reply, read_answer, remove_reply, release_reply};
     ghost use Rattle.sh_plain.specs.Store.{IsBook, InsertLeaves, GetLeaves, ReadLeaves, RemoveLeaves, ReleaseLeaves};
 
     ghost book = { plain_book };
@@ -216,7 +216,10 @@ impl<L: KeyLayout> Store for PlainStore<L> {
         ensures stands { IsBook (plain_setting L.layout self.new) (plain_book self.new) }
         ensures same { plain_setting L.layout self.new ≡ plain_setting L.layout self.old }
         ensures exact { Replied (insert_reply L.layout self.old value.now) self.old result self.new }
+        ensures new_key { IfOk result (IsNewKey L.layout self.old.entries) }
     {
+        // Reading a field brings in what is true of each plain store: here before the call, and below after it.
+        let _ = &self.entries;
         let result = self.plain_insert(value);
         let _ = &self.entries;
         result
@@ -228,7 +231,6 @@ impl<L: KeyLayout> Store for PlainStore<L> {
         ensures same { plain_setting L.layout self.new ≡ plain_setting L.layout self.old }
         ensures exact { Replied (get_reply L.layout self.old key) self.old result self.new }
     {
-        // Reading a field brings in what is true of each plain store: here before the call, and below after it.
         let _ = &self.entries;
         let result = self.plain_get(key);
         let _ = &self.entries;

@@ -65,3 +65,96 @@ fn forged_keys_are_refused(rt: HostRuntime) -> Result<(), Fail> {
     assert_eq!(rt; store.remove(12288), Err(Refusal::Gone));
     Ok(())
 }
+
+// A get of a key that was never issued, once more where memory was refused.
+fn get_nothing(store: &mut PlainStore<Tiny>, key: u64) -> Result<Hold, Refusal> {
+    match store.get(key) {
+        Err(Refusal::Memory) => store.get(key),
+        answer => answer,
+    }
+}
+
+// An insert, once more where memory was refused: then the key is not used up, and is still not issued.
+fn insert_with_memory(
+    store: &mut PlainStore<Tiny>,
+    value: &Value,
+    rt: &impl Abort,
+) -> Result<u64, Refusal> {
+    match store.insert(value) {
+        Err(Refusal::Memory) => {
+            assert_eq!(rt; store.get(4096), Err(Refusal::Gone));
+            store.insert(value)
+        }
+        answer => answer,
+    }
+}
+
+// A get by a pass with no hold on the key, once more where memory was refused: then the pass still has none.
+fn get_with_memory(
+    store: &mut PlainStore<Tiny>,
+    key: u64,
+    rt: &impl Abort,
+) -> Result<Hold, Refusal> {
+    match store.get(key) {
+        Err(Refusal::Memory) => {
+            assert_eq!(rt; store.read(Hold { key }), Err(Refusal::NotHeld));
+            assert_eq!(rt; store.release(Hold { key }), Err(Refusal::NotHeld));
+            store.get(key)
+        }
+        answer => answer,
+    }
+}
+
+// A remove, once more where memory was refused: then the key is still present.
+fn remove_with_memory(
+    store: &mut PlainStore<Tiny>,
+    key: u64,
+    rt: &impl Abort,
+) -> Result<(), Refusal> {
+    match store.remove(key) {
+        Err(Refusal::Memory) => {
+            assert_eq!(rt; store.get(key), Ok(Hold { key }));
+            assert_eq!(rt; store.release(Hold { key }), Ok(()));
+            store.remove(key)
+        }
+        answer => answer,
+    }
+}
+
+// A release, once more where memory was refused: then the hold still reads the value.
+fn release_with_memory(
+    store: &mut PlainStore<Tiny>,
+    hold: Hold,
+    value: &Value,
+    rt: &impl Abort,
+) -> Result<(), Refusal> {
+    match store.release(hold) {
+        Err(Refusal::Memory) => {
+            assert_eq!(rt; store.read(hold), Ok(value.copy()));
+            store.release(hold)
+        }
+        answer => answer,
+    }
+}
+
+// Each number of entries before the calls has the entries grow in another call.
+#[test]
+fn a_call_refused_for_memory_changes_nothing(rt: HostRuntime) -> Result<(), Fail> {
+    let words = value(&[7, 8], &rt);
+    let hold = Hold { key: 4096 };
+    for before in 0..8 {
+        let mut store = PlainStore::<Tiny>::new(rt.alloc(), 1);
+        for _ in 0..before {
+            assert_eq!(rt; get_nothing(&mut store, 4096), Err(Refusal::Gone));
+        }
+        assert_eq!(rt; insert_with_memory(&mut store, &words, &rt), Ok(4096));
+        assert_eq!(rt; get_with_memory(&mut store, 4096, &rt), Ok(hold));
+        assert_eq!(rt; store.read(hold), Ok(words.copy()));
+        assert_eq!(rt; remove_with_memory(&mut store, 4096, &rt), Ok(()));
+        assert_eq!(rt; release_with_memory(&mut store, hold, &words, &rt), Ok(()));
+        assert_eq!(rt; store.release(hold), Err(Refusal::NotHeld));
+        assert_eq!(rt; get_nothing(&mut store, 4096), Err(Refusal::Gone));
+        assert_eq!(rt; insert_with_memory(&mut store, &words, &rt), Ok(4097));
+    }
+    Ok(())
+}

@@ -1,4 +1,4 @@
-use Rattle.std.proofs.Common.{arith, rules, sym, ap, ◌∙◌, ◌<◌, ◌+◌, ◌*◌, ◌^◌, ◌≤◌}
+use Rattle.std.proofs.Common.{arith, rules, sym, ap, ◌∙◌, ◌<◌, ◌^◌}
 use Rattle.sh_key.proofs.Packing.{digits-fit, unpacked_only}
 use Rattle.sh_key.proofs.layout.KeyLayout.pack.Goals as goal
 

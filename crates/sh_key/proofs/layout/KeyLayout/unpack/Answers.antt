@@ -1,7 +1,5 @@
-use Rattle.std.proofs.Common.{rules, arith, sym, ◌∙◌, ◌≡◌, Some, None, Option}
+use Rattle.std.proofs.Common.{rules, arith, sym, ◌∙◌}
 use Rattle.std.proofs.lemmas.Grind.{common_steps}
-use Rattle.sh_key.specs.declared.parts.Parts.{Parts}
-use Rattle.sh_key.specs.Layout.{unpacked}
 use Rattle.sh_key.proofs.Packing.{unpacked_is, unpacked_only}
 use Rattle.sh_key.proofs.layout.KeyLayout.unpack.Goals as goal
 

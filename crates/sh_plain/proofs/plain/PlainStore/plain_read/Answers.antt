@@ -1,4 +1,4 @@
-use Rattle.std.proofs.Common.{refl, sym, ap, ◌∙◌, ◌≡◌, Some, None}
+use Rattle.std.proofs.Common.{refl, sym, ap, ◌∙◌, ◌≡◌, None}
 use Rattle.sh_history.specs.History.{value_of}
 use Rattle.sh_plain.specs.Plain.{Plain}
 use Rattle.sh_plain.proofs.Held.{held_has_value}

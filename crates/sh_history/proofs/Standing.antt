@@ -1,0 +1,93 @@
+-- What a history says of a key, by the entries that stand in it.
+use Rattle.std.proofs.Common.{◌≡◌, ℕ, Bool, true, false, cond, List, [], ◌∷◌, ◌++◌, Some, refl, ◌∙◌, ap, arith, rules, inl, inr}
+use Rattle.std.specs.Prelude.{◌==◌, ◌||◌}
+use Rattle.std.specs.List.{Contains}
+use Rattle.std.proofs.lemmas.List.Elements.{Contains-append_left, Contains-append_right, Contains-append_cases, Contains-push, Contains-push_cases}
+use Rattle.std.proofs.lemmas.List.Folds.{list_any_at}
+use Rattle.sh_history.specs.declared.entry.Entry.{Entry}
+use Rattle.sh_history.specs.declared.entry.Entry.TheVariants.{Insert, Got, Removed}
+use Rattle.sh_history.specs.History.{value_of, is_removed, is_removal_of}
+use Rattle.sh_history.specs.Laws.{IsIssuedWith, HasRemoval, ValueIsInserted, GetsGiveInserted, RemovedHasRemoval, ReleasesAreGot}
+use Rattle.sh_history.proofs.LogLaws.{value_of_insert, value_of_got, releases_le}
+
+first_stands : (x : Entry) (xs : List Entry) → Contains (x ∷ xs) x
+first_stands x xs = Contains-append_left (x ∷ []) xs x (Contains-push [] x)
+
+later_stands : (x y : Entry) (xs : List Entry) → Contains xs y → Contains (x ∷ xs) y
+later_stands x y xs h = Contains-append_right (x ∷ []) xs y h
+
+nothing_stands : (y : Entry) → Contains [] y → ⊥
+nothing_stands y h = let lt = h.1 in omega arith
+
+-- where an entry stands, the history is what comes before it, the entry, and what comes after it
+pub splits_at : (xs : List Entry) (y : Entry) → Contains xs y → (front : List Entry) × (rest : List Entry) × (xs ≡ front ++ y ∷ rest)
+splits_at [] y h = absurd (nothing_stands y h)
+splits_at (x ∷ xs) y h =
+    elim (Contains-append_cases (x ∷ []) xs y h) [
+      | inl here ↦ elim (Contains-push_cases [] x y here) [
+        | inl none ↦ absurd (nothing_stands y none)
+        | inr same ↦ ([], xs, ap (λ z. z ∷ xs) same)
+      ]
+      | inr later ↦ (let r = splits_at xs y later in (x ∷ r.0, r.1, ap (λ zs. x ∷ zs) r.2))
+    ]
+
+issued_later : (x : Entry) (xs : List Entry) (key : ℕ) (value : List ℕ) → IsIssuedWith xs key value → IsIssuedWith (x ∷ xs) key value
+issued_later x xs key value h = (h.0, later_stands x (Insert h.0 key value) xs h.1)
+
+issued_here : (b : Bool) (p k key : ℕ) (v value : List ℕ) (xs : List Entry) → (k == key) ≡ b
+    → (value_of xs key ≡ Some value → IsIssuedWith xs key value)
+    → cond b (Some v) (value_of xs key) ≡ Some value → IsIssuedWith (Insert p k v ∷ xs) key value
+issued_here true p k key v value xs test later is =
+    let same_key : k ≡ key = search rules in
+    let same_value : v ≡ value = cc in
+    (p, rw (same_key, same_value) (first_stands (Insert p key value) xs))
+issued_here false p k key v value xs test later is = issued_later (Insert p k v) xs key value (later is)
+
+-- a key with a value was inserted with it
+pub issued_with : (xs : List Entry) (key : ℕ) (value : List ℕ) → value_of xs key ≡ Some value → IsIssuedWith xs key value
+issued_with [] key value is = absurd (let h : ⊥ = cc in h)
+issued_with (Insert p k v ∷ xs) key value is =
+    issued_here (k == key) p k key v value xs refl (issued_with xs key value) is
+issued_with (x ∷ xs) key value is = issued_later x xs key value (issued_with xs key value is)
+
+pub value_is_inserted : ValueIsInserted
+value_is_inserted passes guard_max history legal key value = (
+  issued_with history key value,
+  λ h.
+      let s = splits_at history (Insert h.0 key value) h.1 in
+      rw s.2 (value_of_insert passes guard_max s.0 s.1 h.0 key value (rw (← s.2) legal)),
+)
+
+pub gets_give_inserted : GetsGiveInserted
+gets_give_inserted passes guard_max history legal pass key value h =
+    let s = splits_at history (Got pass key value) h in
+    issued_with history key value (rw s.2 (value_of_got passes guard_max s.0 s.1 pass key value (rw (← s.2) legal)))
+
+removed_later : (x : Entry) (xs : List Entry) (key : ℕ) → HasRemoval xs key → HasRemoval (x ∷ xs) key
+removed_later x xs key h = (h.0, later_stands x (Removed h.0 key) xs h.1)
+
+removed_here : (b : Bool) (p k key : ℕ) (xs : List Entry) → (k == key) ≡ b → (is_removed xs key ≡ true → HasRemoval xs key)
+    → (b || is_removed xs key) ≡ true → HasRemoval (Removed p k ∷ xs) key
+removed_here true p k key xs test later is =
+    let same : k ≡ key = search rules in (p, rw same (first_stands (Removed p key) xs))
+removed_here false p k key xs test later is = removed_later (Removed p k) xs key (later is)
+
+-- of a removed key a removal stands
+pub has_removal : (xs : List Entry) (key : ℕ) → is_removed xs key ≡ true → HasRemoval xs key
+has_removal [] key is = absurd (let h : ⊥ = cc in h)
+has_removal (Removed p k ∷ xs) key is = removed_here (k == key) p k key xs refl (has_removal xs key) is
+has_removal (x ∷ xs) key is = removed_later x xs key (has_removal xs key is)
+
+key_itself : (key : ℕ) → (key == key) ≡ true
+key_itself key = search rules
+
+pub removed_has_removal : RemovedHasRemoval
+removed_has_removal history key = (
+  has_removal history key,
+  λ h.
+      let y = Removed h.0 key in
+      list_any_at (is_removal_of key) history h.1.0 y h.1.1 (ap (is_removal_of key) h.1.2 ∙ key_itself key),
+)
+
+pub releases_are_got : ReleasesAreGot
+releases_are_got passes guard_max history legal pass key = releases_le passes guard_max pass key history legal

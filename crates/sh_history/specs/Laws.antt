@@ -1,0 +1,36 @@
+-- What each legal history keeps.
+use Rattle.std.specs.Prelude.{◌≡◌, ℕ, ◌≤◌, ◌↔◌, true, List, Some}
+use Rattle.std.specs.List.{Contains}
+use Rattle.sh_history.specs.declared.entry.Entry.{Entry}
+use Rattle.sh_history.specs.declared.entry.Entry.TheVariants.{Insert, Got, Removed}
+use Rattle.sh_history.specs.History.{value_of, is_removed, got_count_by, released_count_by, Legal}
+
+-- some pass inserted the value, which has this key
+abbrev pub IsIssuedWith : List Entry → ℕ → List ℕ → Type 0
+IsIssuedWith history key value = (pass : ℕ) × Contains history (Insert pass key value)
+
+-- some pass removed the key
+abbrev pub HasRemoval : List Entry → ℕ → Type 0
+HasRemoval history key = (pass : ℕ) × Contains history (Removed pass key)
+
+-- the value of a key is the one that it was inserted with, so no key was inserted with two
+abbrev pub ValueIsInserted : Type 0
+ValueIsInserted =
+    (passes guard_max : ℕ) (history : List Entry) → Legal passes guard_max history
+    → (key : ℕ) (value : List ℕ) → (value_of history key ≡ Some value) ↔ IsIssuedWith history key value
+
+-- what a get of a key gave is what was inserted
+abbrev pub GetsGiveInserted : Type 0
+GetsGiveInserted =
+    (passes guard_max : ℕ) (history : List Entry) → Legal passes guard_max history
+    → (pass key : ℕ) (value : List ℕ) → Contains history (Got pass key value) → IsIssuedWith history key value
+
+-- the removed keys are those of which a removal stands in the history
+abbrev pub RemovedHasRemoval : Type 0
+RemovedHasRemoval = (history : List Entry) (key : ℕ) → (is_removed history key ≡ true) ↔ HasRemoval history key
+
+-- nobody released a key more often than it got it
+abbrev pub ReleasesAreGot : Type 0
+ReleasesAreGot =
+    (passes guard_max : ℕ) (history : List Entry) → Legal passes guard_max history
+    → (pass key : ℕ) → released_count_by history pass key ≤ got_count_by history pass key
