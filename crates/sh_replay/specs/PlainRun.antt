@@ -5,7 +5,7 @@ use Rattle.sh_value.specs.declared.hold.Hold.{Hold}
 use Rattle.sh_value.specs.declared.refusal.Refusal.{Refusal}
 use Rattle.sh_value.specs.declared.refusal.Refusal.TheVariants as refusal
 use Rattle.sh_key.specs.Layout.{Layout}
-use Rattle.sh_plain.specs.Plain.{Plain, Reply, Replied, refused, with_added, insert_reply, get_reply, read_answer}
+use Rattle.sh_plain.specs.Plain.{Plain, Reply, Replied, refused, with_added, insert_reply, get_reply, read_answer, remove_reply, release_reply}
 use Rattle.sh_script.specs.declared.calls.Reference.{Reference}
 use Rattle.sh_script.specs.declared.calls.Reference.TheVariants as reference
 use Rattle.sh_script.specs.declared.calls.Call.{Call}
@@ -15,7 +15,7 @@ use Rattle.sh_replay.specs.declared.answer.Answer.{Answer}
 use Rattle.sh_replay.specs.declared.answer.Answer.TheVariants as answer
 
 -- the store; for each pass whether it has a shard; for each name that is bound its key, or none where the insert was
--- refused
+-- refused or a post bound it
 pub record Run : Type 0 where
   pub shards : ℕ
   pub store : Plain
@@ -52,6 +52,14 @@ adopts run shard =
     else if nat_le run.shards shard then run
     else record run { owners = slice_set run.owners run.store.pass true }
 
+-- ---- leave
+
+abbrev pub leave_answer : Run → Answer
+leave_answer run = if has_shard run then answer.Done else answer.Refused refusal.NoShard
+
+abbrev pub leaves : Run → Run
+leaves run = if has_shard run then record run { owners = slice_set run.owners run.store.pass false } else run
+
 -- ---- insert
 
 -- what the store answers, once the words fit a value and the pass has a shard
@@ -72,7 +80,7 @@ pub record Inserts (layout : Layout) (run : Run) (words : List ℕ) (told : Answ
   pub is : told ≡ key_answer result
   pub next_is : next ≡ record run { store = next.store; keys = run.keys ++ result_ok result ∷ [] }
 
--- ---- get and read
+-- ---- calls on a name or a key
 
 -- the key of a name, if its insert was not refused
 abbrev pub bound_key : Option (Option ℕ) → Option ℕ
@@ -91,11 +99,12 @@ abbrev pub value_answer : Result (List ℕ) Refusal → Answer
 value_answer (Ok words) = answer.Read words
 value_answer (Err r) = answer.Refused r
 
-abbrev pub Gets : Layout → Run → Option ℕ → Answer → Run → Type 0
-Gets layout run None told next = (told ≡ answer.Unbound) × (next ≡ run)
-Gets layout run (Some key) told next =
-    (told ≡ done_answer (get_reply layout run.store key).answer)
-    × (next ≡ record run { store = with_added run.store (get_reply layout run.store key).adds })
+-- the call on a key has this reply, whose entry the store gains
+abbrev pub Tells : {A : Type 0} → (Plain → ℕ → Reply A) → Run → Option ℕ → Answer → Run → Type 0
+Tells reply run None told next = (told ≡ answer.Unbound) × (next ≡ run)
+Tells reply run (Some key) told next =
+    (told ≡ done_answer (reply run.store key).answer)
+    × (next ≡ record run { store = with_added run.store (reply run.store key).adds })
 
 abbrev pub Reads : Run → Option ℕ → Answer → Run → Type 0
 Reads run None told next = (told ≡ answer.Unbound) × (next ≡ run)
@@ -106,8 +115,13 @@ Reads run (Some key) told next = (told ≡ value_answer (read_answer run.store k
 abbrev pub Calls : Layout → Run → Call → Answer → Run → Type 0
 Calls layout run (call.Adopt shard) told next = (told ≡ adopt_answer run shard) × (next ≡ adopts run shard)
 Calls layout run (call.Insert words) told next = Inserts layout run words told next
-Calls layout run (call.Get r) told next = Gets layout run (key_of run r) told next
+Calls layout run call.Leave told next = (told ≡ leave_answer run) × (next ≡ leaves run)
+Calls layout run (call.Get r) told next = Tells (get_reply layout) run (key_of run r) told next
 Calls layout run (call.Read r) told next = Reads run (key_of run r) told next
+Calls layout run (call.Remove r) told next = Tells (remove_reply layout) run (key_of run r) told next
+Calls layout run (call.Release r) told next = Tells release_reply run (key_of run r) told next
+Calls layout run call.Post told next = (told ≡ answer.Done) × (next ≡ record run { keys = run.keys ++ None ∷ [] })
+Calls layout run (call.Wait name) told next = (told ≡ answer.Done) × (next ≡ run)
 
 abbrev pub Steps : Layout → Run → CallLine → Answer → Run → Type 0
 Steps layout run line told next = Calls layout (at_turn run line.pass) line.call told next

@@ -11,9 +11,14 @@ use Rattle.sh_replay.specs.declared.answer.Answer.TheVariants as answer
 -- the command of a call
 abbrev pub call_text : Call → List ℕ
 call_text (call.Adopt shard) = codes "adopt"
+call_text call.Leave = codes "leave"
 call_text (call.Insert words) = codes "insert"
 call_text (call.Get reference) = codes "get"
 call_text (call.Read reference) = codes "read"
+call_text (call.Remove reference) = codes "remove"
+call_text (call.Release reference) = codes "release"
+call_text call.Post = codes "post"
+call_text (call.Wait name) = codes "wait"
 
 -- each word after one space
 abbrev pub words_text : List ℕ → List ℕ

@@ -34,9 +34,14 @@ fn push_call(out: &mut Vec<u8>, call: &Call) -> Result<(), AllocError>
 {
     match call {
         Call::Adopt(_) => out.extend_from_slice(b"adopt"),
+        Call::Leave => out.extend_from_slice(b"leave"),
         Call::Insert(_) => out.extend_from_slice(b"insert"),
         Call::Get(_) => out.extend_from_slice(b"get"),
         Call::Read(_) => out.extend_from_slice(b"read"),
+        Call::Remove(_) => out.extend_from_slice(b"remove"),
+        Call::Release(_) => out.extend_from_slice(b"release"),
+        Call::Post => out.extend_from_slice(b"post"),
+        Call::Wait(_) => out.extend_from_slice(b"wait"),
     }
 }
 

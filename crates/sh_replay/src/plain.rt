@@ -1,8 +1,8 @@
 //! Mode plain: the calls of a script on the plain store, in the order of their lines.
-ghost use Rattle.std.specs.Prelude.{◌≡◌, ◌<◌, ◌≤◌, ℕ, IsTrue, ◌↔◌, IfOk, IfErr, true};
+ghost use Rattle.std.specs.Prelude.{◌≡◌, ◌<◌, ◌≤◌, ◌++◌, ◌∷◌, [], None, IfOk, IfErr};
 ghost use Rattle.sh_key.specs.Layout.{Layout};
-ghost use Rattle.sh_plain.specs.Plain.{Plain, Replied};
-ghost use Rattle.sh_replay.specs.PlainRun.{run_of, at_turn, has_shard, adopt_answer, adopts, opening, insert_attempt, Inserts, key_of, Gets, Reads, Steps};
+ghost use Rattle.sh_plain.specs.Plain.{Plain, Replied, get_reply, remove_reply, release_reply};
+ghost use Rattle.sh_replay.specs.PlainRun.{run_of, at_turn, has_shard, adopt_answer, adopts, opening, leave_answer, leaves, insert_attempt, Inserts, key_of, Tells, Reads, Steps};
 
 use crate::Answer;
 use sh_key::KeyLayout;
@@ -51,9 +51,14 @@ impl<L: KeyLayout> PlainRun<L> {
         self.store.turn(line.pass);
         match &line.call {
             Call::Adopt(shard) => Ok(self.adopt(line.pass, *shard)),
+            Call::Leave => Ok(self.leave(line.pass)),
             Call::Insert(words) => self.insert(line.pass, words.as_slice()),
             Call::Get(reference) => self.get(*reference),
             Call::Read(reference) => Ok(self.read(*reference)),
+            Call::Remove(reference) => self.remove(*reference),
+            Call::Release(reference) => self.release(*reference),
+            Call::Post => self.post(),
+            Call::Wait(_) => Ok(Answer::Done),
         }
     }
 
@@ -71,6 +76,20 @@ impl<L: KeyLayout> PlainRun<L> {
             return Answer::Refused(Refusal::NoShard);
         }
         self.owners[pass as usize] = true;
+        Answer::Done
+    }
+
+    fn leave(&mut self, pass: u32) -> Answer
+        requires own { pass ≡ self.old.store.pass }
+        requires few { pass < 64 }
+        ensures answer { result ≡ leave_answer (run_of self.old.shards self.old.store self.old.owners self.old.keys.items) }
+        ensures leaves { run_of self.new.shards self.new.store self.new.owners self.new.keys.items
+            ≡ leaves (run_of self.old.shards self.old.store self.old.owners self.old.keys.items) }
+    {
+        if !self.owners[pass as usize] {
+            return Answer::Refused(Refusal::NoShard);
+        }
+        self.owners[pass as usize] = false;
         Answer::Done
     }
 
@@ -122,7 +141,7 @@ impl<L: KeyLayout> PlainRun<L> {
     }
 
     fn get(&mut self, reference: Reference) -> Result<Answer, Fault>
-        ensures gets { IfOk result (λ answer. Gets L.layout
+        ensures tells { IfOk result (λ answer. Tells (get_reply L.layout)
             (run_of self.old.shards self.old.store self.old.owners self.old.keys.items)
             (key_of (run_of self.old.shards self.old.store self.old.owners self.old.keys.items) reference) answer
             (run_of self.new.shards self.new.store self.new.owners self.new.keys.items)) }
@@ -150,6 +169,56 @@ impl<L: KeyLayout> PlainRun<L> {
         match self.store.read(Hold { key }) {
             Ok(value) => Answer::Read(value),
             Err(refusal) => Answer::Refused(refusal),
+        }
+    }
+
+    fn remove(&mut self, reference: Reference) -> Result<Answer, Fault>
+        ensures tells { IfOk result (λ answer. Tells (remove_reply L.layout)
+            (run_of self.old.shards self.old.store self.old.owners self.old.keys.items)
+            (key_of (run_of self.old.shards self.old.store self.old.owners self.old.keys.items) reference) answer
+            (run_of self.new.shards self.new.store self.new.owners self.new.keys.items)) }
+        ensures memory { IfErr result (λ fault. fault ≡ Fault.Memory) }
+        ensures passes { self.new.store.passes ≡ self.old.store.passes }
+    {
+        let Some(key) = self.key_of(reference) else {
+            return Ok(Answer::Unbound);
+        };
+        match self.store.remove(key) {
+            Ok(_) => Ok(Answer::Done),
+            Err(Refusal::Memory) => Err(Fault::Memory),
+            Err(refusal) => Ok(Answer::Refused(refusal)),
+        }
+    }
+
+    fn release(&mut self, reference: Reference) -> Result<Answer, Fault>
+        ensures tells { IfOk result (λ answer. Tells (release_reply)
+            (run_of self.old.shards self.old.store self.old.owners self.old.keys.items)
+            (key_of (run_of self.old.shards self.old.store self.old.owners self.old.keys.items) reference) answer
+            (run_of self.new.shards self.new.store self.new.owners self.new.keys.items)) }
+        ensures memory { IfErr result (λ fault. fault ≡ Fault.Memory) }
+        ensures passes { self.new.store.passes ≡ self.old.store.passes }
+    {
+        let Some(key) = self.key_of(reference) else {
+            return Ok(Answer::Unbound);
+        };
+        match self.store.release(Hold { key }) {
+            Ok(_) => Ok(Answer::Done),
+            Err(Refusal::Memory) => Err(Fault::Memory),
+            Err(refusal) => Ok(Answer::Refused(refusal)),
+        }
+    }
+
+    // Binds the next name, to no key.
+    fn post(&mut self) -> Result<Answer, Fault>
+        ensures binds { IfOk result (λ answer. (answer ≡ Answer.Done)
+            × (run_of self.new.shards self.new.store self.new.owners self.new.keys.items
+            ≡ run_of self.old.shards self.old.store self.old.owners (self.old.keys.items ++ None ∷ []))) }
+        ensures memory { IfErr result (λ fault. fault ≡ Fault.Memory) }
+        ensures passes { self.new.store.passes ≡ self.old.store.passes }
+    {
+        match self.keys.push(None) {
+            Ok(()) => Ok(Answer::Done),
+            Err(_) => Err(Fault::Memory),
         }
     }
 }

@@ -48,6 +48,43 @@ fn names_of_refused_inserts_are_unbound(rt: HostRuntime) {
 }
 
 #[test]
+fn a_removed_value_stays_while_it_is_held(rt: HostRuntime) {
+    let script =
+        "heap tiny 1 1 2\n0 adopt 0\n0 insert a 7 8\n1 get a\n0 remove a\n1 read a\n1 get a\n1 release a\n0 remove a\n";
+    let output =
+        "0 adopt ok\n0 insert 4096\n1 get ok\n0 remove ok\n1 read 2 7 8\n1 get refused 2 Gone\n1 release ok\n0 remove refused 2 Gone\n";
+    expect(&rt, rt.alloc(), script, output);
+}
+
+#[test]
+fn a_fifth_hold_is_crowded(rt: HostRuntime) {
+    let script =
+        "heap tiny 1 1 1\n0 adopt 0\n0 insert a 1\n0 get a\n0 get a\n0 get a\n0 get a\n0 get a\n0 release a\n0 release a\n0 release a\n0 release a\n0 release a\n";
+    let output =
+        "0 adopt ok\n0 insert 4096\n0 get ok\n0 get ok\n0 get ok\n0 get ok\n0 get refused 3 Crowded\n0 release ok\n0 release ok\n0 release ok\n0 release ok\n0 release refused 5 NotHeld\n";
+    expect(&rt, rt.alloc(), script, output);
+}
+
+#[test]
+fn only_keys_of_the_layout_are_good(rt: HostRuntime) {
+    // The plain store knows no shape, so the last three are keys that nobody issued.
+    let script =
+        "heap tiny 1 1 2\n1 get #0\n1 get #9223372036854775808\n1 remove #16384\n1 get #5056\n1 get #12288\n1 get #4144\n";
+    let output =
+        "1 get refused 1 BadKey\n1 get refused 1 BadKey\n1 remove refused 1 BadKey\n1 get refused 2 Gone\n1 get refused 2 Gone\n1 get refused 2 Gone\n";
+    expect(&rt, rt.alloc(), script, output);
+}
+
+#[test]
+fn owners_leave_and_names_are_posted(rt: HostRuntime) {
+    let script =
+        "heap tiny 1 1 2\n0 leave\n0 adopt 0\n0 post ready\n1 wait ready\n0 insert a\n1 wait a\n0 leave\n0 insert b 1\n0 adopt 0\n0 insert c 1\n1 get c\n";
+    let output =
+        "0 leave refused 10 NoShard\n0 adopt ok\n0 post ok\n1 wait ok\n0 insert 4096\n1 wait ok\n0 leave ok\n0 insert refused 10 NoShard\n0 adopt ok\n0 insert 4097\n1 get ok\n";
+    expect(&rt, rt.alloc(), script, output);
+}
+
+#[test]
 fn faults_write_nothing(rt: HostRuntime) -> Result<(), Fail> {
     let table = [
         ("heap tiny 1 1 2\n0 adopt 0", Fault::Script(2, Cause::Cut)),

@@ -1,5 +1,5 @@
 -- The words of a header are read as that header, and no others are.
-use Rattle.std.proofs.Common.{◌≡◌, ℕ, ◌+◌, ◌*◌, ◌^◌, ◌<◌, ◌≤◌, ◌==◌, ◌&&◌, ◌||◌, nat_le, Bool, true, false, not, List, [], ◌∷◌, length, cond, Option, Some, None, Ok, codes, decimal, refl, sym, ap, subst, ◌∙◌, arith, leb-true, le-leb}
+use Rattle.std.proofs.Common.{◌≡◌, ℕ, ◌*◌, ◌^◌, ◌<◌, ◌≤◌, ◌&&◌, ◌||◌, nat_le, Bool, true, false, not, List, [], ◌∷◌, cond, Some, None, Ok, refl, ap, subst, ◌∙◌, arith, leb-true, le-leb}
 use Rattle.std.specs.Bool.{Decides}
 use Rattle.std.specs.Str.{bytes_eq}
 use Rattle.std.proofs.lemmas.Bool.Decides.{Decides-and}
@@ -7,13 +7,13 @@ use Rattle.std.proofs.lemmas.Slice.Eq.{bytes_eq-Decides}
 use Rattle.sh_key.specs.Layouts.{tiny}
 use Rattle.sh_shape.specs.Shape.{Numbers, segment_pages, IsShape, Fits}
 use Rattle.sh_script.specs.Words.{Word}
-use Rattle.sh_script.specs.Lines.{is_shape, fits, shape_of, header_of}
+use Rattle.sh_script.specs.Lines.{is_shape, fits, header_of}
 use Rattle.sh_script.specs.Meaning.{IsHeader}
 use Rattle.sh_script.specs.declared.calls.Header.{Header}
 use Rattle.sh_script.specs.declared.calls.Layout.{Layout}
 use Rattle.sh_script.specs.declared.calls.Layout.TheVariants as layout
 use Rattle.sh_script.proofs.NumberLemmas.{number_is, number_of_decimal}
-use Rattle.sh_script.proofs.Steps.{bind_ok, or_ok, ok_is, some_is, if_cases, else_ok, not_false, empty_is, next_ok, number_at_ok}
+use Rattle.sh_script.proofs.Steps.{bind_ok, or_ok, ok_is, some_is, else_ok, not_false, empty_is, next_ok, number_at_ok}
 
 le_test : (a b : ℕ) → Decides (nat_le a b) (a ≤ b)
 le_test a b = (leb-true a b, le-leb a b)

@@ -1,9 +1,9 @@
-pub mod Position
 pub mod Pieces
 pub mod Reading
 pub mod Steps
 pub mod NumberLemmas
 pub mod NameLemmas
+pub mod FindLemmas
 pub mod HeaderLemmas
 pub mod CallLemmas
 pub mod WordLemmas

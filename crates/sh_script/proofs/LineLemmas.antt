@@ -1,15 +1,12 @@
 -- A line is read as what it means.
-use Rattle.std.proofs.Common.{◌≡◌, ℕ, ◌≤◌, ◌==◌, nat_lt, Bool, true, false, List, [], ◌∷◌, length, Option, Some, None, Ok, Err, inl, inr, slice_index, refl, sym, ap, ◌∙◌, eqb-true, leb-true, le-leb, le-ltb, ltb-false}
+use Rattle.std.proofs.Common.{◌≡◌, ℕ, ◌==◌, nat_lt, Bool, true, false, List, [], ◌∷◌, length, Option, Some, None, Ok, inl, inr, slice_index, refl, sym, ap, ◌∙◌, eqb-true, leb-true, le-leb, le-ltb, ltb-false}
 use Rattle.std.specs.Bool.{Decides}
 use Rattle.std.specs.List.{All, list_all}
 use Rattle.std.specs.Int.{is_in_range}
 use Rattle.std.proofs.lemmas.Bool.Decides.{Decides-and, Decides-like, Decides-by_and}
 use Rattle.sh_script.specs.Words.{Word, words_of}
-use Rattle.sh_script.specs.Lines.{header_of, line_of}
 use Rattle.sh_script.specs.Script.{Read, with_header, with_line, whole_line, said, says, after_line}
-use Rattle.sh_script.specs.Grammar.{IsSilent, SaysNext, Mean, IsPrinted, Says}
-use Rattle.sh_script.specs.declared.fault.Cause.TheVariants as cause
-use Rattle.sh_script.specs.declared.trouble.Trouble.TheVariants as trouble
+use Rattle.sh_script.specs.Grammar.{SaysNext, Mean, IsPrinted, Says}
 use Rattle.sh_script.specs.declared.calls.Header.{Header}
 use Rattle.sh_script.proofs.Steps.{bind_ok, ok_of, ok_is, if_cases, if_ok, else_ok}
 use Rattle.sh_script.proofs.WordLemmas.{words_are, words_give}

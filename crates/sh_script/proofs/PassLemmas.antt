@@ -1,10 +1,10 @@
 -- The passes of a script's calls are below those of its header.
-use Rattle.std.proofs.Common.{◌≡◌, ◌<◌, ℕ, List, [], ◌∷◌, ◌++◌, Option, Some, None, Result, Ok, Err, IfOk, inl, inr, refl, sym, ap, ap₂, subst, ◌∙◌}
+use Rattle.std.proofs.Common.{◌≡◌, ◌<◌, ℕ, List, [], ◌∷◌, ◌++◌, Option, Some, None, inl, inr, refl, sym, subst}
 use Rattle.std.specs.List.{All}
 use Rattle.std.proofs.lemmas.List.Elements.{All-nil, All-push}
 use Rattle.sh_script.specs.Words.{Word}
-use Rattle.sh_script.specs.Script.{Read, nothing, with_header, with_line}
-use Rattle.sh_script.specs.Grammar.{SaysNext, Mean, Says, Leads, IsCalls}
+use Rattle.sh_script.specs.Script.{Read, nothing}
+use Rattle.sh_script.specs.Grammar.{SaysNext, Mean, Leads, IsCalls}
 use Rattle.sh_script.specs.declared.calls.Header.{Header}
 use Rattle.sh_script.specs.declared.calls.CallLine.{CallLine}
 

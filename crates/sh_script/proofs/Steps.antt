@@ -1,8 +1,8 @@
 -- Steps that may fail, taken apart.
-use Rattle.std.proofs.Common.{◌≡◌, ℕ, ◌==◌, Bool, true, false, not, List, [], ◌∷◌, length, cond, Option, Some, None, Result, Ok, Err, ◌⊎◌, inl, inr, refl, sym, ap, ◌∙◌, arith, eqb-true}
+use Rattle.std.proofs.Common.{◌≡◌, ℕ, ◌==◌, Bool, true, false, not, List, [], ◌∷◌, length, cond, Option, Some, None, Result, Ok, Err, ◌⊎◌, inl, inr, refl, ap, ◌∙◌, arith, eqb-true}
 use Rattle.std.specs.Option.{is_some}
 use Rattle.sh_script.specs.Words.{Word, number_of}
-use Rattle.sh_script.specs.Trouble.{◌>>=◌, or_trouble, or_cause}
+use Rattle.sh_script.specs.Trouble.{◌>>=◌, or_trouble}
 use Rattle.sh_script.specs.Lines.{next_of, number_at, only_of}
 use Rattle.sh_script.specs.declared.fault.Cause.{Cause}
 use Rattle.sh_script.specs.declared.trouble.Trouble.{Trouble}
@@ -46,9 +46,9 @@ pub not_false : (b : Bool) → not b ≡ false → b ≡ true
 not_false true e = refl
 not_false false e = cc
 
-pub none_of : {A : Type 0} (o : Option A) → is_some o ≡ false → o ≡ None
-none_of None e = refl
-none_of (Some x) e = cc
+pub none_of_some : {A : Type 0} (o : Option A) → is_some o ≡ false → o ≡ None
+none_of_some None e = refl
+none_of_some (Some x) e = cc
 
 pub empty_is : {A : Type 0} (xs : List A) → (length xs == 0) ≡ true → xs ≡ []
 empty_is [] e = refl

@@ -5,7 +5,7 @@ use Rattle.std.proofs.lemmas.List.{append-nil}
 use Rattle.std.proofs.lemmas.List.Elements.{All-nil, All-cons, All-head, All-tail, All-weaker}
 use Rattle.std.proofs.lemmas.List.Splits.{slice_split-cons_yes, slice_split_none, slice_split_at}
 use Rattle.sh_script.specs.Words.{Word, is_space, words_of}
-use Rattle.sh_script.specs.Meaning.{IsWord, EndsWord, HasFirstWord, AreWords}
+use Rattle.sh_script.specs.Meaning.{IsWord, EndsWord, AreWords}
 
 abbrev IsSpace : ℕ → Type 0
 IsSpace b = b ≡ 32

@@ -1,7 +1,8 @@
 -- A script as its lines and what they mean, apart from how it is read.
-use Rattle.std.specs.Prelude.{◌≡◌, ◌≢◌, ℕ, ◌+◌, ◌<◌, ◌≤◌, ◌⊎◌, List, [], ◌∷◌, ◌++◌, length, Option, Some, None, Ok, Err}
+use Rattle.std.specs.Prelude.{◌≡◌, ◌≢◌, ℕ, ◌+◌, ◌<◌, ◌≤◌, ◌⊎◌, List, [], ◌∷◌, ◌++◌, length, Option, Some, None, Err}
 use Rattle.std.specs.List.{All}
 use Rattle.sh_script.specs.Words.{Word}
+use Rattle.sh_script.specs.Names.{Binding}
 use Rattle.sh_script.specs.Trouble.{at_line}
 use Rattle.sh_script.specs.Meaning.{AreWords, IsHeader, IsCallLine}
 use Rattle.sh_script.specs.Script.{Read, nothing, with_header, with_line, after_line, ended}
@@ -28,7 +29,7 @@ pub record SaysHeader (before : Read) (words : List Word) (now : Read) : Type 0 
 -- the words are a call of a pass below those of the header, which is read now
 pub record SaysCall (before : Read) (header : Header) (words : List Word) (now : Read) : Type 0 where
   pub line : CallLine
-  pub binds : Option Word
+  pub binds : Option Binding
   pub is : IsCallLine header.shape.passes before.names words line binds
   pub now_is : now ≡ with_line before line binds
 

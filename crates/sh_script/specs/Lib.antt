@@ -1,4 +1,5 @@
 pub mod Words
+pub mod Names
 pub mod Trouble
 pub mod Lines
 pub mod Meaning

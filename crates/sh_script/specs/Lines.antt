@@ -1,10 +1,11 @@
 -- What a line gives as it is read, or the first fault in it: the steps stand in the order of the faults.
-use Rattle.std.specs.Prelude.{ℕ, ◌*◌, ◌^◌, ◌==◌, ◌&&◌, ◌||◌, Bool, not, nat_lt, nat_le, List, [], ◌∷◌, ◌++◌, length, drop, Option, Some, None, is_some, Result, Ok, Err, slice_index, codes, if◌then◌else◌}
+use Rattle.std.specs.Prelude.{ℕ, ◌*◌, ◌^◌, ◌==◌, ◌&&◌, ◌||◌, Bool, true, false, not, nat_lt, nat_le, List, [], ◌∷◌, ◌++◌, length, drop, Option, Some, None, is_some, Result, Ok, Err, slice_index, codes, if◌then◌else◌}
 use Rattle.std.specs.Str.{bytes_eq}
 use Rattle.sh_key.specs.Layout.{Layout}
 use Rattle.sh_key.specs.Layouts.{tiny}
 use Rattle.sh_shape.specs.Shape.{Numbers, segment_pages}
-use Rattle.sh_script.specs.Words.{Word, number_of, is_name, place_of}
+use Rattle.sh_script.specs.Words.{Word, number_of, is_name}
+use Rattle.sh_script.specs.Names.{Binding, find_from}
 use Rattle.sh_script.specs.Trouble.{◌>>=◌, or_trouble, or_cause}
 use Rattle.sh_script.specs.declared.fault.Cause.{Cause}
 use Rattle.sh_script.specs.declared.fault.Cause.TheVariants as cause
@@ -14,6 +15,9 @@ use Rattle.sh_script.specs.declared.calls.Layout.TheVariants as layout
 use Rattle.sh_script.specs.declared.calls.Header.{Header}
 use Rattle.sh_script.specs.declared.calls.Reference.{Reference}
 use Rattle.sh_script.specs.declared.calls.Reference.TheVariants as reference
+use Rattle.sh_script.specs.declared.names.Binder.{Binder}
+use Rattle.sh_script.specs.declared.names.Binder.TheVariants as binder
+use Rattle.sh_script.specs.declared.names.Found.{Found}
 use Rattle.sh_script.specs.declared.line.Command.{Command}
 use Rattle.sh_script.specs.declared.line.Command.TheVariants as command
 use Rattle.sh_script.specs.declared.calls.Call.{Call}
@@ -61,24 +65,37 @@ header_of ws = do
 
 -- ---- a call, where these names are bound
 
+-- no word
+abbrev pub none_of : List Word → Result (Unit {0}) Trouble
+none_of ws = if length ws == 0 then Ok tt else Err (trouble.Because cause.Count)
+
+-- a name bound before, and where
+unfoldable pub found_of : List Binding → Word → Result Found Trouble
+found_of names word =
+    if is_name word then or_cause cause.Unbound (find_from 0 names word)
+    else Err (trouble.Because cause.Name)
+
+-- it is bound to a key
+abbrev pub has_key : Binder → Bool
+has_key binder.Insert = true
+has_key binder.Post = false
+
 -- # and a key
 abbrev pub key_of : Word → Result Reference Trouble
 key_of word = or_cause cause.Number (number_of (drop 1 word)) >>= λ k. Ok (reference.Key k)
 
--- a name bound before
-abbrev pub bound_of : List Word → Word → Result Reference Trouble
-bound_of names word =
-    if is_name word then (or_cause cause.Unbound (place_of names word) >>= λ i. Ok (reference.Name i))
-    else Err (trouble.Because cause.Name)
+-- a name bound before to a key
+abbrev pub keyed_of : List Binding → Word → Result Reference Trouble
+keyed_of names word = found_of names word >>= λ f. if has_key f.by then Ok (reference.Name f.place) else Err (trouble.Because cause.Unbound)
 
-unfoldable pub reference_of : List Word → Word → Result Reference Trouble
-reference_of names word = if slice_index word 0 == 35 then key_of word else bound_of names word
+unfoldable pub reference_of : List Binding → Word → Result Reference Trouble
+reference_of names word = if slice_index word 0 == 35 then key_of word else keyed_of names word
 
 -- a name that isn't bound yet
-unfoldable pub new_name : List Word → Word → Result Word Trouble
+unfoldable pub new_name : List Binding → Word → Result Word Trouble
 new_name names word =
     if not (is_name word) then Err (trouble.Because cause.Name)
-    else if is_some (place_of names word) then Err (trouble.Because cause.Bound)
+    else if is_some (find_from 0 names word) then Err (trouble.Because cause.Bound)
     else Ok word
 
 -- numbers up to the end of the line, behind those that stand before them
@@ -90,33 +107,47 @@ numbers_from front (w ∷ ws) = or_cause cause.Number (number_of w) >>= λ n. nu
 abbrev pub command_of : Word → Option Command
 command_of w =
     if bytes_eq w (codes "adopt") then Some command.Adopt
+    else if bytes_eq w (codes "leave") then Some command.Leave
     else if bytes_eq w (codes "insert") then Some command.Insert
     else if bytes_eq w (codes "get") then Some command.Get
     else if bytes_eq w (codes "read") then Some command.Read
+    else if bytes_eq w (codes "remove") then Some command.Remove
+    else if bytes_eq w (codes "release") then Some command.Release
+    else if bytes_eq w (codes "post") then Some command.Post
+    else if bytes_eq w (codes "wait") then Some command.Wait
     else None
 
+-- the only word is what a command is about
+unfoldable pub about_of : List Binding → List Word → Result Reference Trouble
+about_of names ws = only_of ws >>= λ w. reference_of names w
+
 -- the call, and the name that it binds
-unfoldable pub call_of : List Word → Command → List Word → Result (Call × Option Word) Trouble
+unfoldable pub call_of : List Binding → Command → List Word → Result (Call × Option Binding) Trouble
 call_of names command.Adopt ws = do
   w ← only_of ws
   shard ← or_cause cause.Number (number_of w)
   Ok (call.Adopt shard, None)
+call_of names command.Leave ws = none_of ws >>= λ _. Ok (call.Leave, None)
 call_of names command.Insert ws = do
   w ← next_of cause.Count ws
   name ← new_name names w.0
   value ← numbers_from [] w.1
-  Ok (call.Insert value, Some name)
-call_of names command.Get ws = do
+  Ok (call.Insert value, Some (record { name = name; by = binder.Insert }))
+call_of names command.Get ws = about_of names ws >>= λ r. Ok (call.Get r, None)
+call_of names command.Read ws = about_of names ws >>= λ r. Ok (call.Read r, None)
+call_of names command.Remove ws = about_of names ws >>= λ r. Ok (call.Remove r, None)
+call_of names command.Release ws = about_of names ws >>= λ r. Ok (call.Release r, None)
+call_of names command.Post ws = do
   w ← only_of ws
-  r ← reference_of names w
-  Ok (call.Get r, None)
-call_of names command.Read ws = do
+  name ← new_name names w
+  Ok (call.Post, Some (record { name = name; by = binder.Post }))
+call_of names command.Wait ws = do
   w ← only_of ws
-  r ← reference_of names w
-  Ok (call.Read r, None)
+  f ← found_of names w
+  Ok (call.Wait f.place, None)
 
 -- the line, and the name that it binds
-unfoldable pub line_of : ℕ → List Word → List Word → Result (CallLine × Option Word) Trouble
+unfoldable pub line_of : ℕ → List Binding → List Word → Result (CallLine × Option Binding) Trouble
 line_of passes names ws = do
   pass ← number_at cause.Number ws
   rest ← if nat_lt pass.0 passes then Ok pass.1 else Err (trouble.Because cause.Pass)

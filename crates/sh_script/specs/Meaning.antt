@@ -1,10 +1,13 @@
 -- What the words of a line mean, in the words of the format.
-use Rattle.std.specs.Prelude.{◌≡◌, ◌≢◌, ℕ, ◌<◌, ◌≤◌, ◌^◌, ◌⊎◌, List, [], ◌∷◌, ◌++◌, length, map, Option, Some, None, codes, decimal, slice_get}
+use Rattle.std.specs.Prelude.{◌≡◌, ◌≢◌, ℕ, ◌<◌, ◌≤◌, ◌^◌, ◌⊎◌, List, [], ◌∷◌, ◌++◌, length, map, take, Option, Some, None, codes, decimal, slice_get}
 use Rattle.std.specs.List.{All, Contains}
 use Rattle.sh_key.specs.Layout.{Layout}
 use Rattle.sh_key.specs.Layouts.{tiny}
 use Rattle.sh_shape.specs.Shape.{IsShape, Fits}
 use Rattle.sh_script.specs.Words.{Word}
+use Rattle.sh_script.specs.Names.{Binding, names_of}
+use Rattle.sh_script.specs.declared.names.Binder.{Binder}
+use Rattle.sh_script.specs.declared.names.Binder.TheVariants as binder
 use Rattle.sh_script.specs.declared.calls.Layout.{Layout as LayoutName}
 use Rattle.sh_script.specs.declared.calls.Layout.TheVariants as layout
 use Rattle.sh_script.specs.declared.calls.Header.{Header}
@@ -69,11 +72,6 @@ pub record IsName (word : Word) : Type 0 where
   pub few : length others ≤ 31
   pub others_are : All IsNameByte others
 
--- the first place where the name stands among those that are bound
-pub record IsPlaceOf (names : List Word) (name : Word) (i : ℕ) : Type 0 where
-  pub stands : slice_get names i ≡ Some name
-  pub first : (k : ℕ) → k < i → slice_get names k ≢ Some name
-
 -- ---- the header
 
 -- what a layout is called, and which one it is
@@ -91,10 +89,16 @@ pub record IsHeader (words : List Word) (header : Header) : Type 0 where
 
 -- ---- calls, where these names are bound
 
--- the word is a name bound on an earlier line
-pub record IsBoundName (names : List Word) (word : Word) (i : ℕ) : Type 0 where
+-- the word is a name that is bound, and this is its place and what binds it
+pub record IsBoundName (names : List Binding) (word : Word) (i : ℕ) (by : Binder) : Type 0 where
   pub is_name : IsName word
-  pub place : IsPlaceOf names word i
+  pub stands : slice_get names i ≡ Some (record { name = word; by = by })
+  pub first : ¬ Contains (names_of (take i names)) word
+
+-- the word is a name that isn't bound yet
+pub record IsNewName (names : List Binding) (word : Word) : Type 0 where
+  pub is_name : IsName word
+  pub new : ¬ Contains (names_of names) word
 
 -- the word is # and the digits of a key
 pub record IsKey (word : Word) (key : ℕ) : Type 0 where
@@ -102,41 +106,66 @@ pub record IsKey (word : Word) (key : ℕ) : Type 0 where
   pub is : word ≡ 35 ∷ digits
   pub key_is : IsNumber digits key
 
-abbrev pub IsReference : List Word → Word → Reference → Type 0
-IsReference names word (reference.Name i) = IsBoundName names word i
+-- the word is a name bound by an insert, or a key
+abbrev pub IsReference : List Binding → Word → Reference → Type 0
+IsReference names word (reference.Name i) = IsBoundName names word i binder.Insert
 IsReference names word (reference.Key k) = IsKey word k
 
 -- the words are `adopt` and the shard's number
-pub record IsAdopt (words : List Word) (shard : ℕ) (binds : Option Word) : Type 0 where
+pub record IsAdopt (words : List Word) (shard : ℕ) (binds : Option Binding) : Type 0 where
   pub says : words ≡ codes "adopt" ∷ decimal shard ∷ []
   pub small : shard < 2 ^ 64
   pub binds_none : binds ≡ None
 
+-- the word is `leave`
+pub record IsLeave (words : List Word) (binds : Option Binding) : Type 0 where
+  pub says : words ≡ codes "leave" ∷ []
+  pub binds_none : binds ≡ None
+
 -- the words are `insert`, a name that isn't bound yet, and the numbers of the value
-pub record IsInsert (names : List Word) (words : List Word) (value : List ℕ) (binds : Option Word) : Type 0 where
+pub record IsInsert (names : List Binding) (words : List Word) (value : List ℕ) (binds : Option Binding) : Type 0 where
   pub name : Word
   pub says : words ≡ codes "insert" ∷ name ∷ map decimal value
-  pub is_name : IsName name
-  pub new : ¬ Contains names name
+  pub is_new : IsNewName names name
   pub small : All (λ n. n < 2 ^ 64) value
-  pub binds_name : binds ≡ Some name
+  pub binds_name : binds ≡ Some (record { name = name; by = binder.Insert })
 
 -- the words are a command and the name or key that it is about
-pub record IsAbout (command : Word) (names : List Word) (words : List Word) (r : Reference) (binds : Option Word) : Type 0 where
+pub record IsAbout (command : Word) (names : List Binding) (words : List Word) (r : Reference) (binds : Option Binding) : Type 0 where
   pub word : Word
   pub says : words ≡ command ∷ word ∷ []
   pub about : IsReference names word r
   pub binds_none : binds ≡ None
 
+-- the words are `post` and a name that isn't bound yet
+pub record IsPost (names : List Binding) (words : List Word) (binds : Option Binding) : Type 0 where
+  pub name : Word
+  pub says : words ≡ codes "post" ∷ name ∷ []
+  pub is_new : IsNewName names name
+  pub binds_name : binds ≡ Some (record { name = name; by = binder.Post })
+
+-- the words are `wait` and a name that is bound by an insert or a post
+pub record IsWait (names : List Binding) (words : List Word) (i : ℕ) (binds : Option Binding) : Type 0 where
+  pub word : Word
+  pub by : Binder
+  pub says : words ≡ codes "wait" ∷ word ∷ []
+  pub bound : IsBoundName names word i by
+  pub binds_none : binds ≡ None
+
 -- the words say this call, which binds this name, if any
-abbrev pub IsCall : List Word → List Word → Call → Option Word → Type 0
+abbrev pub IsCall : List Binding → List Word → Call → Option Binding → Type 0
 IsCall names words (call.Adopt shard) binds = IsAdopt words shard binds
+IsCall names words call.Leave binds = IsLeave words binds
 IsCall names words (call.Insert value) binds = IsInsert names words value binds
 IsCall names words (call.Get r) binds = IsAbout (codes "get") names words r binds
 IsCall names words (call.Read r) binds = IsAbout (codes "read") names words r binds
+IsCall names words (call.Remove r) binds = IsAbout (codes "remove") names words r binds
+IsCall names words (call.Release r) binds = IsAbout (codes "release") names words r binds
+IsCall names words call.Post binds = IsPost names words binds
+IsCall names words (call.Wait i) binds = IsWait names words i binds
 
 -- the words are the number of a pass below the passes, and a call
-pub record IsCallLine (passes : ℕ) (names : List Word) (words : List Word) (line : CallLine) (binds : Option Word) : Type 0 where
+pub record IsCallLine (passes : ℕ) (names : List Binding) (words : List Word) (line : CallLine) (binds : Option Binding) : Type 0 where
   pub first : Word
   pub others : List Word
   pub says : words ≡ first ∷ others

@@ -3,6 +3,7 @@ use Rattle.std.specs.Prelude.{ℕ, ◌+◌, ◌==◌, nat_lt, List, [], ◌∷�
 use Rattle.std.specs.List.{slice_split, list_all}
 use Rattle.std.specs.Int.{is_in_range}
 use Rattle.sh_script.specs.Words.{Word, words_of, is_newline}
+use Rattle.sh_script.specs.Names.{Binding}
 use Rattle.sh_script.specs.Trouble.{◌>>=◌, placed}
 use Rattle.sh_script.specs.Lines.{header_of, line_of}
 use Rattle.sh_script.specs.declared.fault.Cause.TheVariants as cause
@@ -16,7 +17,7 @@ use Rattle.sh_script.specs.declared.calls.CallLine.{CallLine}
 -- what the lines so far have given: the header, the bound names and the calls, in order
 pub record Read : Type 0 where
   pub header : Option Header
-  pub names : List Word
+  pub names : List Binding
   pub lines : List CallLine
 
 -- nothing, before the first line
@@ -24,7 +25,7 @@ abbrev pub nothing : Read
 nothing = record { header = None; names = []; lines = [] }
 
 -- a name that a line binds joins those bound before
-abbrev pub with_name : List Word → Option Word → List Word
+abbrev pub with_name : List Binding → Option Binding → List Binding
 with_name names None = names
 with_name names (Some name) = names ++ name ∷ []
 
@@ -32,7 +33,7 @@ with_name names (Some name) = names ++ name ∷ []
 abbrev pub with_header : Read → Header → Read
 with_header before h = record before { header = Some h }
 
-abbrev pub with_line : Read → CallLine → Option Word → Read
+abbrev pub with_line : Read → CallLine → Option Binding → Read
 with_line before line binds = record before { names = with_name before.names binds; lines = before.lines ++ line ∷ [] }
 
 -- ---- a line

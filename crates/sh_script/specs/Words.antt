@@ -1,7 +1,6 @@
 -- Words, numbers and names of a line, as they are read.
 use Rattle.std.specs.Prelude.{ℕ, ◌+◌, ◌-◌, ◌*◌, ◌^◌, ◌==◌, ◌&&◌, ◌||◌, Bool, false, not, nat_lt, nat_le, List, [], ◌∷◌, length, Option, Some, None, filter, if◌then◌else◌}
-use Rattle.std.specs.List.{slice_split, list_all, position}
-use Rattle.std.specs.Str.{bytes_eq}
+use Rattle.std.specs.List.{slice_split, list_all}
 
 abbrev pub Word : Type 0
 Word = List ℕ
@@ -40,7 +39,3 @@ is_name_byte b = is_small_letter b || (is_digit b || b == 95)
 abbrev pub is_name : Word → Bool
 is_name [] = false
 is_name (b ∷ bs) = is_small_letter b && (nat_le (length bs) 31 && list_all is_name_byte bs)
-
--- the first place of a name among those that are bound
-abbrev pub place_of : List Word → Word → Option ℕ
-place_of names name = position (λ n. bytes_eq n name) names

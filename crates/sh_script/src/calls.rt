@@ -76,12 +76,22 @@ impl Numbers {
 pub enum Call {
     /// `adopt S`
     Adopt(u64),
+    /// `leave`
+    Leave,
     /// `insert NAME w ..`, which binds the next name.
     Insert(Numbers),
     /// `get R`
     Get(Reference),
     /// `read R`
     Read(Reference),
+    /// `remove R`
+    Remove(Reference),
+    /// `release R`
+    Release(Reference),
+    /// `post NAME`, which binds the next name without a key.
+    Post,
+    /// `wait NAME`, by the order in which the script's names are bound, from 0.
+    Wait(usize),
 }
 
 /// A line: the pass whose call it is, below the number of passes, and the call.

@@ -45,11 +45,7 @@ fn shape(shards: u64, segments: u64, passes: u64) -> Option<Shape>
     let segments = u32::try_from(segments).ok()?;
     let passes = u32::try_from(passes).ok()?;
     let shape = Shape::new(shards, segments, passes).ok()?;
-    if fits::<Tiny>(&shape) {
-        Some(shape)
-    } else {
-        None
-    }
+    fits::<Tiny>(&shape).then_some(shape)
 }
 
 /// The header that the words of a line give.

@@ -1,13 +1,14 @@
 //! A line with a call, read from its words.
-ghost use Rattle.std.specs.Prelude.{◌≡◌, ◌<◌, ◌^◌, map, option_map, [], IfOk};
+ghost use Rattle.std.specs.Prelude.{◌≡◌, map, option_map, [], None, IfOk, IfSome};
 ghost use Rattle.sh_script.specs.Words.{number_of};
 ghost use Rattle.sh_script.specs.Trouble.{Gives, or_cause};
-ghost use Rattle.sh_script.specs.Lines.{only_of, reference_of, new_name, numbers_from, command_of, call_of, line_of};
+ghost use Rattle.sh_script.specs.Names.{binding_of, find_from};
+ghost use Rattle.sh_script.specs.Lines.{only_of, none_of, found_of, reference_of, about_of, new_name, numbers_from, command_of, call_of, line_of};
 
 use crate::calls::{Call, CallLine, Numbers, Reference};
 use crate::fault::Cause;
 use crate::header::{next, next_number};
-use crate::names::Names;
+use crate::names::{Binder, Bound, Found, Names};
 use crate::trouble::Trouble;
 use crate::words::{is_name, number};
 use std::alloc::Global;
@@ -17,12 +18,32 @@ use std::alloc::Global;
 pub enum Command {
     /// `adopt`
     Adopt,
+    /// `leave`
+    Leave,
     /// `insert`
     Insert,
     /// `get`
     Get,
     /// `read`
     Read,
+    /// `remove`
+    Remove,
+    /// `release`
+    Release,
+    /// `post`
+    Post,
+    /// `wait`
+    Wait,
+}
+
+fn none(words: &[&[u8]]) -> Result<(), Trouble>
+    ensures { Gives (λ u. u) result (none_of (map (λ w. w.now) words.now)) }
+{
+    if words.is_empty() {
+        Ok(())
+    } else {
+        Err(Trouble::Because(Cause::Count))
+    }
 }
 
 fn only<'a>(words: &[&'a [u8]]) -> Result<&'a [u8], Trouble>
@@ -41,6 +62,19 @@ fn number_or_cause(word: &[u8]) -> Result<u64, Trouble>
     number(word).ok_or(Trouble::Because(Cause::Number))
 }
 
+#[tactic(auto, unfolding(crate::specs::Lines::found_of))]
+fn found(names: &Names<'_>, word: &[u8]) -> Result<Found, Trouble>
+    ensures { Gives (λ f. f) result (found_of names.now word.now) }
+{
+    if !is_name(word) {
+        return Err(Trouble::Because(Cause::Name));
+    }
+    match names.find(word) {
+        Some(found) => Ok(found),
+        None => Err(Trouble::Because(Cause::Unbound)),
+    }
+}
+
 #[tactic(auto, unfolding(crate::specs::Lines::reference_of))]
 fn reference(names: &Names<'_>, word: &[u8]) -> Result<Reference, Trouble>
     ensures { Gives (λ r. r) result (reference_of names.now word.now) }
@@ -48,13 +82,18 @@ fn reference(names: &Names<'_>, word: &[u8]) -> Result<Reference, Trouble>
     if !word.is_empty() && word[0] == b'#' {
         return Ok(Reference::Key(number_or_cause(&word[1..])?));
     }
-    if !is_name(word) {
-        return Err(Trouble::Because(Cause::Name));
+    let found = found(names, word)?;
+    match found.by {
+        Binder::Insert => Ok(Reference::Name(found.place)),
+        Binder::Post => Err(Trouble::Because(Cause::Unbound)),
     }
-    match names.find(word) {
-        Some(i) => Ok(Reference::Name(i)),
-        None => Err(Trouble::Because(Cause::Unbound)),
-    }
+}
+
+#[tactic(auto, unfolding(crate::specs::Lines::about_of))]
+fn about(names: &Names<'_>, words: &[&[u8]]) -> Result<Reference, Trouble>
+    ensures { Gives (λ r. r) result (about_of names.now (map (λ w. w.now) words.now)) }
+{
+    reference(names, only(words)?)
 }
 
 fn command_named(word: &[u8]) -> Option<Command>
@@ -62,12 +101,22 @@ fn command_named(word: &[u8]) -> Option<Command>
 {
     if word == b"adopt".as_slice() {
         Some(Command::Adopt)
+    } else if word == b"leave".as_slice() {
+        Some(Command::Leave)
     } else if word == b"insert".as_slice() {
         Some(Command::Insert)
     } else if word == b"get".as_slice() {
         Some(Command::Get)
     } else if word == b"read".as_slice() {
         Some(Command::Read)
+    } else if word == b"remove".as_slice() {
+        Some(Command::Remove)
+    } else if word == b"release".as_slice() {
+        Some(Command::Release)
+    } else if word == b"post".as_slice() {
+        Some(Command::Post)
+    } else if word == b"wait".as_slice() {
+        Some(Command::Wait)
     } else {
         None
     }
@@ -75,7 +124,8 @@ fn command_named(word: &[u8]) -> Option<Command>
 
 #[tactic(auto, unfolding(crate::specs::Lines::new_name))]
 fn new_name<'a>(names: &Names<'_>, word: &'a [u8]) -> Result<&'a [u8], Trouble>
-    ensures { Gives (λ w. w.now) result (new_name names.now word.entry.now) }
+    ensures name { Gives (λ w. w.now) result (new_name names.now word.entry.now) }
+    ensures new { IfOk result (λ w. find_from 0 names.now w.now ≡ None) }
 {
     if !is_name(word) {
         return Err(Trouble::Because(Cause::Name));
@@ -103,40 +153,52 @@ fn call<'a>(
     names: &Names<'_>,
     command: Command,
     words: &[&'a [u8]],
-) -> Result<(Call, Option<&'a [u8]>), Trouble>
-    ensures { Gives (λ c. (c.0, option_map (λ w. w.now) c.1)) result (call_of names.now command (map (λ w. w.now) words.now)) }
+) -> Result<(Call, Option<Bound<'a>>), Trouble>
+    ensures call { Gives (λ c. (c.0, option_map binding_of c.1)) result (call_of names.now command (map (λ w. w.now) words.now)) }
+    ensures new { IfOk result (λ c. IfSome c.1 (λ b. find_from 0 names.now b.name.now ≡ None)) }
 {
     match command {
         Command::Adopt => {
             let shard = number_or_cause(only(words)?)?;
             Ok((Call::Adopt(shard), None))
         }
+        Command::Leave => {
+            none(words)?;
+            Ok((Call::Leave, None))
+        }
         Command::Insert => {
             let (word, rest) = next(Cause::Count, words)?;
             let name = new_name(names, word)?;
+            let by = Binder::Insert;
             let value = numbers(alloc, rest)?;
-            Ok((Call::Insert(value), Some(name)))
+            Ok((Call::Insert(value), Some(Bound { name, by })))
         }
-        Command::Get => {
-            let reference = reference(names, only(words)?)?;
-            Ok((Call::Get(reference), None))
+        Command::Get => Ok((Call::Get(about(names, words)?), None)),
+        Command::Read => Ok((Call::Read(about(names, words)?), None)),
+        Command::Remove => Ok((Call::Remove(about(names, words)?), None)),
+        Command::Release => Ok((Call::Release(about(names, words)?), None)),
+        Command::Post => {
+            let name = new_name(names, only(words)?)?;
+            let by = Binder::Post;
+            Ok((Call::Post, Some(Bound { name, by })))
         }
-        Command::Read => {
-            let reference = reference(names, only(words)?)?;
-            Ok((Call::Read(reference), None))
+        Command::Wait => {
+            let found = found(names, only(words)?)?;
+            Ok((Call::Wait(found.place), None))
         }
     }
 }
 
-/// The line that the words say, and the name that it binds.
+/// The line that the words say, and the name that it binds, which is not bound yet.
 #[tactic(auto, unfolding(crate::specs::Lines::line_of))]
 pub fn line<'a>(
     alloc: Global,
     passes: u32,
     names: &Names<'_>,
     words: &[&'a [u8]],
-) -> Result<(CallLine, Option<&'a [u8]>), Trouble>
-    ensures { Gives (λ c. (c.0, option_map (λ w. w.now) c.1)) result (line_of passes names.now (map (λ w. w.now) words.now)) }
+) -> Result<(CallLine, Option<Bound<'a>>), Trouble>
+    ensures line { Gives (λ c. (c.0, option_map binding_of c.1)) result (line_of passes names.now (map (λ w. w.now) words.now)) }
+    ensures new { IfOk result (λ c. IfSome c.1 (λ b. find_from 0 names.now b.name.now ≡ None)) }
 {
     let (pass, rest) = next_number(Cause::Number, words)?;
     if passes as u64 <= pass {
@@ -147,6 +209,6 @@ pub fn line<'a>(
     let Some(command) = command_named(word) else {
         return Err(Trouble::Because(Cause::Command));
     };
-    let (call, name) = call(alloc, names, command, rest)?;
-    Ok((CallLine { pass, call }, name))
+    let (call, binds) = call(alloc, names, command, rest)?;
+    Ok((CallLine { pass, call }, binds))
 }

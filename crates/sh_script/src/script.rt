@@ -62,9 +62,9 @@ impl<'a> Reader<'a> {
         match self.header {
             None => self.header = Some(header(words)?),
             Some(heading) => {
-                let (line, name) = line(alloc, heading.shape.passes(), &self.names, words)?;
-                if let Some(name) = name {
-                    self.names.push(name)?;
+                let (line, binds) = line(alloc, heading.shape.passes(), &self.names, words)?;
+                if let Some(bound) = binds {
+                    self.names.push(bound.name, bound.by)?;
                 }
                 self.lines.push(line)?;
             }

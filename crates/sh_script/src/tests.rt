@@ -63,8 +63,25 @@ fn spaces_comments_and_blank_lines(rt: HostRuntime) {
 }
 
 #[test]
+fn each_command(rt: HostRuntime) {
+    let text =
+        b"heap tiny 1 1 2\n1 post p\n0 wait p\n0 insert a\n0 wait a\n0 remove a\n1 release a\n0 remove #4096\n1 release #0\n0 leave\n";
+    let calls = parse_calls(rt.alloc(), text).expect(&rt, "it is a script");
+    assert_eq!(rt; calls.lines.len(), 9);
+    assert!(rt; matches!(calls.lines[0].call, Call::Post));
+    assert!(rt; matches!(calls.lines[1].call, Call::Wait(0)));
+    assert!(rt; is_insert(&calls.lines[2], 0, &[]));
+    assert!(rt; matches!(calls.lines[3].call, Call::Wait(1)));
+    assert!(rt; matches!(calls.lines[4].call, Call::Remove(Reference::Name(1))));
+    assert!(rt; matches!(calls.lines[5].call, Call::Release(Reference::Name(1))));
+    assert!(rt; matches!(calls.lines[6].call, Call::Remove(Reference::Key(4096))));
+    assert!(rt; matches!(calls.lines[7].call, Call::Release(Reference::Key(0))));
+    assert!(rt; matches!(calls.lines[8].call, Call::Leave));
+}
+
+#[test]
 fn scripts_with_a_fault(rt: HostRuntime) {
-    let table: [(&[u8], Fault); 27] = [
+    let table: [(&[u8], Fault); 33] = [
         (b"", Fault::Script(1, Cause::Header)),
         (b"\n; no more\n", Fault::Script(3, Cause::Header)),
         (b"heap tiny 1 1 2\n0 adopt 0", Fault::Script(2, Cause::Cut)),
@@ -117,6 +134,30 @@ fn scripts_with_a_fault(rt: HostRuntime) {
         (
             b"heap tiny 1 1 1\n0 insert a\n0 insert a\n",
             Fault::Script(3, Cause::Bound),
+        ),
+        (
+            b"heap tiny 1 1 1\n0 insert a\n0 post a\n",
+            Fault::Script(3, Cause::Bound),
+        ),
+        (
+            b"heap tiny 1 1 1\n0 post p\n0 get p\n",
+            Fault::Script(3, Cause::Unbound),
+        ),
+        (
+            b"heap tiny 1 1 1\n0 post p\n0 release p\n",
+            Fault::Script(3, Cause::Unbound),
+        ),
+        (
+            b"heap tiny 1 1 1\n0 wait p\n",
+            Fault::Script(2, Cause::Unbound),
+        ),
+        (
+            b"heap tiny 1 1 1\n0 wait #1\n",
+            Fault::Script(2, Cause::Name),
+        ),
+        (
+            b"heap tiny 1 1 1\n0 leave 0\n",
+            Fault::Script(2, Cause::Count),
         ),
         (
             b"heap tiny 1 1 1\n0 get #x\n",
@@ -183,6 +224,21 @@ fn long_scripts(rt: HostRuntime) -> Result<(), Fail> {
         fault_of(alloc, text.as_slice()),
         Some(Fault::Script(0, Cause::Size))
     );
+    Ok(())
+}
+
+// The search for a name takes no longer where many are bound.
+#[test]
+fn many_names(rt: HostRuntime) -> Result<(), Fail> {
+    let alloc = rt.alloc();
+    let mut text = Vec::from_slice(alloc, b"heap tiny 1 1 1\n")?;
+    for i in 0..60_000 {
+        text.extend_from_slice(format!(in alloc; "0 post n{i}\n")?.as_bytes())?;
+    }
+    text.extend_from_slice(b"0 wait n59999\n")?;
+    let calls = parse_calls(alloc, text.as_slice()).expect(&rt, "it is a script");
+    assert_eq!(rt; calls.lines.len(), 60_001);
+    assert!(rt; matches!(calls.lines[60_000].call, Call::Wait(59_999)));
     Ok(())
 }
 

@@ -1,16 +1,16 @@
 -- How the reading of a command line ends.
-use Rattle.std.proofs.Common.{◌≡◌, ◌≢◌, ◌⊎◌, ◌∙◌, ℕ, Bool, List, [], Option, Some, None, true, refl, sym, subst, ap, inl, inr, codes}
+use Rattle.std.proofs.Common.{◌≡◌, ◌≢◌, ◌⊎◌, ◌∙◌, ℕ, List, [], Option, Some, None, true, refl, sym, subst, ap, inl, inr, codes}
 use Rattle.std.specs.Prelude.{unwrap_or, option_map}
 use Rattle.std.specs.Borrow.{Bor}
 use Rattle.clap.specs.Words.{App, Text, IsAmong, HasMatchesOf, app_of, fault_of, first_of, first_value, found_of, is_simple, is_simple_and_free, matches_of, one_of, one_text, rows_of}
 use Rattle.clap.specs.declared.builder.command.Command.{Command}
 use Rattle.clap.specs.declared.parser.matches.ArgMatches.{ArgMatches}
 use Rattle.clap.specs.declared.error.kind.ErrorKind.{ErrorKind}
-use Rattle.clap.specs.declared.error.kind.ErrorKind.TheVariants.{InvalidValue, OutOfMemory}
+use Rattle.clap.specs.declared.error.kind.ErrorKind.TheVariants.{OutOfMemory}
 use Rattle.clap.proofs.WalkLemmas.{first_value-rows, one_text-rows}
 use Rattle.sh_replay.specs.declared.mode.Mode.{Mode}
 use Rattle.sh_replay.specs.declared.mode.Mode.TheVariants.{Plain}
-use Rattle.shardheap.specs.Options.{IsCommandLine, IsNoMode, IsRefused, IsUnknown, HasUnknownMode, accounts_text, command_line, mode_word, name_of}
+use Rattle.shardheap.specs.Options.{IsCommandLine, IsNoMode, IsRefused, IsUnknown, accounts_text, command_line, mode_word, name_of}
 
 simple_and_free : is_simple_and_free command_line ≡ true
 simple_and_free = refl

@@ -1,10 +1,15 @@
--- How the program ends.
-use Rattle.std.specs.Prelude.{◌≡◌, ◌⊎◌, ℕ, Bool, List}
+-- How the program ends, by its words, the bytes that it can read and what it has written.
+use Rattle.std.specs.Prelude.{◌≡◌, ◌≢◌, ◌⊎◌, ℕ, Bool, List, Option}
 use Rattle.clap.specs.Words.{Text}
 use Rattle.clap.specs.declared.error.kind.ErrorKind.{ErrorKind}
 use Rattle.clap.specs.declared.error.kind.ErrorKind.TheVariants.{DisplayHelp, DisplayVersion, OutOfMemory}
-use Rattle.sh_replay.specs.declared.mode.Mode.{Mode}
+use Rattle.sh_script.specs.Grammar.{IsCalls}
+use Rattle.sh_script.specs.declared.calls.CallLine.{CallLine}
+use Rattle.sh_script.specs.declared.calls.Header.{Header}
 use Rattle.sh_script.specs.declared.fault.Fault.{Fault}
+use Rattle.sh_replay.specs.declared.mode.Mode.{Mode}
+use Rattle.sh_replay.specs.Ends.{IsEndFault}
+use Rattle.sh_replay.specs.Output.{IsFaultOf, Runs, Stops}
 use Rattle.shardheap.specs.Faults.{status_of}
 use Rattle.shardheap.specs.Options.{IsRefused, Says}
 
@@ -16,15 +21,28 @@ EndsBy DisplayVersion status = (status ≡ 0) ⊎ (status ≡ 3)
 EndsBy OutOfMemory status = status ≡ 3
 EndsBy _ status = status ≡ 2
 
--- the words are refused for a reason, and the exit status is that reason's
-pub record EndsRefused (words : List Text) (status : ℕ) : Type 0 where
+-- the words are refused for a reason, the exit status is that reason's, and only help is output
+pub record EndsRefused (words : List Text) (old new : Option (List ℕ)) (status : ℕ) : Type 0 where
   pub kind : ErrorKind
   pub refused : IsRefused words kind
   pub ends : EndsBy kind status
+  pub quiet : kind ≢ DisplayHelp → kind ≢ DisplayVersion → new ≡ old
 
--- the words say a mode, and the exit status is 0 or that of a fault
-pub record EndsRun (words : List Text) (status : ℕ) : Type 0 where
+-- the run ended with a fault, and the exit status is that fault's
+pub record EndsFaulty (mode : Mode) (text : List ℕ) (old new : Option (List ℕ)) (status : ℕ) : Type 0 where
+  pub fault : Fault
+  pub is : status ≡ status_of fault
+  pub may : IsFaultOf text fault
+  pub answers : (header : Header) (lines : List CallLine) → IsCalls text header lines → IsEndFault fault
+  pub stops : Stops mode text old new
+
+-- the words say a mode, and the script was run in it: to its end, with status 0, or up to a fault
+pub record EndsRun (words : List Text) (text : List ℕ) (old new : Option (List ℕ)) (status : ℕ) : Type 0 where
   pub mode : Mode
   pub accounts : Bool
   pub said : Says words mode accounts
-  pub ends : (status ≡ 0) ⊎ ((fault : Fault) × (status ≡ status_of fault))
+  pub ends : ((status ≡ 0) × Runs mode text old new) ⊎ EndsFaulty mode text old new status
+
+-- the exit statuses that there are
+abbrev pub IsStatus : ℕ → Type 0
+IsStatus status = (status ≡ 0) ⊎ ((status ≡ 2) ⊎ (status ≡ 3))

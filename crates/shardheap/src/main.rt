@@ -3,6 +3,10 @@
 //! `options` reads the command line, and `faults` says what is said of a fault and what the program ends with.
 #![tactic(auto)]
 
+ghost use Rattle.std.specs.Prelude.{◌≡◌, ◌≢◌, IfOk, map, string_bytes};
+ghost use Rattle.std.specs.IoError.{error_kind};
+ghost use Rattle.shardheap.specs.Program.{IsStatus};
+
 mod faults;
 mod options;
 mod program;
@@ -12,12 +16,15 @@ mod tests;
 use sh_script::Fault;
 use std::alloc::{AllocError, Global};
 use std::io;
-use std::io::Write;
+use std::io::{ErrorKind, Write};
 use std::process::ExitCode;
 
 /// What is wrong where the process's own words could not be had: they are no text, or memory ran out.
-fn refuse<E: Write>(error: &io::Error, errors: &mut E) -> u8 {
-    if error.kind() == io::ErrorKind::OutOfMemory {
+fn refuse<E: Write>(error: &io::Error, errors: &mut E) -> u8
+    ensures memory { error_kind error.now ≡ ErrorKind.OutOfMemory → result ≡ 3 }
+    ensures words { error_kind error.now ≢ ErrorKind.OutOfMemory → result ≡ 2 }
+{
+    if error.kind() == ErrorKind::OutOfMemory {
         return program::report(Fault::Memory, errors);
     }
     let _ = writeln!(
@@ -27,11 +34,19 @@ fn refuse<E: Write>(error: &io::Error, errors: &mut E) -> u8 {
     2
 }
 
-fn texts(alloc: Global, words: &[String]) -> Result<Vec<&str>, AllocError> {
-    words.iter().map(|word| word.as_str()).collect(alloc)
+fn texts(alloc: Global, words: &[String]) -> Result<Vec<&str>, AllocError>
+    ensures { IfOk result (λ texts. map (λ t. t.now) texts.items ≡ map string_bytes words.now) }
+{
+    let mut texts = Vec::new(alloc);
+    for word in words {
+        texts.push(word.as_str())?;
+    }
+    Ok(texts)
 }
 
-fn start(rt: &HostRuntime) -> io::Result<u8> {
+fn start(rt: &HostRuntime) -> io::Result<u8>
+    ensures { IfOk result IsStatus }
+{
     let alloc = rt.alloc();
     let words: Vec<String> = std::env::args(rt)?.collect(alloc)?;
     let words = texts(alloc, words.as_slice())?;

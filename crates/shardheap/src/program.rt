@@ -1,8 +1,8 @@
 //! The whole program, over the words of a command line, a reader and two writers.
-ghost use Rattle.std.specs.Prelude.{◌≡◌, ◌⊎◌, map};
+ghost use Rattle.std.specs.Prelude.{◌≡◌, ◌≢◌, ◌⊎◌, ℕ, List, Some, map, take};
 ghost use Rattle.clap.specs.Words.{kind_of};
 ghost use Rattle.shardheap.specs.Faults.{status_of};
-ghost use Rattle.shardheap.specs.Program.{EndsBy, EndsRefused, EndsRun};
+ghost use Rattle.shardheap.specs.Program.{EndsBy, EndsRefused, EndsRun, IsStatus};
 
 use crate::faults::{FaultLine, status};
 use crate::options::options;
@@ -23,7 +23,9 @@ pub fn report<E: Write>(fault: Fault, errors: &mut E) -> u8
 
 /// Shows why clap gave no options, and gives the exit status: help goes to `output`, a mistake in the words to `errors`.
 fn show<W: Write, E: Write>(error: &Error, output: &mut W, errors: &mut E) -> u8
-    ensures { EndsBy (kind_of error.now) result }
+    ensures ends { EndsBy (kind_of error.now) result }
+    ensures quiet { kind_of error.now ≢ ErrorKind.DisplayHelp → kind_of error.now ≢ ErrorKind.DisplayVersion
+        → output.new ≡ output.old }
 {
     if error.kind() == ErrorKind::OutOfMemory {
         return report(Fault::Memory, errors);
@@ -48,7 +50,10 @@ pub fn run<R: Read, W: Write, E: Write>(
     output: &mut W,
     errors: &mut E,
 ) -> u8
-    ensures { EndsRefused (map (λ w. w.now) words.now) result ⊎ EndsRun (map (λ w. w.now) words.now) result }
+    ensures ends { (text : List ℕ) → R.remaining input.old ≡ Some text
+        → EndsRefused (map (λ w. w.now) words.now) (W.contents output.old) (W.contents output.new) result
+        ⊎ EndsRun (map (λ w. w.now) words.now) (take 1048577 text) (W.contents output.old) (W.contents output.new) result }
+    ensures status { IsStatus result }
 {
     let (mode, accounts) = match options(alloc, words) {
         Ok(chosen) => chosen,

@@ -1,7 +1,6 @@
-use Rattle.std.proofs.Common.{◌≡◌, ◌∙◌, sym, ap, map, List, Option, [], refl}
-use Rattle.std.specs.Prelude.{IfErr, unwrap_or}
+use Rattle.std.proofs.Common.{◌≡◌, ◌∙◌, ap, map, List, refl}
 use Rattle.std.proofs.lemmas.Result.{err_from_is_err_and}
-use Rattle.clap.specs.Words.{Text, app_of, fault_of, found_of, kind_of, is_simple_and_free, matches_of, rows_of, takes}
+use Rattle.clap.specs.Words.{Text, app_of, takes}
 use Rattle.shardheap.specs.Options.{command_line, mode_word}
 use Rattle.shardheap.proofs.CommandLine.{flag_is, free, given_word, no_fault, refused_by_clap, refused_by_mode, refused_for_memory, rows_are, word_is}
 use Rattle.shardheap.proofs.options.options.Goals as goal
