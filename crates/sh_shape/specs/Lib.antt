@@ -1,1 +1,3 @@
 pub mod Shape
+pub mod Classes
+pub mod Places

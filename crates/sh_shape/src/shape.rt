@@ -6,8 +6,6 @@ use sh_key::KeyLayout;
 use sh_value::Refusal;
 use std::marker::Model;
 
-const SEGMENT_PAGES: u64 = 8;
-
 /// How many shards a heap has, how many segments of 8 pages each shard, and how many passes. A contract sees the three
 /// numbers, which are within the limits.
 #[derive(Clone, Copy, Debug, PartialEq, Eq)]
@@ -79,7 +77,7 @@ pub fn fits<L: KeyLayout>(shape: &Shape) -> bool
     ensures { IsTrue result ↔ Fits L.layout shape.now }
 {
     let shards = shape.shards() as u64;
-    let pages = SEGMENT_PAGES * shape.segments() as u64;
+    let pages = shape.pages() as u64;
     shards <= 1 << L::SHARD_BITS && pages <= 1 << L::PAGE_BITS
 }
 

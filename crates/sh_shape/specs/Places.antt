@@ -1,0 +1,73 @@
+-- The places of a heap's words, and the number of each place among the words.
+--
+-- A page has 195 words: its class, its head and its page link; for each of 48 slots a state, a link and a length; and 48
+-- payload words. After all pages each shard has two: its owner word and its bell.
+use Rattle.std.specs.Prelude.{◌≡◌, ℕ, ◌+◌, ◌*◌, ◌<◌}
+use Rattle.sh_shape.specs.declared.places.Place.{Place}
+use Rattle.sh_shape.specs.declared.places.Place.TheVariants.{Class, Head, PageLink, State, Link, Length, Payload, Owner, Bell}
+use Rattle.sh_shape.specs.Shape.{Numbers, segment_pages}
+
+-- for how many slots a page has places, and how many payload words it has
+abbrev pub slot_places : ℕ
+slot_places = 48
+
+abbrev pub payload_words : ℕ
+payload_words = 48
+
+-- how many words a page has
+abbrev pub page_words : ℕ
+page_words = 195
+
+-- how many pages a shard has
+abbrev pub pages_of : Numbers → ℕ
+pages_of shape = segment_pages * shape.segments
+
+-- how many pages all shards have together
+abbrev pub all_pages : Numbers → ℕ
+all_pages shape = shape.shards * pages_of shape
+
+-- the number of a shard's page over the whole heap
+abbrev pub page_number : Numbers → (shard page : ℕ) → ℕ
+page_number shape shard page = shard * pages_of shape + page
+
+-- the heap has this place; a page is given by its number over the whole heap
+abbrev pub IsPlace : Numbers → Place → Type 0
+IsPlace shape (Class page) = page < all_pages shape
+IsPlace shape (Head page) = page < all_pages shape
+IsPlace shape (PageLink page) = page < all_pages shape
+IsPlace shape (State page slot) = (page < all_pages shape) × (slot < slot_places)
+IsPlace shape (Link page slot) = (page < all_pages shape) × (slot < slot_places)
+IsPlace shape (Length page slot) = (page < all_pages shape) × (slot < slot_places)
+IsPlace shape (Payload page i) = (page < all_pages shape) × (i < payload_words)
+IsPlace shape (Owner shard) = shard < shape.shards
+IsPlace shape (Bell shard) = shard < shape.shards
+
+-- the number of the word at a place
+abbrev pub number : Numbers → Place → ℕ
+number shape (Class page) = page_words * page
+number shape (Head page) = page_words * page + 1
+number shape (PageLink page) = page_words * page + 2
+number shape (State page slot) = page_words * page + (3 + slot)
+number shape (Link page slot) = page_words * page + (51 + slot)
+number shape (Length page slot) = page_words * page + (99 + slot)
+number shape (Payload page i) = page_words * page + (147 + i)
+number shape (Owner shard) = page_words * all_pages shape + 2 * shard
+number shape (Bell shard) = page_words * all_pages shape + 2 * shard + 1
+
+-- how many words the heap has
+abbrev pub words_of : Numbers → ℕ
+words_of shape = page_words * all_pages shape + 2 * shape.shards
+
+-- no two places have the same number
+abbrev pub PlacesDiffer : Type 0
+PlacesDiffer =
+    (shape : Numbers) (a b : Place) → IsPlace shape a → IsPlace shape b → number shape a ≡ number shape b → a ≡ b
+
+-- each place is one of the words
+abbrev pub PlacesAreWords : Type 0
+PlacesAreWords = (shape : Numbers) (a : Place) → IsPlace shape a → number shape a < words_of shape
+
+-- each word is at a place
+abbrev pub WordsHavePlaces : Type 0
+WordsHavePlaces =
+    (shape : Numbers) (n : ℕ) → n < words_of shape → (a : Place) × IsPlace shape a × (number shape a ≡ n)

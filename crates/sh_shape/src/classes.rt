@@ -1,0 +1,85 @@
+//! Classes of slots: a value lies in a slot of the least class that is wide enough for it.
+ghost use Rattle.std.specs.Prelude.{◌≡◌, ◌<◌, ◌*◌, ◌≤◌, nat_le, position, MatchOption};
+ghost use Rattle.sh_shape.specs.Classes.{class_count, width, slots, class_of, IsClassOf};
+
+const WIDTHS: [u32; 8] = [1, 2, 3, 4, 6, 8, 12, 16];
+
+const SLOTS: [u32; 8] = [48, 24, 16, 12, 8, 6, 4, 3];
+
+/// The class of a value of this many words: the least class whose width is at least the length. Above 16 words there is
+/// none.
+pub fn class_of(len: usize) -> Option<u32>
+    ensures is { result ≡ class_of len }
+    ensures least { MatchOption result (16 < len) (IsClassOf len) }
+{
+    match first_at_least(len, &WIDTHS) {
+        Some(class) => Some(class as u32),
+        None => None,
+    }
+}
+
+// Where the first width stands that is at least the length.
+fn first_at_least(len: usize, widths: &[u32]) -> Option<usize>
+    ensures { result ≡ position (λ words. nat_le len words) widths.now }
+{
+    widths.iter().position(|width| len <= *width as usize)
+}
+
+/// How many words a slot of the class has, from 1 to 16.
+pub fn width(class: u32) -> u32
+    requires { class < class_count }
+    ensures is { result ≡ width class }
+    ensures some { 1 ≤ result }
+    ensures few { result ≤ 16 }
+{
+    WIDTHS[class as usize]
+}
+
+/// How many slots a page of the class has, from 3 to 48: together they have at most the page's 48 payload words.
+pub fn slots(class: u32) -> u32
+    requires { class < class_count }
+    ensures is { result ≡ slots class }
+    ensures some { 3 ≤ result }
+    ensures few { result ≤ 48 }
+    ensures fit { result * width class ≤ 48 }
+{
+    SLOTS[class as usize]
+}
+
+#[cfg(test)]
+mod tests {
+    use super::*;
+
+    #[test]
+    fn lengths_have_classes(rt: HostRuntime) {
+        let table = [
+            (0, Some(0)),
+            (1, Some(0)),
+            (5, Some(4)),
+            (13, Some(7)),
+            (16, Some(7)),
+            (17, None),
+        ];
+        for (len, class) in table {
+            assert_eq!(rt; class_of(len), class, "{len}");
+        }
+    }
+
+    #[test]
+    fn classes_have_widths_and_slots(rt: HostRuntime) {
+        let table = [
+            (1, 48),
+            (2, 24),
+            (3, 16),
+            (4, 12),
+            (6, 8),
+            (8, 6),
+            (12, 4),
+            (16, 3),
+        ];
+        for (class, (words, count)) in table.iter().enumerate() {
+            assert_eq!(rt; width(class as u32), *words, "{class}");
+            assert_eq!(rt; slots(class as u32), *count, "{class}");
+        }
+    }
+}

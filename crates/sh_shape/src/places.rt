@@ -1,0 +1,254 @@
+//! The places of a heap's words: each place of the shape has the number of one word, and no two have the same.
+ghost use Rattle.std.specs.Prelude.{◌≡◌, ◌+◌, ◌*◌, ◌<◌, ◌≤◌};
+ghost use Rattle.sh_shape.specs.Shape.{IsShape};
+ghost use Rattle.sh_shape.specs.Places.{pages_of, all_pages, page_number, page_words, slot_places, payload_words, IsPlace, number, words_of};
+
+use crate::Shape;
+
+const SEGMENT_PAGES: u32 = 8;
+
+const PAGE_WORDS: u32 = 195;
+
+/// The place of a word. A page is given by its number over the whole heap, as `Shape::page_number` answers it.
+#[derive(Clone, Copy, Debug, PartialEq, Eq)]
+pub enum Place {
+    /// The class word of a page.
+    Class(u64),
+    /// The head word of a page: the top of its exchange stack, and whether it is armed.
+    Head(u64),
+    /// The link of a page in a bell.
+    PageLink(u64),
+    /// The state of a page's slot, from 0 to 47.
+    State(u64, u64),
+    /// The link of a page's slot in the page's exchange stack.
+    Link(u64, u64),
+    /// How many words the value in a page's slot has.
+    Length(u64, u64),
+    /// A payload word of a page, from 0 to 47.
+    Payload(u64, u64),
+    /// The owner word of a shard.
+    Owner(u64),
+    /// The bell of a shard.
+    Bell(u64),
+}
+
+impl Shape {
+    /// How many pages a shard has: 8 for each segment, at most 2048.
+    pub fn pages(&self) -> u32
+        ensures pages { result ≡ pages_of self.now }
+        ensures few { result ≤ 2048 }
+        ensures shape { IsShape self.now }
+    {
+        SEGMENT_PAGES * self.segments()
+    }
+
+    // How many pages all shards have together.
+    #[tactic(auto, using(crate::proofs::PlaceLaws::few_pages))]
+    fn all_pages(&self) -> u32
+        ensures pages { result ≡ all_pages self.now }
+        ensures few { result ≤ 2048 }
+        ensures shards { self.now.shards ≤ 256 }
+    {
+        self.shards() * self.pages()
+    }
+
+    /// The number of a shard's page over the whole heap.
+    #[tactic(auto, using(crate::proofs::PlaceLaws::few_pages, crate::proofs::PlaceLaws::page_is_below))]
+    pub fn page_number(&self, shard: u32, page: u32) -> u32
+        requires shard { shard < self.now.shards }
+        requires page { page < pages_of self.now }
+        ensures is { result ≡ page_number self.now shard page }
+        ensures below { result < all_pages self.now }
+    {
+        shard * self.pages() + page
+    }
+
+    /// How many words the heap has, at most 399,872.
+    pub fn words(&self) -> u32
+        ensures words { result ≡ words_of self.now }
+        ensures few { result ≤ 399872 }
+    {
+        PAGE_WORDS * self.all_pages() + 2 * self.shards()
+    }
+
+    /// The number of the word at a place of the heap.
+    pub fn index(&self, place: Place) -> u32
+        requires { IsPlace self.now place }
+        ensures is { result ≡ number self.now place }
+        ensures below { result < words_of self.now }
+    {
+        let pages = self.all_pages();
+        match place {
+            Place::Class(page) => in_page(page, 0),
+            Place::Head(page) => in_page(page, 1),
+            Place::PageLink(page) => in_page(page, 2),
+            Place::State(page, slot) => in_page(page, 3 + slot),
+            Place::Link(page, slot) => in_page(page, 51 + slot),
+            Place::Length(page, slot) => in_page(page, 99 + slot),
+            Place::Payload(page, i) => in_page(page, 147 + i),
+            Place::Owner(shard) => after_pages(pages, shard),
+            Place::Bell(shard) => after_pages(pages, shard) + 1,
+        }
+    }
+
+    /// The number of a page's class word.
+    pub fn class_at(&self, shard: u32, page: u32) -> u32
+        requires shard { shard < self.now.shards }
+        requires page { page < pages_of self.now }
+        ensures is { result ≡ number self.now (Place.Class (page_number self.now shard page)) }
+        ensures below { result < words_of self.now }
+    {
+        self.index(Place::Class(u64::from(self.page_number(shard, page))))
+    }
+
+    /// The number of a page's head word.
+    pub fn head_at(&self, shard: u32, page: u32) -> u32
+        requires shard { shard < self.now.shards }
+        requires page { page < pages_of self.now }
+        ensures is { result ≡ number self.now (Place.Head (page_number self.now shard page)) }
+        ensures below { result < words_of self.now }
+    {
+        self.index(Place::Head(u64::from(self.page_number(shard, page))))
+    }
+
+    /// The number of a page's link.
+    pub fn page_link_at(&self, shard: u32, page: u32) -> u32
+        requires shard { shard < self.now.shards }
+        requires page { page < pages_of self.now }
+        ensures is { result ≡ number self.now (Place.PageLink (page_number self.now shard page)) }
+        ensures below { result < words_of self.now }
+    {
+        self.index(Place::PageLink(u64::from(self.page_number(shard, page))))
+    }
+
+    /// The number of the state word of a page's slot, from 0 to 47.
+    pub fn state_at(&self, shard: u32, page: u32, slot: u32) -> u32
+        requires shard { shard < self.now.shards }
+        requires page { page < pages_of self.now }
+        requires slot { slot < slot_places }
+        ensures is { result ≡ number self.now (Place.State (page_number self.now shard page) slot) }
+        ensures below { result < words_of self.now }
+    {
+        self.index(Place::State(u64::from(self.page_number(shard, page)), u64::from(slot)))
+    }
+
+    /// The number of the link of a page's slot, from 0 to 47.
+    pub fn link_at(&self, shard: u32, page: u32, slot: u32) -> u32
+        requires shard { shard < self.now.shards }
+        requires page { page < pages_of self.now }
+        requires slot { slot < slot_places }
+        ensures is { result ≡ number self.now (Place.Link (page_number self.now shard page) slot) }
+        ensures below { result < words_of self.now }
+    {
+        self.index(Place::Link(u64::from(self.page_number(shard, page)), u64::from(slot)))
+    }
+
+    /// The number of the length word of a page's slot, from 0 to 47.
+    pub fn length_at(&self, shard: u32, page: u32, slot: u32) -> u32
+        requires shard { shard < self.now.shards }
+        requires page { page < pages_of self.now }
+        requires slot { slot < slot_places }
+        ensures is { result ≡ number self.now (Place.Length (page_number self.now shard page) slot) }
+        ensures below { result < words_of self.now }
+    {
+        self.index(Place::Length(u64::from(self.page_number(shard, page)), u64::from(slot)))
+    }
+
+    /// The number of a page's payload word, from 0 to 47.
+    pub fn payload_at(&self, shard: u32, page: u32, i: u32) -> u32
+        requires shard { shard < self.now.shards }
+        requires page { page < pages_of self.now }
+        requires i { i < payload_words }
+        ensures is { result ≡ number self.now (Place.Payload (page_number self.now shard page) i) }
+        ensures below { result < words_of self.now }
+    {
+        self.index(Place::Payload(u64::from(self.page_number(shard, page)), u64::from(i)))
+    }
+
+    /// The number of a shard's owner word.
+    pub fn owner_at(&self, shard: u32) -> u32
+        requires { shard < self.now.shards }
+        ensures is { result ≡ number self.now (Place.Owner shard) }
+        ensures below { result < words_of self.now }
+    {
+        self.index(Place::Owner(u64::from(shard)))
+    }
+
+    /// The number of a shard's bell.
+    pub fn bell_at(&self, shard: u32) -> u32
+        requires { shard < self.now.shards }
+        ensures is { result ≡ number self.now (Place.Bell shard) }
+        ensures below { result < words_of self.now }
+    {
+        self.index(Place::Bell(u64::from(shard)))
+    }
+}
+
+// The number of a page's word.
+fn in_page(page: u64, offset: u64) -> u32
+    requires page { page < 2048 }
+    requires offset { offset < page_words }
+    ensures is { result ≡ page_words * page + offset }
+{
+    PAGE_WORDS * page as u32 + offset as u32
+}
+
+// The number of the first of a shard's two words, which stand behind those of so many pages.
+fn after_pages(pages: u32, shard: u64) -> u32
+    requires pages { pages ≤ 2048 }
+    requires shard { shard < 256 }
+    ensures is { result ≡ page_words * pages + 2 * shard }
+    ensures few { result < 400000 }
+{
+    PAGE_WORDS * pages + 2 * shard as u32
+}
+
+#[cfg(test)]
+mod tests {
+    use super::*;
+    use std::process::Abort;
+
+    fn shape(shards: u32, rt: &impl Abort) -> Shape
+        ensures { result ≡ record { shards = shards; segments = 1; passes = 1 } }
+    {
+        Shape::new(shards, 1, 1).expect(rt, "few shards of one segment are a shape")
+    }
+
+    #[test]
+    fn two_shards_lie_one_behind_the_other(rt: HostRuntime) {
+        let shape = shape(2, &rt);
+        assert_eq!(rt; shape.class_at(0, 0), 0);
+        assert_eq!(rt; shape.class_at(1, 0), 1560);
+        assert_eq!(rt; shape.owner_at(0), 3120);
+        assert_eq!(rt; shape.bell_at(0), 3121);
+        assert_eq!(rt; shape.owner_at(1), 3122);
+        assert_eq!(rt; shape.bell_at(1), 3123);
+        assert_eq!(rt; shape.words(), 3124);
+    }
+
+    #[test]
+    fn one_segment_has_1562_words(rt: HostRuntime) {
+        let shape = shape(1, &rt);
+        assert_eq!(rt; shape.pages(), 8);
+        assert_eq!(rt; shape.owner_at(0), 1560);
+        assert_eq!(rt; shape.bell_at(0), 1561);
+        assert_eq!(rt; shape.words(), 1562);
+    }
+
+    // The words of the second page, from 195 on.
+    #[test]
+    fn words_stand_at_their_offsets(rt: HostRuntime) {
+        let shape = shape(1, &rt);
+        assert_eq!(rt; shape.page_number(0, 1), 1);
+        assert_eq!(rt; shape.class_at(0, 1), 195);
+        assert_eq!(rt; shape.head_at(0, 1), 196);
+        assert_eq!(rt; shape.page_link_at(0, 1), 197);
+        assert_eq!(rt; shape.state_at(0, 1, 0), 198);
+        assert_eq!(rt; shape.state_at(0, 1, 47), 245);
+        assert_eq!(rt; shape.link_at(0, 1, 0), 246);
+        assert_eq!(rt; shape.length_at(0, 1, 0), 294);
+        assert_eq!(rt; shape.payload_at(0, 1, 0), 342);
+        assert_eq!(rt; shape.payload_at(0, 1, 47), 389);
+        assert_eq!(rt; shape.index(Place::Class(2)), 390);
+    }
+}
