@@ -8,14 +8,16 @@ use Rattle.sh_history.specs.declared.log.LogEntry.TheVariants.{Known}
 use Rattle.sh_history.specs.History.{Legal, value_of, holds_by, is_got_by, is_release_by, got_count_by}
 use Rattle.sh_history.specs.Log.{logged_holds_by}
 use Rattle.sh_history.proofs.LogLaws.{known_holds, known_stands, releases_le, issued_when_got, count_by-push}
+use Rattle.sh_plain.specs.declared.index.Issued.{Issued}
+use Rattle.sh_plain.specs.declared.index.Held.{Held}
 use Rattle.sh_plain.specs.Plain.{Plain, IsSound, plain_book, plain_setting}
 use Rattle.sh_plain.specs.Store.{IsBook}
 
 -- the book of a sound store stands in a legal history, which it is itself
-pub book_stands : (layout : Layout) (inserted : ℕ) (entries : List Entry) (pass passes : ℕ) (s : Plain)
-    → IsSound layout entries pass passes inserted
+pub book_stands : (layout : Layout) (issued : List Issued) (holds : List Held) (entries : List Entry) (pass passes : ℕ) (s : Plain)
+    → IsSound layout entries pass passes issued holds
     → record { entries = entries; pass = pass; passes = passes } ≡ s → IsBook (plain_setting layout s) (plain_book s)
-book_stands layout inserted entries pass passes s sound is =
+book_stands layout issued holds entries pass passes s sound is =
     let P : Plain → Type 0 = λ s. IsBook (plain_setting layout s) (plain_book s) in
     subst P is (known_stands passes layout.guard_max entries sound.legal)
 

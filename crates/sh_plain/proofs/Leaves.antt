@@ -7,13 +7,55 @@ use Rattle.sh_value.specs.declared.refusal.Refusal.{Refusal}
 use Rattle.sh_value.specs.declared.refusal.Refusal.TheVariants as refusal
 use Rattle.sh_key.specs.Layout.{Layout, unpacked}
 use Rattle.sh_history.specs.declared.entry.Entry.{Entry}
-use Rattle.sh_history.specs.declared.entry.Entry.TheVariants.{Got, Gone, Crowded}
+use Rattle.sh_history.specs.declared.entry.Entry.TheVariants.{Got, Gone, Crowded, Removed}
 use Rattle.sh_history.specs.declared.log.LogEntry.TheVariants.{Known}
 use Rattle.sh_history.specs.History.{Legal, value_of, present_value, holds_by, holds_on, hold_count}
 use Rattle.sh_history.proofs.LogLaws.{known_holds, known_filled, gets_have_value}
-use Rattle.sh_plain.specs.Plain.{Plain, Reply, Replied, refused, got_reply, get_reply, read_answer, with_added, plain_book, plain_setting}
-use Rattle.sh_plain.specs.Store.{GetLeaves, ReadLeaves}
+use Rattle.sh_plain.specs.Plain.{Plain, Reply, Replied, refused, got_reply, get_reply, removed_reply, remove_reply, read_answer, with_added, plain_book, plain_setting}
+use Rattle.sh_plain.specs.Store.{GetLeaves, ReadLeaves, RemoveLeaves}
 use Rattle.sh_plain.proofs.Held.{held_has_value, got_is_held}
+
+-- a call leaves the setting
+added_setting : (layout : Layout) (s : Plain) (adds : Option Entry) → plain_setting layout (with_added s adds) ≡ plain_setting layout s
+added_setting layout s None = refl
+added_setting layout s (Some e) = refl
+
+pub setting_stays : {A : Type 0} (layout : Layout) (reply : Reply A) (s t : Plain) (result : Result A Refusal) → Replied reply s result t
+    → plain_setting layout t ≡ plain_setting layout s
+setting_stays layout reply s t (Ok x) h = rw h.1 (added_setting layout s reply.adds)
+setting_stays layout reply s t (Err refusal.Memory) h = rw h.1 refl
+setting_stays layout reply s t (Err r) h = rw h.1 (added_setting layout s reply.adds)
+
+-- the book with an entry that is added
+book_added : (s : Plain) (e : Entry) → map Known (s.entries ++ e ∷ []) ≡ map Known s.entries ++ Known e ∷ []
+book_added s e = map-append Known s.entries (e ∷ [])
+
+module _ (layout : Layout) (s : Plain) (key : ℕ) where
+  -- what a remove with this reply leaves
+  abbrev LeftRemoved : Reply (Unit {0}) → Type 0
+  LeftRemoved reply = RemoveLeaves (plain_setting layout s) key (plain_book s) reply.answer (plain_book (with_added s reply.adds))
+
+  removed_left : (present : Option (List ℕ)) → LeftRemoved (removed_reply s key present)
+  removed_left None = book_added s (Gone s.pass key)
+  removed_left (Some value) = book_added s (Removed s.pass key)
+
+  remove_left : (b : Bool) (present : Reply (Unit {0})) → LeftRemoved present → LeftRemoved (cond b (refused refusal.BadKey) present)
+  remove_left true present h = refl
+  remove_left false present h = h
+
+  by_removed : (reply : Reply (Unit {0})) (result : Result (Unit {0}) Refusal) (t : Plain) → LeftRemoved reply → Replied reply s result t
+      → RemoveLeaves (plain_setting layout s) key (plain_book s) result (plain_book t)
+  by_removed reply (Err refusal.Memory) t left h = ap plain_book h.1
+  by_removed reply result t left h =
+      let P : Result (Unit {0}) Refusal → Type 0 = λ r. RemoveLeaves (plain_setting layout s) key (plain_book s) r (plain_book t) in
+      subst P h.0 (rw h.1 left)
+
+  pub remove_leaves : (result : Result (Unit {0}) Refusal) (t : Plain) → Replied (remove_reply layout s key) s result t
+      → RemoveLeaves (plain_setting layout s) key (plain_book s) result (plain_book t)
+  remove_leaves result t h =
+      let present = removed_reply s key (present_value s.entries key) in
+      by_removed (remove_reply layout s key) result t
+      (remove_left (not (is_some (unpacked layout key))) present (removed_left (present_value s.entries key))) h
 
 module _ (layout : Layout) (s : Plain) (key : ℕ) (legal : Legal s.passes layout.guard_max s.entries) where
   -- what a get with this reply leaves
@@ -24,16 +66,13 @@ module _ (layout : Layout) (s : Plain) (key : ℕ) (legal : Legal s.passes layou
   left_either true x y h k = h
   left_either false x y h k = k
 
-  added : (e : Entry) → map Known (s.entries ++ e ∷ []) ≡ map Known s.entries ++ Known e ∷ []
-  added e = map-append Known s.entries (e ∷ [])
-
   got_left : (present : Option (List ℕ)) → Left (got_reply layout s key present)
-  got_left None = added (Gone s.pass key)
+  got_left None = book_added s (Gone s.pass key)
   got_left (Some value) =
       let crowded : Reply Hold = record { answer = Err refusal.Crowded; adds = Some (Crowded s.pass key) } in
       let got : Reply Hold = record { answer = Ok (record { key = key }); adds = Some (Got s.pass key value) } in
-      left_either (nat_le layout.guard_max (holds_on s.entries key)) crowded got (added (Crowded s.pass key))
-      (refl, (Known (Got s.pass key value), (refl, refl), added (Got s.pass key value)), got_is_held s.passes layout.guard_max s.entries s.pass key legal value)
+      left_either (nat_le layout.guard_max (holds_on s.entries key)) crowded got (book_added s (Crowded s.pass key))
+      (refl, (Known (Got s.pass key value), (refl, refl), book_added s (Got s.pass key value)), got_is_held s.passes layout.guard_max s.entries s.pass key legal value)
 
   get_left : Left (get_reply layout s key)
   get_left =

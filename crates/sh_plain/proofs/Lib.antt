@@ -1,3 +1,6 @@
+pub mod Issued
+pub mod IndexSteps
+pub mod Holds
 pub mod Sound
 pub mod Held
 pub mod Leaves

@@ -7,17 +7,20 @@ use Rattle.sh_key.specs.Layout.{Layout, first_key, key_count}
 use Rattle.sh_key.proofs.Packing.{keys_are_consecutive}
 use Rattle.sh_history.specs.declared.entry.Entry.TheVariants.{Insert}
 use Rattle.sh_history.specs.History.{insert_count}
+use Rattle.sh_plain.specs.declared.index.Issued.{Issued}
+use Rattle.sh_plain.specs.declared.index.Held.{Held}
+use Rattle.sh_plain.proofs.Sound.{fresh}
 use Rattle.sh_plain.specs.Plain.{Plain, Reply, Replied, refused, insert_reply, IsNewKey, IsSound}
 
 chosen_reply : (b : Bool) (issued : Reply ℕ) (key : ℕ) → (cond b issued (refused refusal.Full)).answer ≡ Ok key → (b ≡ true) × (issued.answer ≡ Ok key)
 chosen_reply true issued key is = (refl, is)
 chosen_reply false issued key is = absurd (let h : ⊥ = cc in h)
 
-module _ (layout : Layout) (inserted : ℕ) (s : Plain) (sound : IsSound layout s.entries s.pass s.passes inserted) where
+module _ (layout : Layout) (issued : List Issued) (holds : List Held) (s : Plain) (sound : IsSound layout s.entries s.pass s.passes issued holds) where
   next_is_new : insert_count s.entries < key_count layout → IsNewKey layout s.entries (first_key layout + insert_count s.entries)
   next_is_new room = record {
     is_key = (keys_are_consecutive layout (first_key layout + insert_count s.entries)).1 (omega arith, omega arith);
-    not_issued = sound.fresh (first_key layout + insert_count s.entries) (let same = sound.counted in omega arith);
+    not_issued = fresh layout s.entries s.pass s.passes issued holds sound (first_key layout + insert_count s.entries) (let same = sound.counted in omega arith);
   }
 
   -- an insert that answers a key answers a new one

@@ -1,5 +1,5 @@
 -- The plain store: it keeps the entries of all its passes, and answers each call from them.
-use Rattle.std.specs.Prelude.{◌≡◌, ℕ, ◌+◌, ◌<◌, ◌≤◌, nat_le, nat_lt, not, true, List, [], ◌∷◌, ◌++◌, map, Option, Some, None, IsSome, is_some, ok_or, Result, Ok, Err, if◌then◌else◌}
+use Rattle.std.specs.Prelude.{◌≡◌, ℕ, ◌+◌, ◌<◌, ◌≤◌, nat_le, nat_lt, not, true, length, List, [], ◌∷◌, ◌++◌, map, Option, Some, None, IsSome, is_some, ok_or, Result, Ok, Err, if◌then◌else◌}
 use Rattle.sh_value.specs.declared.hold.Hold.{Hold}
 use Rattle.sh_value.specs.declared.refusal.Refusal.{Refusal}
 use Rattle.sh_value.specs.declared.refusal.Refusal.TheVariants as refusal
@@ -10,6 +10,9 @@ use Rattle.sh_history.specs.declared.log.LogEntry.{LogEntry}
 use Rattle.sh_history.specs.declared.log.LogEntry.TheVariants.{Known}
 use Rattle.sh_history.specs.History.{Legal, value_of, present_value, insert_count, hold_count, holds_on, holds_by}
 use Rattle.sh_plain.specs.Store.{Setting}
+use Rattle.sh_plain.specs.declared.index.Issued.{Issued}
+use Rattle.sh_plain.specs.declared.index.Held.{Held}
+use Rattle.sh_plain.specs.Index.{IsIndex}
 
 -- what a contract sees of a plain store: its entries, whose calls follow, and how many passes it has
 pub record Plain : Type 0 where
@@ -93,6 +96,12 @@ Replied reply old (Ok x) new = (reply.answer ≡ Ok x) × (new ≡ with_added ol
 Replied reply old (Err refusal.Memory) new = IsSome reply.adds × (new ≡ old)
 Replied reply old (Err r) new = (reply.answer ≡ Err r) × (new ≡ with_added old reply.adds)
 
+-- an entry is added, or its memory was refused and nothing changed
+abbrev pub Noted : Entry → Plain → Result (Unit {0}) Refusal → Plain → Type 0
+Noted entry old (Ok _) new = new ≡ with_added old (Some entry)
+Noted entry old (Err refusal.Memory) new = new ≡ old
+Noted entry old (Err _) new = ⊥
+
 -- ---- what is true of each plain store
 
 -- a key of the layout that was not issued
@@ -100,11 +109,17 @@ pub record IsNewKey (layout : Layout) (entries : List Entry) (key : ℕ) : Type 
   pub is_key : IsSome (unpacked layout key)
   pub not_issued : value_of entries key ≡ None
 
--- its entries are a legal history, with this many inserts, of which none has a later key
-pub record IsSound (layout : Layout) (entries : List Entry) (pass passes inserted : ℕ) : Type 0 where
+-- its entries are a legal history, of which the index says what they say, with no more inserts than there are keys
+pub record IsSound (layout : Layout) (entries : List Entry) (pass passes : ℕ) (issued : List Issued) (holds : List Held) : Type 0 where
   pub legal : Legal passes layout.guard_max entries
   pub some_pass : 1 ≤ passes
   pub own : pass < passes
-  pub counted : inserted ≡ insert_count entries
-  pub room : inserted ≤ key_count layout
-  pub fresh : (key : ℕ) → first_key layout + inserted ≤ key → value_of entries key ≡ None
+  pub counted : length issued ≡ insert_count entries
+  pub room : length issued ≤ key_count layout
+  pub index : IsIndex (first_key layout) entries issued holds
+
+-- an entry of which the index says nothing
+abbrev pub IsUnindexed : Entry → Type 0
+IsUnindexed (Gone pass key) = Unit {0}
+IsUnindexed (Crowded pass key) = Unit {0}
+IsUnindexed _ = ⊥

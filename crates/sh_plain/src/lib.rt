@@ -2,6 +2,7 @@
 //! which keeps the entries of all its passes and answers from them.
 #![tactic(auto)]
 
+mod index;
 pub mod plain;
 pub mod store;
 

@@ -1,11 +1,13 @@
-//! The plain store, which keeps its entries.
-ghost use Rattle.std.specs.Prelude.{◌≡◌, ◌<◌, ◌≤◌, ◌↔◌, IsTrue, Some, [], ◌∷◌, ◌++◌, false, IfOk, IfErr, OnOk, OnErr};
-ghost use Rattle.sh_history.specs.History.{Allowed, Legal, is_insert, present_value, hold_count, holds_by, holds_on};
+//! The plain store, which keeps its entries, and beside them an index of what they say.
+ghost use Rattle.std.specs.Prelude.{◌≡◌, ◌<◌, ◌≤◌, ◌↔◌, IsTrue, [], IfOk};
+ghost use Rattle.std.specs.Option.{option_copied};
+ghost use Rattle.sh_history.specs.declared.entry.Entry.TheVariants.{Got, Removed, Released};
+ghost use Rattle.sh_history.specs.History.{Allowed, Legal, value_of, present_value, hold_count, holds_by, holds_on};
 ghost use Rattle.sh_history.specs.Log.{logged_holds_by};
 
 use crate::Store;
+use crate::index::{Held, Issued, find_hold, hold_count, holds_on, issued_at};
 use sh_history::Entry;
-use sh_history::look::{hold_count, holds_on, is_held_by, present_value, value_of};
 use sh_key::KeyLayout;
 use sh_value::{Hold, Refusal, Value};
 use std::alloc::Global;
@@ -16,6 +18,9 @@ const HOLDS_MAX: usize = 16;
 
 /// A store that keeps the entries of all its passes, and answers each call from them.
 ///
+/// It also keeps what the entries say of each key, and the holds that they leave, so that no call goes through the
+/// entries: there are at most 16 holds a pass.
+///
 /// It knows no shape: a number is refused as `BadKey` exactly where it is no key of the layout. Its n-th insert, from 0,
 /// gives the n-th key of the layout. A contract sees its entries, the pass whose calls follow, and how many passes it has.
 #[derive(Drop)]
@@ -23,7 +28,8 @@ pub struct PlainStore<L: KeyLayout> {
     entries: Vec<Entry>,
     pass: u32,
     passes: u32,
-    inserted: u64,
+    issued: Vec<Issued>,
+    holds: Vec<Held>,
     layout: PhantomData<L>,
 }
 
@@ -34,7 +40,7 @@ impl<L: KeyLayout> Model for PlainStore<L> {
 
     ghost view = { λ s. record { entries = s.entries.items; pass = s.pass; passes = s.passes } };
 
-    ghost invariant = { λ s. IsSound L.layout s.entries.items s.pass s.passes s.inserted };
+    ghost invariant = { λ s. IsSound L.layout s.entries.items s.pass s.passes s.issued.items s.holds.items };
 }
 
 impl<L: KeyLayout> PlainStore<L> {
@@ -50,7 +56,8 @@ impl<L: KeyLayout> PlainStore<L> {
             entries: Vec::new(alloc),
             pass: 0,
             passes,
-            inserted: 0,
+            issued: Vec::new(alloc),
+            holds: Vec::new(alloc),
             layout: PhantomData,
         }
     }
@@ -63,19 +70,39 @@ impl<L: KeyLayout> PlainStore<L> {
         self.pass = pass;
     }
 
+    // The value that the key was issued with.
+    fn value_of(&self, key: u64) -> Option<&Value>
+        ensures { option_copied result ≡ value_of self.now.entries key }
+    {
+        let issued = issued_at(&self.issued, L::first_key(), key)?;
+        Some(&issued.value)
+    }
+
+    // The value of the key, where it was issued and not removed.
+    fn present_value(&self, key: u64) -> Option<&Value>
+        ensures { option_copied result ≡ present_value self.now.entries key }
+    {
+        let issued = issued_at(&self.issued, L::first_key(), key)?;
+        if issued.removed {
+            None
+        } else {
+            Some(&issued.value)
+        }
+    }
+
     // Whether the pass whose calls follow has a hold on the key.
     fn has_hold(&self, key: u64) -> bool
         ensures held { IsTrue result ↔ (0 < holds_by self.now.entries self.now.pass key) }
         ensures legal { Legal self.now.passes L.layout.guard_max self.now.entries }
     {
-        is_held_by(&self.entries, self.pass, key)
+        find_hold(&self.holds, self.pass, key).is_some()
     }
 
     // Whether the pass whose calls follow has as many holds as it may have.
     fn has_all_holds(&self) -> bool
         ensures { IsTrue result ↔ (16 ≤ hold_count self.now.entries self.now.pass) }
     {
-        hold_count(&self.entries, self.pass) >= HOLDS_MAX
+        hold_count(&self.holds, self.pass) >= HOLDS_MAX
     }
 
     // Whether the key has as many holds as it may have.
@@ -83,19 +110,71 @@ impl<L: KeyLayout> PlainStore<L> {
         ensures full { IsTrue result ↔ (L.layout.guard_max ≤ holds_on self.now.entries key) }
         ensures some_pass { 1 ≤ self.now.passes }
     {
-        holds_on(&self.entries, key) >= L::GUARD_MAX as usize
+        holds_on(&self.holds, key) >= L::GUARD_MAX as usize
     }
+}
 
-    // Adds an entry that may follow.
+impl<L: KeyLayout> PlainStore<L> {
+    ghost use Rattle.sh_plain.specs.Plain.{IsUnindexed, Noted};
+
+    // Adds an entry that may follow, and of which the index says nothing.
     fn note(&mut self, entry: Entry) -> Result<(), Refusal>
         requires allowed { Allowed self.old.passes L.layout.guard_max self.old.entries entry }
-        requires no_insert { is_insert entry ≡ false }
-        ensures ok { OnOk result (self.new ≡ record self.old { entries = self.old.entries ++ entry ∷ [] }) }
-        ensures err { OnErr result (self.new ≡ self.old) }
-        ensures memory { IfErr result (λ refusal. refusal ≡ Refusal.Memory) }
+        requires unindexed { IsUnindexed entry }
+        ensures { Noted entry self.old result self.new }
     {
         match self.entries.push(entry) {
             Ok(()) => Ok(()),
+            Err(_) => Err(Refusal::Memory),
+        }
+    }
+
+    // Adds a get of the key, which may follow.
+    fn note_got(&mut self, key: u64, value: Value) -> Result<(), Refusal>
+        requires { Allowed self.old.passes L.layout.guard_max self.old.entries (Got self.old.pass key value) }
+        ensures { Noted (Got self.old.pass key value) self.old result self.new }
+    {
+        let pass = self.pass;
+        if self.holds.reserve(1).is_err() {
+            return Err(Refusal::Memory);
+        }
+        match self.entries.push(Entry::Got(pass, key, value)) {
+            Ok(()) => {
+                self.holds.push_reserved(Held { pass, key });
+                Ok(())
+            }
+            Err(_) => Err(Refusal::Memory),
+        }
+    }
+
+    // Adds a removal of the key, which may follow.
+    fn note_removed(&mut self, key: u64) -> Result<(), Refusal>
+        requires { Allowed self.old.passes L.layout.guard_max self.old.entries (Removed self.old.pass key) }
+        ensures { Noted (Removed self.old.pass key) self.old result self.new }
+    {
+        match self.entries.push(Entry::Removed(self.pass, key)) {
+            Ok(()) => {
+                let at = (key - L::first_key()) as usize;
+                self.issued[at].removed = true;
+                Ok(())
+            }
+            Err(_) => Err(Refusal::Memory),
+        }
+    }
+
+    // Adds a release of the key, which may follow.
+    fn note_released(&mut self, key: u64) -> Result<(), Refusal>
+        requires { Allowed self.old.passes L.layout.guard_max self.old.entries (Released self.old.pass key) }
+        ensures { Noted (Released self.old.pass key) self.old result self.new }
+    {
+        let Some(at) = find_hold(&self.holds, self.pass, key) else {
+            unreachable!()
+        };
+        match self.entries.push(Entry::Released(self.pass, key)) {
+            Ok(()) => {
+                self.holds.swap_remove(at);
+                Ok(())
+            }
             Err(_) => Err(Refusal::Memory),
         }
     }
@@ -107,16 +186,23 @@ impl<L: KeyLayout> PlainStore<L> {
     fn plain_insert(&mut self, value: &Value) -> Result<u64, Refusal>
         ensures { Replied (insert_reply L.layout self.old value.now) self.old result self.new }
     {
-        if self.inserted >= L::key_count() {
+        let inserted = self.issued.len() as u64;
+        if inserted >= L::key_count() {
             return Err(Refusal::Full);
         }
-        let key = L::first_key() + self.inserted;
+        let key = L::first_key() + inserted;
+        if self.issued.reserve(1).is_err() {
+            return Err(Refusal::Memory);
+        }
         match self
             .entries
             .push(Entry::Insert(self.pass, key, value.copy()))
         {
             Ok(()) => {
-                self.inserted += 1;
+                self.issued.push_reserved(Issued {
+                    value: value.copy(),
+                    removed: false,
+                });
                 Ok(key)
             }
             Err(_) => Err(Refusal::Memory),
@@ -141,14 +227,14 @@ impl<L: KeyLayout> PlainStore<L> {
     {
         let pass = self.pass;
         let crowded = self.is_full_of_holds(key);
-        match present_value(&self.entries, key) {
+        match self.present_value(key) {
             Some(_) if crowded => {
                 self.note(Entry::Crowded(pass, key))?;
                 Err(Refusal::Crowded)
             }
             Some(value) => {
                 let value = value.copy();
-                self.note(Entry::Got(pass, key, value))?;
+                self.note_got(key, value)?;
                 Ok(Hold { key })
             }
             None => {
@@ -164,7 +250,7 @@ impl<L: KeyLayout> PlainStore<L> {
         if !self.has_hold(hold.key) {
             return Err(Refusal::NotHeld);
         }
-        match value_of(&self.entries, hold.key) {
+        match self.value_of(hold.key) {
             Some(value) => Ok(value.copy()),
             None => unreachable!(),
         }
@@ -183,8 +269,8 @@ impl<L: KeyLayout> PlainStore<L> {
         ensures { Replied (removed_reply self.old key (present_value self.old.entries key)) self.old result self.new }
     {
         let pass = self.pass;
-        if present_value(&self.entries, key).is_some() {
-            self.note(Entry::Removed(pass, key))
+        if self.present_value(key).is_some() {
+            self.note_removed(key)
         } else {
             self.note(Entry::Gone(pass, key))?;
             Err(Refusal::Gone)
@@ -194,9 +280,8 @@ impl<L: KeyLayout> PlainStore<L> {
     fn plain_release(&mut self, hold: Hold) -> Result<(), Refusal>
         ensures { Replied (release_reply self.old hold.key) self.old result self.new }
     {
-        let pass = self.pass;
         if self.has_hold(hold.key) {
-            self.note(Entry::Released(pass, hold.key))
+            self.note_released(hold.key)
         } else {
             Err(Refusal::NotHeld)
         }

@@ -1,8 +1,10 @@
-use Rattle.sh_plain.proofs.Sound.{sound_insert}
+use Rattle.sh_plain.proofs.Sound.{sound_inserted}
 use Rattle.sh_plain.proofs.plain.PlainStore.plain_insert.Goals as goal
 
-pub invariant_of-self : goal.invariant_of-self
-invariant_of-self g c =
-    rw (c.in-Ok.ensures.items, c.first_key.ensures.first)
-    (sound_insert g.L.KeyLayout.layout c.self.inside.entries.items c.self.inside.pass c.self.inside.passes c.self.inside.inserted c.copy.result
-    c.self.invariant (rw c.key_count.ensures at c.if-self-key_count.false))
+pub invariant_of-self-in-Ok : goal.invariant_of-self-in-Ok
+invariant_of-self-in-Ok g c =
+    let inserted = c.self.inside.issued.ok.0 in
+    let room = rw (c.key_count.ensures, c.len-inserted.ensures, inserted) at c.if-inserted-key_count.false in
+    rw (c.in-Ok.ensures.items, c.push_reserved.ensures.items, c.reserve.ensures.items, c.first_key.ensures.first, c.len-inserted.ensures, inserted, c.copy.ensures, c.copy-in-Ok.ensures)
+    (sound_inserted g.L.KeyLayout.layout c.self.inside.entries.items c.self.inside.pass c.self.inside.passes c.self.inside.issued.items c.self.inside.holds.items
+    c.self.invariant c.args.value.now room)

@@ -6,7 +6,7 @@ use Rattle.sh_plain.proofs.Leaves.{read_leaves}
 use Rattle.sh_plain.proofs.plain.PlainStoreStore.read.Goals as goal
 
 pub returns-clause-stands : goal.returns-clause-stands
-returns-clause-stands g c = book_stands g.L.KeyLayout.layout _ _ _ _ _ c.self.invariant c.self.view_is
+returns-clause-stands g c = book_stands g.L.KeyLayout.layout _ _ _ _ _ _ c.self.invariant c.self.view_is
 
 pub returns-clause-leaves : goal.returns-clause-leaves
 returns-clause-leaves g c =

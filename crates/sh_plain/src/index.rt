@@ -1,0 +1,54 @@
+//! What a plain store looks up in place of going through its entries: what it knows of each issued key, and the holds.
+ghost use Rattle.std.specs.Prelude.{◌≡◌, count_by, position};
+ghost use Rattle.std.specs.Option.{option_copied};
+ghost use Rattle.sh_plain.specs.Index.{issued_at, is_hold_by, is_hold_of, is_hold_on};
+
+use sh_value::Value;
+
+// What is known of an issued key.
+#[derive(Drop)]
+pub(crate) struct Issued {
+    pub(crate) value: Value,
+    pub(crate) removed: bool,
+}
+
+// A hold that a pass has on a key.
+#[derive(Clone, Copy)]
+pub(crate) struct Held {
+    pub(crate) pass: u32,
+    pub(crate) key: u64,
+}
+
+// What is known of the key, where the first of these is of the first key, and each further one of the next.
+pub(crate) fn issued_at(issued: &[Issued], first: u64, key: u64) -> Option<&Issued>
+    ensures { option_copied result ≡ issued_at first issued.now key }
+{
+    if key < first {
+        None
+    } else {
+        issued.get((key - first) as usize)
+    }
+}
+
+// Where a hold of the pass on the key stands.
+pub(crate) fn find_hold(holds: &[Held], pass: u32, key: u64) -> Option<usize>
+    ensures { result ≡ position (is_hold_by pass key) holds.now }
+{
+    holds
+        .iter()
+        .position(|held| held.pass == pass && held.key == key)
+}
+
+// How many of the holds the pass has.
+pub(crate) fn hold_count(holds: &[Held], pass: u32) -> usize
+    ensures { result ≡ count_by (is_hold_of pass) holds.now }
+{
+    holds.iter().filter(|held| held.pass == pass).count()
+}
+
+// How many of the holds are on the key.
+pub(crate) fn holds_on(holds: &[Held], key: u64) -> usize
+    ensures { result ≡ count_by (is_hold_on key) holds.now }
+{
+    holds.iter().filter(|held| held.key == key).count()
+}
