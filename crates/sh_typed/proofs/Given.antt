@@ -1,0 +1,67 @@
+-- A record whose insert stands in the book is given back.
+use Rattle.std.proofs.Common.{◌≡◌, ℕ, List, [], ◌∷◌, ◌++◌, Option, Some, None, refl, sym, ◌∙◌, ap, arith, Ok, Err, Result, map, append_assoc, inr, suc, take, drop, drop-cons}
+use Rattle.std.specs.List.{Contains}
+use Rattle.std.proofs.lemmas.List.{map-append, take-append-drop}
+use Rattle.sh_value.specs.declared.hold.Hold.{Hold}
+use Rattle.sh_value.specs.declared.refusal.Refusal.{Refusal}
+use Rattle.sh_value.specs.declared.refusal.Refusal.TheVariants.{BadKey, Gone, Crowded, HoldsFull, NotHeld, Memory, WrongKind}
+use Rattle.sh_history.specs.declared.entry.Entry.{Entry}
+use Rattle.sh_history.specs.declared.entry.Entry.TheVariants.{Insert, Got, Released}
+use Rattle.sh_history.specs.declared.log.LogEntry.{LogEntry}
+use Rattle.sh_history.specs.declared.log.LogEntry.TheVariants.{Known}
+use Rattle.sh_history.specs.Log.{filled, logged_holds_by}
+use Rattle.sh_history.proofs.LogLaws.{same_value}
+use Rattle.sh_plain.specs.Store.{Setting, IsBook, ReleaseLeaves}
+use Rattle.sh_typed.specs.Typed.{GotValue, GivesBack, RecordLeaves}
+
+-- where an entry stands, the list is what comes before it, the entry, and what comes after it
+splits_at : {X : Type 0} (xs : List X) (y : X) → Contains xs y → (front : List X) × (rest : List X) × (xs ≡ front ++ y ∷ rest)
+splits_at xs y (k, inside, is) =
+    (take k xs, drop (suc k) xs, sym (take-append-drop k xs) ∙ rw (drop-cons xs k y inside, is) refl)
+
+-- an entry that is known stays where a value is read and entries come behind
+pub kept : (key : ℕ) (value : List ℕ) (book more front rest : List LogEntry) (e : Entry) → book ≡ front ++ Known e ∷ rest
+    → map (filled key value) book ++ more ≡ map (filled key value) front ++ Known e ∷ (map (filled key value) rest ++ more)
+kept key value book more front rest e is =
+    rw is (ap (λ l. l ++ more) (map-append (filled key value) front (Known e ∷ rest))
+    ∙ append_assoc (map (filled key value) front) (Known e ∷ map (filled key value) rest) more)
+
+-- what a get of a record leaves, whatever reads the value
+module _ {R : Type 0} (read : List ℕ → Option R) where
+  pub release_refused : (s t : Setting) (key k : ℕ) (value : List ℕ) (start book after : List LogEntry) (refusal : Refusal)
+      → t ≡ s → k ≡ key → GotValue s key value start book → read value ≡ None
+      → ReleaseLeaves t k book (Err refusal) after
+      → RecordLeaves read s key start (Err refusal) after
+  release_refused s t key k value start book after Memory same same_key got none leaves =
+      inr (value, record { got = leaves.1 ∙ got.got; held = rw leaves.1 got.held }, none)
+  release_refused s t key k value start book after NotHeld same same_key got none leaves =
+      let free : logged_holds_by book s.pass key ≡ 0 = rw (same, same_key) at leaves.0 in
+      let held = got.held in absurd (omega arith)
+  release_refused s t key k value start book after _ same same_key got none leaves = absurd leaves
+
+  same_read : (s t : Setting) (key pass : ℕ) (value got : List ℕ) (book after more : List LogEntry)
+      → after ≡ map (filled key got) book ++ Known (Got s.pass key got) ∷ more → IsBook t after
+      → Contains book (Known (Insert pass key value)) → got ≡ value
+  same_read s t key pass value got book after more is stands inserted =
+      let (front, rest, at) = splits_at book (Known (Insert pass key value)) inserted in
+      same_value t.passes t.guard_max t.answers_for after (map (filled key got) front) (map (filled key got) rest ++ Known (Got s.pass key got) ∷ more)
+      (map (filled key got) book) more pass s.pass key value got stands
+      (is ∙ kept key got book (Known (Got s.pass key got) ∷ more) front rest (Insert pass key value) at) is
+
+  pub given_back : (s t : Setting) (key pass : ℕ) (value : List ℕ) (given : R) (book after : List LogEntry) (result : Result (Hold × R) Refusal)
+      → RecordLeaves read s key book result after → IsBook t after → Contains book (Known (Insert pass key value))
+      → read value ≡ Some given → GivesBack given result
+  given_back s t key pass value given book after (Ok (hold, found)) leaves stands inserted reads =
+      let got = leaves.1 in
+      let same = same_read s t key pass value got.0 book after [] got.1.got stands inserted in
+      let found_is : Some found ≡ Some given = sym got.2 ∙ ap read same ∙ reads in cc
+  given_back s t key pass value given book after (Err WrongKind) (got, is, unread) stands inserted reads =
+      let is' = is ∙ append_assoc (map (filled key got) book) (Known (Got s.pass key got) ∷ []) (Known (Released s.pass key) ∷ []) in
+      let same = same_read s t key pass value got book after (Known (Released s.pass key) ∷ []) is' stands inserted in
+      let none : None ≡ Some given = sym unread ∙ ap read same ∙ reads in absurd (let n : ⊥ = cc in n)
+  given_back s t key pass value given book after (Err BadKey) leaves stands inserted reads = tt
+  given_back s t key pass value given book after (Err Gone) leaves stands inserted reads = tt
+  given_back s t key pass value given book after (Err Crowded) leaves stands inserted reads = tt
+  given_back s t key pass value given book after (Err HoldsFull) leaves stands inserted reads = tt
+  given_back s t key pass value given book after (Err Memory) leaves stands inserted reads = tt
+  given_back s t key pass value given book after (Err _) leaves stands inserted reads = leaves

@@ -1,0 +1,11 @@
+use Rattle.std.proofs.Common.{sym}
+use Rattle.sh_typed.specs.Typed.{record_in}
+use Rattle.sh_typed.proofs.Given.{release_refused}
+use Rattle.sh_typed.proofs.fetch.fetch_record.Goals as goal
+
+pub returns-in-Err-clause-leaves : goal.returns-in-Err-clause-leaves
+returns-in-Err-clause-leaves g c =
+    let fetched = c.in_ok-hold.ensures.leaves in
+    release_refused (record_in g.R.Record.KIND g.R.Record.record_of) (g.S.Store.setting c.args.store.now) (g.S.Store.setting c.fetch.new.store)
+    c.args.key c.in_ok-hold.hold.key c.in_ok-hold.value (g.S.Store.book c.args.store.now) (g.S.Store.book c.fetch.new.store) (g.S.Store.book c.release.new.self)
+    c.in-Err.refusal c.in_ok-hold.ensures.same fetched.0 fetched.1 (sym c.in-None.ensures) c.in-Err.ensures.leaves

@@ -1,0 +1,40 @@
+//! A get, and what it gives.
+ghost use Rattle.std.specs.Prelude.{◌≡◌};
+ghost use Rattle.sh_plain.specs.Store.{IsBook};
+ghost use Rattle.sh_typed.specs.Typed.{FetchLeaves, RecordLeaves, record_in};
+
+use crate::stored::stored_record;
+use sh_plain::Store;
+use sh_value::{Hold, Record, Refusal, Value};
+
+// Gets a key and reads its value.
+fn fetch<S: Store>(store: &mut S, key: u64) -> Result<(Hold, Value), Refusal>
+    ensures leaves { FetchLeaves (S.setting store.old) key (S.book store.old) result (S.book store.new) }
+    ensures stands { IsBook (S.setting store.new) (S.book store.new) }
+    ensures same { S.setting store.new ≡ S.setting store.old }
+{
+    let hold = store.get(key)?;
+    match store.read(hold) {
+        Ok(value) => Ok((hold, value)),
+        Err(_) => unreachable!(),
+    }
+}
+
+// Gets a key and reads its value as a record. Where it is none, the hold is released again.
+pub(crate) fn fetch_record<S: Store, R: Record>(
+    store: &mut S,
+    key: u64,
+) -> Result<(Hold, R), Refusal>
+    ensures leaves { RecordLeaves (record_in R.KIND R.record_of) (S.setting store.old) key (S.book store.old) result (S.book store.new) }
+    ensures stands { IsBook (S.setting store.new) (S.book store.new) }
+    ensures same { S.setting store.new ≡ S.setting store.old }
+{
+    let (hold, value) = fetch(store, key)?;
+    match stored_record(&value) {
+        Some(found) => Ok((hold, found)),
+        None => match store.release(hold) {
+            Ok(()) => Err(Refusal::WrongKind),
+            Err(refusal) => Err(refusal),
+        },
+    }
+}

@@ -1,0 +1,97 @@
+//! Records of one type in a store.
+ghost use Rattle.std.specs.Prelude.{◌≡◌, ◌∷◌, ℕ, List};
+ghost use Rattle.std.specs.List.{Contains};
+ghost use Rattle.sh_history.specs.declared.entry.Entry.TheVariants.{Insert};
+ghost use Rattle.sh_history.specs.declared.log.LogEntry.TheVariants.{Known};
+ghost use Rattle.sh_plain.specs.Store.{IsBook, InsertLeaves, RemoveLeaves, ReleaseLeaves};
+ghost use Rattle.sh_typed.specs.Typed.{GivesBack, RecordLeaves, record_in};
+
+use crate::fetch::fetch_record;
+use crate::stored::stored_value;
+use sh_plain::Store;
+use sh_value::{Hold, Record, Refusal};
+use std::marker::{Model, PhantomData};
+
+/// A store of records of one type: each is stored as its kind and then its words.
+///
+/// A contract sees the store itself. Another kind of record may lie under other keys of it.
+#[derive(Drop)]
+pub struct Typed<S: Store, R: Record> {
+    store: S,
+    record: PhantomData<R>,
+}
+
+impl<S: Store, R: Record> Model for Typed<S, R> {
+    ghost Value = { S };
+
+    ghost view = { λ t. t.store };
+}
+
+impl<S: Store, R: Record> Typed<S, R> {
+    /// The records in a store.
+    pub fn new(store: S) -> Self
+        ensures { result ≡ store }
+    {
+        let record = PhantomData;
+        Typed { store, record }
+    }
+
+    /// The store.
+    pub fn into_store(self) -> S
+        ensures { result ≡ self }
+    {
+        let Typed { store, record: _ } = self;
+        store
+    }
+
+    /// Stores a record under a new key, and answers the key. Refused as `Full` or `Memory`.
+    ///
+    /// What is stored is read as the record again.
+    pub fn insert(&mut self, stored: &R) -> Result<u64, Refusal>
+        ensures leaves { InsertLeaves (S.setting self.old) (R.KIND ∷ R.words stored.now) (S.book self.old) result (S.book self.new) }
+        ensures decodes { record_in R.KIND R.record_of (R.KIND ∷ R.words stored.now) ≡ Some stored.now }
+        ensures stands { IsBook (S.setting self.new) (S.book self.new) }
+        ensures same { S.setting self.new ≡ S.setting self.old }
+    {
+        let value = stored_value(stored);
+        self.store.insert(&value)
+    }
+
+    /// Takes a hold on a key, and answers it with the record. Refused as the store refuses a get, and as `WrongKind`
+    /// where the key's value is of another kind or does not decode: then the hold is released again. Where that release
+    /// is refused for memory, this is refused as `Memory`, and the hold stays.
+    ///
+    /// A record whose insert stands in the book is given back, or the get is refused as the store refuses a get.
+    pub fn get(&mut self, key: u64) -> Result<(Hold, R), Refusal>
+        ensures leaves { RecordLeaves (record_in R.KIND R.record_of) (S.setting self.old) key (S.book self.old) result (S.book self.new) }
+        ensures given { (pass : ℕ) (value : List ℕ) (given : R)
+            → Contains (S.book self.old) (Known (Insert pass key value))
+            → record_in R.KIND R.record_of value ≡ Some given → GivesBack given result }
+        ensures stands { IsBook (S.setting self.new) (S.book self.new) }
+        ensures same { S.setting self.new ≡ S.setting self.old }
+    {
+        fetch_record(&mut self.store, key)
+    }
+
+    /// Removes a key, whatever its value is, as the store does. Refused as `BadKey`, `Memory` or `Gone`.
+    pub fn remove(&mut self, key: u64) -> Result<(), Refusal>
+        ensures leaves { RemoveLeaves (S.setting self.old) key (S.book self.old) result (S.book self.new) }
+        ensures stands { IsBook (S.setting self.new) (S.book self.new) }
+        ensures same { S.setting self.new ≡ S.setting self.old }
+    {
+        self.store.remove(key)
+    }
+
+    /// Gives one hold on a key back, as the store does. Refused as `NotHeld`, exactly where the caller has no hold on the
+    /// key, or `Memory`.
+    pub fn release(&mut self, hold: Hold) -> Result<(), Refusal>
+        ensures leaves { ReleaseLeaves (S.setting self.old) hold.key (S.book self.old) result (S.book self.new) }
+        ensures stands { IsBook (S.setting self.new) (S.book self.new) }
+        ensures same { S.setting self.new ≡ S.setting self.old }
+    {
+        self.store.release(hold)
+    }
+}
+
+#[cfg(test)]
+mod tests;

@@ -1,0 +1,126 @@
+ghost use Rattle.std.specs.Prelude.{length, ◌==◌, get_or, [], ◌∷◌, Some, None, if◌then◌else◌};
+
+use super::*;
+use sh_key::Tiny;
+use sh_plain::PlainStore;
+use sh_value::Value;
+use std::alloc::Global;
+use std::process::Abort;
+use std::test::Fail;
+
+// A record of kind 1 with two words.
+#[derive(Clone, Copy, Debug, PartialEq, Eq)]
+struct Point {
+    x: u64,
+    y: u64,
+}
+
+impl Record for Point {
+    const KIND: u64 = 1;
+
+    ghost KIND = { 1 };
+
+    ghost words = { λ p. p.x ∷ p.y ∷ [] };
+
+    ghost record_of = { λ ws. if length ws == 2 then Some (record { x = get_or ws 0 0; y = get_or ws 1 0 }) else None };
+
+    fn encode(&self) -> Value {
+        match Value::new(&[self.x, self.y]) {
+            Ok(value) => value,
+            Err(_) => unreachable!(),
+        }
+    }
+
+    fn decode(value: &Value) -> Option<Self> {
+        match value.words() {
+            [x, y] => Some(Point { x: *x, y: *y }),
+            _ => None,
+        }
+    }
+}
+
+// A record of kind 2 with one word.
+#[derive(Clone, Copy, Debug, PartialEq, Eq)]
+struct Count {
+    count: u64,
+}
+
+impl Record for Count {
+    const KIND: u64 = 2;
+
+    ghost KIND = { 2 };
+
+    ghost words = { λ c. c.count ∷ [] };
+
+    ghost record_of = { λ ws. if length ws == 1 then Some (record { count = get_or ws 0 0 }) else None };
+
+    fn encode(&self) -> Value {
+        match Value::new(&[self.count]) {
+            Ok(value) => value,
+            Err(_) => unreachable!(),
+        }
+    }
+
+    fn decode(value: &Value) -> Option<Self> {
+        match value.words() {
+            [count] => Some(Count { count: *count }),
+            _ => None,
+        }
+    }
+}
+
+fn value(words: &[u64], rt: &impl Abort) -> Value {
+    Value::new(words).expect(rt, "few words")
+}
+
+// A store with the value `1 5 6`, stored as a record under 4096.
+fn store_with_a_point(alloc: Global, rt: &impl Abort) -> PlainStore<Tiny> {
+    let mut points = Typed::<_, Point>::new(PlainStore::<Tiny>::new(alloc, 1));
+    assert_eq!(rt; points.insert(&Point { x: 5, y: 6 }), Ok(4096));
+    points.into_store()
+}
+
+#[test]
+fn a_record_is_stored_as_its_kind_and_its_words(rt: HostRuntime) -> Result<(), Fail> {
+    let mut store = store_with_a_point(rt.alloc(), &rt);
+    let hold = store.get(4096).expect(&rt, "it was inserted");
+    assert_eq!(rt; store.read(hold), Ok(value(&[1, 5, 6], &rt)));
+    Ok(())
+}
+
+#[test]
+fn a_record_is_given_back(rt: HostRuntime) -> Result<(), Fail> {
+    let mut points = Typed::<_, Point>::new(store_with_a_point(rt.alloc(), &rt));
+    let hold = Hold { key: 4096 };
+    assert_eq!(rt; points.get(4096), Ok((hold, Point { x: 5, y: 6 })));
+    assert_eq!(rt; points.remove(4096), Ok(()));
+    assert_eq!(rt; points.get(4096), Err(Refusal::Gone));
+    assert_eq!(rt; points.release(hold), Ok(()));
+    assert_eq!(rt; points.release(hold), Err(Refusal::NotHeld));
+    Ok(())
+}
+
+// Four holds fill a key, so that a further hold would show that one of them stayed.
+#[test]
+fn another_kind_is_refused_and_not_held(rt: HostRuntime) -> Result<(), Fail> {
+    let mut counts = Typed::<_, Count>::new(store_with_a_point(rt.alloc(), &rt));
+    for _ in 0..5 {
+        assert_eq!(rt; counts.get(4096), Err(Refusal::WrongKind));
+    }
+    assert_eq!(rt; counts.release(Hold { key: 4096 }), Err(Refusal::NotHeld));
+    let mut points = Typed::<_, Point>::new(counts.into_store());
+    assert!(rt; points.get(4096).is_ok());
+    Ok(())
+}
+
+#[test]
+fn words_that_do_not_decode_are_refused(rt: HostRuntime) -> Result<(), Fail> {
+    let mut store = PlainStore::<Tiny>::new(rt.alloc(), 1);
+    assert_eq!(rt; store.insert(&value(&[], &rt)), Ok(4096));
+    assert_eq!(rt; store.insert(&value(&[1, 5], &rt)), Ok(4097));
+    let mut points = Typed::<_, Point>::new(store);
+    assert_eq!(rt; points.get(4096), Err(Refusal::WrongKind));
+    assert_eq!(rt; points.get(4097), Err(Refusal::WrongKind));
+    assert_eq!(rt; points.release(Hold { key: 4097 }), Err(Refusal::NotHeld));
+    Ok(())
+}
