@@ -1,0 +1,2 @@
+pub mod Distincts
+pub mod Walks

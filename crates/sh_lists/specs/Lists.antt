@@ -1,0 +1,37 @@
+-- The two lists of free slots of a page.
+use Rattle.std.specs.Prelude.{◌≡◌, ℕ, zero, suc, List, [], ◌∷◌, ◌++◌, get_or, Option}
+use Rattle.sh_lists.specs.Numbers.{Distinct, AllBelow}
+
+-- the slots from which allocation takes, the owner's own frees, each list from its front, and the slot at which reading
+-- the page's stack goes on
+pub record Lists : Type 0 where
+  pub free : List ℕ
+  pub local : List ℕ
+  pub cursor : Option ℕ
+
+-- a slot stands in one of the lists at most, there once, and is one of 48
+pub record SlotsOnce (l : Lists) : Type 0 where
+  pub distinct : Distinct (l.free ++ l.local)
+  pub small : AllBelow 48 (l.free ++ l.local)
+
+-- n places from i on, each telling the next
+abbrev pub walk : List ℕ → ℕ → ℕ → List ℕ
+walk next i zero = []
+walk next i (suc n) = i ∷ walk next (get_or next i 0) n
+
+-- the last of the numbers, x where there is none, is e
+abbrev pub LastFrom : ℕ → List ℕ → ℕ → Type 0
+LastFrom x [] e = x ≡ e
+LastFrom x (y ∷ ys) e = LastFrom y ys e
+
+-- the last of the numbers, if there is one, is e
+abbrev pub EndsIn : List ℕ → ℕ → Type 0
+EndsIn [] e = Unit {0}
+EndsIn (x ∷ xs) e = LastFrom x xs e
+
+-- the slots of two lists differ, and each list has this end
+pub record Threaded (free : List ℕ) (free_end : ℕ) (local : List ℕ) (local_end : ℕ) : Type 0 where
+  pub distinct : Distinct (free ++ local)
+  pub small : AllBelow 48 (free ++ local)
+  pub free_ends : EndsIn free free_end
+  pub local_ends : EndsIn local local_end

@@ -1,0 +1,174 @@
+//! The two lists of free slots of a page, threaded through one array.
+ghost use Rattle.std.specs.Prelude.{◌≡◌, ◌+◌, ◌<◌, ◌≤◌, [], ◌∷◌, ◌++◌, length, None, IfSome, IfNone};
+ghost use Rattle.sh_lists.specs.Numbers.{Misses, upward};
+ghost use Rattle.sh_lists.specs.Lists.{SlotsOnce};
+
+use std::marker::Model;
+
+// How many slots a page has at most.
+const PLACES: usize = 48;
+
+// One of the lists: its first slot, its last, and how many it has. Where it has none, the other two say nothing.
+#[derive(Clone, Copy)]
+struct Thread {
+    front: u8,
+    end: u8,
+    count: u8,
+}
+
+const NO_SLOTS: Thread = Thread {
+    front: 0,
+    end: 0,
+    count: 0,
+};
+
+/// The free slots of a page that its owner keeps: `free`, from which allocation takes, and `local`, the owner's own frees.
+///
+/// A slot is a number below 48. It stands in one of the lists at most, and there once. Beside them stands the cursor: the
+/// slot at which the owner goes on reading the page's stack. No call takes memory, and each but `full` takes the same few
+/// steps whatever the lists hold.
+#[derive(Drop)]
+pub struct PageLists {
+    // The slot that follows in the same list.
+    next: [u8; 48],
+    free: Thread,
+    local: Thread,
+    cursor: Option<u32>,
+}
+
+impl Model for PageLists {
+    ghost use Rattle.sh_lists.specs.Lists.{Lists, walk, Threaded};
+
+    ghost Value = { Lists };
+
+    ghost view = { λ p. record { free = walk p.next p.free.front p.free.count; local = walk p.next p.local.front p.local.count; cursor = p.cursor } };
+
+    ghost invariant = { λ p. Threaded (walk p.next p.free.front p.free.count) p.free.end (walk p.next p.local.front p.local.count) p.local.end };
+}
+
+impl PageLists {
+    /// Both lists are empty, and there is no cursor.
+    pub fn bare() -> Self
+        ensures { result ≡ record { free = []; local = []; cursor = None } }
+    {
+        PageLists {
+            next: [0; 48],
+            free: NO_SLOTS,
+            local: NO_SLOTS,
+            cursor: None,
+        }
+    }
+
+    /// The slots 0 to `slots - 1` are free, at most 48, in ascending order. There is no cursor.
+    pub fn full(slots: u32) -> Self
+        requires { slots ≤ 48 }
+        ensures { result ≡ record { free = upward 0 slots; local = []; cursor = None } }
+    {
+        let mut next = [0; 48];
+        for slot in 1..PLACES {
+            next[slot - 1] = slot as u8;
+        }
+        let free = Thread {
+            front: 0,
+            end: slots.saturating_sub(1) as u8,
+            count: slots as u8,
+        };
+        PageLists {
+            next,
+            free,
+            local: NO_SLOTS,
+            cursor: None,
+        }
+    }
+
+    /// How many slots stand in both lists, at most 48.
+    pub fn len(&self) -> u32
+        ensures both { result ≡ length self.now.free + length self.now.local }
+        ensures once { SlotsOnce self.now }
+    {
+        self.free.count as u32 + self.local.count as u32
+    }
+
+    /// The slot at which reading the page's stack goes on.
+    pub fn cursor(&self) -> Option<u32>
+        ensures { result ≡ self.now.cursor }
+    {
+        self.cursor
+    }
+
+    /// Says at which slot reading the page's stack goes on.
+    pub fn set_cursor(&mut self, cursor: Option<u32>)
+        ensures { self.new ≡ record self.old { cursor = cursor } }
+    {
+        self.cursor = cursor;
+    }
+
+    /// Takes the front of `free`. None, with nothing changed, where `free` is empty.
+    pub fn pop(&mut self) -> Option<u32>
+        ensures front { IfSome result (λ slot. self.old ≡ record self.new { free = slot ∷ self.new.free }) }
+        ensures apart { IfSome result (λ slot. Misses slot (self.new.free ++ self.new.local)) }
+        ensures small { IfSome result (λ slot. slot < 48) }
+        ensures none { IfNone result (self.old.free ≡ []) }
+        ensures same { IfNone result (self.new ≡ self.old) }
+    {
+        if self.free.count == 0 {
+            return None;
+        }
+        let slot = self.free.front;
+        self.free.front = self.next[slot as usize];
+        self.free.count -= 1;
+        Some(slot as u32)
+    }
+
+    /// Puts a slot that stands in neither list in front of `local`.
+    pub fn push_local(&mut self, slot: u32)
+        requires small { slot < 48 }
+        requires apart { Misses slot (self.old.free ++ self.old.local) }
+        ensures { self.new ≡ record self.old { local = slot ∷ self.old.local } }
+    {
+        let slot = slot as u8;
+        if self.local.count == 0 {
+            self.local = Thread {
+                front: slot,
+                end: slot,
+                count: 1,
+            };
+            return;
+        }
+        self.next[slot as usize] = self.local.front;
+        self.local.front = slot;
+        self.local.count += 1;
+    }
+
+    /// Makes `local`, in its order, the list `free`, which is empty before.
+    pub fn flip(&mut self)
+        requires { self.old.free ≡ [] }
+        ensures { self.new ≡ record self.old { free = self.old.local; local = [] } }
+    {
+        self.free = self.local;
+        self.local = NO_SLOTS;
+    }
+
+    /// Puts a slot that stands in neither list, one that was read from the page's stack, behind `free`.
+    pub fn add_read(&mut self, slot: u32)
+        requires small { slot < 48 }
+        requires apart { Misses slot (self.old.free ++ self.old.local) }
+        ensures { self.new ≡ record self.old { free = self.old.free ++ slot ∷ [] } }
+    {
+        let slot = slot as u8;
+        if self.free.count == 0 {
+            self.free = Thread {
+                front: slot,
+                end: slot,
+                count: 1,
+            };
+            return;
+        }
+        self.next[self.free.end as usize] = slot;
+        self.free.end = slot;
+        self.free.count += 1;
+    }
+}
+
+#[cfg(test)]
+mod tests;

@@ -1,0 +1,6 @@
+pub mod Numbers
+pub mod Linking
+pub mod Sections
+pub mod Moves
+pub mod Openings
+pub mod Fronts

@@ -1,0 +1,41 @@
+-- Lists of numbers: what stands in them, what is taken out and what is put in.
+use Rattle.std.specs.Prelude.{ℕ, ◌==◌, ◌≤◌, suc, Bool, false, cond, ◌||◌, List, [], ◌∷◌, ◌++◌, get_or}
+
+-- whether k is one of the numbers
+abbrev pub has : ℕ → List ℕ → Bool
+has k [] = false
+has k (x ∷ xs) = (x == k) || has k xs
+
+-- the numbers but for the first that is k
+abbrev pub without : ℕ → List ℕ → List ℕ
+without k [] = []
+without k (x ∷ xs) = cond (x == k) xs (x ∷ without k xs)
+
+-- x stands behind the first s
+abbrev pub put_after : ℕ → ℕ → List ℕ → List ℕ
+put_after s x [] = []
+put_after s x (y ∷ ys) = y ∷ cond (y == s) (x ∷ ys) (put_after s x ys)
+
+-- more stand ahead of the first m
+abbrev pub put_before : ℕ → List ℕ → List ℕ → List ℕ
+put_before m more [] = []
+put_before m more (y ∷ ys) = cond (y == m) (more ++ y ∷ ys) (y ∷ put_before m more ys)
+
+-- the number behind the first s, and 0 where there is none
+abbrev pub following : ℕ → List ℕ → ℕ
+following s [] = 0
+following s (x ∷ xs) = cond (x == s) (get_or xs 0 0) (following s xs)
+
+-- the number ahead of the first m, where a stands ahead of the list
+abbrev pub preceding_from : ℕ → ℕ → List ℕ → ℕ
+preceding_from a m [] = a
+preceding_from a m (x ∷ xs) = cond (x == m) a (preceding_from x m xs)
+
+-- the number ahead of the first m, and 0 where there is none
+abbrev pub preceding : ℕ → List ℕ → ℕ
+preceding m xs = preceding_from 0 m xs
+
+-- each number is above the one ahead of it, and none is below `low`
+abbrev pub RisesFrom : ℕ → List ℕ → Type 0
+RisesFrom low [] = Unit {0}
+RisesFrom low (x ∷ xs) = (low ≤ x) × RisesFrom (suc x) xs

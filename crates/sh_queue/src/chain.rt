@@ -1,0 +1,148 @@
+// One list of numbers, linked both ways.
+ghost use Rattle.std.specs.Prelude.{◌≡◌, ◌≢◌, ℕ, ◌+◌, ◌-◌, ◌^◌, ◌<◌, ◌≤◌, [], ◌∷◌, ◌++◌, length, replicate, true, false, IfOk, OnOk, OnErr};
+ghost use Rattle.sh_lists.specs.Numbers.{Distinct, upward};
+ghost use Rattle.sh_queue.specs.Numbers.{has, without, put_after, put_before, following, preceding};
+ghost use Rattle.sh_queue.specs.Chain.{Chained};
+
+use std::alloc::{AllocError, Global};
+use std::marker::Model;
+
+// The number that stands last. The first is 0.
+pub const END: u32 = 10;
+
+// A list of numbers that begins with 0 and ends with `END`, none twice. A number is taken out or put in with no regard to
+// where it stands, in the same few steps. A contract sees the numbers in order, and below which number each has to be.
+#[derive(Drop)]
+pub struct Chain {
+    // The number behind each number, and the one ahead of it.
+    next: Vec<u32>,
+    prev: Vec<u32>,
+    // How many numbers stand behind 0.
+    count: usize,
+}
+
+impl Model for Chain {
+    ghost use Rattle.std.specs.Prelude.{◌∷◌, length, get_or};
+    ghost use Rattle.sh_lists.specs.Lists.{walk};
+    ghost use Rattle.sh_queue.specs.Chain.{Chained, Links};
+
+    ghost Value = { Chained };
+
+    ghost view = { λ c. record { numbers = 0 ∷ walk c.next.items (get_or c.next.items 0 0) c.count; size = length c.next.items } };
+
+    ghost invariant = { λ c. Links c.next.items c.prev.items (walk c.next.items (get_or c.next.items 0 0) c.count) };
+}
+
+impl Chain {
+    // The numbers 0 and `END`, with room for those between.
+    pub fn new(alloc: Global) -> Result<Self, AllocError>
+        ensures { IfOk result (λ chain. chain ≡ record { numbers = 0 ∷ 10 ∷ []; size = 11 }) }
+    {
+        let next = vec![in alloc; END; 11]?;
+        let prev = vec![in alloc; 0; 11]?;
+        Ok(Chain {
+            next,
+            prev,
+            count: 1,
+        })
+    }
+
+    // Makes room for the numbers below `size`.
+    pub fn grow(&mut self, size: usize) -> Result<(), AllocError>
+        ensures same { self.new.numbers ≡ self.old.numbers }
+        ensures kept { self.old.size ≤ self.new.size }
+        ensures room { OnOk result (size ≤ self.new.size) }
+    {
+        lengthen(&mut self.prev, size)?;
+        lengthen(&mut self.next, size)
+    }
+
+    // The number behind s.
+    pub fn following(&self, s: u32) -> u32
+        requires here { has s self.now.numbers ≡ true }
+        requires inner { s ≢ 10 }
+        ensures { result ≡ following s self.now.numbers }
+    {
+        self.next[s as usize]
+    }
+
+    // The number ahead of m.
+    pub fn preceding(&self, m: u32) -> u32
+        requires here { has m self.now.numbers ≡ true }
+        requires inner { m ≢ 0 }
+        ensures { result ≡ preceding m self.now.numbers }
+    {
+        self.prev[m as usize]
+    }
+
+    // Takes x out.
+    pub fn unlink(&mut self, x: u32)
+        requires here { has x self.old.numbers ≡ true }
+        requires inner { (x ≢ 0) × (x ≢ 10) }
+        ensures out { self.new ≡ record self.old { numbers = without x self.old.numbers } }
+        ensures gone { has x self.new.numbers ≡ false }
+    {
+        let before = self.prev[x as usize];
+        let behind = self.next[x as usize];
+        self.next[before as usize] = behind;
+        self.prev[behind as usize] = before;
+        self.count -= 1;
+    }
+
+    // Puts x behind s.
+    pub fn put_after(&mut self, s: u32, x: u32)
+        requires here { has s self.old.numbers ≡ true }
+        requires inner { s ≢ 10 }
+        requires apart { has x self.old.numbers ≡ false }
+        requires inside { x < self.old.size }
+        ensures put { self.new ≡ record self.old { numbers = put_after s x self.old.numbers } }
+        ensures distinct { Distinct self.new.numbers }
+    {
+        let behind = self.next[s as usize];
+        self.next[s as usize] = x;
+        self.prev[behind as usize] = x;
+        self.next[x as usize] = behind;
+        self.prev[x as usize] = s;
+        self.count += 1;
+    }
+
+    // Puts x ahead of m.
+    pub fn put_before(&mut self, m: u32, x: u32)
+        requires here { has m self.old.numbers ≡ true }
+        requires inner { m ≢ 0 }
+        requires apart { has x self.old.numbers ≡ false }
+        requires inside { x < self.old.size }
+        ensures put { self.new ≡ record self.old { numbers = put_before m (x ∷ []) self.old.numbers } }
+        ensures distinct { Distinct self.new.numbers }
+    {
+        let before = self.prev[m as usize];
+        self.put_after(before, x);
+    }
+
+    // Puts the numbers from `first` on, this many, ahead of `END`.
+    pub fn append(&mut self, first: u32, count: u32)
+        requires here { has 10 self.old.numbers ≡ true }
+        requires apart { (k : ℕ) → first ≤ k → k < first + count → has k self.old.numbers ≡ false }
+        requires inside { first + count ≤ self.old.size }
+        requires few { first + count < 2 ^ 32 }
+        ensures put { self.new ≡ record self.old { numbers = put_before 10 (upward first count) self.old.numbers } }
+        ensures distinct { Distinct self.new.numbers }
+    {
+        // Reading a field brings in that the numbers differ, also where none is put in.
+        let _ = &self.next;
+        for x in first..first + count {
+            self.put_before(END, x);
+        }
+    }
+}
+
+// Adds links of 0 until there are at least this many. Where memory is refused, nothing is added.
+fn lengthen(links: &mut Vec<u32>, size: usize) -> Result<(), AllocError>
+    ensures longer { OnOk result (links.new.items ≡ links.old.items ++ replicate (size - length links.old.items) 0) }
+    ensures same { OnErr result (links.new.items ≡ links.old.items) }
+{
+    if size <= links.len() {
+        return Ok(());
+    }
+    links.resize(size, 0)
+}

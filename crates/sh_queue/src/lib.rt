@@ -1,0 +1,7 @@
+//! The pages of an owner in queues: one for each class, one for the pages that are full, and the pages that are blank.
+#![tactic(auto)]
+
+mod chain;
+pub mod queues;
+
+pub use queues::Queues;

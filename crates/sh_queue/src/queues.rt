@@ -1,0 +1,210 @@
+//! The queues of an owner's pages.
+ghost use Rattle.std.specs.Prelude.{◌≡◌, ◌≢◌, ℕ, ◌+◌, ◌-◌, ◌*◌, ◌<◌, ◌≤◌, ◌++◌, true, false, length, replicate, None, slice_get, IfSome, IfOk, IfErr, OnOk, OnErr};
+ghost use Rattle.std.specs.List.{last_or};
+ghost use Rattle.sh_lists.specs.Numbers.{upward};
+ghost use Rattle.sh_queue.specs.Numbers.{has};
+ghost use Rattle.sh_queue.specs.Chain.{Chained};
+ghost use Rattle.sh_queue.specs.Queues.{EachOnce, page_of, class_of, none_opened, at_front, at_back, among_full, one_more_segment};
+
+use crate::chain::Chain;
+use sh_value::Refusal;
+use std::alloc::{AllocError, Global};
+use std::marker::Model;
+
+const SEGMENT_PAGES: u32 = 8;
+
+// All queues are one chain. A number below 11 marks where a queue begins: 0 to 7 stand ahead of the queues of the classes,
+// these two ahead of the full queue and of the blank pages, and the last number of the chain behind these. Page p is the
+// number 11 + p.
+const FULL: u32 = 8;
+
+const BLANK: u32 = 9;
+
+const FIRST_PAGE: u32 = 11;
+
+/// The pages that an owner has opened, in queues.
+///
+/// A page is a number. Pages are opened 8 at a time, which is a segment, in ascending order. An opened page is blank, or
+/// stands in the queue of one class from 0 to 7, or in the full queue. Memory is taken by `new` and `open_segment` alone.
+/// No other call takes any, and each takes the same few steps whatever the queues hold.
+#[derive(Drop)]
+pub struct Queues {
+    chain: Chain,
+    // For each opened page, whether it stands in the full queue.
+    full: Vec<bool>,
+    opened: u32,
+    unopened: u32,
+}
+
+impl Model for Queues {
+    ghost use Rattle.sh_queue.specs.Queues.{PageQueues, shown, Kept};
+
+    ghost Value = { PageQueues };
+
+    ghost view = { λ q. shown q.chain.numbers q.opened q.unopened };
+
+    ghost invariant = { λ q. Kept q.chain.numbers q.chain.size q.opened q.unopened q.full.items };
+}
+
+impl Queues {
+    /// No page is opened yet, of this many segments, at most 256. Refused as `Memory`.
+    pub fn new(alloc: Global, segments: u32) -> Result<Self, Refusal>
+        requires { segments ≤ 256 }
+        ensures ok { IfOk result (λ queues. queues ≡ none_opened segments) }
+        ensures err { IfErr result (λ refusal. refusal ≡ Refusal.Memory) }
+    {
+        match marks(alloc) {
+            Ok(chain) => Ok(Queues {
+                chain,
+                full: Vec::new(alloc),
+                opened: 0,
+                unopened: segments,
+            }),
+            Err(_) => Err(Refusal::Memory),
+        }
+    }
+
+    /// How many pages are opened: the pages 0 to `opened() - 1`.
+    pub fn opened(&self) -> u32
+        ensures opened { result ≡ self.now.opened }
+        ensures few { self.now.opened + 8 * self.now.unopened ≤ 2048 }
+        ensures once { EachOnce self.now }
+    {
+        self.opened
+    }
+
+    /// How many segments are not opened yet.
+    pub fn unopened(&self) -> u32
+        ensures { result ≡ self.now.unopened }
+    {
+        self.unopened
+    }
+
+    /// Opens the next segment, of which there is one, and answers the first of its 8 pages, which are blank. Refused as
+    /// `Memory`, with nothing changed.
+    pub fn open_segment(&mut self) -> Result<u32, Refusal>
+        requires { self.old.unopened ≢ 0 }
+        ensures first { IfOk result (λ first. first ≡ self.old.opened) }
+        ensures ok { OnOk result (self.new ≡ one_more_segment self.old) }
+        ensures err { OnErr result (self.new ≡ self.old) }
+        ensures memory { IfErr result (λ refusal. refusal ≡ Refusal.Memory) }
+    {
+        let first = self.opened;
+        match make_room(&mut self.chain, &mut self.full, first + SEGMENT_PAGES) {
+            Ok(()) => {
+                self.chain.append(FIRST_PAGE + first, SEGMENT_PAGES);
+                self.opened += SEGMENT_PAGES;
+                self.unopened -= 1;
+                Ok(first)
+            }
+            Err(_) => Err(Refusal::Memory),
+        }
+    }
+
+    /// The lowest blank page.
+    pub fn blank(&self) -> Option<u32>
+        ensures front { result ≡ slice_get self.now.blank 0 }
+        ensures lowest { IfSome result (λ page. (other : ℕ) → has other self.now.blank ≡ true → page ≤ other) }
+        ensures opened { IfSome result (λ page. page < self.now.opened) }
+    {
+        page_of(self.chain.following(BLANK))
+    }
+
+    /// The front page of a class.
+    pub fn front(&self, c: u32) -> Option<u32>
+        requires { c < 8 }
+        ensures front { result ≡ slice_get (class_of self.now c) 0 }
+        ensures opened { IfSome result (λ page. page < self.now.opened) }
+    {
+        page_of(self.chain.following(c))
+    }
+
+    /// The last page of a class.
+    pub fn last(&self, c: u32) -> Option<u32>
+        requires { c < 8 }
+        ensures last { result ≡ last_or None (class_of self.now c) }
+        ensures opened { IfSome result (λ page. page < self.now.opened) }
+    {
+        page_of(self.chain.preceding(c + 1))
+    }
+
+    /// Whether an opened page stands in the full queue.
+    pub fn in_full(&self, page: u32) -> bool
+        requires { page < self.now.opened }
+        ensures { result ≡ has page self.now.full }
+    {
+        self.full[page as usize]
+    }
+
+    /// Moves an opened page, from wherever it stands, to the front of a class.
+    pub fn to_front(&mut self, c: u32, page: u32)
+        requires class { c < 8 }
+        requires opened { page < self.old.opened }
+        ensures { self.new ≡ at_front c page self.old }
+    {
+        self.full[page as usize] = false;
+        let number = FIRST_PAGE + page;
+        self.chain.unlink(number);
+        self.chain.put_after(c, number);
+    }
+
+    /// Moves an opened page, from wherever it stands, to the back of a class.
+    pub fn to_back(&mut self, c: u32, page: u32)
+        requires class { c < 8 }
+        requires opened { page < self.old.opened }
+        ensures { self.new ≡ at_back c page self.old }
+    {
+        self.full[page as usize] = false;
+        let number = FIRST_PAGE + page;
+        self.chain.unlink(number);
+        self.chain.put_before(c + 1, number);
+    }
+
+    /// Moves an opened page, from wherever it stands, to the back of the full queue.
+    pub fn to_full(&mut self, page: u32)
+        requires { page < self.old.opened }
+        ensures { self.new ≡ among_full page self.old }
+    {
+        self.full[page as usize] = true;
+        let number = FIRST_PAGE + page;
+        self.chain.unlink(number);
+        self.chain.put_before(FULL + 1, number);
+    }
+}
+
+// The chain of the marks alone.
+fn marks(alloc: Global) -> Result<Chain, AllocError>
+    ensures { IfOk result (λ chain. chain ≡ record { numbers = upward 0 11; size = 11 }) }
+{
+    let mut chain = Chain::new(alloc)?;
+    chain.append(1, BLANK);
+    Ok(chain)
+}
+
+// Makes room for this many pages. Where memory is refused, the pages and the notes on them stay as they were.
+fn make_room(chain: &mut Chain, full: &mut Vec<bool>, pages: u32) -> Result<(), AllocError>
+    requires few { pages ≤ 2048 }
+    requires more { length full.old.items ≤ pages }
+    ensures same { chain.new.numbers ≡ chain.old.numbers }
+    ensures kept { chain.old.size ≤ chain.new.size }
+    ensures room { OnOk result (11 + pages ≤ chain.new.size) }
+    ensures notes { OnOk result (full.new.items ≡ full.old.items ++ replicate (pages - length full.old.items) false) }
+    ensures err { OnErr result (full.new.items ≡ full.old.items) }
+{
+    chain.grow((FIRST_PAGE + pages) as usize)?;
+    full.resize(pages as usize, false)
+}
+
+// The page that a number of the chain stands for. A mark stands for none.
+fn page_of(number: u32) -> Option<u32>
+    ensures { result ≡ page_of number }
+{
+    if number < FIRST_PAGE {
+        None
+    } else {
+        Some(number - FIRST_PAGE)
+    }
+}
+
+#[cfg(test)]
+mod tests;

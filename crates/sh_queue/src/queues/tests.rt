@@ -1,0 +1,108 @@
+ghost use Rattle.std.specs.Prelude.{◌≡◌, ◌≢◌, ◌≤◌, IfOk, OnOk};
+ghost use Rattle.sh_queue.specs.Queues.{none_opened, one_more_segment};
+
+use super::*;
+use std::process::Abort;
+use std::test::Fail;
+
+#[test]
+fn pages_move_between_queues(rt: HostRuntime) {
+    let mut queues = Queues::new(rt.alloc(), 1).expect(&rt, "there is memory");
+    assert_eq!(rt; queues.unopened(), 1);
+    assert_eq!(rt; queues.blank(), None);
+    assert_eq!(rt; queues.open_segment(), Ok(0));
+    assert_eq!(rt; queues.unopened(), 0);
+    queues.to_front(7, 0);
+    queues.to_front(7, 1);
+    assert_eq!(rt; queues.front(7), Some(1));
+    queues.to_back(7, 1);
+    assert_eq!(rt; queues.front(7), Some(0));
+    assert_eq!(rt; queues.last(7), Some(1));
+    assert_eq!(rt; queues.blank(), Some(2));
+    assert!(rt; !queues.in_full(0));
+    queues.to_full(0);
+    assert_eq!(rt; queues.front(7), Some(1));
+    assert!(rt; queues.in_full(0));
+    assert!(rt; !queues.in_full(1));
+}
+
+#[test]
+fn a_page_comes_back_from_the_full_queue(rt: HostRuntime) {
+    let mut queues = Queues::new(rt.alloc(), 2).expect(&rt, "there is memory");
+    assert_eq!(rt; queues.open_segment(), Ok(0));
+    queues.to_front(0, 0);
+    queues.to_front(0, 1);
+    queues.to_full(1);
+    queues.to_full(0);
+    assert_eq!(rt; queues.front(0), None);
+    assert_eq!(rt; queues.last(0), None);
+    queues.to_back(0, 1);
+    queues.to_back(0, 0);
+    assert_eq!(rt; queues.front(0), Some(1));
+    assert_eq!(rt; queues.last(0), Some(0));
+    assert!(rt; !queues.in_full(0));
+    assert!(rt; !queues.in_full(1));
+}
+
+#[test]
+fn blank_pages_are_used_lowest_first(rt: HostRuntime) {
+    let mut queues = Queues::new(rt.alloc(), 2).expect(&rt, "there is memory");
+    assert_eq!(rt; queues.open_segment(), Ok(0));
+    assert_eq!(rt; queues.open_segment(), Ok(8));
+    assert_eq!(rt; queues.unopened(), 0);
+    queues.to_full(1);
+    queues.to_front(5, 15);
+    assert_eq!(rt; queues.blank(), Some(0));
+    queues.to_back(4, 0);
+    assert_eq!(rt; queues.blank(), Some(2));
+    assert_eq!(rt; queues.opened(), 16);
+}
+
+// No page is opened, once more where memory was refused.
+fn new_with_memory(rt: &HostRuntime, segments: u32) -> Result<Queues, Refusal>
+    requires { segments ≤ 256 }
+    ensures { IfOk result (λ queues. queues ≡ none_opened segments) }
+{
+    match Queues::new(rt.alloc(), segments) {
+        Err(Refusal::Memory) => Queues::new(rt.alloc(), segments),
+        answer => answer,
+    }
+}
+
+// The next segment, once more where memory was refused: then no page moved, and none was opened.
+fn open_with_memory(queues: &mut Queues, rt: &impl Abort) -> Result<u32, Refusal>
+    requires { queues.old.unopened ≢ 0 }
+    ensures { OnOk result (queues.new ≡ one_more_segment queues.old) }
+{
+    let before = (queues.opened(), queues.unopened(), queues.blank());
+    let ends = (queues.front(3), queues.last(3), queues.front(4));
+    match queues.open_segment() {
+        Err(Refusal::Memory) => {
+            assert_eq!(rt;
+                (queues.opened(), queues.unopened(), queues.blank()),
+                before
+            );
+            assert_eq!(rt; (queues.front(3), queues.last(3), queues.front(4)), ends);
+            queues.open_segment()
+        }
+        answer => answer,
+    }
+}
+
+#[test]
+fn a_segment_refused_for_memory_changes_nothing(rt: HostRuntime) -> Result<(), Fail> {
+    let mut queues = new_with_memory(&rt, 3)?;
+    assert_eq!(rt; open_with_memory(&mut queues, &rt), Ok(0));
+    queues.to_front(3, 0);
+    queues.to_front(3, 1);
+    assert_eq!(rt; open_with_memory(&mut queues, &rt), Ok(8));
+    assert_eq!(rt; open_with_memory(&mut queues, &rt), Ok(16));
+    assert_eq!(rt; queues.blank(), Some(2));
+    assert_eq!(rt; queues.front(3), Some(1));
+    assert_eq!(rt; queues.last(3), Some(0));
+    queues.to_back(4, 23);
+    assert_eq!(rt; queues.front(4), Some(23));
+    assert_eq!(rt; queues.opened(), 24);
+    assert_eq!(rt; queues.unopened(), 0);
+    Ok(())
+}
