@@ -1,0 +1,23 @@
+-- The head words of pages, which say whether a page is armed, and the bells of shards, which name pages.
+use Rattle.std.specs.Prelude.{ℕ, ◌+◌, ◌-◌, ◌*◌, ◌/◌, ◌%◌, ◌==◌, nat_lt, Bool, cond}
+
+-- a head word has its top doubled, and 1 more where the page is armed
+abbrev pub is_armed : ℕ → Bool
+is_armed head = head % 2 == 1
+
+abbrev pub top_of : ℕ → ℕ
+top_of head = head / 2
+
+abbrev pub head_word : ℕ → ℕ
+head_word top = top * 2
+
+-- the shard of a page, and its number there, where a shard has so many pages
+abbrev pub home_of : (pages page : ℕ) → ℕ
+home_of pages page = page / pages
+
+abbrev pub local_of : (pages page : ℕ) → ℕ
+local_of pages page = page % pages
+
+-- A word of shard n that names its page p as p + k, and none below k: the same with the page's number over the whole heap
+abbrev pub named_over_heap : (pages n k word : ℕ) → ℕ
+named_over_heap pages n k word = cond (nat_lt word k) word (n * pages + (word - k) + k)

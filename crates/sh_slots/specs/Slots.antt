@@ -1,0 +1,64 @@
+-- Slots: which one, and what its state word says to a step.
+use Rattle.std.specs.Prelude.{ℕ, zero, suc, ◌+◌, ◌==◌, nat_lt, Bool, true, false, cond, not, ◌&&◌, List, [], ◌∷◌}
+use Rattle.sh_word.specs.Fields.{fields_of, word_of}
+use Rattle.sh_slots.specs.declared.hand.Hand.{Hand}
+use Rattle.sh_slots.specs.declared.hand.Hand.TheVariants.{Idle, Removing, Leaving, Finishing}
+use Rattle.sh_slots.specs.declared.hand.Spot.{Spot}
+use Rattle.sh_slots.specs.declared.hand.Name.{Name}
+use Rattle.sh_slots.specs.declared.enter.GetAnswer.{GetAnswer}
+use Rattle.sh_slots.specs.declared.enter.GetAnswer.TheVariants.{Got, Crowded, Gone}
+
+abbrev pub same_spot : Spot → Spot → Bool
+same_spot a b = (a.page == b.page) && (a.slot == b.slot)
+
+-- n slots of page q, from slot s on
+unfoldable pub spots : ℕ → ℕ → ℕ → List Spot
+spots q s zero = []
+spots q s (suc n) = record { page = q; slot = s } ∷ spots q (s + 1) n
+
+-- the word found says Live, and of this generation
+abbrev pub live_at : ℕ → ℕ → Bool
+live_at g n = (fields_of n).present && not (fields_of n).marked && ((fields_of n).generation == g)
+
+-- what a drop leaves in the hand
+abbrev pub after_drop : Spot → ℕ → Hand
+after_drop x n = cond ((fields_of n).present && (fields_of n).marked && ((fields_of n).count == 1)) (Finishing x (fields_of n).generation) Idle
+
+abbrev pub spot_of : Name → Spot
+spot_of n = record { page = n.page; slot = n.slot }
+
+abbrev pub name_of : Spot → ℕ → Name
+name_of x g = record { page = x.page; slot = x.slot; generation = g }
+
+-- the word of a marked slot that nobody is on, and what ends its generation: the slot is empty, in the next one, or retired
+abbrev pub marked_word : ℕ → ℕ
+marked_word g = word_of (record { generation = g; marked = true; present = true; count = 0 })
+
+abbrev pub reusable_word : ℕ → ℕ
+reusable_word g = word_of (record { generation = g + 1; marked = false; present = false; count = 0 })
+
+abbrev pub retired_word : ℕ → ℕ
+retired_word g = word_of (record { generation = g; marked = true; present = false; count = 0 })
+
+-- what a get of a key of this generation is answered, by the word that it found as it entered
+abbrev pub answer_to_get : (g guard_max found : ℕ) → GetAnswer
+answer_to_get g guard_max n = cond (live_at g n) (cond (nat_lt (fields_of n).count guard_max) Got Crowded) Gone
+
+-- what a removal of a key of this name has in hand, by the word that it found as it entered
+abbrev pub after_enter_remove : ℕ → Name → ℕ → Hand
+after_enter_remove k x n = cond (live_at x.generation n) (Removing k) (Leaving (spot_of x))
+
+-- no mark came before the one that found the word
+abbrev pub is_first_mark : ℕ → Bool
+is_first_mark n = not (fields_of n).marked
+
+-- what the end of a generation puts in place of the marked word, and whether the pass then has the slot, empty
+abbrev pub finished_word : (g gen_max : ℕ) → ℕ
+finished_word g gen_max = cond (g == gen_max) (retired_word g) (reusable_word g)
+
+abbrev pub is_reusable_after : (g gen_max found : ℕ) → Bool
+is_reusable_after g gen_max n = (n == marked_word g) && not (g == gen_max)
+
+-- what the key of a value names that becomes present where this word is found
+abbrev pub published_name : Spot → ℕ → Name
+published_name x n = name_of x (fields_of n).generation

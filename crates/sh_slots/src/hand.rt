@@ -1,0 +1,45 @@
+//! What a pass has begun.
+use sh_value::Value;
+
+/// A slot: its page over the whole heap, and its number there.
+#[derive(Clone, Copy, Debug, PartialEq, Eq)]
+pub struct Spot {
+    /// The page: the shard's number times the pages of a shard, plus the page's number there.
+    pub page: u64,
+    /// The slot of the page, below 48.
+    pub slot: u64,
+}
+
+/// What a key names: a slot, and which of the values that stood there is meant.
+#[derive(Clone, Copy, Debug, PartialEq, Eq)]
+pub struct Name {
+    /// The page over the whole heap.
+    pub page: u64,
+    /// The slot of the page.
+    pub slot: u64,
+    /// The generation, from 1.
+    pub generation: u32,
+}
+
+/// What a pass has begun, and has yet to end. Pages are numbered over the whole heap.
+#[derive(Drop, Debug, PartialEq, Eq)]
+pub enum Hand {
+    /// Nothing.
+    Idle,
+    /// It entered the slot of the key, to remove it.
+    Removing(u64),
+    /// It was answered, and has yet to give its count on the slot back.
+    Leaving(Spot),
+    /// Its count was the last one on the marked slot, of this generation.
+    Finishing(Spot, u32),
+    /// It has an empty slot of a shard that it does not own.
+    ToPut(Spot),
+    /// It put the slot, whose link is not stored yet; whether it found the flag, and so must ring.
+    Tying(Spot, u64, bool),
+    /// It must ring for the page.
+    Ringing(u64),
+    /// It put the page on the bell, whose link is not stored yet.
+    RingTying(u64, u64),
+    /// It fills the slot with the value, of which this many words are stored.
+    Filling(Spot, Value, u64),
+}

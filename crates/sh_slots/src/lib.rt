@@ -1,0 +1,20 @@
+//! What a pass does with one slot: what its hand holds, what a step on the slot's state word says to it, and what a step
+//! answers.
+#![tactic(auto)]
+
+pub mod enter;
+pub mod fill;
+pub mod free;
+pub mod hand;
+pub mod reply;
+#[cfg(test)]
+mod tests;
+
+pub use enter::{GetAnswer, after_enter_remove, answer_to_get, is_live_at};
+pub use fill::published_name;
+pub use free::{
+    after_drop, finished_word, is_first_mark, is_reusable_after, marked_word, retired_word,
+    reusable_word,
+};
+pub use hand::{Hand, Name, Spot};
+pub use reply::Reply;

@@ -1,0 +1,10 @@
+use Rattle.std.proofs.Common.{◌≡◌, ◌-◌}
+use Rattle.sh_slots.specs.Slots.{same_spot, spots}
+use Rattle.sh_step.specs.Collections.{has, every}
+use Rattle.sh_step.proofs.lists.has_slots.Given as goal
+
+-- the answer rests with the slots from here on
+abbrev pub invariant-loop-slot : goal.invariant-loop-slot
+invariant-loop-slot l =
+    every (λ x. has (same_spot x) l.mine) (spots l.page 0 l.count)
+    ≡ every (λ x. has (same_spot x) l.mine) (spots l.page l.slot (l.count - l.slot))

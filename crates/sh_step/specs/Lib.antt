@@ -1,0 +1,6 @@
+pub mod Kinds
+pub mod Collections
+pub mod Plans
+pub mod Operations
+pub mod Rows
+pub mod Moves

@@ -1,0 +1,19 @@
+-- What an operation leaves of the word that it finds, and what it answers.
+use Rattle.std.specs.Prelude.{ℕ, ◌+◌, ◌-◌, ◌==◌, cond, bit_or, Option, Some, None}
+use Rattle.sh_step.specs.declared.operation.Operation.{Operation}
+use Rattle.sh_step.specs.declared.operation.Operation.TheVariants.{FetchAdd, FetchSub, FetchOr, Swap, Store, CompareExchange, Load}
+
+-- the word after it
+abbrev pub operate : Operation → ℕ → ℕ
+operate (FetchAdd m) n = n + m
+operate (FetchSub m) n = n - m
+operate (FetchOr m) n = bit_or n m
+operate (Swap m) n = m
+operate (Store m) n = m
+operate (CompareExchange old new) n = cond (n == old) new n
+operate Load n = n
+
+-- what it answers: the word that it found, but for a store
+abbrev pub answer : Operation → ℕ → Option ℕ
+answer (Store m) n = None
+answer _ n = Some n

@@ -1,0 +1,318 @@
+-- The table of actions: what each asks of the pass's own part, the operation on one word, and what it leaves.
+use Rattle.std.specs.Prelude.{ℕ, ◌+◌, ◌-◌, ◌*◌, ◌/◌, ◌%◌, ◌^◌, ◌<◌, ◌==◌, nat_lt, nat_le, Bool, true, false, cond, not, ◌&&◌, ◌||◌, List, [], ◌∷◌, ◌++◌, Option, Some, None, slice_index, length}
+use Rattle.sh_word.specs.Fields.{fields_of, word_of}
+use Rattle.sh_slots.specs.declared.hand.Hand.{Hand}
+use Rattle.sh_slots.specs.declared.hand.Hand.TheVariants.{Idle, Removing, Leaving, Finishing, ToPut, Tying, Ringing, RingTying, Filling}
+use Rattle.sh_slots.specs.declared.hand.Spot.{Spot}
+use Rattle.sh_slots.specs.declared.hand.Name.{Name}
+use Rattle.sh_slots.specs.declared.reply.Reply.{Reply}
+use Rattle.sh_slots.specs.declared.reply.Reply.TheVariants as reply
+use Rattle.sh_step.specs.declared.body.Body.{Body}
+use Rattle.sh_step.specs.declared.action.PageName.{PageName}
+use Rattle.sh_step.specs.declared.action.SlotName.{SlotName}
+use Rattle.sh_step.specs.declared.action.Action.{Action}
+use Rattle.sh_step.specs.declared.action.Action.TheVariants.{EnterGet, EnterRemove, Mark, Drop, DropHold, Finish, FillSlot, Fill, Publish, ReadClass, ReadLength, ReadWord, ReadPage, SetClass, Take, Follow, Put, PutSlot, Tie, Adopt, Leave, Arm, Ring, RingTie, TakeBell, FollowBell}
+use Rattle.sh_shape.specs.declared.places.Place.{Place}
+use Rattle.sh_shape.specs.declared.places.Place.TheVariants.{Class, Head, PageLink, State, Link, Length, Payload, Owner, Bell}
+use Rattle.sh_step.specs.Plans.{Keys, Plan, all_pages, home, local, over_heap, page_of, slot_of}
+use Rattle.sh_shape.specs.Classes.{width, slots}
+use Rattle.sh_slots.specs.Slots.{same_spot, spots, spot_of, name_of, live_at, after_drop, marked_word, reusable_word, retired_word}
+use Rattle.sh_step.specs.Collections.{without, has, noted, off, every}
+use Rattle.sh_step.specs.declared.operation.Operation.{Operation}
+use Rattle.sh_step.specs.declared.operation.Operation.TheVariants.{FetchAdd, FetchSub, FetchOr, Swap, Store, CompareExchange, Load}
+
+-- One row of the table, for one part: a word, the operation on it, and by the word found the part after and what is replied
+pub record Row : Type 0 where
+  pub place : Place
+  pub operation : Operation
+  pub part : ℕ → Body
+  pub reply : ℕ → Option Reply
+
+abbrev pub when : Bool → Row → Option Row
+when b m = cond b (Some m) None
+
+abbrev pub silent : ℕ → Option Reply
+silent _ = None
+
+abbrev pub hand : Body → Hand → Body
+hand p h = record p { hand = h }
+
+abbrev pub idle : Body → Bool
+idle p = elim (p.hand) [ Idle ↦ true | _ ↦ false ]
+
+abbrev pub owned_by : Plan → Option ℕ → ℕ → Bool
+owned_by plan o q = elim o [ Some n ↦ n == home plan q | None ↦ false ]
+
+abbrev pub own : Plan → Body → ℕ → Bool
+own plan p q = owned_by plan p.owned q
+
+-- the class word noted of a page, 0 where none is
+abbrev pub class_of : Body → ℕ → ℕ
+class_of p q = elim (noted q p.classes) [ Some c ↦ c | None ↦ 0 ]
+
+abbrev pub no_cursor : Body → ℕ → Bool
+no_cursor p q = elim (noted q p.cursors) [ Some _ ↦ false | None ↦ true ]
+
+-- a list cursor from a word that names the item n as n + k, and none below k
+abbrev pub point : ℕ → ℕ → ℕ → List (ℕ × ℕ) → List (ℕ × ℕ)
+point k q n xs = cond (nat_lt n k) xs ((q, n - k) ∷ xs)
+
+abbrev pub unpoint : ℕ → List (ℕ × ℕ) → List (ℕ × ℕ)
+unpoint q xs = without (λ x. x.0 == q) xs
+
+abbrev pub enter_get : Plan → Body → ℕ → Name → Row
+enter_get plan p k x = record {
+  place = State x.page x.slot;
+  operation = FetchAdd 1;
+  part = λ n. cond (live_at x.generation n && nat_lt (fields_of n).count plan.keys.guard_max) (record p { holds = k ∷ p.holds }) (hand p (Leaving (spot_of x)));
+  reply = λ n. Some (cond (live_at x.generation n) (cond (nat_lt (fields_of n).count plan.keys.guard_max) (reply.Got k) (reply.Crowded k)) (reply.Gone k));
+}
+
+abbrev pub enter_remove : Plan → Body → ℕ → Name → Row
+enter_remove plan p k x = record {
+  place = State x.page x.slot;
+  operation = FetchAdd 1;
+  part = λ n. hand p (cond (live_at x.generation n) (Removing k) (Leaving (spot_of x)));
+  reply = λ n. cond (live_at x.generation n) None (Some (reply.Gone k));
+}
+
+abbrev pub mark : Body → ℕ → Name → Row
+mark p k x = record {
+  place = State x.page x.slot;
+  operation = FetchOr (2 ^ 31);
+  part = λ n. hand p (Leaving (spot_of x));
+  reply = λ n. Some (cond (fields_of n).marked (reply.Gone k) (reply.Removed k));
+}
+
+abbrev pub drop_hand : Body → Spot → Row
+drop_hand p x = record {
+  place = State x.page x.slot;
+  operation = FetchSub 1;
+  part = λ n. hand p (after_drop x n);
+  reply = silent;
+}
+
+-- one hold less; what it read is forgotten with the last
+abbrev pub freed : Body → ℕ → Body
+freed p k = let h = without (λ j. j == k) p.holds in record p {
+  holds = h;
+  widths = cond (has (λ j. j == k) h) p.widths (off (λ x. x.0 == k) p.widths);
+  lengths = cond (has (λ j. j == k) h) p.lengths (off (λ x. x.0 == k) p.lengths);
+  contents = cond (has (λ j. j == k) h) p.contents (off (λ x. x.0 == k) p.contents);
+}
+
+abbrev pub drop_key : Body → ℕ → Name → Row
+drop_key p k x = record {
+  place = State x.page x.slot;
+  operation = FetchSub 1;
+  part = λ n. hand (freed p k) (after_drop (spot_of x) n);
+  reply = λ n. Some (reply.Released k);
+}
+
+abbrev pub finish : Plan → Body → Spot → ℕ → Row
+finish plan p x g = record {
+  place = State x.page x.slot;
+  operation = CompareExchange (marked_word g) (cond (g == plan.keys.gen_max) (retired_word g) (reusable_word g));
+  part = λ n. cond ((n == marked_word g) && not (g == plan.keys.gen_max)) (cond (own plan p x.page) (hand (record p { mine = x ∷ p.mine }) Idle) (hand p (ToPut x))) (hand p Idle);
+  reply = silent;
+}
+
+abbrev pub fill_slot : Body → Spot → List ℕ → Row
+fill_slot p x v = record {
+  place = Length x.page x.slot;
+  operation = Store (length v);
+  part = λ n. hand (record p { mine = without (same_spot x) p.mine }) (Filling x v 0);
+  reply = silent;
+}
+
+abbrev pub fill : Body → Spot → List ℕ → ℕ → Row
+fill p x v i = record {
+  place = Payload x.page (x.slot * width (class_of p x.page - 1) + i);
+  operation = Store (slice_index v i);
+  part = λ n. hand p (Filling x v (i + 1));
+  reply = silent;
+}
+
+abbrev pub publish : Plan → Body → Spot → List ℕ → Row
+publish plan p x v = record {
+  place = State x.page x.slot;
+  operation = FetchOr (2 ^ 30);
+  part = λ n. hand p Idle;
+  reply = λ n. Some (reply.Insert (plan.keys.pack (name_of x (fields_of n).generation)) v);
+}
+
+-- Read of a key: the class, the length, then the payload words that these two allow
+abbrev pub read_class : Body → ℕ → Name → Row
+read_class p k x = record {
+  place = Class x.page;
+  operation = Load;
+  part = λ n. record p { widths = (k, n) ∷ p.widths };
+  reply = silent;
+}
+
+abbrev pub read_length : Body → ℕ → Name → Row
+read_length p k x = record {
+  place = Length x.page x.slot;
+  operation = Load;
+  part = λ n. record p { lengths = (k, n) ∷ p.lengths };
+  reply = silent;
+}
+
+abbrev pub read_word : Body → ℕ → Name → ℕ → ℕ → Row
+read_word p k x c i = record {
+  place = Payload x.page (x.slot * width (c - 1) + i);
+  operation = Load;
+  part = λ n. record p { contents = (k, i, n) ∷ p.contents };
+  reply = silent;
+}
+
+abbrev pub read_page : Body → ℕ → Row
+read_page p q = record {
+  place = Class q;
+  operation = Load;
+  part = λ n. record p { classes = (q, n) ∷ p.classes };
+  reply = silent;
+}
+
+-- each slot of the class of that class word is in `mine`
+abbrev pub all_mine : Body → ℕ → ℕ → Bool
+all_mine p q n = every (λ x. has (same_spot x) p.mine) (spots q 0 (slots (n - 1)))
+
+abbrev pub set_class : Body → ℕ → ℕ → Row
+set_class p q c = record {
+  place = Class q;
+  operation = Store (c + 1);
+  part = λ n. record p { classes = (q, c + 1) ∷ p.classes; mine = spots q 0 (slots c) ++ off (λ x. x.page == q) p.mine };
+  reply = silent;
+}
+
+abbrev pub take_page : Body → ℕ → Row
+take_page p q = record {
+  place = Head q;
+  operation = Swap 0;
+  part = λ n. record p { cursors = point 1 q (n / 2) p.cursors; armed = cond (n % 2 == 1) (without (λ x. x == q) p.armed) p.armed };
+  reply = silent;
+}
+
+abbrev pub follow : Body → ℕ → ℕ → Row
+follow p q s = record {
+  place = Link q s;
+  operation = Swap 0;
+  part = λ n. cond (n == 0) p (record p { cursors = point 2 q n (unpoint q p.cursors); mine = record { page = q; slot = s } ∷ p.mine });
+  reply = silent;
+}
+
+abbrev pub put_at : Body → Spot → Row
+put_at p x = record {
+  place = Head x.page;
+  operation = Swap ((x.slot + 1) * 2);
+  part = λ n. hand p (Tying x (n / 2 + 1) (n % 2 == 1));
+  reply = silent;
+}
+
+abbrev pub tie : Body → Spot → ℕ → Bool → Row
+tie p x l ring = record {
+  place = Link x.page x.slot;
+  operation = Store l;
+  part = λ n. hand p (cond ring (Ringing x.page) Idle);
+  reply = silent;
+}
+
+abbrev pub adopt : Body → ℕ → Row
+adopt p n = record {
+  place = Owner n;
+  operation = Swap 1;
+  part = λ m. cond (m == 0) (record p { owned = Some n; classes = []; mine = []; cursors = []; armed = []; bell_cursor = None }) p;
+  reply = silent;
+}
+
+abbrev pub leave : Body → ℕ → Row
+leave p n = record {
+  place = Owner n;
+  operation = Store 0;
+  part = λ m. record p { owned = None };
+  reply = silent;
+}
+
+abbrev pub arm : Body → ℕ → Row
+arm p q = record {
+  place = Head q;
+  operation = Swap 1;
+  part = λ n. record p { cursors = point 1 q (n / 2) p.cursors; armed = q ∷ p.armed };
+  reply = silent;
+}
+
+abbrev pub ring : Plan → Body → ℕ → Row
+ring plan p q = record {
+  place = Bell (home plan q);
+  operation = Swap (local plan q + 1);
+  part = λ n. hand p (RingTying q (n + 1));
+  reply = silent;
+}
+
+abbrev pub ring_tie : Body → ℕ → ℕ → Row
+ring_tie p q l = record {
+  place = PageLink q;
+  operation = Store l;
+  part = λ n. hand p Idle;
+  reply = silent;
+}
+
+abbrev pub bell_from : ℕ → ℕ → Option ℕ
+bell_from k n = cond (nat_lt n k) None (Some (n - k))
+
+abbrev pub take_bell : Plan → Body → ℕ → Row
+take_bell plan p n = record {
+  place = Bell n;
+  operation = Swap 0;
+  part = λ m. record p { bell_cursor = bell_from 1 (over_heap plan n 1 m) };
+  reply = silent;
+}
+
+abbrev pub follow_bell : Plan → Body → ℕ → Row
+follow_bell plan p q = record {
+  place = PageLink q;
+  operation = Swap 0;
+  part = λ m. cond (m == 0) p (record p { bell_cursor = bell_from 2 (over_heap plan (home plan q) 2 m); armed = without (λ x. x == q) p.armed });
+  reply = silent;
+}
+
+-- what a key names, where it is a place of the shape
+abbrev pub named : Plan → ℕ → (Name → Option Row) → Option Row
+named plan k f = elim (plan.keys.unpack k) [ Some x ↦ cond (nat_lt x.page (all_pages plan) && nat_lt x.slot 48) (f x) None | None ↦ None ]
+
+-- the page of this name, and the slot of this name, where the shape has it
+abbrev pub paged : Plan → PageName → (ℕ → Option Row) → Option Row
+paged plan x f = cond (nat_lt x.shard plan.shards && nat_lt x.page plan.pages) (f (page_of plan x)) None
+
+abbrev pub slotted : Plan → SlotName → (Spot → Option Row) → Option Row
+slotted plan x f = cond (nat_lt x.shard plan.shards && nat_lt x.page plan.pages && nat_lt x.slot 48) (f (slot_of plan x)) None
+
+-- the table: the row of an action, where the part meets its condition
+unfoldable pub row : Plan → Body → Action → Option Row
+row plan p (EnterGet k) = named plan k (λ x. when (idle p && nat_lt (length p.holds) 16) (enter_get plan p k x))
+row plan p (EnterRemove k) = named plan k (λ x. when (idle p) (enter_remove plan p k x))
+row plan p Mark = elim (p.hand) [ Removing k ↦ named plan k (λ x. Some (mark p k x)) | _ ↦ None ]
+row plan p Drop = elim (p.hand) [ Leaving x ↦ Some (drop_hand p x) | _ ↦ None ]
+row plan p (DropHold k) = named plan k (λ x. when (idle p && has (λ j. j == k) p.holds) (drop_key p k x))
+row plan p Finish = elim (p.hand) [ Finishing x g ↦ Some (finish plan p x g) | _ ↦ None ]
+row plan p (FillSlot y v) = slotted plan y (λ x. when (idle p && own plan p x.page && has (same_spot x) p.mine && nat_lt 0 (class_of p x.page) && nat_le (length v) (width (class_of p x.page - 1))) (fill_slot p x v))
+row plan p Fill = elim (p.hand) [ Filling x v n ↦ when (nat_lt n (length v)) (fill p x v n) | _ ↦ None ]
+row plan p Publish = elim (p.hand) [ Filling x v n ↦ when (nat_le (length v) n) (publish plan p x v) | _ ↦ None ]
+row plan p (ReadClass k) = named plan k (λ x. when (idle p && has (λ j. j == k) p.holds) (read_class p k x))
+row plan p (ReadLength k) = named plan k (λ x. when (idle p && has (λ j. j == k) p.holds) (read_length p k x))
+row plan p (ReadWord k i) = named plan k (λ x. elim (noted k p.widths) [ Some c ↦ elim (noted k p.lengths) [ Some n ↦ when (idle p && has (λ j. j == k) p.holds && nat_lt i n) (read_word p k x c i) | None ↦ None ] | None ↦ None ])
+row plan p (ReadPage y) = paged plan y (λ q. when (idle p && own plan p q) (read_page p q))
+row plan p (SetClass y c) = paged plan y (λ q. elim (noted q p.classes) [ Some n ↦ when (idle p && own plan p q && ((n == 0) || all_mine p q n) && nat_lt c 8) (set_class p q c) | None ↦ None ])
+row plan p (Take y) = paged plan y (λ q. when (idle p && own plan p q && nat_lt 0 (class_of p q) && no_cursor p q) (take_page p q))
+row plan p (Follow y) = paged plan y (λ q. elim (noted q p.cursors) [ Some s ↦ when (idle p && own plan p q) (follow p q s) | None ↦ None ])
+row plan p Put = elim (p.hand) [ ToPut x ↦ Some (put_at p x) | _ ↦ None ]
+row plan p (PutSlot y) = slotted plan y (λ x. when (idle p && own plan p x.page && has (same_spot x) p.mine) (put_at (record p { mine = without (same_spot x) p.mine }) x))
+row plan p Tie = elim (p.hand) [ Tying x l r ↦ Some (tie p x l r) | _ ↦ None ]
+row plan p (Adopt n) = elim (p.owned) [ None ↦ when (idle p && nat_lt n plan.shards) (adopt p n) | _ ↦ None ]
+row plan p Leave = elim (p.owned) [ Some n ↦ when (idle p && (length p.mine == 0) && (length p.cursors == 0) && (length p.armed == 0) && (elim (p.bell_cursor) [ None ↦ true | _ ↦ false ])) (leave p n) | None ↦ None ]
+row plan p (Arm y) = paged plan y (λ q. when (idle p && own plan p q && nat_lt 0 (class_of p q) && no_cursor p q && not (has (λ x. x == q) p.armed)) (arm p q))
+row plan p Ring = elim (p.hand) [ Ringing q ↦ Some (ring plan p q) | _ ↦ None ]
+row plan p RingTie = elim (p.hand) [ RingTying q l ↦ Some (ring_tie p q l) | _ ↦ None ]
+row plan p TakeBell = elim (p.owned) [ Some n ↦ when (idle p && (elim (p.bell_cursor) [ None ↦ true | _ ↦ false ])) (take_bell plan p n) | None ↦ None ]
+row plan p FollowBell = elim (p.bell_cursor) [ Some q ↦ when (idle p) (follow_bell plan p q) | None ↦ None ]

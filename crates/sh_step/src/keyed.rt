@@ -1,0 +1,89 @@
+//! The moves of actions on keys.
+ghost use Rattle.sh_step.specs.Plans.{plan_of};
+ghost use Rattle.sh_step.specs.Moves.{IsMoveOf};
+
+use crate::names::place_of_key;
+use crate::{Action, Move, Part};
+use sh_key::KeyLayout;
+use sh_shape::Shape;
+use sh_slots::Hand;
+
+// The move of an entry to get.
+pub fn enter_get<L: KeyLayout>(shape: &Shape, part: &Part, key: u64) -> Option<Move>
+    ensures { IsMoveOf (plan_of L.layout shape.now) part.now (Action.EnterGet key) result }
+{
+    match place_of_key::<L>(shape, key) {
+        Some(name) => part.may_get().then_some(Move::EnterGet(key, name)),
+        None => None,
+    }
+}
+
+// The move of an entry to remove.
+pub fn enter_remove<L: KeyLayout>(shape: &Shape, part: &Part, key: u64) -> Option<Move>
+    ensures { IsMoveOf (plan_of L.layout shape.now) part.now (Action.EnterRemove key) result }
+{
+    match place_of_key::<L>(shape, key) {
+        Some(name) => part.is_idle().then_some(Move::EnterRemove(key, name)),
+        None => None,
+    }
+}
+
+// The move of the drop of a hold.
+pub fn drop_hold<L: KeyLayout>(shape: &Shape, part: &Part, key: u64) -> Option<Move>
+    ensures { IsMoveOf (plan_of L.layout shape.now) part.now (Action.DropHold key) result }
+{
+    match place_of_key::<L>(shape, key) {
+        Some(name) => part.may_use(key).then_some(Move::DropHold(key, name)),
+        None => None,
+    }
+}
+
+// The move of a read of a held key's class.
+pub fn read_class<L: KeyLayout>(shape: &Shape, part: &Part, key: u64) -> Option<Move>
+    ensures { IsMoveOf (plan_of L.layout shape.now) part.now (Action.ReadClass key) result }
+{
+    match place_of_key::<L>(shape, key) {
+        Some(name) => part.may_use(key).then_some(Move::ReadClass(key, name)),
+        None => None,
+    }
+}
+
+// The move of a read of the length of a held key's value.
+pub fn read_length<L: KeyLayout>(shape: &Shape, part: &Part, key: u64) -> Option<Move>
+    ensures { IsMoveOf (plan_of L.layout shape.now) part.now (Action.ReadLength key) result }
+{
+    match place_of_key::<L>(shape, key) {
+        Some(name) => part.may_use(key).then_some(Move::ReadLength(key, name)),
+        None => None,
+    }
+}
+
+// The move of a mark.
+pub fn mark<L: KeyLayout>(shape: &Shape, part: &Part) -> Option<Move>
+    ensures { IsMoveOf (plan_of L.layout shape.now) part.now Action.Mark result }
+{
+    match part.hand() {
+        Hand::Removing(key) => match place_of_key::<L>(shape, *key) {
+            Some(name) => Some(Move::Mark(*key, name)),
+            None => None,
+        },
+        _ => None,
+    }
+}
+
+// The move of a read of a word of a held key's value.
+pub fn read_word<L: KeyLayout>(shape: &Shape, part: &Part, key: u64, i: u64) -> Option<Move>
+    ensures { IsMoveOf (plan_of L.layout shape.now) part.now (Action.ReadWord key i) result }
+{
+    let Some(name) = place_of_key::<L>(shape, key) else {
+        return None;
+    };
+    let Some(class) = part.width_of(key) else {
+        return None;
+    };
+    let Some(length) = part.length_of(key) else {
+        return None;
+    };
+    part.may_read(key, i, length)
+        .then_some(Move::ReadWord(key, name, class, i))
+}

@@ -1,0 +1,31 @@
+//! The atomic steps of the heap: which actions there are, and who does one.
+//!
+//! An action is one operation on one word by one pass. There are 19 kinds; some have several forms, as a `Drop` of what
+//! the hand left and a `Drop` of a hold.
+#![tactic(auto)]
+
+pub mod action;
+pub mod body;
+mod classes;
+mod in_hand;
+mod keyed;
+pub mod kind;
+mod lists;
+pub mod moves;
+pub mod names;
+pub mod operation;
+mod owners;
+mod paged;
+pub mod part;
+mod slotted;
+pub mod step;
+#[cfg(test)]
+mod tests;
+
+pub use action::{Action, Event, PageName, SlotName};
+pub use body::Body;
+pub use kind::Kind;
+pub use moves::Move;
+pub use operation::Operation;
+pub use part::Part;
+pub use step::Step;

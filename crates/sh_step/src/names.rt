@@ -1,0 +1,80 @@
+//! What keys and names of pages and slots name.
+ghost use Rattle.std.specs.Prelude.{◌≡◌, ◌+◌, ◌*◌, ◌<◌, nat_lt, ◌&&◌};
+ghost use Rattle.sh_step.specs.Plans.{plan_of};
+ghost use Rattle.sh_shape.specs.Places.{pages_of};
+ghost use Rattle.sh_step.specs.Moves.{has_place, place_named, page_named, slot_named};
+
+use crate::{PageName, SlotName};
+use sh_key::{KeyLayout, Parts};
+use sh_shape::Shape;
+use sh_slots::{Name, Spot};
+
+// For how many slots a page has places.
+const SLOT_PLACES: u32 = 48;
+
+// Whether the shape has the place of a key of these parts.
+fn has_place(shape: &Shape, parts: &Parts) -> bool
+    ensures { result ≡ has_place shape.now parts.now }
+{
+    parts.shard < shape.shards() && parts.page < shape.pages() && parts.slot < SLOT_PLACES
+}
+
+// Whether the shape has a page of this name.
+fn has_page(shape: &Shape, shard: u64, page: u64) -> bool
+    ensures { result ≡ (nat_lt shard shape.now.shards && nat_lt page (pages_of shape.now)) }
+{
+    shard < u64::from(shape.shards()) && page < u64::from(shape.pages())
+}
+
+// The number of that page over the whole heap.
+fn number_of_page(shape: &Shape, shard: u64, page: u64) -> u64
+    requires shard { shard < shape.now.shards }
+    requires page { page < pages_of shape.now }
+    ensures { result ≡ shard * pages_of shape.now + page }
+{
+    let (_shards, _pages) = (shape.shards(), shape.pages());
+    u64::from(shape.page_number(shard as u32, page as u32))
+}
+
+/// What the key names, where it is a key of the layout and names a place of the shape.
+pub fn place_of_key<L: KeyLayout>(shape: &Shape, key: u64) -> Option<Name>
+    ensures { result ≡ place_named (plan_of L.layout shape.now) key }
+{
+    let parts = L::unpack(key)?;
+    if has_place(shape, &parts) {
+        Some(Name {
+            page: u64::from(shape.page_number(parts.shard, parts.page)),
+            slot: u64::from(parts.slot),
+            generation: parts.generation,
+        })
+    } else {
+        None
+    }
+}
+
+/// The number over the whole heap of the page of that name, where the shape has it.
+#[tactic(auto, unfolding(crate::specs::Plans::page_number))]
+pub fn page_of_name<L: KeyLayout>(shape: &Shape, name: PageName) -> Option<u64>
+    ensures { result ≡ page_named (plan_of L.layout shape.now) name }
+{
+    if has_page(shape, name.shard, name.page) {
+        Some(number_of_page(shape, name.shard, name.page))
+    } else {
+        None
+    }
+}
+
+/// The slot of that name, where the shape has it.
+#[tactic(auto, unfolding(crate::specs::Plans::page_number))]
+pub fn slot_of_name<L: KeyLayout>(shape: &Shape, name: SlotName) -> Option<Spot>
+    ensures { result ≡ slot_named (plan_of L.layout shape.now) name }
+{
+    if has_page(shape, name.shard, name.page) && name.slot < u64::from(SLOT_PLACES) {
+        Some(Spot {
+            page: number_of_page(shape, name.shard, name.page),
+            slot: name.slot,
+        })
+    } else {
+        None
+    }
+}

@@ -1,0 +1,134 @@
+//! The moves of actions on pages.
+ghost use Rattle.std.specs.Prelude.{◌≡◌, ◌==◌, ◌&&◌, ◌||◌, not, nat_lt};
+ghost use Rattle.sh_step.specs.Plans.{plan_of};
+ghost use Rattle.sh_step.specs.Collections.{has};
+ghost use Rattle.sh_step.specs.Rows.{idle, own, class_of, no_cursor, all_mine};
+ghost use Rattle.sh_step.specs.Moves.{IsMoveOf};
+
+use crate::classes::slots_of_word;
+use crate::names::page_of_name;
+use crate::{Action, Move, PageName, Part};
+use sh_bell::home_of;
+use sh_key::KeyLayout;
+use sh_shape::Shape;
+
+// How many classes there are.
+const CLASSES: u64 = 8;
+
+/// Whether the page is of the shard that the pass owns.
+#[tactic(auto, unfolding(crate::specs::Plans::home))]
+pub fn owns<L: KeyLayout>(shape: &Shape, part: &Part, page: u64) -> bool
+    ensures { result ≡ own (plan_of L.layout shape.now) part.now page }
+{
+    let pages = u64::from(shape.pages());
+    match part.owned() {
+        Some(shard) => shard == home_of(pages, page),
+        None => false,
+    }
+}
+
+/// Whether the pass has begun nothing and the page is its own.
+pub fn may_touch<L: KeyLayout>(shape: &Shape, part: &Part, page: u64) -> bool
+    ensures { result ≡ (idle part.now && own (plan_of L.layout shape.now) part.now page) }
+{
+    part.is_idle() && owns::<L>(shape, part, page)
+}
+
+// Whether it may take the page's stack.
+fn may_take<L: KeyLayout>(shape: &Shape, part: &Part, page: u64) -> bool
+    ensures { result ≡ (idle part.now && own (plan_of L.layout shape.now) part.now page && nat_lt 0 (class_of part.now page) && no_cursor part.now page) }
+{
+    may_touch::<L>(shape, part, page) && part.class_word(page) > 0 && part.has_no_cursor(page)
+}
+
+// Whether it may arm the page.
+fn may_arm<L: KeyLayout>(shape: &Shape, part: &Part, page: u64) -> bool
+    ensures { result ≡ (idle part.now && own (plan_of L.layout shape.now) part.now page && nat_lt 0 (class_of part.now page) && no_cursor part.now page && not (has (λ x. x == page) part.now.armed)) }
+{
+    may_take::<L>(shape, part, page) && !part.has_armed(page)
+}
+
+// Whether each slot is its own, of a page of this class word.
+fn has_whole_page(part: &Part, page: u64, class_word: u64) -> bool
+    ensures { result ≡ all_mine part.now page class_word }
+{
+    part.has_all_mine(page, slots_of_word(class_word))
+}
+
+// Whether it may give the page of this class word a class.
+fn may_set_class<L: KeyLayout>(
+    shape: &Shape,
+    part: &Part,
+    page: u64,
+    class_word: u64,
+    class: u64,
+) -> bool
+    ensures { result ≡ (idle part.now && own (plan_of L.layout shape.now) part.now page && ((class_word == 0) || all_mine part.now page class_word) && nat_lt class 8) }
+{
+    may_touch::<L>(shape, part, page)
+        && (class_word == 0 || has_whole_page(part, page, class_word))
+        && class < CLASSES
+}
+
+/// The move of a read of a page's class.
+pub fn read_page<L: KeyLayout>(shape: &Shape, part: &Part, name: PageName) -> Option<Move>
+    ensures { IsMoveOf (plan_of L.layout shape.now) part.now (Action.ReadPage name) result }
+{
+    match page_of_name::<L>(shape, name) {
+        Some(page) => may_touch::<L>(shape, part, page).then_some(Move::ReadPage(page)),
+        None => None,
+    }
+}
+
+/// The move of a take of a page's stack.
+pub fn take<L: KeyLayout>(shape: &Shape, part: &Part, name: PageName) -> Option<Move>
+    ensures { IsMoveOf (plan_of L.layout shape.now) part.now (Action.Take name) result }
+{
+    match page_of_name::<L>(shape, name) {
+        Some(page) => may_take::<L>(shape, part, page).then_some(Move::Take(page)),
+        None => None,
+    }
+}
+
+/// The move of an arming.
+pub fn arm<L: KeyLayout>(shape: &Shape, part: &Part, name: PageName) -> Option<Move>
+    ensures { IsMoveOf (plan_of L.layout shape.now) part.now (Action.Arm name) result }
+{
+    match page_of_name::<L>(shape, name) {
+        Some(page) => may_arm::<L>(shape, part, page).then_some(Move::Arm(page)),
+        None => None,
+    }
+}
+
+/// The move of a change of a page's class.
+pub fn set_class<L: KeyLayout>(
+    shape: &Shape,
+    part: &Part,
+    name: PageName,
+    class: u64,
+) -> Option<Move>
+    ensures { IsMoveOf (plan_of L.layout shape.now) part.now (Action.SetClass name class) result }
+{
+    let Some(page) = page_of_name::<L>(shape, name) else {
+        return None;
+    };
+    match part.class_noted(page) {
+        Some(word) => may_set_class::<L>(shape, part, page, word, class).then_some(Move::SetClass(
+            page, class,
+        )),
+        None => None,
+    }
+}
+
+/// The move of a page's cursor.
+pub fn follow<L: KeyLayout>(shape: &Shape, part: &Part, name: PageName) -> Option<Move>
+    ensures { IsMoveOf (plan_of L.layout shape.now) part.now (Action.Follow name) result }
+{
+    let Some(page) = page_of_name::<L>(shape, name) else {
+        return None;
+    };
+    match part.cursor(page) {
+        Some(slot) => may_touch::<L>(shape, part, page).then_some(Move::Follow(page, slot)),
+        None => None,
+    }
+}

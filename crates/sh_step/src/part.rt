@@ -1,0 +1,201 @@
+//! What a pass has of its own, as it is kept.
+ghost use Rattle.std.specs.Prelude.{◌≡◌, ◌<◌, ◌==◌, [], None, length, is_none, nat_lt, ◌&&◌};
+ghost use Rattle.sh_slots.specs.Slots.{same_spot, spots};
+ghost use Rattle.sh_slots.specs.declared.hand.Hand.TheVariants.{Idle};
+ghost use Rattle.sh_step.specs.Collections.{has, noted, every};
+ghost use Rattle.sh_step.specs.Rows.{idle, class_of, no_cursor, all_mine};
+
+use crate::lists::{has_number, has_slots, has_spot, value_noted};
+use sh_slots::{Hand, Spot};
+use std::alloc::Global;
+use std::marker::Model;
+
+// How many holds a pass may have.
+const HOLDS_MAX: usize = 16;
+
+/// A pass's own part, as it is kept: lists newest first. A contract sees its body.
+#[derive(Drop)]
+pub struct Part {
+    hand: Hand,
+    holds: Vec<u64>,
+    widths: Vec<(u64, u64)>,
+    lengths: Vec<(u64, u64)>,
+    contents: Vec<(u64, u64, u64)>,
+    owned: Option<u64>,
+    classes: Vec<(u64, u64)>,
+    mine: Vec<Spot>,
+    cursors: Vec<(u64, u64)>,
+    armed: Vec<u64>,
+    bell_cursor: Option<u64>,
+}
+
+impl Model for Part {
+    ghost use Rattle.sh_step.specs.declared.body.Body.{Body};
+
+    ghost Value = { Body };
+
+    ghost view = { λ p. record { hand = p.hand; holds = p.holds.items; widths = p.widths.items; lengths = p.lengths.items; contents = p.contents.items; owned = p.owned; classes = p.classes.items; mine = p.mine.items; cursors = p.cursors.items; armed = p.armed.items; bell_cursor = p.bell_cursor } };
+}
+
+impl Part {
+    /// The part of a pass that has done nothing yet.
+    pub fn new(alloc: Global) -> Part
+        ensures { result ≡ record { hand = Idle; holds = []; widths = []; lengths = []; contents = []; owned = None; classes = []; mine = []; cursors = []; armed = []; bell_cursor = None } }
+    {
+        Part {
+            hand: Hand::Idle,
+            holds: Vec::new(alloc),
+            widths: Vec::new(alloc),
+            lengths: Vec::new(alloc),
+            contents: Vec::new(alloc),
+            owned: None,
+            classes: Vec::new(alloc),
+            mine: Vec::new(alloc),
+            cursors: Vec::new(alloc),
+            armed: Vec::new(alloc),
+            bell_cursor: None,
+        }
+    }
+
+    /// What it has begun.
+    pub fn hand(&self) -> &Hand
+        ensures { result.now ≡ self.now.hand }
+    {
+        &self.hand
+    }
+
+    /// The shard that it owns.
+    pub fn owned(&self) -> Option<u64>
+        ensures { result ≡ self.now.owned }
+    {
+        self.owned
+    }
+
+    /// The page of its shard's bell whose link it is to follow next.
+    pub fn bell_cursor(&self) -> Option<u64>
+        ensures { result ≡ self.now.bell_cursor }
+    {
+        self.bell_cursor
+    }
+
+    /// Whether it has begun nothing that it has yet to end.
+    pub fn is_idle(&self) -> bool
+        ensures { result ≡ idle self.now }
+    {
+        match self.hand {
+            Hand::Idle => true,
+            _ => false,
+        }
+    }
+
+    /// How many holds it has.
+    pub fn hold_count(&self) -> usize
+        ensures { result ≡ length self.now.holds }
+    {
+        self.holds.len()
+    }
+
+    /// Whether it has a hold on the key.
+    pub fn has_hold(&self, key: u64) -> bool
+        ensures { result ≡ has (λ j. j == key) self.now.holds }
+    {
+        has_number(&self.holds, key)
+    }
+
+    /// Whether it may enter a slot to get a key: it has begun nothing and has fewer than 16 holds.
+    pub fn may_get(&self) -> bool
+        ensures { result ≡ (idle self.now && nat_lt (length self.now.holds) 16) }
+    {
+        self.is_idle() && self.hold_count() < HOLDS_MAX
+    }
+
+    /// Whether it may read or drop what it has of the key: it has begun nothing and has a hold on the key.
+    pub fn may_use(&self, key: u64) -> bool
+        ensures { result ≡ (idle self.now && has (λ j. j == key) self.now.holds) }
+    {
+        self.is_idle() && self.has_hold(key)
+    }
+
+    /// Whether it may read the word of that number of the key's value, which has this length.
+    pub fn may_read(&self, key: u64, i: u64, length: u64) -> bool
+        ensures { result ≡ (idle self.now && has (λ j. j == key) self.now.holds && nat_lt i length) }
+    {
+        self.may_use(key) && i < length
+    }
+
+    /// The class word of the page of a key that it holds, if it read it.
+    pub fn width_of(&self, key: u64) -> Option<u64>
+        ensures { result ≡ noted key self.now.widths }
+    {
+        value_noted(&self.widths, key)
+    }
+
+    /// The length of the value of a key that it holds, if it read it.
+    pub fn length_of(&self, key: u64) -> Option<u64>
+        ensures { result ≡ noted key self.now.lengths }
+    {
+        value_noted(&self.lengths, key)
+    }
+
+    /// The class word of a page of its shard, if it read or stored it.
+    pub fn class_noted(&self, page: u64) -> Option<u64>
+        ensures { result ≡ noted page self.now.classes }
+    {
+        value_noted(&self.classes, page)
+    }
+
+    /// The class word of a page of its shard, 0 where it knows none.
+    pub fn class_word(&self, page: u64) -> u64
+        ensures { result ≡ class_of self.now page }
+    {
+        match self.class_noted(page) {
+            Some(word) => word,
+            None => 0,
+        }
+    }
+
+    /// The slot of the page whose link it is to follow next.
+    pub fn cursor(&self, page: u64) -> Option<u64>
+        ensures { result ≡ noted page self.now.cursors }
+    {
+        value_noted(&self.cursors, page)
+    }
+
+    /// Whether it has no link of the page to follow.
+    pub fn has_no_cursor(&self, page: u64) -> bool
+        ensures { result ≡ no_cursor self.now page }
+    {
+        self.cursor(page).is_none()
+    }
+
+    /// Whether it armed the page.
+    pub fn has_armed(&self, page: u64) -> bool
+        ensures { result ≡ has (λ x. x == page) self.now.armed }
+    {
+        has_number(&self.armed, page)
+    }
+
+    /// Whether the empty slot is its own to fill.
+    pub fn has_mine(&self, spot: Spot) -> bool
+        ensures { result ≡ has (same_spot spot) self.now.mine }
+    {
+        has_spot(&self.mine, spot)
+    }
+
+    /// Whether the first slots of a page, so many, are its own to fill.
+    pub fn has_all_mine(&self, page: u64, count: u64) -> bool
+        ensures { result ≡ every (λ x. has (same_spot x) self.now.mine) (spots page 0 count) }
+    {
+        has_slots(&self.mine, page, count)
+    }
+
+    /// Whether nothing of its shard is with it: no slot to fill, no link to follow and no page armed.
+    pub fn has_nothing_of_shard(&self) -> bool
+        ensures { result ≡ ((length self.now.mine == 0) && (length self.now.cursors == 0) && (length self.now.armed == 0) && is_none self.now.bell_cursor) }
+    {
+        self.mine.is_empty()
+            && self.cursors.is_empty()
+            && self.armed.is_empty()
+            && self.bell_cursor.is_none()
+    }
+}

@@ -1,0 +1,72 @@
+//! The moves of actions on slots.
+ghost use Rattle.std.specs.Prelude.{◌≡◌, ◌-◌, ◌&&◌, nat_lt, nat_le, length};
+ghost use Rattle.sh_shape.specs.Classes.{width};
+ghost use Rattle.sh_slots.specs.Slots.{same_spot};
+ghost use Rattle.sh_step.specs.Plans.{plan_of};
+ghost use Rattle.sh_step.specs.Collections.{has};
+ghost use Rattle.sh_step.specs.Rows.{idle, own, class_of};
+ghost use Rattle.sh_step.specs.Moves.{IsMoveOf};
+
+use crate::classes::width_of_word;
+use crate::names::slot_of_name;
+use crate::paged::may_touch;
+use crate::{Action, Move, Part, SlotName};
+use sh_key::KeyLayout;
+use sh_shape::Shape;
+use sh_slots::Spot;
+use sh_value::Value;
+
+// How many words the value has.
+fn value_length(value: &Value) -> u64
+    ensures { result ≡ length value.now }
+{
+    value.words().len() as u64
+}
+
+// Whether the pass may put the slot, which is its own.
+fn may_put<L: KeyLayout>(shape: &Shape, part: &Part, spot: Spot) -> bool
+    ensures { result ≡ (idle part.now && own (plan_of L.layout shape.now) part.now spot.page && has (same_spot spot) part.now.mine) }
+{
+    may_touch::<L>(shape, part, spot.page) && part.has_mine(spot)
+}
+
+// Whether a value of this length fits a slot of this class word, which is not blank.
+fn fits_class(length: u64, class_word: u64) -> bool
+    ensures { result ≡ (nat_lt 0 class_word && nat_le length (width (class_word - 1))) }
+{
+    class_word > 0 && length <= width_of_word(class_word)
+}
+
+// Whether it may fill the slot, which is its own, with a value of this length.
+fn may_fill<L: KeyLayout>(shape: &Shape, part: &Part, spot: Spot, length: u64) -> bool
+    ensures { result ≡ (idle part.now && own (plan_of L.layout shape.now) part.now spot.page && has (same_spot spot) part.now.mine && nat_lt 0 (class_of part.now spot.page) && nat_le length (width (class_of part.now spot.page - 1))) }
+{
+    may_put::<L>(shape, part, spot) && fits_class(length, part.class_word(spot.page))
+}
+
+/// The move of the begin of a filling.
+pub fn fill_slot<L: KeyLayout>(
+    shape: &Shape,
+    part: &Part,
+    name: SlotName,
+    value: &Value,
+) -> Option<Move>
+    ensures { IsMoveOf (plan_of L.layout shape.now) part.now (Action.FillSlot name value.now) result }
+{
+    match slot_of_name::<L>(shape, name) {
+        Some(spot) => may_fill::<L>(shape, part, spot, value_length(value)).then_some(
+            Move::FillSlot(spot, value.copy()),
+        ),
+        None => None,
+    }
+}
+
+/// The move of a put of a slot of its own.
+pub fn put_slot<L: KeyLayout>(shape: &Shape, part: &Part, name: SlotName) -> Option<Move>
+    ensures { IsMoveOf (plan_of L.layout shape.now) part.now (Action.PutSlot name) result }
+{
+    match slot_of_name::<L>(shape, name) {
+        Some(spot) => may_put::<L>(shape, part, spot).then_some(Move::PutSlot(spot)),
+        None => None,
+    }
+}
