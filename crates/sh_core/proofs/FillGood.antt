@@ -1,0 +1,179 @@
+-- All that holds, over the kinds that store a value: Fill of a slot, Fill of a word.
+use Rattle.std.proofs.Common.{◌≡◌, ◌≢◌, ℕ, ◌+◌, ◌-◌, ◌*◌, ◌<◌, ◌≤◌, ◌==◌, ◌&&◌, ◌||◌, ◌⊎◌, inl, inr, ⊎_elim, Bool, true, false, List, length, get_or, sym, refl, ap, ◌∙◌, subst, arith, Some, None, slice_get}
+use Rattle.std.specs.Prelude.{nat_lt}
+use Rattle.std.proofs.lemmas.Bool.Decides.{nat_tests}
+use Rattle.sh_history.specs.declared.entry.Entry.{Entry}
+use Rattle.sh_slots.specs.declared.hand.Spot.{Spot}
+use Rattle.sh_slots.specs.declared.hand.Hand.{Hand}
+use Rattle.sh_slots.specs.declared.hand.Hand.TheVariants.{Idle, Filling}
+use Rattle.sh_core.specs.Words.{Words, write}
+use Rattle.sh_shape.specs.declared.places.Place.TheVariants.{Length, Payload}
+use Rattle.sh_word.specs.Fields.{Fields, fields_of}
+use Rattle.sh_step.specs.Plans.{Plan}
+use Rattle.sh_shape.specs.Classes.{width}
+use Rattle.sh_slots.specs.Slots.{same_spot, spot_of}
+use Rattle.sh_step.specs.Collections.{if1, has, without}
+use Rattle.sh_step.specs.declared.body.Body.{Body}
+use Rattle.sh_step.specs.Rows.{hand, class_of, fill_slot, fill}
+use Rattle.sh_core.specs.Worlds.{World, apply, value_at, words_from}
+use Rattle.sh_core.specs.Lists.{Lists, mine_at, in_hand}
+use Rattle.sh_core.specs.Tallies.{due, room}
+use Rattle.sh_core.specs.Stories.{values, removals, KeysFine}
+use Rattle.sh_core.specs.Good.{Good, FillFine}
+use Rattle.sh_core.specs.Placed.{SoundOf}
+use Rattle.sh_core.proofs.Totals.{total_at, total_without, total_two}
+use Rattle.sh_core.proofs.StateWords.{put2_same, put2_other}
+use Rattle.sh_core.proofs.Slots.{tally_same, slots_part, same_spot-refl, same_spot-true, tally_ext}
+use Rattle.sh_core.proofs.SlotSteps.{fill_fine}
+use Rattle.sh_core.proofs.Logs.{story_fill}
+use Rattle.sh_core.proofs.GoodStep.{good_at}
+use Rattle.sh_core.proofs.SlotGood.{no_or, room_few}
+use Rattle.sh_core.specs.Words.{put, put2}
+use Rattle.sh_core.proofs.StackSteps.{put_same, put_other, same_page}
+use Rattle.sh_core.proofs.Payload.{rows_apart, words_other, fill_words}
+
+-- a step that changes value words of Empty slots alone
+pub keys_value : (plan : Plan) (w W : Words) (log : List Entry) → KeysFine plan w log → ((q s : ℕ) → W.state_at q s ≡ w.state_at q s)
+    → ((y : Spot) → (value_at W y.page y.slot ≡ value_at w y.page y.slot) ⊎ (((fields_of (w.state_at y.page y.slot)).present ≡ false) × ((fields_of (w.state_at y.page y.slot)).marked ≡ false))) → KeysFine plan W log
+keys_value plan w W log old state others k z name = rw (state z.page z.slot) (⊎_elim
+    (λ e. rw e (old k z name))
+    (λ n. story_fill (fields_of (w.state_at z.page z.slot)) z.generation (values k log) (removals k log) (value_at w z.page z.slot) (value_at W z.page z.slot) (old k z name) n.1 n.0)
+    (others (spot_of z)))
+
+fill_due : (plan : Plan) (p : Body) (x : Spot) (v : List ℕ) → has (same_spot x) p.mine ≡ true → (y : Spot) (st : Fields) → same_spot y x ≡ false → due plan y st (hand (record p { mine = without (same_spot x) p.mine }) (Filling x v 0)) ≡ due plan y st (hand p Idle)
+fill_due plan p x v is y st h =
+    let t = total_without (λ u. if1 (same_spot y u)) (same_spot x) 0 (λ u e. let i : x ≡ u = same_spot-true u x e in let f : same_spot y u ≡ false = ap (same_spot y) (sym i) ∙ h in rw f refl) p.mine is in
+    let n : if1 (same_spot y x) ≡ 0 = rw h refl in
+    tally_ext (due plan y st (hand (record p { mine = without (same_spot x) p.mine }) (Filling x v 0))) (due plan y st (hand p Idle)) (omega arith) n refl refl refl refl
+
+-- a slot of `mine` is in no hand
+not_mine : (plan : Plan) (w : World) (l : Lists) (a b : ℕ) (p q : Body) (x y : Spot) (u : List ℕ) (i : ℕ) → Good plan w l → slice_get w.parts a ≡ Some p → has (same_spot x) p.mine ≡ true → slice_get w.parts b ≡ Some q → q.hand ≡ Filling y u i → same_spot y x ≡ false
+not_mine plan w l a b p q x y u i g at is at' e = go (same_spot y x) refl where
+  go : (c : Bool) → same_spot y x ≡ c → c ≡ false
+  go false h = refl
+  go true h =
+      let s : y ≡ x = same_spot-true x y h in
+      let f = g.slots x in
+      let r = room_few w.words x in
+      let some = total_without (λ z. if1 (same_spot x z)) (same_spot x) 1 (λ z t. rw t refl) p.mine is in
+      let mine = total_at (mine_at x) w.parts a p at in
+      let hands = total_at (in_hand x) w.parts b q at' in
+      let k : in_hand x q ≡ if1 (same_spot x y) = rw e refl in
+      let t : same_spot x y ≡ true = ap (same_spot x) s ∙ same_spot-refl x in
+      let one : if1 (same_spot x y) ≡ 1 = rw t refl in absurd (omega arith)
+
+pub good_fill_slot : (plan : Plan) (w : World) (l : Lists) (a : ℕ) (p : Body) (x : Spot) (v : List ℕ) → Good plan w l → slice_get w.parts a ≡ Some (hand p Idle) → has (same_spot x) p.mine ≡ true → class_of p x.page ≡ w.words.class_at x.page → length v ≤ width (w.words.class_at x.page - 1)
+    → Good plan (apply w a (fill_slot (hand p Idle) x v)) l
+unfolding apply value_at
+good_fill_slot plan w l a p x v g at is class fits =
+    let f = g.slots x in
+    let e = same_spot-refl x in
+    let one : if1 (same_spot x x) ≡ 1 = rw e refl in
+    let some = total_without (λ y. if1 (same_spot x y)) (same_spot x) 1 (λ y h. rw h refl) p.mine is in
+    let mine = total_at (mine_at x) w.parts a (hand p Idle) at in
+    let r = room_few w.words x in
+    let none = no_or (fields_of (w.words.state_at x.page x.slot)).present (fields_of (w.words.state_at x.page x.slot)).marked (omega arith) in
+    good_at plan w l l a (hand p Idle) (hand (record p { mine = without (same_spot x) p.mine }) (Filling x v 0)) (write w.words (Length x.page x.slot) (length v)) None g at
+    (slots_part plan w.words w.parts l l a (hand p Idle) (hand (record p { mine = without (same_spot x) p.mine }) (Filling x v 0)) x g.slots at (fill_due plan p x v is) (λ y h. refl) (fill_fine _ _ (fields_of (w.words.state_at x.page x.slot)) plan w.parts a p x v is at f))
+    (keys_value plan w.words (write w.words (Length x.page x.slot) (length v)) w.log g.keys (λ q s. refl) (λ y. apart y none (same_spot y x) refl))
+    tt (λ j. refl) ((g.parts a (hand p Idle) at).0, (put2_same w.words.length_at x.page x.slot (length v), omega arith, fits, refl, class))
+    (λ b q n at' h. others b q n at' (q.hand) refl h) where
+      others : (b : ℕ) (q : Body) → b ≢ a → slice_get w.parts b ≡ Some q → (h : Hand) → q.hand ≡ h → FillFine w.words q h → FillFine (write w.words (Length x.page x.slot) (length v)) q h
+      others b q n at' (Filling y u i) e h = (put2_other w.words.length_at x.page x.slot (length v) y.page y.slot (not_mine plan w l a b (hand p Idle) q x y u i g at is at' e) ∙ h.0, h.1, h.2, h.3, h.4)
+      others b q n at' _ e h = h
+
+      apart : (y : Spot) → ((fields_of (w.words.state_at x.page x.slot)).present ≡ false) × ((fields_of (w.words.state_at x.page x.slot)).marked ≡ false) → (b : Bool) → same_spot y x ≡ b → (value_at (write w.words (Length x.page x.slot) (length v)) y.page y.slot ≡ value_at w.words y.page y.slot) ⊎ (((fields_of (w.words.state_at y.page y.slot)).present ≡ false) × ((fields_of (w.words.state_at y.page y.slot)).marked ≡ false))
+      apart y none true h = let e = same_spot-true x y h in inr (rw e none)
+      apart y none false h = inl (ap (λ (n : ℕ). words_from (w.words.payload_at y.page) (y.slot * width (w.words.class_at y.page - 1)) n) (put2_other w.words.length_at x.page x.slot (length v) y.page y.slot h))
+
+-- a slot in a hand is in no other hand
+not_hand : (plan : Plan) (w : World) (l : Lists) (a b : ℕ) (p q : Body) (x y : Spot) (v u : List ℕ) (i j : ℕ) → Good plan w l → b ≢ a → slice_get w.parts a ≡ Some p → p.hand ≡ Filling x v i → slice_get w.parts b ≡ Some q → q.hand ≡ Filling y u j → same_spot y x ≡ false
+not_hand plan w l a b p q x y v u i j g n at d at' e = go (same_spot y x) refl where
+  go : (c : Bool) → same_spot y x ≡ c → c ≡ false
+  go false h = refl
+  go true h =
+      let s : y ≡ x = same_spot-true x y h in
+      let f = g.slots x in
+      let r = room_few w.words x in
+      let both = total_two (in_hand x) w.parts b a q p n at' at in
+      let k : in_hand x q ≡ if1 (same_spot x y) = rw e refl in
+      let m : in_hand x p ≡ if1 (same_spot x x) = rw d refl in
+      let t : same_spot x y ≡ true = ap (same_spot x) s ∙ same_spot-refl x in
+      let o = same_spot-refl x in
+      let one : if1 (same_spot x y) ≡ 1 = rw t refl in
+      let two : if1 (same_spot x x) ≡ 1 = rw o refl in absurd (omega arith)
+
+-- the words of another slot are other words
+row_other : (w : Words) (x y : Spot) (k v n W : ℕ) → same_spot y x ≡ false → k < W → n ≤ W → words_from ((write w (Payload x.page (x.slot * W + k)) v).payload_at y.page) (y.slot * W) n ≡ words_from (w.payload_at y.page) (y.slot * W) n
+unfolding put2
+row_other w x y k v n W h a b = go (y.page == x.page) refl where
+  go : (c : Bool) → (y.page == x.page) ≡ c → words_from ((write w (Payload x.page (x.slot * W + k)) v).payload_at y.page) (y.slot * W) n ≡ words_from (w.payload_at y.page) (y.slot * W) n
+  go false e = ap (λ (f : ℕ → ℕ). words_from f (y.slot * W) n) (put_other w.payload_at x.page y.page (put (w.payload_at x.page) (x.slot * W + k) v) e)
+  go true e =
+      let i = same_page y.page x.page e in
+      let s : (y.slot == x.slot) ≡ false = (let t : (true && (y.slot == x.slot)) ≡ false = rw e at h in t) in
+      let d : y.slot ≢ x.slot = λ c. let t : (y.slot == x.slot) ≡ true = grind (arith, nat_tests) in cc in
+      ap (λ (f : ℕ → ℕ). words_from f (y.slot * W) n) (ap (put w.payload_at x.page (put (w.payload_at x.page) (x.slot * W + k) v)) i ∙ put_same w.payload_at x.page (put (w.payload_at x.page) (x.slot * W + k) v))
+      ∙ words_other (w.payload_at x.page) (x.slot * W + k) v (y.slot * W) n (λ j l c. rows_apart y.slot x.slot W j k d (omega arith) a c)
+      ∙ ap (λ (q : ℕ). words_from (w.payload_at q) (y.slot * W) n) (sym i)
+
+-- the same where the pages may differ
+row_any : (w : Words) (x y : Spot) (k v n C D : ℕ) → same_spot y x ≡ false → k < C → (y.page ≡ x.page → (D ≡ C) × (n ≤ C)) → words_from ((write w (Payload x.page (x.slot * C + k)) v).payload_at y.page) (y.slot * D) n ≡ words_from (w.payload_at y.page) (y.slot * D) n
+unfolding put2
+row_any w x y k v n C D h a page = go (y.page == x.page) refl where
+  go : (c : Bool) → (y.page == x.page) ≡ c → words_from ((write w (Payload x.page (x.slot * C + k)) v).payload_at y.page) (y.slot * D) n ≡ words_from (w.payload_at y.page) (y.slot * D) n
+  go false e = ap (λ (f : ℕ → ℕ). words_from f (y.slot * D) n) (put_other w.payload_at x.page y.page (put (w.payload_at x.page) (x.slot * C + k) v) e)
+  go true e = let q = page (same_page y.page x.page e) in let P : ℕ → Type 0 = λ d. words_from ((write w (Payload x.page (x.slot * C + k)) v).payload_at y.page) (y.slot * d) n ≡ words_from (w.payload_at y.page) (y.slot * d) n in
+      subst P (sym q.0) (row_other w x y k v n C h a q.1)
+
+row_here : (w : Words) (q k v : ℕ) → (write w (Payload q k) v).payload_at q ≡ put (w.payload_at q) k v
+unfolding put2
+row_here w q k v = put_same w.payload_at q (put (w.payload_at q) k v)
+
+has_class : (w : Words) (x : Spot) → 0 < room w x → 0 < w.class_at x.page
+has_class w x h = go (nat_lt 0 (w.class_at x.page)) refl where
+  go : (b : Bool) → nat_lt 0 (w.class_at x.page) ≡ b → 0 < w.class_at x.page
+  go true e = grind (arith, nat_tests)
+  go false e = absurd (let r : room w x ≡ 0 = rw e refl in omega arith)
+
+pub good_fill : (plan : Plan) (w : World) (l : Lists) (a : ℕ) (p : Body) (x : Spot) (v : List ℕ) (i : ℕ) → Good plan w l → SoundOf plan w.words → slice_get w.parts a ≡ Some (hand p (Filling x v i)) → i < length v
+    → Good plan (apply w a (fill (hand p (Filling x v i)) x v i)) l
+unfolding apply value_at
+good_fill plan w l a p x v i g sound at less =
+    let f = g.slots x in
+    let e = same_spot-refl x in
+    let one : if1 (same_spot x x) ≡ 1 = rw e refl in
+    let hands = total_at (in_hand x) w.parts a (hand p (Filling x v i)) at in
+    let r = room_few w.words x in
+    let none = no_or (fields_of (w.words.state_at x.page x.slot)).present (fields_of (w.words.state_at x.page x.slot)).marked (omega arith) in
+    let fm = (g.parts a (hand p (Filling x v i)) at).1 in
+    let here = fm.0 in
+    let fits = fm.2 in
+    let due_same = tally_same plan x (fields_of (w.words.state_at x.page x.slot)) w.parts a (hand p (Filling x v i)) (hand p (Filling x v (i + 1))) at refl in
+    rw fm.4 (good_at plan w l l a (hand p (Filling x v i)) (hand p (Filling x v (i + 1))) W None g at
+    (slots_part plan w.words w.parts l l a (hand p (Filling x v i)) (hand p (Filling x v (i + 1))) x g.slots at (λ y st h. refl) (λ y h. refl) (rw due_same f))
+    (keys_value plan w.words W w.log g.keys (λ q s. refl) (λ y. apart y none (omega arith) (same_spot y x) ((fields_of (w.words.state_at y.page y.slot)).present || (fields_of (w.words.state_at y.page y.slot)).marked) refl refl))
+    tt (λ j. refl)
+    ((g.parts a (hand p (Filling x v i)) at).0, (here, omega arith, fits, ap (λ (f : ℕ → ℕ). words_from f (x.slot * C) (i + 1)) (row_here w.words x.page (x.slot * C + i) (get_or v i 0)) ∙ fill_words (w.words.payload_at x.page) x.slot C i v fm.3 less, fm.4))
+    (λ b q n at' h. kept b q n at' q.hand refl h (omega arith))) where
+      C : ℕ
+      C = width (w.words.class_at x.page - 1)
+
+      W : Words
+      W = write w.words (Payload x.page (x.slot * C + i)) (get_or v i 0)
+
+      within : (y : Spot) → ((fields_of (w.words.state_at y.page y.slot)).present || (fields_of (w.words.state_at y.page y.slot)).marked) ≡ true → y.page ≡ x.page → w.words.length_at y.page y.slot ≤ C
+      within y there e = let P : ℕ → Type 0 = λ q. w.words.length_at y.page y.slot ≤ width (w.words.class_at q - 1) in subst P e (sound.lengths y.page y.slot there)
+
+      apart : (y : Spot) → ((fields_of (w.words.state_at x.page x.slot)).present ≡ false) × ((fields_of (w.words.state_at x.page x.slot)).marked ≡ false) → i < C → (b d : Bool) → same_spot y x ≡ b → ((fields_of (w.words.state_at y.page y.slot)).present || (fields_of (w.words.state_at y.page y.slot)).marked) ≡ d
+          → (value_at W y.page y.slot ≡ value_at w.words y.page y.slot) ⊎ (((fields_of (w.words.state_at y.page y.slot)).present ≡ false) × ((fields_of (w.words.state_at y.page y.slot)).marked ≡ false))
+      apart y none c true d h k = let e = same_spot-true x y h in inr (rw e none)
+      apart y none c false false h k = inr (no_or (fields_of (w.words.state_at y.page y.slot)).present (fields_of (w.words.state_at y.page y.slot)).marked (rw k refl))
+      apart y none c false true h k = inl (row_any w.words x y i (get_or v i 0) (w.words.length_at y.page y.slot) C (width (w.words.class_at y.page - 1)) h c
+          (λ e. (ap (λ (q : ℕ). width (w.words.class_at q - 1)) e, within y k e)))
+
+      kept : (b : ℕ) (q : Body) → b ≢ a → slice_get w.parts b ≡ Some q → (h : Hand) → q.hand ≡ h → FillFine w.words q h → i < C → FillFine W q h
+      kept b q n at' (Filling y u j) e h c = (h.0, h.1, h.2, row_any w.words x y i (get_or v i 0) j C (width (w.words.class_at y.page - 1)) (not_hand plan w l a b (hand p (Filling x v i)) q x y v u i j g n at refl at' e) c (λ d. (ap (λ (q : ℕ). width (w.words.class_at q - 1)) d, small y u j h d)) ∙ h.3, h.4) where
+        small : (y : Spot) (u : List ℕ) (j : ℕ) → FillFine w.words q (Filling y u j) → y.page ≡ x.page → j ≤ C
+        small y u j h d = let a = h.1 in let b = h.2 in let P : ℕ → Type 0 = λ k. length u ≤ width (w.words.class_at k - 1) in let t : length u ≤ C = subst P d b in omega arith
+      kept b q n at' _ e h c = h

@@ -1,0 +1,63 @@
+-- What is held stands, and what may be read of it lies within its slot.
+use Rattle.std.proofs.Common.{◌≡◌, ℕ, zero, suc, ◌+◌, ◌-◌, ◌*◌, ◌<◌, ◌||◌, Bool, true, false, sym, refl, subst, arith}
+use Rattle.std.specs.Prelude.{nat_lt}
+use Rattle.sh_slots.specs.declared.hand.Spot.{Spot}
+use Rattle.sh_core.specs.Words.{Words}
+use Rattle.sh_word.specs.Fields.{Fields, fields_of}
+use Rattle.sh_step.specs.Plans.{Plan}
+use Rattle.sh_shape.specs.Classes.{width, slots}
+use Rattle.sh_slots.specs.Slots.{spot_of}
+use Rattle.sh_step.specs.Collections.{if1}
+use Rattle.sh_core.specs.Lists.{Lists}
+use Rattle.sh_core.specs.Placed.{All}
+use Rattle.sh_core.specs.Worlds.{World, value_at}
+use Rattle.sh_core.specs.Tallies.{room}
+use Rattle.sh_core.specs.Knows.{AllKnow}
+use Rattle.sh_core.specs.Refines.{HeldStands, ReadsWithin}
+use Rattle.sh_core.proofs.Permits.{value_one}
+use Rattle.sh_core.proofs.Conditions.{lt_of}
+use Rattle.sh_core.proofs.RunRefines.{held_stands}
+
+pub rows_fit : (c s i : ℕ) → c < 8 → s < slots c → i < width c → s * width c + i < 48
+rows_fit zero s i h a b = omega arith
+rows_fit (suc zero) s i h a b = omega arith
+rows_fit (suc (suc zero)) s i h a b = omega arith
+rows_fit (suc (suc (suc zero))) s i h a b = omega arith
+rows_fit (suc (suc (suc (suc zero)))) s i h a b = omega arith
+rows_fit (suc (suc (suc (suc (suc zero))))) s i h a b = omega arith
+rows_fit (suc (suc (suc (suc (suc (suc zero)))))) s i h a b = omega arith
+rows_fit (suc (suc (suc (suc (suc (suc (suc zero))))))) s i h a b = omega arith
+rows_fit (suc (suc (suc (suc (suc (suc (suc (suc c)))))))) s i h a b = absurd (omega arith)
+
+pub has_room : (w : Words) (x : Spot) → 0 < room w x → (0 < w.class_at x.page) × (x.slot < slots (w.class_at x.page - 1))
+has_room w x h = go (nat_lt 0 (w.class_at x.page)) (nat_lt x.slot (slots (w.class_at x.page - 1))) refl refl where
+  go : (b c : Bool) → nat_lt 0 (w.class_at x.page) ≡ b → nat_lt x.slot (slots (w.class_at x.page - 1)) ≡ c → (0 < w.class_at x.page) × (x.slot < slots (w.class_at x.page - 1))
+  go true true e f = (lt_of 0 (w.class_at x.page) e, lt_of x.slot (slots (w.class_at x.page - 1)) f)
+  go true false e f = absurd (let z : room w x ≡ 0 = rw (e, f) refl in omega arith)
+  go false c e f = absurd (let z : room w x ≡ 0 = rw e refl in omega arith)
+
+module _ (plan : Plan) (w : World) (l : Lists) (all : All plan w l) (know : AllKnow plan w) where
+  pub held : HeldStands plan w
+  held a p k at some =
+      let n = (know a p at).named k some in
+      let h = held_stands plan w l all a p k n.0 at some n.1 in
+      record { name = n.0; unpacks = n.1; page = n.2; slot = n.3; present = h.0; generation = h.1; value = value_one k w.log (value_at w.words n.0.page n.0.slot) h.2 }
+
+  pub reads : ReadsWithin plan w
+  reads a p k n c m i at name width_is length_is less =
+      let u = (know a p at).classed k c width_is in
+      let v = (know a p at).measured k m length_is in
+      let h = held_stands plan w l all a p k n at u.0 name in
+      let x : Spot = spot_of n in
+      let st : Fields = fields_of (w.words.state_at n.page n.slot) in
+      let there : (st.present || st.marked) ≡ true = rw h.0 refl in
+      let f = all.good.slots x in
+      let one : if1 (st.present || st.marked) ≡ 1 = rw there refl in
+      let r = has_room w.words x (omega arith) in
+      let len = all.sound.lengths n.page n.slot there in
+      let cls = (all.sound.classes n.page).0 in
+      let ce = u.1 n name in
+      let me = v.1 n name in
+      let r0 = r.0 in
+      let P : ℕ → Type 0 = λ z. n.slot * width (z - 1) + i < 48 in
+      (sym ce, sym me, subst P ce (rows_fit (w.words.class_at n.page - 1) n.slot i (omega arith) r.1 (omega arith)))

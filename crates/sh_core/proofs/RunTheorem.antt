@@ -1,0 +1,139 @@
+-- The theorem: what is kept along a run, and each clause of it.
+use Rattle.std.proofs.Common.{◌||◌, ◌≡◌, ℕ, ◌<◌, Bool, true, false, List, [], ◌∷◌, refl, subst, arith, Some, None}
+use Rattle.sh_slots.specs.declared.hand.Hand.{Hand}
+use Rattle.sh_slots.specs.declared.hand.Hand.TheVariants.{Filling}
+use Rattle.sh_step.specs.Plans.{Plan, Lawful}
+use Rattle.sh_step.specs.Collections.{total, if1, noted}
+use Rattle.sh_step.specs.declared.body.Body.{Body}
+use Rattle.sh_core.specs.Lists.{Lists, times, mine_at}
+use Rattle.sh_core.specs.Stacks.{cursor_at}
+use Rattle.sh_core.specs.Placed.{All}
+use Rattle.sh_step.specs.declared.action.Event.{Event}
+use Rattle.sh_core.specs.Worlds.{World, step, run, run_from, open_world}
+use Rattle.sh_core.specs.Lists.{lists_of, lists_from, list_step, no_lists, state_of}
+use Rattle.sh_core.specs.Tallies.{room}
+use Rattle.sh_core.specs.Knows.{KnowsPart, AllKnow}
+use Rattle.sh_core.proofs.OpenGood.{part_new}
+use Rattle.sh_core.proofs.RunAll.{all_step}
+use Rattle.sh_core.proofs.KnowKinds.{know_step}
+use Rattle.sh_core.proofs.RunRefines.{all_open, one_kind, counted, left_empty}
+use Rattle.sh_key.specs.Layout.{Layout, IsLayout}
+use Rattle.sh_shape.specs.Shape.{Numbers, IsShape, Fits}
+use Rattle.sh_slots.specs.Slots.{name_of}
+use Rattle.sh_step.specs.Plans.{plan_of}
+use Rattle.sh_step.specs.Rows.{own}
+use Rattle.sh_core.specs.Refines.{OwnPartsStand, FillsAreKeys, Refines, CountIsFew, PastIsRemoved}
+use Rattle.sh_core.specs.Within.{AllWithin, ValuesFit}
+use Rattle.sh_core.proofs.BellWords.{bells_are_small}
+use Rattle.sh_core.specs.Stacks.{cursor_at}
+use Rattle.sh_core.specs.Tallies.{held, visits}
+use Rattle.sh_core.proofs.LayoutLaws.{plan_lawful}
+use Rattle.sh_core.proofs.More.{accounts_fill}
+use Rattle.sh_core.proofs.Permits.{value_some, removed_by}
+use Rattle.sh_core.proofs.HeldStands.{has_room, held as held_keys, reads}
+use Rattle.sh_core.proofs.StaysWithin.{within_step, within_open}
+use Rattle.sh_core.proofs.PlacesWithin.{steps_within, counts_fit, pointed, rung, roomy, noted_at}
+use Rattle.sh_core.proofs.SlotGood.{total_few, total_length, visits_few, if1_few}
+use Rattle.sh_core.proofs.SlotGood.{room_few}
+use Rattle.sh_core.proofs.Totals.{total_at}
+
+know_open : (plan : Plan) → AllKnow plan (open_world plan)
+unfolding total noted
+know_open plan a p at =
+    let e = part_new plan.passes a p at in
+    let P : Body → Type 0 = λ u. KnowsPart plan (open_world plan).words u in
+    subst P e (record { named = λ k h. absurd (omega arith); classed = λ k c h. absurd (let z : None ≡ Some c = h in cc); measured = λ k c h. absurd (let z : None ≡ Some c = h in cc) })
+
+-- the three are kept along a run
+pub record Kept (plan : Plan) (w : World) (l : Lists) : Type 0 where
+  pub all : All plan w l
+  pub know : AllKnow plan w
+  pub within : AllWithin plan w
+
+kept_from : (plan : Plan) (w : World) (l : Lists) (es : List Event) → Lawful plan → Kept plan w l → Kept plan (run_from plan w es) (lists_from plan w l es)
+unfolding run_from lists_from
+kept_from plan w l [] laws k = k
+kept_from plan w l (e ∷ es) laws k = kept_from plan (step plan w e) (list_step plan w e l) es laws (record { all = all_step plan w l e laws k.all; know = know_step plan w l e k.all k.know; within = within_step plan w e k.within })
+
+module _ (plan : Plan) (w : World) (l : Lists) (laws : Lawful plan) (kept : Kept plan w l) where
+  abbrev all : All plan w l
+  all = kept.all
+
+  few : CountIsFew w
+  few x =
+      let f = all.good.slots x in
+      let h = total_few (held plan x) 16 w.parts (λ a p at. let n = total_length (λ k. if1 (Rattle.sh_core.specs.Tallies.at_spot x (plan.keys.unpack k))) (λ k. if1_few (Rattle.sh_core.specs.Tallies.at_spot x (plan.keys.unpack k))) p.holds in let m = (all.good.parts a p at).0 in omega arith) in
+      let v = total_length (visits plan x) (λ p. visits_few plan x p p.hand) w.parts in omega arith
+
+  past : PastIsRemoved plan w
+  past k n name less =
+      let b = (all.good.keys k n name).before less in
+      let b0 = b.0 in
+      let b1 = b.1 in (value_some k w.log (omega arith), (removed_by k w.log).1 (omega arith))
+
+  -- what is not zero is not that of another's page
+  own_or : (b : Bool) (n : ℕ) → 0 < n → (b ≡ false → n ≡ 0) → b ≡ true
+  own_or true n some h = refl
+  own_or false n some h = let z = h refl in absurd (omega arith)
+
+  own_parts : OwnPartsStand plan w
+  own_parts a p at =
+      let o = all.rest.homed a p at in
+      let v = kept.within a p at in record {
+        few_holds = (all.good.parts a p at).0;
+        mine = λ x some.
+            let t = total_at (mine_at x) w.parts a p at in
+            let f = all.good.slots x in
+            let r = room_few w.words x in
+            let y = roomy plan w l laws all kept.know kept.within x (omega arith) in
+            (omega arith, own_or (own plan p x.page) (mine_at x p) some (λ e. o.mines x e), y.0, y.1);
+        cursors = λ q s is. (own_or (own plan p q) (cursor_at q s p) (noted_at q s p.cursors is) (λ e. o.points q s e), pointed plan w l laws all kept.know kept.within a p q s at is);
+        armed = λ q some. (own_or (own plan p q) (times q p.armed) some (λ e. o.arms q e), v.armed q some);
+        notes = λ q c mine is. (o.notes q c mine is).0;
+        bell = λ q is. rung plan w l laws all kept.know kept.within a p q at is;
+        owned = v.owned;
+      }
+
+  values_fit : ValuesFit plan w
+  values_fit x there =
+      let f = all.good.slots x in
+      let one : if1 ((state_of w x).present || (state_of w x).marked) ≡ 1 = rw there refl in
+      let r = has_room w.words x (omega arith) in
+      let c = all.sound.classes x.page in (r.0, c.0, c.1 r.0, r.1, all.sound.lengths x.page x.slot there)
+
+  fills : FillsAreKeys plan w
+  fills a p x v i at is =
+      let P : Hand → Type 0 = λ h. Rattle.sh_core.specs.Within.HandWithin plan h in
+      let h : Rattle.sh_core.specs.Within.HandWithin plan (Filling x v i) = subst P is (kept.within a p at).hand in
+      let g = all.sound.generations x.page x.slot in laws.names (name_of x (state_of w x).generation) g.0 g.1 h.0 h.1
+
+  pub refines : Refines plan w l
+  refines = record {
+    legal = all.good.legal;
+    one_kind = one_kind plan w l all;
+    filled = λ q c is. accounts_fill plan w l q c all.good.slots is;
+    held = held_keys plan w l all kept.know;
+    reads = reads plan w l all kept.know;
+    counted = counted plan w l all;
+    few = few;
+    past = past;
+    generations = λ x. all.sound.generations x.page x.slot;
+    finished = λ x a b c. (all.good.slots x).owed a b c;
+    armed = all.rest.duty;
+    left = left_empty plan w l all;
+    linked = (all.rest.stacks, all.rest.bells);
+    parts = own_parts;
+    fills = fills;
+    places = steps_within plan w l laws all kept.know kept.within;
+    counts = counts_fit plan w l laws all kept.know kept.within;
+    passes = all.good.passes;
+    bells = bells_are_small plan w l laws all kept.know kept.within;
+    values = values_fit;
+  }
+
+-- every run of every heap
+pub theorem : (layout : Layout) (shape : Numbers) → IsLayout layout → IsShape shape → Fits layout shape → (es : List Event) → Refines (plan_of layout shape) (run (plan_of layout shape) es) (lists_of (plan_of layout shape) es)
+theorem layout shape a b c es =
+    let plan : Plan = plan_of layout shape in
+    let laws : Lawful plan = plan_lawful layout shape a b c in
+    refines plan (run plan es) (lists_of plan es) laws (kept_from plan (open_world plan) no_lists es laws (record { all = all_open plan laws; know = know_open plan; within = within_open plan }))

@@ -1,0 +1,62 @@
+use Rattle.sh_core.proofs.RunTheorem.{theorem}
+use Rattle.sh_core.proofs.claims.refines_map.Goals as goal
+
+pub returns-clause-legal : goal.returns-clause-legal
+returns-clause-legal c = λ layout shape a b f es. (theorem layout shape a b f es).legal
+
+pub returns-clause-one_kind : goal.returns-clause-one_kind
+returns-clause-one_kind c = λ layout shape a b f es. (theorem layout shape a b f es).one_kind
+
+pub returns-clause-filled : goal.returns-clause-filled
+returns-clause-filled c = λ layout shape a b f es. (theorem layout shape a b f es).filled
+
+pub returns-clause-held : goal.returns-clause-held
+returns-clause-held c = λ layout shape a b f es. (theorem layout shape a b f es).held
+
+pub returns-clause-reads : goal.returns-clause-reads
+returns-clause-reads c = λ layout shape a b f es. (theorem layout shape a b f es).reads
+
+pub returns-clause-counted : goal.returns-clause-counted
+returns-clause-counted c = λ layout shape a b f es. (theorem layout shape a b f es).counted
+
+pub returns-clause-few : goal.returns-clause-few
+returns-clause-few c = λ layout shape a b f es. (theorem layout shape a b f es).few
+
+pub returns-clause-counts : goal.returns-clause-counts
+returns-clause-counts c = λ layout shape a b f es. (theorem layout shape a b f es).counts
+
+pub returns-clause-past : goal.returns-clause-past
+returns-clause-past c = λ layout shape a b f es. (theorem layout shape a b f es).past
+
+pub returns-clause-generations : goal.returns-clause-generations
+returns-clause-generations c = λ layout shape a b f es. (theorem layout shape a b f es).generations
+
+pub returns-clause-finished : goal.returns-clause-finished
+returns-clause-finished c = λ layout shape a b f es. (theorem layout shape a b f es).finished
+
+pub returns-clause-armed : goal.returns-clause-armed
+returns-clause-armed c = λ layout shape a b f es. (theorem layout shape a b f es).armed
+
+pub returns-clause-left : goal.returns-clause-left
+returns-clause-left c = λ layout shape a b f es. (theorem layout shape a b f es).left
+
+pub returns-clause-linked : goal.returns-clause-linked
+returns-clause-linked c = λ layout shape a b f es. (theorem layout shape a b f es).linked
+
+pub returns-clause-parts : goal.returns-clause-parts
+returns-clause-parts c = λ layout shape a b f es. (theorem layout shape a b f es).parts
+
+pub returns-clause-fills : goal.returns-clause-fills
+returns-clause-fills c = λ layout shape a b f es. (theorem layout shape a b f es).fills
+
+pub returns-clause-places : goal.returns-clause-places
+returns-clause-places c = λ layout shape a b f es. (theorem layout shape a b f es).places
+
+pub returns-clause-passes : goal.returns-clause-passes
+returns-clause-passes c = λ layout shape a b f es. (theorem layout shape a b f es).passes
+
+pub returns-clause-bells : goal.returns-clause-bells
+returns-clause-bells c = λ layout shape a b f es. (theorem layout shape a b f es).bells
+
+pub returns-clause-values : goal.returns-clause-values
+returns-clause-values c = λ layout shape a b f es. (theorem layout shape a b f es).values

@@ -1,0 +1,7 @@
+use Rattle.std.proofs.Common.{◌≡◌}
+use Rattle.std.specs.Prelude.{replicate}
+use Rattle.sh_core.specs.Worlds.{newcomer}
+use Rattle.sh_core.proofs.world.newcomers.Given as goal
+
+abbrev pub invariant-loop : goal.invariant-loop
+invariant-loop l = l.parts.items ≡ replicate l.counter newcomer

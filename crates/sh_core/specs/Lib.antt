@@ -1,0 +1,16 @@
+pub mod Words
+pub mod Worlds
+pub mod Outcomes
+pub mod Trails
+pub mod Lists
+pub mod Tallies
+pub mod Stories
+pub mod Good
+pub mod Stacks
+pub mod Bells
+pub mod Placed
+pub mod Opening
+pub mod Kept
+pub mod Refines
+pub mod Knows
+pub mod Within

@@ -1,0 +1,34 @@
+-- What comes of an event.
+use Rattle.std.specs.Prelude.{ℕ, List, [], ◌∷◌, Option, Some, None, slice_get}
+use Rattle.sh_history.specs.declared.entry.Entry.{Entry}
+use Rattle.sh_step.specs.declared.action.Event.{Event}
+use Rattle.sh_step.specs.Plans.{Plan}
+use Rattle.sh_step.specs.Rows.{Row, row}
+use Rattle.sh_core.specs.declared.outcome.Outcome.{Outcome}
+use Rattle.sh_core.specs.declared.outcome.Outcome.TheVariants.{Moved, Replied, Skipped}
+use Rattle.sh_core.specs.Words.{read}
+use Rattle.sh_core.specs.Worlds.{World, step, open_world, value_of, entry_of}
+
+-- the row of an event, where there is such a pass and its condition holds
+unfoldable pub row_of : Plan → World → Event → Option Row
+row_of plan w e = elim (slice_get w.parts e.pass) [ Some p ↦ row plan p e.action | None ↦ None ]
+
+-- a step that was done replied what joined the log
+abbrev pub done : Option Entry → Outcome
+done (Some entry) = Replied entry
+done None = Moved
+
+unfoldable pub outcome_of : Plan → World → Event → Outcome
+unfolding row_of
+outcome_of plan w e = elim (row_of plan w e) [
+  | Some m ↦ done (entry_of e.pass (value_of w.words m.place) (m.reply (read w.words m.place)))
+  | None ↦ Skipped
+]
+
+-- of each event of a run, in order
+unfoldable pub outcomes_from : Plan → World → List Event → List Outcome
+outcomes_from plan w [] = []
+outcomes_from plan w (e ∷ es) = outcome_of plan w e ∷ outcomes_from plan (step plan w e) es
+
+abbrev pub outcomes : Plan → List Event → List Outcome
+outcomes plan es = outcomes_from plan (open_world plan) es

@@ -1,0 +1,152 @@
+-- What holds after every list of events: the clauses of the theorem, each of a world and of the lists of what was put.
+use Rattle.std.specs.Prelude.{IsSome, ℕ, ◌+◌, ◌-◌, ◌*◌, ◌/◌, ◌%◌, ◌≡◌, ◌<◌, ◌≤◌, true, not, ◌&&◌, List, Some, length, slice_get}
+use Rattle.sh_step.specs.declared.action.Event.{Event}
+use Rattle.sh_slots.specs.declared.hand.Spot.{Spot}
+use Rattle.sh_slots.specs.declared.hand.Name.{Name}
+use Rattle.sh_word.specs.Fields.{Fields}
+use Rattle.sh_key.specs.Layout.{Layout, IsLayout}
+use Rattle.sh_shape.specs.Shape.{Numbers, IsShape, Fits}
+use Rattle.sh_step.specs.Rows.{own}
+use Rattle.sh_core.specs.Within.{StepsWithin, CountsFit, BellsAreSmall, ValuesFit}
+use Rattle.sh_slots.specs.declared.hand.Hand.TheVariants.{Filling}
+use Rattle.sh_slots.specs.Slots.{name_of}
+use Rattle.sh_step.specs.Plans.{plan_of, Plan, all_pages, home}
+use Rattle.sh_shape.specs.Classes.{slots, width}
+use Rattle.sh_slots.specs.Slots.{spot_of}
+use Rattle.sh_step.specs.Collections.{total, if1, noted}
+use Rattle.sh_step.specs.declared.body.Body.{Body}
+use Rattle.sh_core.specs.Worlds.{World, run, value_at}
+use Rattle.sh_core.specs.Lists.{Lists, accounts, lists_of, times, mine_at, in_hand, state_of}
+use Rattle.sh_core.specs.Tallies.{at_spot, current, visits, finishing}
+use Rattle.sh_history.specs.History.{Legal, value_of, is_removed}
+use Rattle.sh_core.specs.Stacks.{Chains, spot, tying, ties_of, cursor_at, ring_tying, ring_ties, bell_cursor_at, bell_link, bell_head}
+use Rattle.sh_core.specs.Bells.{rings, armed_at}
+
+-- The kinds of a slot, each counted
+abbrev pub live : Fields → ℕ
+live st = if1 (st.present && not st.marked)
+
+abbrev pub marked : Fields → ℕ
+marked st = if1 (st.present && st.marked)
+
+abbrev pub retired : Fields → ℕ
+retired st = if1 (not st.present && st.marked)
+
+abbrev pub mine : World → Spot → ℕ
+mine w x = total (mine_at x) w.parts
+
+abbrev pub in_hands : World → Spot → ℕ
+in_hands w x = total (in_hand x) w.parts
+
+abbrev pub queue : Lists → Spot → ℕ
+queue l x = times x.slot (l.stack x.page) + times x.slot (l.chain x.page)
+
+-- a slot of its page's class has one kind, and only one; another has none
+abbrev pub OneKind : World → Lists → Type 0
+OneKind w l = (x : Spot) (c : ℕ) → w.words.class_at x.page ≡ c + 1 →
+    (x.slot < slots c → live (state_of w x) + marked (state_of w x) + retired (state_of w x) + mine w x + in_hands w x + queue l x ≡ 1)
+    × (slots c ≤ x.slot → live (state_of w x) + marked (state_of w x) + retired (state_of w x) + mine w x + in_hands w x + queue l x ≡ 0)
+
+-- the accounts of a page with a class add up to its slots
+abbrev pub Filled : World → Lists → Type 0
+Filled w l = (q c : ℕ) → w.words.class_at q ≡ c + 1 → let a = accounts w l q in a.live + (a.marked + (a.retired + (a.mine + (a.hand + a.queued)))) ≡ slots c
+
+-- while a pass holds k, k names a slot of the heap, which is present in k's generation, and its words are the value that k was issued with
+pub record Stands (plan : Plan) (w : World) (k : ℕ) : Type 0 where
+  pub name : Name
+  pub unpacks : plan.keys.unpack k ≡ Some name
+  pub page : name.page < all_pages plan
+  pub slot : name.slot < 48
+  pub present : (state_of w (spot_of name)).present ≡ true
+  pub generation : (state_of w (spot_of name)).generation ≡ name.generation
+  pub value : value_of w.log k ≡ Some (value_at w.words name.page name.slot)
+
+abbrev pub HeldStands : Plan → World → Type 0
+HeldStands plan w = (a : ℕ) (p : Body) (k : ℕ) → slice_get w.parts a ≡ Some p → 0 < times k p.holds → Stands plan w k
+
+-- a payload word that a pass may read of a key is one of the key's value, in its page
+abbrev pub ReadsWithin : Plan → World → Type 0
+ReadsWithin plan w = (a : ℕ) (p : Body) (k : ℕ) (n : Name) (c m i : ℕ) → slice_get w.parts a ≡ Some p → plan.keys.unpack k ≡ Some n → noted k p.widths ≡ Some c → noted k p.lengths ≡ Some m → i < m →
+    (c ≡ w.words.class_at n.page) × (m ≡ w.words.length_at n.page n.slot) × (n.slot * width (c - 1) + i < 48)
+
+-- a slot's count is the holds on its present key, and the passes that remove or leave there
+abbrev pub holds_now : Plan → Spot → Fields → Body → ℕ
+holds_now plan x st p = total (λ k. if1 (at_spot x (plan.keys.unpack k) && current st (plan.keys.unpack k))) p.holds
+
+abbrev pub Counted : Plan → World → Type 0
+Counted plan w = (x : Spot) → (state_of w x).count ≡ total (holds_now plan x (state_of w x)) w.parts + total (visits plan x) w.parts
+
+-- at most 16 holds of each pass and one visit
+abbrev pub CountIsFew : World → Type 0
+CountIsFew w = (x : Spot) → (state_of w x).count ≤ 17 * length w.parts
+
+-- each generation of a slot below its present one was issued and removed
+abbrev pub PastIsRemoved : Plan → World → Type 0
+PastIsRemoved plan w = (k : ℕ) (n : Name) → plan.keys.unpack k ≡ Some n → n.generation < (state_of w (spot_of n)).generation → IsSome (value_of w.log k) × (is_removed w.log k ≡ true)
+
+-- so a slot issues at most gen_max keys
+abbrev pub GenerationsEnd : Plan → World → Type 0
+GenerationsEnd plan w = (x : Spot) → (0 < (state_of w x).generation) × ((state_of w x).generation ≤ plan.keys.gen_max)
+
+-- a marked slot that nobody is on has a pass that finishes it
+abbrev pub Finished : Plan → World → Type 0
+Finished plan w = (x : Spot) → (state_of w x).present ≡ true → (state_of w x).marked ≡ true → (state_of w x).count ≡ 0 → 0 < total (finishing x (state_of w x).generation) w.parts
+
+-- an armed page has one of: its flag, a pass that must ring, a place on the bell or on its chain; another has none
+abbrev pub Armed : Plan → World → Lists → Type 0
+Armed plan w l = (q : ℕ) → (total (armed_at q) w.parts ≡ w.words.head_at q % 2 + total (rings q) w.parts + times q (l.bells (home plan q)) + times q (l.bell_chain (home plan q))) × (total (armed_at q) w.parts ≤ 1)
+
+-- a shard that nobody owns has no cursor, nothing armed and nothing mine
+abbrev pub LeftEmpty : Plan → World → Type 0
+LeftEmpty plan w = (n : ℕ) → w.words.owner_at n ≡ 0 → ((x : Spot) → home plan x.page ≡ n → mine w x ≡ 0) × ((q s : ℕ) → home plan q ≡ n → total (cursor_at q s) w.parts ≡ 0) × ((q : ℕ) → home plan q ≡ n → total (armed_at q) w.parts ≡ 0)
+    × ((q : ℕ) → total (bell_cursor_at n q) w.parts ≡ 0)
+
+-- each link of a stack, a chain, a bell names the next item, or is the end, or is 0 with one pass that ties it; an owner's cursor is its chain's first
+abbrev pub Linked : Plan → World → Lists → Type 0
+Linked plan w l =
+    Chains (λ q. w.words.head_at q / 2) w.words.link_at (λ q s. total (tying (spot q s)) w.parts) (λ q s. total (ties_of (spot q s)) w.parts) (λ q s. total (cursor_at q s) w.parts) l.stack l.chain
+    × Chains (bell_head plan w.words.bell_at) (bell_link plan w.words.page_link_at) (λ n q. total (ring_tying plan n q) w.parts) (λ n q. total (ring_ties plan n q) w.parts) (λ n q. total (bell_cursor_at n q) w.parts) l.bells l.bell_chain
+
+-- what a pass has of its own lies within its shard, and what it noted is true
+pub record OwnStands (plan : Plan) (w : World) (p : Body) : Type 0 where
+  pub few_holds : length p.holds ≤ 16
+  pub mine : (x : Spot) → 0 < mine_at x p → (mine_at x p ≡ 1) × (own plan p x.page ≡ true) × (x.page < all_pages plan) × (x.slot < slots (w.words.class_at x.page - 1))
+  pub cursors : (q s : ℕ) → noted q p.cursors ≡ Some s → (own plan p q ≡ true) × (s < 48)
+  pub armed : (q : ℕ) → 0 < times q p.armed → (own plan p q ≡ true) × (q < all_pages plan)
+  pub notes : (q c : ℕ) → own plan p q ≡ true → noted q p.classes ≡ Some c → w.words.class_at q ≡ c
+  pub bell : (q : ℕ) → p.bell_cursor ≡ Some q → q < all_pages plan
+  pub owned : (n : ℕ) → p.owned ≡ Some n → n < plan.shards
+
+abbrev pub OwnPartsStand : Plan → World → Type 0
+OwnPartsStand plan w = (a : ℕ) (p : Body) → slice_get w.parts a ≡ Some p → OwnStands plan w p
+
+-- a slot that is being filled is one of the heap, and the key that it will be published under is one of the layout
+abbrev pub FillsAreKeys : Plan → World → Type 0
+FillsAreKeys plan w = (a : ℕ) (p : Body) (x : Spot) (v : List ℕ) (i : ℕ) → slice_get w.parts a ≡ Some p → p.hand ≡ Filling x v i → plan.keys.unpack (plan.keys.pack (name_of x (state_of w x).generation)) ≡ Some (name_of x (state_of w x).generation)
+
+-- all of it
+pub record Refines (plan : Plan) (w : World) (l : Lists) : Type 0 where
+  pub legal : Legal plan.passes plan.keys.guard_max w.log
+  pub one_kind : OneKind w l
+  pub filled : Filled w l
+  pub held : HeldStands plan w
+  pub reads : ReadsWithin plan w
+  pub counted : Counted plan w
+  pub few : CountIsFew w
+  pub past : PastIsRemoved plan w
+  pub generations : GenerationsEnd plan w
+  pub finished : Finished plan w
+  pub armed : Armed plan w l
+  pub left : LeftEmpty plan w
+  pub linked : Linked plan w l
+  pub parts : OwnPartsStand plan w
+  pub fills : FillsAreKeys plan w
+  pub places : StepsWithin plan w
+  pub counts : CountsFit plan w
+  pub passes : length w.parts ≡ plan.passes
+  pub bells : BellsAreSmall plan w
+  pub values : ValuesFit plan w
+
+-- P holds after every list of events, in every heap whose shape fits its layout
+abbrev pub Always : (Plan → World → Lists → Type 0) → Type 0
+Always P = (layout : Layout) (shape : Numbers) → IsLayout layout → IsShape shape → Fits layout shape → (es : List Event) → P (plan_of layout shape) (run (plan_of layout shape) es) (lists_of (plan_of layout shape) es)

@@ -1,0 +1,85 @@
+-- What is kept of each slot: sums over the passes.
+use Rattle.std.specs.Prelude.{ℕ, ◌+◌, ◌-◌, ◌≡◌, ◌<◌, ◌==◌, nat_lt, Bool, true, false, cond, not, ◌&&◌, ◌||◌, List, Option, Some, None}
+use Rattle.sh_slots.specs.declared.hand.Hand.TheVariants.{Removing, Leaving, Finishing}
+use Rattle.sh_slots.specs.declared.hand.Spot.{Spot}
+use Rattle.sh_slots.specs.declared.hand.Name.{Name}
+use Rattle.sh_core.specs.Words.{Words}
+use Rattle.sh_word.specs.Fields.{Fields, fields_of}
+use Rattle.sh_step.specs.Plans.{Plan}
+use Rattle.sh_shape.specs.Classes.{slots}
+use Rattle.sh_slots.specs.Slots.{same_spot, spot_of}
+use Rattle.sh_step.specs.Collections.{total, if1}
+use Rattle.sh_step.specs.declared.body.Body.{Body}
+use Rattle.sh_core.specs.Lists.{Lists, mine_at, in_hand, times}
+
+-- the key names this slot
+abbrev pub at_spot : Spot → Option Name → Bool
+at_spot x (Some n) = same_spot x (spot_of n)
+at_spot x None = false
+
+-- the key's generation is the slot's, and it is there
+abbrev pub current : Fields → Option Name → Bool
+current st (Some n) = st.present && (n.generation == st.generation)
+current st None = false
+
+abbrev pub held : Plan → Spot → Body → ℕ
+held plan x p = total (λ k. if1 (at_spot x (plan.keys.unpack k))) p.holds
+
+abbrev pub visits : Plan → Spot → Body → ℕ
+visits plan x p = elim (p.hand) [ Removing k ↦ if1 (at_spot x (plan.keys.unpack k)) | Leaving y ↦ if1 (same_spot x y) | _ ↦ 0 ]
+
+abbrev pub stale : Fields → Spot → Option Name → ℕ
+stale st x o = cond (at_spot x o) (if1 (not (current st o))) 0
+
+-- how many of its holds, and of what it removes, name the slot in another generation
+abbrev pub lost : Plan → Spot → Fields → Body → ℕ
+lost plan x st p = total (λ k. stale st x (plan.keys.unpack k)) p.holds + elim (p.hand) [ Removing k ↦ stale st x (plan.keys.unpack k) | _ ↦ 0 ]
+
+abbrev pub finishing : Spot → ℕ → Body → ℕ
+finishing x g p = elim (p.hand) [ Finishing y h ↦ if1 (same_spot x y && (h == g)) | _ ↦ 0 ]
+
+-- What a slot is to the passes together
+pub record Tally : Type 0 where
+  pub mine : ℕ
+  pub hand : ℕ
+  pub held : ℕ
+  pub visits : ℕ
+  pub lost : ℕ
+  pub finishing : ℕ
+
+abbrev pub due : Plan → Spot → Fields → Body → Tally
+due plan x st p = record {
+  mine = mine_at x p;
+  hand = in_hand x p;
+  held = held plan x p;
+  visits = visits plan x p;
+  lost = lost plan x st p;
+  finishing = finishing x st.generation p;
+}
+
+abbrev pub tally : Plan → Spot → Fields → List Body → Tally
+tally plan x st ps = record {
+  mine = total (mine_at x) ps;
+  hand = total (in_hand x) ps;
+  held = total (held plan x) ps;
+  visits = total (visits plan x) ps;
+  lost = total (lost plan x st) ps;
+  finishing = total (finishing x st.generation) ps;
+}
+
+-- room: 1 below the class's number of slots, 0 above. queued: how often the slot stands in the stack and the chain
+pub record Fine (room queued : ℕ) (st : Fields) (t : Tally) : Type 0 where
+  pub kinds : if1 (st.present || st.marked) + t.mine + t.hand + queued ≡ room
+  pub counts : st.count ≡ t.held + t.visits
+  pub none_lost : t.lost ≡ 0
+  pub owed : st.present ≡ true → st.marked ≡ true → st.count ≡ 0 → 0 < t.finishing
+
+-- below the number of slots of the page's class; a blank page has none
+abbrev pub room : Words → Spot → ℕ
+room w x = cond (nat_lt 0 (w.class_at x.page) && nat_lt x.slot (slots (w.class_at x.page - 1))) 1 0
+
+abbrev pub queued : Lists → Spot → ℕ
+queued l x = times x.slot (l.stack x.page) + times x.slot (l.chain x.page)
+
+abbrev pub SlotsFine : Plan → Words → List Body → Lists → Type 0
+SlotsFine plan w ps l = (x : Spot) → Fine (room w x) (queued l x) (fields_of (w.state_at x.page x.slot)) (tally plan x (fields_of (w.state_at x.page x.slot)) ps)

@@ -1,0 +1,37 @@
+-- What a pass did, step by step: a trail stands in no world and is read by no condition.
+use Rattle.std.specs.Prelude.{ℕ, ◌+◌, ◌==◌, ◌&&◌, Bool, true, false, List, [], ◌∷◌, ◌++◌, Option, Some, None, cond, length, filter, count_by}
+use Rattle.sh_history.specs.declared.entry.Entry.{Entry}
+use Rattle.sh_history.specs.Log.{pass_of}
+use Rattle.sh_step.specs.declared.action.Action.{Action}
+use Rattle.sh_step.specs.declared.action.Action.TheVariants.{Take, Follow, Put, PutSlot, Adopt, Arm, TakeBell, FollowBell}
+use Rattle.sh_step.specs.declared.action.Event.{Event}
+use Rattle.sh_step.specs.Operations.{answer}
+use Rattle.sh_step.specs.Plans.{Plan, page_of}
+use Rattle.sh_step.specs.Rows.{Row}
+use Rattle.sh_core.specs.Words.{read}
+use Rattle.sh_core.specs.Worlds.{World, step, open_world}
+use Rattle.sh_core.specs.Outcomes.{row_of}
+
+-- a step: the action, and the word that its operation answered, which for a store is none
+pub record Step : Type 0 where
+  pub action : Action
+  pub answer : Option ℕ
+
+-- what the event adds to the trail of pass a
+abbrev pub trodden : Plan → World → Event → ℕ → List Step → List Step
+trodden plan w e a steps = elim (row_of plan w e) [
+  | Some m ↦ cond (e.pass == a) (steps ++ record { action = e.action; answer = answer m.operation (read w.words m.place) } ∷ []) steps
+  | None ↦ steps
+]
+
+unfoldable pub trail_from : Plan → World → ℕ → List Step → List Event → List Step
+trail_from plan w a steps [] = steps
+trail_from plan w a steps (e ∷ es) = trail_from plan (step plan w e) a (trodden plan w e a steps) es
+
+-- the trail of pass a over a list of events
+abbrev pub trail_of : Plan → List Event → ℕ → List Step
+trail_of plan es a = trail_from plan (open_world plan) a [] es
+
+-- the log of pass a: its entries in the log of the world, in order
+abbrev pub log_of : ℕ → World → List Entry
+log_of a w = filter (λ e. pass_of e == a) w.log

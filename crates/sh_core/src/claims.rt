@@ -1,0 +1,43 @@
+//! What holds of every run.
+ghost use Rattle.std.specs.Prelude.{◌≡◌, length};
+ghost use Rattle.sh_history.specs.History.{Legal};
+ghost use Rattle.sh_core.specs.Within.{StepsWithin, CountsFit, BellsAreSmall, ValuesFit};
+ghost use Rattle.sh_core.specs.Refines.{Always, OneKind, Filled, HeldStands, ReadsWithin, Counted, CountIsFew, PastIsRemoved, GenerationsEnd, Finished, Armed, LeftEmpty, Linked, OwnPartsStand, FillsAreKeys};
+
+/// The core refines the map: in every heap whose shape fits its layout, after every list of events, whoever did them and
+/// in whatever order, and wherever calls were left unfinished.
+pub fn refines_map()
+    // The replies, in the order of their deciding steps, are a legal history of a map whose keys are never used again.
+    ensures legal { Always (λ plan w l. Legal plan.passes plan.keys.guard_max w.log) }
+
+    // Each slot of a page's class is exactly one of live, marked, retired, mine, in hand and queued, and the six fill the page.
+    ensures one_kind { Always (λ plan w l. OneKind w l) }
+    ensures filled { Always (λ plan w l. Filled w l) }
+
+    // What is held stands in its slot, unchanged.
+    ensures held { Always (λ plan w l. HeldStands plan w) }
+    ensures reads { Always (λ plan w l. ReadsWithin plan w) }
+
+    // A slot's count is its holds and the passes on it for a moment, and has room.
+    ensures counted { Always (λ plan w l. Counted plan w) }
+    ensures few { Always (λ plan w l. CountIsFew w) }
+    ensures counts { Always (λ plan w l. CountsFit plan w) }
+
+    // Generations go up, and end.
+    ensures past { Always (λ plan w l. PastIsRemoved plan w) }
+    ensures generations { Always (λ plan w l. GenerationsEnd plan w) }
+    ensures finished { Always (λ plan w l. Finished plan w) }
+
+    // The duty to ring for an armed page is at one place, and a left shard keeps nothing.
+    ensures armed { Always (λ plan w l. Armed plan w l) }
+    ensures left { Always (λ plan w l. LeftEmpty plan w) }
+    ensures linked { Always (λ plan w l. Linked plan w l) }
+
+    // What a pass has of its own is within its shard, and each step is on a place of the heap.
+    ensures parts { Always (λ plan w l. OwnPartsStand plan w) }
+    ensures fills { Always (λ plan w l. FillsAreKeys plan w) }
+    ensures places { Always (λ plan w l. StepsWithin plan w) }
+    ensures bells { Always (λ plan w l. BellsAreSmall plan w) }
+    ensures values { Always (λ plan w l. ValuesFit plan w) }
+    ensures passes { Always (λ plan w l. length w.parts ≡ plan.passes) }
+{}

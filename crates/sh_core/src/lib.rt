@@ -1,0 +1,18 @@
+//! The core: the heap as a state machine over its words, and what holds after every list of events.
+//!
+//! An event is one action of one pass: one operation on one word, by a row of the table in `sh_step`. A world is the words,
+//! what each pass has of its own, and one log of all replies. The theorem stands on `refines_map`.
+#![tactic(auto)]
+
+pub mod accounts;
+pub mod claims;
+mod opening;
+pub mod outcome;
+#[cfg(test)]
+mod tests;
+pub mod world;
+
+pub use accounts::Accounts;
+pub use claims::refines_map;
+pub use outcome::Outcome;
+pub use world::World;

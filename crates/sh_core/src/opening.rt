@@ -1,0 +1,44 @@
+//! The words of a heap as it opens.
+ghost use Rattle.std.specs.Prelude.{◌≡◌, ◌*◌, ◌≤◌, ◌<◌, IfOk};
+ghost use Rattle.sh_shape.specs.Shape.{IsShape};
+ghost use Rattle.sh_shape.specs.Places.{all_pages, words_of};
+ghost use Rattle.sh_core.specs.Opening.{opening_word, opening_words};
+
+use sh_shape::Shape;
+use std::alloc::{AllocError, Global};
+
+// How many words a page has, and between which of them its state words stand.
+const PAGE_WORDS: u32 = 195;
+
+const STATES: u32 = 3;
+
+const LINKS: u32 = 51;
+
+// A state word says that the slot is empty, in its first generation.
+const FIRST_GENERATION: u64 = 1 << 32;
+
+// The word with this number, where there are so many pages: each slot is empty, and all else is 0.
+fn word_at(pages: u32, number: u32) -> u64
+    requires { pages ≤ 2048 }
+    ensures { result ≡ opening_word pages number }
+{
+    let offset = number % PAGE_WORDS;
+    if number < PAGE_WORDS * pages && STATES <= offset && offset < LINKS {
+        FIRST_GENERATION
+    } else {
+        0
+    }
+}
+
+/// The words of a heap of this shape as it opens.
+#[tactic(auto, using(crate::proofs::OpeningWords::opening_none, crate::proofs::OpeningWords::opening_more))]
+pub fn opening_of(alloc: Global, shape: &Shape) -> Result<Vec<u64>, AllocError>
+    ensures { IfOk result (λ words. words.items ≡ opening_words (all_pages shape.now) (words_of shape.now)) }
+{
+    let pages = shape.shards() * shape.pages();
+    let mut words = Vec::new(alloc);
+    for number in 0..shape.words() {
+        words.push(word_at(pages, number))?;
+    }
+    Ok(words)
+}

@@ -1,0 +1,95 @@
+//! A heap as a state machine.
+ghost use Rattle.std.specs.Prelude.{◌≡◌, IfOk, IfErr, [], length, replicate};
+ghost use Rattle.sh_shape.specs.Shape.{Fits};
+ghost use Rattle.sh_step.specs.Plans.{plan_of};
+ghost use Rattle.sh_core.specs.Worlds.{open_world, newcomer};
+ghost use Rattle.sh_core.specs.Kept.{Stands, Opens};
+
+use crate::opening::opening_of;
+use sh_history::Entry;
+use sh_key::KeyLayout;
+use sh_shape::{Shape, fits};
+use sh_step::Part;
+use sh_value::Refusal;
+use std::alloc::{AllocError, Global};
+use std::marker::{Model, PhantomData};
+
+// The parts of this many passes that have done nothing yet.
+fn newcomers(alloc: Global, passes: u32) -> Result<Vec<Part>, AllocError>
+    ensures { IfOk result (λ parts. parts.items ≡ replicate passes newcomer) }
+{
+    let mut parts = Vec::new(alloc);
+    for _ in 0..passes {
+        parts.push(Part::new(alloc))?;
+    }
+    Ok(parts)
+}
+
+/// The core: a heap's words, what each pass has of its own, and the log of all replies. Its events are done one by one.
+///
+/// A contract sees its shape, its words by their numbers, the bodies of its parts and its log, and that some list of
+/// events leads to it.
+#[derive(Drop)]
+pub struct World<L: KeyLayout> {
+    shape: Shape,
+    words: Vec<u64>,
+    parts: Vec<Part>,
+    log: Vec<Entry>,
+    layout: PhantomData<L>,
+}
+
+impl<L: KeyLayout> Model for World<L> {
+    ghost use Rattle.sh_core.specs.Kept.{Kept, Reached};
+
+    ghost Value = { Kept };
+
+    ghost view = { λ w. record { shape = w.shape; words = w.words.items; parts = w.parts.items; log = w.log.items } };
+
+    ghost invariant = { λ w. Reached L.layout (record { shape = w.shape; words = w.words.items; parts = w.parts.items; log = w.log.items }) };
+}
+
+impl<L: KeyLayout> World<L> {
+    /// A heap of this shape as it opens. Refused as `BadShape` where the shape does not fit the layout, and as `Memory`
+    /// where memory for the words and parts is refused.
+    pub fn new(alloc: Global, shape: Shape) -> Result<World<L>, Refusal>
+        ensures { Opens L.layout shape result }
+    {
+        if !fits::<L>(&shape) {
+            return Err(Refusal::BadShape);
+        }
+        let Ok(words) = opening_of(alloc, &shape) else {
+            return Err(Refusal::Memory);
+        };
+        let Ok(parts) = newcomers(alloc, shape.passes()) else {
+            return Err(Refusal::Memory);
+        };
+        Ok(World {
+            shape,
+            words,
+            parts,
+            log: Vec::new(alloc),
+            layout: PhantomData,
+        })
+    }
+
+    /// All replies so far, in the order of their deciding steps.
+    pub fn log(&self) -> &[Entry]
+        ensures { result.now ≡ self.now.log }
+    {
+        &self.log
+    }
+
+    /// The words, each at the number of its place.
+    pub fn words(&self) -> &[u64]
+        ensures { result.now ≡ self.now.words }
+    {
+        &self.words
+    }
+
+    /// The shape.
+    pub fn shape(&self) -> Shape
+        ensures { result ≡ self.now.shape }
+    {
+        self.shape
+    }
+}
