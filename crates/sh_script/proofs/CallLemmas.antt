@@ -1,28 +1,28 @@
 -- The words of a call are read as that call, and no others are.
-use Rattle.std.proofs.Common.{◌≡◌, ℕ, ◌+◌, ◌^◌, ◌<◌, ◌==◌, ◌++◌, Bool, true, false, List, [], ◌∷◌, length, map, take, drop, slice_get, cond, Option, Some, None, Ok, inl, inr, codes, decimal, slice_index, refl, sym, ap, ap₂, subst, ◌∙◌, arith, eqb-true, ne_eqb, lt-ltb, ltb-true, append_assoc}
-use Rattle.std.specs.List.{All, Contains}
+use Rattle.std.proofs.Common.{◌≡◌, ℕ, ◌+◌, ◌==◌, Bool, true, false, List, [], ◌∷◌, map, take, drop, slice_get, cond, Option, Some, None, Ok, inl, inr, codes, decimal, slice_index, refl, sym, ap, subst, ◌∙◌, arith, eqb-true, ne_eqb, lt-ltb}
+use Rattle.std.specs.List.{Contains}
 use Rattle.std.specs.Str.{bytes_eq}
-use Rattle.std.proofs.lemmas.List.{append-nil}
-use Rattle.std.proofs.lemmas.List.Elements.{All-nil, All-cons, All-head, All-tail}
 use Rattle.std.proofs.lemmas.Slice.Eq.{bytes_eq-Decides}
 use Rattle.sh_script.specs.Words.{Word, is_name}
 use Rattle.sh_script.specs.Names.{Binding, names_of}
-use Rattle.sh_script.specs.Lines.{none_of, found_of, has_key, key_of, keyed_of, reference_of, new_name, numbers_from, command_of, about_of, call_of, line_of}
-use Rattle.sh_script.specs.Meaning.{IsName, IsNewName, IsBoundName, IsReference, IsAbout, IsCall, IsCallLine}
+use Rattle.sh_script.specs.CallLines.{found_of, has_key, key_of, keyed_of, reference_of, new_name, command_of, about_of, call_of, line_of, CallsSoFar, with_call, call_added}
+use Rattle.sh_script.specs.Meaning.{IsName}
+use Rattle.sh_script.specs.CallMeaning.{IsNewName, IsBoundName, IsReference, IsAbout, IsCall, IsCallLine, SaysCall}
 use Rattle.sh_script.specs.declared.calls.Reference.{Reference}
 use Rattle.sh_script.specs.declared.calls.Reference.TheVariants as reference
 use Rattle.sh_script.specs.declared.names.Binder.{Binder}
 use Rattle.sh_script.specs.declared.names.Binder.TheVariants as binder
 use Rattle.sh_script.specs.declared.names.Found.{Found}
-use Rattle.sh_script.specs.declared.line.Command.{Command}
-use Rattle.sh_script.specs.declared.line.Command.TheVariants as command
+use Rattle.sh_script.specs.declared.call.Command.{Command}
+use Rattle.sh_script.specs.declared.call.Command.TheVariants as command
 use Rattle.sh_script.specs.declared.calls.Call.{Call}
 use Rattle.sh_script.specs.declared.calls.Call.TheVariants as call
 use Rattle.sh_script.specs.declared.calls.CallLine.{CallLine}
 use Rattle.sh_script.proofs.NumberLemmas.{number_is, number_gives, number_of_decimal}
 use Rattle.sh_script.proofs.NameLemmas.{name_is, name_gives}
 use Rattle.sh_script.proofs.FindLemmas.{find_is, find_none, find_gives, find_gives_none}
-use Rattle.sh_script.proofs.Steps.{bind_ok, or_ok, ok_is, some_is, if_cases, if_ok, if_read, else_ok, ok_of, not_false, none_of_some, empty_is, next_ok, number_at_ok, only_ok}
+use Rattle.sh_script.proofs.ArgumentLemmas.{numbers_are, numbers_give}
+use Rattle.sh_script.proofs.Steps.{bind_ok, or_ok, ok_is, some_is, if_cases, if_ok, if_read, else_ok, ok_of, not_false, none_of_some, next_ok, pass_at_ok, only_ok, none_is, Agrees}
 
 -- ---- what a word refers to
 
@@ -92,29 +92,6 @@ new_name_gives : (names : List Binding) (name : Word) → IsNewName names name �
 unfolding new_name
 new_name_gives names name h = rw (name_gives name h.is_name, find_gives_none names 0 name h.new) refl
 
-abbrev IsSmall : ℕ → Type 0
-IsSmall n = n < 2 ^ 64
-
-record AreNumbers (front : List ℕ) (ws : List Word) (all : List ℕ) : Type 0 where
-  value : List ℕ
-  says : ws ≡ map decimal value
-  small : All IsSmall value
-  is : all ≡ front ++ value
-
-numbers_are : (ws : List Word) (front all : List ℕ) → numbers_from front ws ≡ Ok all → AreNumbers front ws all
-numbers_are [] front all e = record { value = []; says = refl; small = All-nil IsSmall; is = sym (append-nil front ∙ ok_is front all e) }
-numbers_are (w ∷ ws) front all e =
-    let a = bind_ok _ _ all e in
-    let n = number_is w a.0 (or_ok _ _ _ a.1) in
-    let r = numbers_are ws (front ++ a.0 ∷ []) all a.2 in
-    record { value = a.0 ∷ r.value; says = ap₂ (λ (x : Word) (xs : List Word). x ∷ xs) n.digits r.says; small = All-cons IsSmall a.0 r.value n.small r.small; is = r.is ∙ append_assoc front (a.0 ∷ []) r.value }
-
-numbers_give : (value front : List ℕ) → All IsSmall value → numbers_from front (map decimal value) ≡ Ok (front ++ value)
-numbers_give [] front h = ap (λ xs. Ok xs) (sym (append-nil front))
-numbers_give (n ∷ ns) front h =
-    let small : n < 2 ^ 64 = All-head IsSmall n ns h in
-    rw (number_of_decimal n small) (numbers_give ns (front ++ n ∷ []) (All-tail IsSmall n ns h) ∙ ap (λ xs. Ok xs) (append_assoc front (n ∷ []) ns))
-
 -- ---- the command
 
 abbrev spelled : Command → Word
@@ -167,9 +144,6 @@ about_is names command ws r binds e none =
 about_gives : (names : List Binding) (word : Word) (r : Reference) → IsReference names word r → about_of names (word ∷ []) ≡ Ok r
 unfolding about_of
 about_gives names word r x = reference_gives names word r x
-
-none_is : (ws : List Word) (u : Unit {0}) → none_of ws ≡ Ok u → ws ≡ []
-none_is ws u e = empty_is ws ((if_ok (length ws == 0) tt u _ e).0)
 
 call_is : (names : List Binding) (k : Command) (ws : List Word) (c : Call) (binds : Option Binding) → call_of names k ws ≡ Ok (c, binds) → IsCall names (spelled k ∷ ws) c binds
 unfolding call_of
@@ -262,29 +236,40 @@ call_gives names words (call.Wait i) binds x = record { command = command.Wait; 
 abbrev Lined : Type 0
 Lined = CallLine × Option Binding
 
-pub line_is : (passes : ℕ) (names : List Binding) (ws : List Word) (line : CallLine) (binds : Option Binding) → line_of passes names ws ≡ Ok (line, binds) → IsCallLine passes names ws line binds
+line_is : (passes : ℕ) (names : List Binding) (ws : List Word) (line : CallLine) (binds : Option Binding) → line_of passes names ws ≡ Ok (line, binds) → IsCallLine passes names ws line binds
 unfolding line_of
 line_is passes names ws line binds e =
     let a = bind_ok _ _ _ e in
-    let b = bind_ok _ _ _ a.2 in
-    let c = bind_ok _ _ _ b.2 in
+    let c = bind_ok _ _ _ a.2 in
     let d = bind_ok _ _ _ c.2 in
     let f = bind_ok _ _ _ d.2 in
-    let pass = number_at_ok _ ws a.0 a.1 in
-    let below = if_ok _ _ _ _ b.1 in
+    let pass = pass_at_ok passes ws a.0 a.1 in
     let whole = ok_is {A = Lined} (record { pass = (a.0).0; call = (f.0).0 }, (f.0).1) (line, binds) f.2 in
-    let spoken : b.0 ≡ spelled d.0 ∷ (c.0).1 = next_ok _ b.0 c.0 c.1 ∙ ap (λ x. x ∷ (c.0).1) (command_is (c.0).0 d.0 (or_ok _ _ _ d.1)) in
+    let spoken : (a.0).1 ≡ spelled d.0 ∷ (c.0).1 = next_ok _ (a.0).1 c.0 c.1 ∙ ap (λ x. x ∷ (c.0).1) (command_is (c.0).0 d.0 (or_ok _ _ _ d.1)) in
     subst (λ (x : Lined). IsCallLine passes names ws x.0 x.1) whole (record {
-      first = pass.word;
-      others = b.0;
-      says = pass.is ∙ ap (λ xs. pass.word ∷ xs) below.1;
-      pass_is = number_is _ _ pass.number;
-      below = ltb-true _ _ below.0;
+      first = pass.first.word;
+      others = (a.0).1;
+      says = pass.first.is;
+      pass_is = number_is _ _ pass.first.number;
+      below = pass.below;
       calls = subst (λ xs. IsCall names xs (f.0).0 (f.0).1) (sym spoken) (call_is names d.0 (c.0).1 (f.0).0 (f.0).1 f.1);
     })
 
-pub line_gives : (passes : ℕ) (names : List Binding) (ws : List Word) (line : CallLine) (binds : Option Binding) → IsCallLine passes names ws line binds → line_of passes names ws ≡ Ok (line, binds)
+line_gives : (passes : ℕ) (names : List Binding) (ws : List Word) (line : CallLine) (binds : Option Binding) → IsCallLine passes names ws line binds → line_of passes names ws ≡ Ok (line, binds)
 unfolding line_of
 line_gives passes names ws line binds x =
     let r = call_gives names x.others line.call binds x.calls in
     rw (x.says, r.says, number_gives x.first line.pass x.pass_is, lt-ltb _ _ x.below, command_gives r.command, r.reads) refl
+
+-- ---- the calls so far
+
+added_is : (passes : ℕ) (before : CallsSoFar) (ws : List Word) (now : CallsSoFar) → call_added passes before ws ≡ Ok now → SaysCall passes before ws now
+added_is passes before ws now e =
+    let a = bind_ok _ _ now e in
+    record { line = (a.0).0; binds = (a.0).1; is = line_is passes before.names ws (a.0).0 (a.0).1 a.1; now_is = sym (ok_is (with_call before (a.0).0 (a.0).1) now a.2) }
+
+added_gives : (passes : ℕ) (before : CallsSoFar) (ws : List Word) (now : CallsSoFar) → SaysCall passes before ws now → call_added passes before ws ≡ Ok now
+added_gives passes before ws now x = rw (line_gives passes before.names ws x.line x.binds x.is) (ap ok_of (sym x.now_is))
+
+pub calls_agree : Agrees call_added SaysCall
+calls_agree = record { is = added_is; gives = added_gives }

@@ -9,12 +9,9 @@ use Rattle.sh_script.specs.declared.names.Bound.{Bound}
 use Rattle.std.proofs.lemmas.List.{length-map, map-append}
 use Rattle.sh_script.specs.declared.names.Binder.{Binder}
 use Rattle.sh_script.specs.declared.names.Found.{Found}
-use Rattle.sh_script.proofs.Steps.{some_is}
+use Rattle.sh_script.proofs.Steps.{some_is, not_both, same_word}
 
 -- ---- equal names
-
-same_name : (x y : Word) → bytes_eq x y ≡ true → x ≡ y
-same_name x y e = (bytes_eq-Decides x y).0 e
 
 name_test : (x y : Word) → x ≡ y → bytes_eq x y ≡ true
 name_test x y e = (bytes_eq-Decides x y).1 e
@@ -23,14 +20,11 @@ other_name : (x y : Word) → x ≢ y → bytes_eq x y ≡ false
 other_name x y ne = by (bytes_eq x y) refl
   where
     by : (t : Bool) → bytes_eq x y ≡ t → bytes_eq x y ≡ false
-    by true e = absurd (ne (same_name x y e))
+    by true e = absurd (ne (same_word x y e))
     by false e = e
 
 differ : (x y : Word) → bytes_eq x y ≡ false → x ≢ y
 differ x y e same = not_both _ (name_test x y same) e
-  where
-    not_both : (t : Bool) → t ≡ true → t ≡ false → ⊥
-    not_both t p q = cc
 
 -- ---- elements
 
@@ -76,7 +70,7 @@ find_is (b ∷ bs) n name f e = by (find_is bs (n + 1) name f) (bytes_eq b.name 
         record {
           index = zero;
           place = sym (ap (λ (x : Found). x.place) same) ∙ here;
-          stands = ap₂ (λ (x : Word) (y : Binder). Some (bound_as x y)) (same_name b.name name h) (ap (λ (x : Found). x.by) same);
+          stands = ap₂ (λ (x : Word) (y : Binder). Some (bound_as x y)) (same_word b.name name h) (ap (λ (x : Found). x.by) same);
           first = holds_none name;
         }
     by next false h e =
@@ -127,7 +121,7 @@ push_cons : (x b : Binding) (xs : List Binding) (n : ℕ) (q : Word) → bytes_e
     → find_from (n + 1) (xs ++ b ∷ []) q ≡ or_new b.name (found_at ((n + 1) + length xs) b.by) (find_from (n + 1) xs q) q → (t : Bool) → bytes_eq x.name q ≡ t
     → find_from n (x ∷ (xs ++ b ∷ [])) q ≡ or_new b.name (found_at (n + length (x ∷ xs)) b.by) (find_from n (x ∷ xs) q) q
 push_cons x b xs n q apart next true e =
-    let other : bytes_eq b.name q ≡ false = other_name b.name q (λ same. differ _ _ apart (same_name x.name q e ∙ sym same)) in
+    let other : bytes_eq b.name q ≡ false = other_name b.name q (λ same. differ _ _ apart (same_word x.name q e ∙ sym same)) in
     rw (e, other) refl
 push_cons x b xs n q apart next false e =
     let on : (n + 1) + length xs ≡ n + length (x ∷ xs) = omega arith in

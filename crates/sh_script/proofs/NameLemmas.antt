@@ -6,7 +6,7 @@ use Rattle.std.proofs.lemmas.Bool.Decides.{Decides-and, Decides-or, Decides-eqb,
 use Rattle.sh_script.specs.Words.{Word, is_digit, is_small_letter, is_name_byte, is_name}
 use Rattle.sh_script.specs.Meaning.{IsSmallLetter, IsDigit, IsNameByte, IsName}
 
-le_test : (a b : ℕ) → Decides (nat_le a b) (a ≤ b)
+pub le_test : (a b : ℕ) → Decides (nat_le a b) (a ≤ b)
 le_test a b = (leb-true a b, le-leb a b)
 
 letter : (b : ℕ) → Decides (is_small_letter b) (IsSmallLetter b)

@@ -1,5 +1,5 @@
 -- A number's word is its decimal digits.
-use Rattle.std.proofs.Common.{◌≡◌, ℕ, ◌+◌, ◌-◌, ◌*◌, ◌^◌, ◌<◌, ◌≤◌, ◌==◌, ◌&&◌, not, Bool, true, false, List, [], ◌∷◌, length, get_or, cond, Option, Some, None, refl, sym, ap, subst, ◌∙◌, rules, arith, nat_lt, lt-ltb, ltb-true, ne_eqb, zero, suc, lit<}
+use Rattle.std.proofs.Common.{◌≡◌, ℕ, ◌+◌, ◌-◌, ◌*◌, ◌^◌, ◌<◌, ◌≤◌, ◌==◌, ◌&&◌, not, Bool, true, false, List, [], ◌∷◌, length, get_or, Some, refl, sym, ap, subst, ◌∙◌, rules, arith, nat_lt, lt-ltb, ltb-true, ne_eqb, zero, suc, lit<}
 use Rattle.std.specs.Str.{all_ascii_digits}
 use Rattle.std.specs.Char.{is_ascii_digit}
 use Rattle.std.specs.Fmt.{decimal}
@@ -7,13 +7,14 @@ use Rattle.std.proofs.lemmas.Str.Parse.{IsNumeralModel, numerals_by_fold}
 use Rattle.std.proofs.lemmas.Fmt.{decimal-digits_value, digits_decimal, digits_value-decimal, first_decimal, decimal_nonempty, decimal_digit}
 use Rattle.sh_script.specs.Words.{number_from, number_of, is_digit}
 use Rattle.sh_script.specs.Meaning.{IsNumber}
+use Rattle.sh_script.proofs.Steps.{guarded, unless}
 
 -- the number that digits go on to, however large
-abbrev value_from : ℕ → List ℕ → ℕ
+abbrev pub value_from : ℕ → List ℕ → ℕ
 value_from n [] = n
 value_from n (b ∷ bs) = value_from (n * 10 + (b - 48)) bs
 
-own : IsNumeralModel (λ ds. all_ascii_digits ds ≡ true) (value_from 0)
+pub own : IsNumeralModel (λ ds. all_ascii_digits ds ≡ true) (value_from 0)
 own = numerals_by_fold _ (search rules) value_from (search rules)
 
 grows : (n : ℕ) (w : List ℕ) → n ≤ value_from n w
@@ -25,19 +26,15 @@ record IsRead (n m : ℕ) (w : List ℕ) : Type 0 where
   value : value_from n w ≡ m
   small : n < 2 ^ 64 → m < 2 ^ 64
 
-both_true : (a b : Bool) → (a && b) ≡ true → (a ≡ true) × (b ≡ true)
+pub both_true : (a b : Bool) → (a && b) ≡ true → (a ≡ true) × (b ≡ true)
 both_true true b e = (refl, e)
 both_true false b e = cc
-
-taken : {A : Type 0} (b : Bool) (x : Option A) (y : A) → cond b x None ≡ Some y → (b ≡ true) × (x ≡ Some y)
-taken true x y e = (refl, e)
-taken false x y e = cc
 
 read_digits : (w : List ℕ) (n m : ℕ) → number_from n w ≡ Some m → IsRead n m w
 read_digits [] n m e = let same : n ≡ m = cc in record { digits = refl; value = same; small = λ h. omega arith }
 read_digits (b ∷ bs) n m e =
     let next = n * 10 + (b - 48) in
-    let on = taken (is_digit b && nat_lt next (2 ^ 64)) (number_from next bs) m e in
+    let on = guarded (is_digit b && nat_lt next (2 ^ 64)) (number_from next bs) m e in
     let tests = both_true (is_digit b) (nat_lt next (2 ^ 64)) on.0 in
     let rest = read_digits bs next m on.1 in
     record { digits = rw tests.0 rest.digits; value = rest.value; small = λ _. rest.small (ltb-true _ _ tests.1) }
@@ -50,17 +47,13 @@ digits_read (b ∷ bs) n d h =
     let small : next < 2 ^ 64 = omega (arith, grows next bs) in
     rw (tests.0, lt-ltb _ _ small) (digits_read bs next tests.1 h)
 
-no_zero_first : (t : Bool) (x : Option ℕ) (n : ℕ) → cond t None x ≡ Some n → (t ≡ false) × (x ≡ Some n)
-no_zero_first true x n e = cc
-no_zero_first false x n e = (refl, e)
-
 one_alone : (b k : ℕ) → (b == 48 && not (k == 0)) ≡ false → b ≡ 48 → k ≡ 0
 one_alone b k e z = grind (arith, e, z)
 
 decimal_of_number : (w : List ℕ) (n : ℕ) → number_of w ≡ Some n → (w ≡ decimal n) × (n < 2 ^ 64)
 decimal_of_number [] n e = cc
 decimal_of_number (b ∷ bs) n e =
-    let first = no_zero_first (b == 48 && not (length bs == 0)) (number_from 0 (b ∷ bs)) n e in
+    let first = unless (b == 48 && not (length bs == 0)) (number_from 0 (b ∷ bs)) n e in
     let read = read_digits (b ∷ bs) 0 n first.1 in
     let small : n < 2 ^ 64 = read.small (lit< tt) in
     let fits : value_from 0 (b ∷ bs) < 2 ^ 64 = omega (arith, read.value, small) in

@@ -1,42 +1,58 @@
--- The passes of a script's calls are below those of its header.
-use Rattle.std.proofs.Common.{◌≡◌, ◌<◌, ℕ, List, [], ◌∷◌, ◌++◌, Option, Some, None, inl, inr, refl, sym, subst}
-use Rattle.std.specs.List.{All}
-use Rattle.std.proofs.lemmas.List.Elements.{All-nil, All-push}
+-- What each line keeps, a whole script keeps.
+use Rattle.std.proofs.Common.{◌≡◌, ℕ, List, [], ◌∷◌, inl, inr, refl, sym, subst}
 use Rattle.sh_script.specs.Words.{Word}
-use Rattle.sh_script.specs.Script.{Read, nothing}
-use Rattle.sh_script.specs.Grammar.{SaysNext, Mean, Leads, IsCalls}
-use Rattle.sh_script.specs.declared.calls.Header.{Header}
-use Rattle.sh_script.specs.declared.calls.CallLine.{CallLine}
+use Rattle.sh_script.specs.HeaderMeaning.{IsHeader}
+use Rattle.sh_script.specs.Script.{begin}
+use Rattle.sh_script.specs.Grammar.{Means, SaysNext, Mean, Leads, IsScript}
+use Rattle.sh_script.specs.declared.header.Header.{Header}
+use Rattle.sh_script.specs.declared.header.Version.{Version}
+use Rattle.sh_script.specs.declared.header.Version.TheVariants as version
+use Rattle.sh_script.specs.declared.header.Opening.{Opening}
+use Rattle.sh_script.specs.declared.header.Opening.TheVariants as opening
+use Rattle.sh_script.specs.declared.reader.Read.{Read}
 
-abbrev IsBelow : Header → CallLine → Type 0
-IsBelow h line = line.pass < h.shape.passes
+-- before the header the body is what it was at the start, and under a header it is of the kind that is kept
+abbrev Kept : {S : Type 0} → (Header → S → Type 0) → S → Opening → S → Type 0
+Kept keeps start opening.Unread body = body ≡ start
+Kept keeps start opening.Versioned body = body ≡ start
+Kept keeps start (opening.Headed h) body = keeps h body
 
--- no line has come before the header, and those after it have a pass of its own
-abbrev AreBelow : Option Header → List CallLine → Type 0
-AreBelow None lines = lines ≡ []
-AreBelow (Some h) lines = All (IsBelow h) lines
+abbrev IsKept : {S : Type 0} → (Header → S → Type 0) → S → Read S → Type 0
+IsKept keeps start r = Kept keeps start r.opening r.body
 
-after_next : (before now : Read) (o : Option Header) (ws : List Word) → before.header ≡ o → SaysNext before o ws now → AreBelow before.header before.lines → AreBelow now.header now.lines
-after_next before now None ws e x b =
-    let none : before.lines ≡ [] = subst (λ o. AreBelow o before.lines) e b in
-    let P : Read → Type 0 = λ r. AreBelow r.header r.lines in
-    let all : All (IsBelow x.header) before.lines = subst (λ ls. All (IsBelow x.header) ls) (sym none) (All-nil (IsBelow x.header)) in
-    subst P (sym x.now_is) all
-after_next before now (Some h) ws e x b =
-    let all : All (IsBelow h) before.lines = subst (λ o. AreBelow o before.lines) e b in
-    let more : All (IsBelow h) (before.lines ++ x.line ∷ []) = All-push (IsBelow h) before.lines x.line all x.is.below in
-    let P : Read → Type 0 = λ r. AreBelow r.header r.lines in
-    subst P (sym x.now_is) (subst (λ o. AreBelow o (before.lines ++ x.line ∷ [])) (sym e) more)
+-- the kind holds at the start, and each line keeps it
+pub record IsLasting {S : Type 0} (means : Means S) (start : S) (keeps : Header → S → Type 0) : Type 0 where
+  pub begins : (v : Version) (ws : List Word) (h : Header) → IsHeader v ws h → keeps h start
+  pub lasts : (h : Header) (before now : S) (ws : List Word) → keeps h before → means h.shape.passes before ws now → keeps h now
 
-after_words : (before now : Read) (ws : List Word) → Mean before ws now → AreBelow before.header before.lines → AreBelow now.header now.lines
-after_words before now ws (inl h) b = let P : Read → Type 0 = λ r. AreBelow r.header r.lines in subst P (sym h.1) b
-after_words before now ws (inr h) b = after_next before now before.header ws refl h.1 b
+after_next : {S : Type 0} (means : Means S) (start : S) (keeps : Header → S → Type 0) (lasting : IsLasting means start keeps) (before now : Read S) (o : Opening) (ws : List Word) → before.opening ≡ o
+    → SaysNext means before o ws now → IsKept keeps start before → IsKept keeps start now
+after_next means start keeps lasting before now opening.Unread ws e (inl x) k =
+    let same : before.body ≡ start = subst (λ o. Kept keeps start o before.body) e k in
+    subst (IsKept keeps start) (sym x.now_is) same
+after_next means start keeps lasting before now opening.Unread ws e (inr x) k =
+    let same : before.body ≡ start = subst (λ o. Kept keeps start o before.body) e k in
+    subst (IsKept keeps start) (sym x.now_is) (subst (keeps x.header) (sym same) (lasting.begins version.One ws x.header x.is))
+after_next means start keeps lasting before now opening.Versioned ws e x k =
+    let same : before.body ≡ start = subst (λ o. Kept keeps start o before.body) e k in
+    subst (IsKept keeps start) (sym x.now_is) (subst (keeps x.header) (sym same) (lasting.begins version.Two ws x.header x.is))
+after_next means start keeps lasting before now (opening.Headed h) ws e x k =
+    let kept : keeps h before.body = subst (λ o. Kept keeps start o before.body) e k in
+    let next : keeps h x.body = lasting.lasts h before.body x.body ws kept x.is in
+    subst (IsKept keeps start) (sym x.now_is) (subst (λ o. Kept keeps start o x.body) (sym e) next)
 
-after_lines : (lines : List (List ℕ)) (before now : Read) → Leads before lines now → AreBelow before.header before.lines → AreBelow now.header now.lines
-after_lines [] before now h b = let P : Read → Type 0 = λ r. AreBelow r.header r.lines in subst P h b
-after_lines (l ∷ ls) before now h b = after_lines ls h.0 now h.2 (after_words before h.0 h.1.words h.1.mean b)
+after_words : {S : Type 0} (means : Means S) (start : S) (keeps : Header → S → Type 0) (lasting : IsLasting means start keeps) (before now : Read S) (ws : List Word) → Mean means before ws now → IsKept keeps start before
+    → IsKept keeps start now
+after_words means start keeps lasting before now ws (inl h) k = subst (IsKept keeps start) (sym h.1) k
+after_words means start keeps lasting before now ws (inr h) k = after_next means start keeps lasting before now before.opening ws refl h.1 k
 
-pub calls_below : (text : List ℕ) (h : Header) (calls : List CallLine) → IsCalls text h calls → All (λ l. l.pass < h.shape.passes) calls
-calls_below text h calls x =
-    let all : AreBelow (x.now).header (x.now).lines = after_lines x.lines nothing x.now x.leads refl in
-    subst (λ ls. All (IsBelow h) ls) x.calls_are (subst (λ o. AreBelow o (x.now).lines) x.header_is all)
+after_lines : {S : Type 0} (means : Means S) (start : S) (keeps : Header → S → Type 0) (lasting : IsLasting means start keeps) (lines : List (List ℕ)) (before now : Read S) → Leads means before lines now
+    → IsKept keeps start before → IsKept keeps start now
+after_lines means start keeps lasting [] before now h k = subst (IsKept keeps start) h k
+after_lines means start keeps lasting (l ∷ ls) before now h k =
+    after_lines means start keeps lasting ls h.0 now h.2 (after_words means start keeps lasting before h.0 h.1.words h.1.mean k)
+
+pub script_keeps : {S : Type 0} (means : Means S) (start : S) (keeps : Header → S → Type 0) (lasting : IsLasting means start keeps) (text : List ℕ) (h : Header) (body : S) → IsScript means start text h body → keeps h body
+script_keeps means start keeps lasting text h body x =
+    let all : IsKept keeps start x.now = after_lines means start keeps lasting x.lines (begin start) x.now x.leads refl in
+    subst (keeps h) x.body_is (subst (λ o. Kept keeps start o (x.now).body) x.header_is all)

@@ -6,9 +6,7 @@ use Rattle.std.proofs.lemmas.List.Splits.{slice_split-cons_yes, slice_split-cons
 use Rattle.sh_script.specs.Words.{is_newline}
 use Rattle.sh_script.specs.Script.{pieces_of}
 use Rattle.sh_script.specs.Grammar.{IsLine, spelling}
-
-bool_differs : (b : Bool) → b ≡ true → b ≡ false → ⊥
-bool_differs b p q = cc
+use Rattle.sh_script.proofs.Steps.{not_both}
 
 no_newline : (b : ℕ) (bs : List ℕ) → IsLine (b ∷ bs) → is_newline b ≡ false
 no_newline b bs h = let ne : b ≢ 10 = All-head (λ x. x ≢ 10) b bs h in ne_eqb b 10 ne
@@ -17,7 +15,7 @@ others_too : (b : ℕ) (bs : List ℕ) → IsLine (b ∷ bs) → IsLine bs
 others_too b bs h = All-tail (λ x. x ≢ 10) b bs h
 
 line_cons : (b : ℕ) (bs : List ℕ) → is_newline b ≡ false → IsLine bs → IsLine (b ∷ bs)
-line_cons b bs e h = All-cons (λ x. x ≢ 10) b bs (λ same. bool_differs _ (eq-eqb b 10 same) e) h
+line_cons b bs e h = All-cons (λ x. x ≢ 10) b bs (λ same. not_both _ (eq-eqb b 10 same) e) h
 
 empty_line : IsLine []
 empty_line = All-nil (λ x. x ≢ 10)

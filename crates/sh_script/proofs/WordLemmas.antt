@@ -6,6 +6,7 @@ use Rattle.std.proofs.lemmas.List.Elements.{All-nil, All-cons, All-head, All-tai
 use Rattle.std.proofs.lemmas.List.Splits.{slice_split-cons_yes, slice_split_none, slice_split_at}
 use Rattle.sh_script.specs.Words.{Word, is_space, words_of}
 use Rattle.sh_script.specs.Meaning.{IsWord, EndsWord, AreWords}
+use Rattle.sh_script.proofs.Steps.{not_both}
 
 abbrev IsSpace : ℕ → Type 0
 IsSpace b = b ≡ 32
@@ -96,9 +97,6 @@ after_space b bs (w ∷ ws) e h =
 by_first : (b : ℕ) (bs : List ℕ) (t : Bool) → is_space b ≡ t → HasWords bs → HasWords (b ∷ bs)
 by_first b bs true e h = after_space b bs h.words (eqb-true b 32 e) h.are
 by_first b bs false e h = after_other b bs h.words (λ same. not_both _ (eq-eqb b 32 same) e) h.are
-  where
-    not_both : (t : Bool) → t ≡ true → t ≡ false → ⊥
-    not_both t p q = cc
 
 has_words : (line : List ℕ) → HasWords line
 has_words [] = record { words = []; are = All-nil IsSpace }

@@ -1,17 +1,25 @@
--- A script as its lines and what they mean, apart from how it is read.
-use Rattle.std.specs.Prelude.{◌≡◌, ◌≢◌, ℕ, ◌+◌, ◌<◌, ◌≤◌, ◌⊎◌, List, [], ◌∷◌, ◌++◌, length, Option, Some, None, Err}
+-- A script as its lines and what they mean, apart from how it is read. What a line behind the header means is given by
+-- `means`, from the number of passes, what there was before the line, its words, and what there is after it.
+use Rattle.std.specs.Prelude.{◌≡◌, ◌≢◌, ℕ, ◌+◌, ◌<◌, ◌≤◌, ◌⊎◌, List, [], ◌∷◌, ◌++◌, length, Err}
 use Rattle.std.specs.List.{All}
 use Rattle.sh_script.specs.Words.{Word}
-use Rattle.sh_script.specs.Names.{Binding}
 use Rattle.sh_script.specs.Trouble.{at_line}
-use Rattle.sh_script.specs.Meaning.{AreWords, IsHeader, IsCallLine}
-use Rattle.sh_script.specs.Script.{Read, nothing, with_header, with_line, after_line, ended}
+use Rattle.sh_script.specs.Meaning.{AreWords}
+use Rattle.sh_script.specs.HeaderMeaning.{IsHeader, IsVersionLine}
+use Rattle.sh_script.specs.Script.{Adds, begin, with_opening, with_body, after_line, ended}
 use Rattle.sh_script.specs.declared.fault.Cause.TheVariants as cause
 use Rattle.sh_script.specs.declared.trouble.Trouble.{Trouble}
 use Rattle.sh_script.specs.declared.fault.Fault.{Fault}
 use Rattle.sh_script.specs.declared.fault.Fault.TheVariants as fault
-use Rattle.sh_script.specs.declared.calls.Header.{Header}
-use Rattle.sh_script.specs.declared.calls.CallLine.{CallLine}
+use Rattle.sh_script.specs.declared.header.Header.{Header}
+use Rattle.sh_script.specs.declared.header.Version.{Version}
+use Rattle.sh_script.specs.declared.header.Version.TheVariants as version
+use Rattle.sh_script.specs.declared.header.Opening.{Opening}
+use Rattle.sh_script.specs.declared.header.Opening.TheVariants as opening
+use Rattle.sh_script.specs.declared.reader.Read.{Read}
+
+abbrev pub Means : Type 0 → Type 1
+Means S = ℕ → S → List Word → S → Type 0
 
 -- ---- a line
 
@@ -20,26 +28,31 @@ abbrev pub IsSilent : List Word → Type 0
 IsSilent [] = Unit {0}
 IsSilent (w ∷ ws) = (rest : List ℕ) × (w ≡ 59 ∷ rest)
 
--- the words are a header, which is read now
-pub record SaysHeader (before : Read) (words : List Word) (now : Read) : Type 0 where
+-- the words are the version line, which is read now
+pub record SaysVersion {S : Type 0} (before : Read S) (words : List Word) (now : Read S) : Type 0 where
+  pub is : IsVersionLine words
+  pub now_is : now ≡ with_opening before opening.Versioned
+
+-- the words are a header of this version, which is read now
+pub record SaysHeader {S : Type 0} (v : Version) (before : Read S) (words : List Word) (now : Read S) : Type 0 where
   pub header : Header
-  pub is : IsHeader words header
-  pub now_is : now ≡ with_header before header
+  pub is : IsHeader v words header
+  pub now_is : now ≡ with_opening before (opening.Headed header)
 
--- the words are a call of a pass below those of the header, which is read now
-pub record SaysCall (before : Read) (header : Header) (words : List Word) (now : Read) : Type 0 where
-  pub line : CallLine
-  pub binds : Option Binding
-  pub is : IsCallLine header.shape.passes before.names words line binds
-  pub now_is : now ≡ with_line before line binds
+-- the words add to the body, under a header
+pub record SaysMore {S : Type 0} (means : Means S) (before : Read S) (header : Header) (words : List Word) (now : Read S) : Type 0 where
+  pub body : S
+  pub is : means header.shape.passes before.body words body
+  pub now_is : now ≡ with_body before body
 
--- what says something is a header first, and calls after it
-abbrev pub SaysNext : Read → Option Header → List Word → Read → Type 0
-SaysNext before None words now = SaysHeader before words now
-SaysNext before (Some h) words now = SaysCall before h words now
+-- what says something is `version 2` and then a header, or a header at once, and what adds to the body after it
+abbrev pub SaysNext : {S : Type 0} → Means S → Read S → Opening → List Word → Read S → Type 0
+SaysNext means before opening.Unread words now = SaysVersion before words now ⊎ SaysHeader version.One before words now
+SaysNext means before opening.Versioned words now = SaysHeader version.Two before words now
+SaysNext means before (opening.Headed h) words now = SaysMore means before h words now
 
-abbrev pub Mean : Read → List Word → Read → Type 0
-Mean before words now = (IsSilent words × (now ≡ before)) ⊎ ((¬ IsSilent words) × SaysNext before before.header words now)
+abbrev pub Mean : {S : Type 0} → Means S → Read S → List Word → Read S → Type 0
+Mean means before words now = (IsSilent words × (now ≡ before)) ⊎ ((¬ IsSilent words) × SaysNext means before before.opening words now)
 
 -- a byte from 32 to 126
 pub record IsPrinted (b : ℕ) : Type 0 where
@@ -47,12 +60,12 @@ pub record IsPrinted (b : ℕ) : Type 0 where
   pub to_tilde : b ≤ 126
 
 -- after what was read before it, the line leads to what is read now
-pub record Says (before : Read) (line : List ℕ) (now : Read) : Type 0 where
+pub record Says {S : Type 0} (means : Means S) (before : Read S) (line : List ℕ) (now : Read S) : Type 0 where
   pub short : length line ≤ 512
   pub printed : All IsPrinted line
   pub words : List Word
   pub are_words : AreWords line words
-  pub mean : Mean before words now
+  pub mean : Mean means before words now
 
 -- ---- a text
 
@@ -73,18 +86,18 @@ pub record IsText (text : List ℕ) (lines : List (List ℕ)) (rest : List ℕ) 
   pub short : length text ≤ 1048576
 
 -- lines that mean something lead from what was read before them to what is read after them
-abbrev pub Leads : Read → List (List ℕ) → Read → Type 0
-Leads before [] now = before ≡ now
-Leads before (l ∷ ls) now = (next : Read) × Says before l next × Leads next ls now
+abbrev pub Leads : {S : Type 0} → Means S → Read S → List (List ℕ) → Read S → Type 0
+Leads means before [] now = before ≡ now
+Leads means before (l ∷ ls) now = (next : Read _) × Says means before l next × Leads means next ls now
 
--- the text is a script with this header and these calls
-pub record IsCalls (text : List ℕ) (header : Header) (calls : List CallLine) : Type 0 where
+-- the text is a script with this header, whose other lines lead from the start to this body
+pub record IsScript {S : Type 0} (means : Means S) (start : S) (text : List ℕ) (header : Header) (body : S) : Type 0 where
   pub lines : List (List ℕ)
-  pub now : Read
+  pub now : Read S
   pub is_text : IsText text lines []
-  pub leads : Leads nothing lines now
-  pub header_is : now.header ≡ Some header
-  pub calls_are : now.lines ≡ calls
+  pub leads : Leads means (begin start) lines now
+  pub header_is : now.opening ≡ opening.Headed header
+  pub body_is : now.body ≡ body
 
 -- ---- the first fault
 
@@ -94,26 +107,26 @@ pub record IsTooLong (text : List ℕ) (f : Fault) : Type 0 where
   pub is : f ≡ fault.Script 0 cause.Size
 
 -- the first line with a fault is this one
-pub record HasBadLine (text : List ℕ) (f : Fault) : Type 0 where
+pub record HasBadLine {S : Type 0} (means : Means S) (adds : Adds S) (start : S) (text : List ℕ) (f : Fault) : Type 0 where
   pub before : List (List ℕ)
   pub bad : List ℕ
   pub after : List (List ℕ)
   pub rest : List ℕ
-  pub now : Read
+  pub now : Read S
   pub trouble : Trouble
   pub is_text : IsText text (before ++ bad ∷ after) rest
-  pub leads : Leads nothing before now
-  pub bad_is : after_line now bad ≡ Err trouble
+  pub leads : Leads means (begin start) before now
+  pub bad_is : after_line adds now bad ≡ Err trouble
   pub is : f ≡ at_line (1 + length before) trouble
 
 -- no line has a fault, but the end has
-pub record HasBadEnd (text : List ℕ) (f : Fault) : Type 0 where
+pub record HasBadEnd {S : Type 0} (means : Means S) (start : S) (text : List ℕ) (f : Fault) : Type 0 where
   pub lines : List (List ℕ)
   pub rest : List ℕ
-  pub now : Read
+  pub now : Read S
   pub is_text : IsText text lines rest
-  pub leads : Leads nothing lines now
+  pub leads : Leads means (begin start) lines now
   pub is : ended now (1 + length lines) rest ≡ Err f
 
-abbrev pub IsFault : List ℕ → Fault → Type 0
-IsFault text f = IsTooLong text f ⊎ (HasBadLine text f ⊎ HasBadEnd text f)
+abbrev pub IsFault : {S : Type 0} → Means S → Adds S → S → List ℕ → Fault → Type 0
+IsFault means adds start text f = IsTooLong text f ⊎ (HasBadLine means adds start text f ⊎ HasBadEnd means start text f)

@@ -1,9 +1,14 @@
 pub mod Words
 pub mod Names
 pub mod Trouble
-pub mod Lines
+pub mod Arguments
 pub mod Meaning
+pub mod HeaderMeaning
+pub mod Headers
+pub mod CallLines
+pub mod CallMeaning
+pub mod EventLines
+pub mod EventMeaning
 pub mod Script
-pub mod Reader
 pub mod Grammar
-pub mod Answer
+pub mod Scripts

@@ -1,40 +1,34 @@
--- A whole script as it is read, or its first fault.
-use Rattle.std.specs.Prelude.{ℕ, ◌+◌, ◌==◌, nat_lt, List, [], ◌∷◌, ◌++◌, length, Option, Some, None, Result, Ok, Err, slice_index, if◌then◌else◌}
+-- A whole script as it is read, or its first fault. What a line behind the header adds is given by `adds`, from the number
+-- of passes and what there was before it.
+use Rattle.std.specs.Prelude.{ℕ, ◌+◌, ◌==◌, nat_lt, List, [], ◌∷◌, length, Result, Ok, Err, slice_index, if◌then◌else◌}
 use Rattle.std.specs.List.{slice_split, list_all}
 use Rattle.std.specs.Int.{is_in_range}
 use Rattle.sh_script.specs.Words.{Word, words_of, is_newline}
-use Rattle.sh_script.specs.Names.{Binding}
 use Rattle.sh_script.specs.Trouble.{◌>>=◌, placed}
-use Rattle.sh_script.specs.Lines.{header_of, line_of}
+use Rattle.sh_script.specs.Headers.{header_of, opening_of}
 use Rattle.sh_script.specs.declared.fault.Cause.TheVariants as cause
 use Rattle.sh_script.specs.declared.trouble.Trouble.{Trouble}
 use Rattle.sh_script.specs.declared.trouble.Trouble.TheVariants as trouble
 use Rattle.sh_script.specs.declared.fault.Fault.{Fault}
 use Rattle.sh_script.specs.declared.fault.Fault.TheVariants as fault
-use Rattle.sh_script.specs.declared.calls.Header.{Header}
-use Rattle.sh_script.specs.declared.calls.CallLine.{CallLine}
+use Rattle.sh_script.specs.declared.header.Header.{Header}
+use Rattle.sh_script.specs.declared.header.Version.TheVariants as version
+use Rattle.sh_script.specs.declared.header.Opening.{Opening}
+use Rattle.sh_script.specs.declared.header.Opening.TheVariants as opening
+use Rattle.sh_script.specs.declared.reader.Read.{Read}
 
--- what the lines so far have given: the header, the bound names and the calls, in order
-pub record Read : Type 0 where
-  pub header : Option Header
-  pub names : List Binding
-  pub lines : List CallLine
+abbrev pub Adds : Type 0 → Type 0
+Adds S = ℕ → S → List Word → Result S Trouble
 
--- nothing, before the first line
-abbrev pub nothing : Read
-nothing = record { header = None; names = []; lines = [] }
+-- before the first line
+abbrev pub begin : {S : Type 0} → S → Read S
+begin start = record { opening = opening.Unread; body = start }
 
--- a name that a line binds joins those bound before
-abbrev pub with_name : List Binding → Option Binding → List Binding
-with_name names None = names
-with_name names (Some name) = names ++ name ∷ []
+abbrev pub with_opening : {S : Type 0} → Read S → Opening → Read S
+with_opening before o = record before { opening = o }
 
--- a header joins what was read, and so does a call line with the name that it binds
-abbrev pub with_header : Read → Header → Read
-with_header before h = record before { header = Some h }
-
-abbrev pub with_line : Read → CallLine → Option Binding → Read
-with_line before line binds = record before { names = with_name before.names binds; lines = before.lines ++ line ∷ [] }
+abbrev pub with_body : {S : Type 0} → Read S → S → Read S
+with_body before b = record before { body = b }
 
 -- ---- a line
 
@@ -45,18 +39,19 @@ whole_line line =
     else if list_all (is_in_range 32 126) line then Ok (words_of line)
     else Err (trouble.Because cause.Byte)
 
--- a line that says something is the header, or a call after it
-abbrev pub said : Read → Option Header → List Word → Result Read Trouble
-said before None words = header_of words >>= λ h. Ok (with_header before h)
-said before (Some h) words = line_of h.shape.passes before.names words >>= λ l. Ok (with_line before l.0 l.1)
+-- a line that says something is the header, perhaps after a version line, or one that adds to the body
+abbrev pub said : {S : Type 0} → Adds S → Read S → Opening → List Word → Result (Read S) Trouble
+said adds before opening.Unread words = opening_of words >>= λ o. Ok (with_opening before o)
+said adds before opening.Versioned words = header_of version.Two words >>= λ h. Ok (with_opening before (opening.Headed h))
+said adds before (opening.Headed h) words = adds h.shape.passes before.body words >>= λ b. Ok (with_body before b)
 
 -- a line without a word, or that begins with ;, says nothing
-abbrev pub says : Read → List Word → Result Read Trouble
-says before [] = Ok before
-says before (w ∷ ws) = if slice_index w 0 == 59 then Ok before else said before before.header (w ∷ ws)
+abbrev pub says : {S : Type 0} → Adds S → Read S → List Word → Result (Read S) Trouble
+says adds before [] = Ok before
+says adds before (w ∷ ws) = if slice_index w 0 == 59 then Ok before else said adds before before.opening (w ∷ ws)
 
-abbrev pub after_line : Read → List ℕ → Result Read Trouble
-after_line before line = whole_line line >>= λ words. says before words
+abbrev pub after_line : {S : Type 0} → Adds S → Read S → List ℕ → Result (Read S) Trouble
+after_line adds before line = whole_line line >>= λ words. says adds before words
 
 -- ---- the script
 
@@ -65,23 +60,24 @@ abbrev pub pieces_of : List ℕ → List (List ℕ)
 pieces_of text = slice_split is_newline text
 
 -- a header has come by the end
-abbrev pub headed : ℕ → Option Header → List CallLine → Result (Header × List CallLine) Fault
-headed n None lines = Err (fault.Script n cause.Header)
-headed n (Some h) lines = Ok (h, lines)
+abbrev pub headed : {S : Type 0} → ℕ → Opening → S → Result (Header × S) Fault
+headed n opening.Unread body = Err (fault.Script n cause.Header)
+headed n opening.Versioned body = Err (fault.Script n cause.Header)
+headed n (opening.Headed h) body = Ok (h, body)
 
 -- nothing stands after the last newline
-abbrev pub ended : Read → ℕ → List ℕ → Result (Header × List CallLine) Fault
-ended before n [] = headed n before.header before.lines
+abbrev pub ended : {S : Type 0} → Read S → ℕ → List ℕ → Result (Header × S) Fault
+ended before n [] = headed n before.opening before.body
 ended before n (b ∷ bs) = Err (fault.Script n (if nat_lt 512 (length (b ∷ bs)) then cause.Size else cause.Cut))
 
 -- what the lines from number n on give, or the first fault
-abbrev pub read_from : Read → ℕ → List (List ℕ) → Result (Header × List CallLine) Fault
-read_from before n [] = ended before n []
-read_from before n (rest ∷ []) = ended before n rest
-read_from before n (line ∷ next ∷ more) = placed n (after_line before line) >>= λ now. read_from now (n + 1) (next ∷ more)
+abbrev pub read_from : {S : Type 0} → Adds S → Read S → ℕ → List (List ℕ) → Result (Header × S) Fault
+read_from adds before n [] = ended before n []
+read_from adds before n (rest ∷ []) = ended before n rest
+read_from adds before n (line ∷ next ∷ more) = placed n (after_line adds before line) >>= λ now. read_from adds now (n + 1) (next ∷ more)
 
--- the calls of a text, or its first fault
-abbrev pub script_of : List ℕ → Result (Header × List CallLine) Fault
-script_of text =
+-- what a text gives, or its first fault
+abbrev pub script_of : {S : Type 0} → Adds S → S → List ℕ → Result (Header × S) Fault
+script_of adds start text =
     if nat_lt 1048576 (length text) then Err (fault.Script 0 cause.Size)
-    else read_from nothing 1 (pieces_of text)
+    else read_from adds (begin start) 1 (pieces_of text)

@@ -47,3 +47,13 @@ FailsWith f read = read ≡ Err f
 abbrev pub GivesScript : {X Y : Type 0} → (X → Y) → Result X Fault → Result Y Fault → Type 0
 GivesScript view (Ok x) read = read ≡ Ok (view x)
 GivesScript view (Err e) read = FailsWith e read
+
+-- what is there after a step that may change it, unless memory ran out
+abbrev pub GivesNext : {S : Type 0} → Result S Trouble → S → Result (Unit {0}) Trouble → Type 0
+GivesNext read new (Ok _) = read ≡ Ok new
+GivesNext read new (Err e) = Fails e read
+
+-- the same for the line of this number
+abbrev pub GivesLine : {S : Type 0} → Result S Trouble → ℕ → S → Result (Unit {0}) Fault → Type 0
+GivesLine read n new (Ok _) = placed n read ≡ Ok new
+GivesLine read n new (Err e) = FailsWith e (placed n read)

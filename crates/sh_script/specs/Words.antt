@@ -1,6 +1,6 @@
 -- Words, numbers and names of a line, as they are read.
-use Rattle.std.specs.Prelude.{ℕ, ◌+◌, ◌-◌, ◌*◌, ◌^◌, ◌==◌, ◌&&◌, ◌||◌, Bool, false, not, nat_lt, nat_le, List, [], ◌∷◌, length, Option, Some, None, filter, if◌then◌else◌}
-use Rattle.std.specs.List.{slice_split, list_all}
+use Rattle.std.specs.Prelude.{ℕ, ◌+◌, ◌-◌, ◌*◌, ◌^◌, ◌==◌, ◌&&◌, ◌||◌, Bool, false, not, nat_lt, nat_le, List, [], ◌∷◌, length, Option, Some, None, option_map, take, drop, filter, if◌then◌else◌}
+use Rattle.std.specs.List.{slice_split, list_all, position}
 
 abbrev pub Word : Type 0
 Word = List ℕ
@@ -21,6 +21,13 @@ is_small_letter b = nat_le 97 b && nat_le b 122
 -- the runs of bytes other than space
 abbrev pub words_of : List ℕ → List Word
 words_of line = filter (λ w. not (length w == 0)) (slice_split is_space line)
+
+-- what stands before the first dot, and behind it
+abbrev pub is_dot : ℕ → Bool
+is_dot b = b == 46
+
+abbrev pub split_dot : Word → Option (Word × Word)
+split_dot word = option_map (λ i. (take i word, drop (i + 1) word)) (position is_dot word)
 
 -- the number that digits go on to, from what stands before them
 abbrev pub number_from : ℕ → Word → Option ℕ

@@ -1,23 +1,6 @@
 //! What the lines of a script of calls say.
-use sh_shape::Shape;
-use std::alloc::{AllocError, Global};
-use std::marker::Model;
-
-/// A layout by its name.
-#[derive(Clone, Copy, Debug, PartialEq, Eq)]
-pub enum Layout {
-    /// `tiny`
-    Tiny,
-}
-
-/// What the header of a script gives.
-#[derive(Clone, Copy, Debug, PartialEq, Eq)]
-pub struct Header {
-    /// How keys are packed.
-    pub layout: Layout,
-    /// How many shards, segments and passes there are.
-    pub shape: Shape,
-}
+use crate::header::Header;
+use crate::numbers::Numbers;
 
 /// What a call speaks of: a name or a key.
 #[derive(Clone, Copy, Debug, PartialEq, Eq)]
@@ -26,49 +9,6 @@ pub enum Reference {
     Name(usize),
     /// `#` and a number.
     Key(u64),
-}
-
-/// The words of a value, which may be too many for one. A contract sees the list of the words.
-#[derive(Debug, Drop)]
-pub struct Numbers {
-    items: Vec<u64>,
-}
-
-impl Model for Numbers {
-    ghost use Rattle.std.specs.Prelude.{List, ℕ};
-
-    ghost Value = { List ℕ };
-
-    ghost view = { λ n. n.items.items };
-}
-
-impl Numbers {
-    ghost use Rattle.std.specs.Prelude.{◌≡◌, ◌++◌, ◌∷◌, [], OnOk, OnErr};
-
-    /// No words.
-    pub(crate) fn new(alloc: Global) -> Numbers
-        ensures { result ≡ [] }
-    {
-        Numbers {
-            items: Vec::new(alloc),
-        }
-    }
-
-    /// Adds a word behind the others.
-    pub(crate) fn push(&mut self, word: u64) -> Result<(), AllocError>
-        ensures ok { OnOk result (self.new ≡ self.old ++ word ∷ []) }
-        ensures err { OnErr result (self.new ≡ self.old) }
-    {
-        self.items.push(word)?;
-        Ok(())
-    }
-
-    /// The words, in order.
-    pub fn as_slice(&self) -> &[u64]
-        ensures { result.now ≡ self.now }
-    {
-        self.items.as_slice()
-    }
 }
 
 /// One call.

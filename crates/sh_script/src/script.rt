@@ -1,149 +1,36 @@
-//! A whole script of calls.
-ghost use Rattle.std.specs.Prelude.{◌≡◌, ◌≢◌, ◌<◌, List, IfOk, IfErr, [], ◌∷◌, IfNone, IfSome, length, map, Ok, Err};
-ghost use Rattle.std.specs.List.{All, list_all, position};
-ghost use Rattle.std.specs.Int.{is_in_range};
-ghost use Rattle.sh_script.specs.Words.{is_newline};
-ghost use Rattle.sh_script.specs.Trouble.{Gives};
-ghost use Rattle.sh_script.specs.Answer.{GivesCalls};
-ghost use Rattle.sh_script.specs.Grammar.{IsCalls, IsFault};
+//! Whole scripts, of calls and of events.
+ghost use Rattle.std.specs.Prelude.{◌≡◌, ◌≢◌, ◌<◌, List, [], IfOk, IfErr, Ok, Err};
+ghost use Rattle.std.specs.List.{All};
+ghost use Rattle.sh_step.specs.declared.action.Event.{Event};
 ghost use Rattle.sh_script.specs.declared.fault.Fault.{Fault};
-ghost use Rattle.sh_script.specs.declared.calls.Header.{Header};
+ghost use Rattle.sh_script.specs.declared.header.Header.{Header};
 ghost use Rattle.sh_script.specs.declared.calls.CallLine.{CallLine};
-ghost use Rattle.sh_script.specs.Script.{whole_line, pieces_of, script_of};
+ghost use Rattle.sh_script.specs.HeaderMeaning.{HasTag};
+ghost use Rattle.sh_script.specs.EventLines.{event_added};
+ghost use Rattle.sh_script.specs.Script.{script_of};
+ghost use Rattle.sh_script.specs.Scripts.{IsCalls, IsCallsFault, IsEvents, IsEventsFault, calls_of, GivesCalls, GivesEvents};
 
-use crate::calls::{CallLine, Calls, Header};
-use crate::fault::{Cause, Fault};
-use crate::header::header;
-use crate::line::line;
-use crate::names::Names;
-use crate::trouble::Trouble;
-use crate::words::words;
+use crate::call::CallsRead;
+use crate::calls::Calls;
+use crate::event::{Events, EventsRead};
+use crate::fault::Fault;
+use crate::reader::parse;
 use std::alloc::Global;
 
-fn is_text(line: &[u8]) -> bool
-    ensures { result ≡ list_all (is_in_range 32 126) line.now }
+fn calls(alloc: Global, text: &[u8]) -> Result<Calls, Fault>
+    ensures { GivesCalls result (calls_of text.now) }
 {
-    line.iter().all(|b| 32 <= *b && *b <= 126)
+    let (header, read) = parse(alloc, text, CallsRead::new(alloc))?;
+    let lines = read.into_lines();
+    Ok(Calls { header, lines })
 }
 
-fn words_of_line(alloc: Global, line: &[u8]) -> Result<Vec<&[u8]>, Trouble>
-    ensures { Gives (λ words. map (λ w. w.now) words.items) result (whole_line line.now) }
+fn events(alloc: Global, text: &[u8]) -> Result<Events, Fault>
+    ensures { GivesEvents result (script_of event_added [] text.now) }
 {
-    if line.len() > 512 {
-        return Err(Trouble::Because(Cause::Size));
-    }
-    if !is_text(line) {
-        return Err(Trouble::Because(Cause::Byte));
-    }
-    Ok(words(alloc, line)?)
-}
-
-/// What the lines so far have given.
-#[derive(Drop)]
-struct Reader<'a> {
-    header: Option<Header>,
-    names: Names<'a>,
-    lines: Vec<CallLine>,
-}
-
-impl<'a> Reader<'a> {
-    ghost use Rattle.sh_script.specs.Reader.{GivesRead, GivesLine, read_of, result_of};
-    ghost use Rattle.sh_script.specs.Script.{ended};
-
-    fn says(&mut self, alloc: Global, words: &[&'a [u8]]) -> Result<(), Trouble>
-        ensures { GivesRead self.old self.new result (map (λ w. w.now) words.now) }
-    {
-        let Some(first) = words.first() else {
-            return Ok(());
-        };
-        if first.first() == Some(&b';') {
-            return Ok(());
-        }
-        match self.header {
-            None => self.header = Some(header(words)?),
-            Some(heading) => {
-                let (line, binds) = line(alloc, heading.shape.passes(), &self.names, words)?;
-                if let Some(bound) = binds {
-                    self.names.push(bound.name, bound.by)?;
-                }
-                self.lines.push(line)?;
-            }
-        }
-        Ok(())
-    }
-
-    fn line(&mut self, alloc: Global, number: u64, line: &'a [u8]) -> Result<(), Fault>
-        ensures { GivesLine self.old self.new result number line.entry.now }
-    {
-        match words_of_line(alloc, line) {
-            Ok(words) => match self.says(alloc, words.as_slice()) {
-                Ok(()) => Ok(()),
-                Err(trouble) => Err(trouble.at(number)),
-            },
-            Err(trouble) => Err(trouble.at(number)),
-        }
-    }
-
-    fn end(self, number: u64, rest: &[u8]) -> Result<Calls, Fault>
-        ensures { result_of result ≡ ended (read_of self.entry) number rest.now }
-    {
-        if !rest.is_empty() {
-            let cause = if rest.len() > 512 {
-                Cause::Size
-            } else {
-                Cause::Cut
-            };
-            return Err(Fault::Script(number, cause));
-        }
-        let Reader { header, lines, .. } = self;
-        match header {
-            Some(header) => Ok(Calls { header, lines }),
-            None => Err(Fault::Script(number, Cause::Header)),
-        }
-    }
-}
-
-#[tactic(auto, using(crate::proofs::Pieces::pieces_none, crate::proofs::Pieces::pieces_some))]
-/// The first line and what stands behind its newline, where there is one.
-fn split_line(text: &[u8]) -> Option<(&[u8], &[u8])>
-    ensures none { IfNone result (pieces_of text.now ≡ text.now ∷ []) }
-    ensures some { IfSome result (λ p. pieces_of text.now ≡ p.0.now ∷ pieces_of p.1.now) }
-    ensures shorter { IfSome result (λ p. length p.1.now < length text.now) }
-{
-    match newline_in(text) {
-        None => None,
-        Some(end) => {
-            let (_, rest) = text.split_at(end + 1);
-            Some((&text[..end], rest))
-        }
-    }
-}
-
-fn newline_in(text: &[u8]) -> Option<usize>
-    ensures { result ≡ position is_newline text.now }
-{
-    text.iter().position(|b| *b == b'\n')
-}
-
-fn parse(alloc: Global, text: &[u8]) -> Result<Calls, Fault>
-    ensures { GivesCalls result (script_of text.now) }
-{
-    if text.len() > 1_048_576 {
-        return Err(Fault::Script(0, Cause::Size));
-    }
-    let mut reader = Reader {
-        header: None,
-        names: Names::new(alloc),
-        lines: Vec::new(alloc),
-    };
-    let mut rest = text;
-    let mut number = 1;
-    while let Some((line, more)) = split_line(rest) {
-        reader.line(alloc, number, line)?;
-        rest = more;
-        number += 1;
-    }
-    reader.end(number, rest)
+    let (header, read) = parse(alloc, text, EventsRead::new(alloc))?;
+    let lines = read.into_lines();
+    Ok(Events { header, lines })
 }
 
 /// The calls of a script: its header, and its call lines in order.
@@ -155,14 +42,35 @@ fn parse(alloc: Global, text: &[u8]) -> Result<Calls, Fault>
 pub fn parse_calls(alloc: Global, text: &[u8]) -> Result<Calls, Fault>
     // What is answered is so.
     ensures calls { IfOk result (λ c. IsCalls text.now c.header c.lines.items) }
+    ensures tag { IfOk result (λ c. HasTag c.header.layout c.header.tag) }
     ensures passes { IfOk result (λ c. All (λ l. l.pass < c.header.shape.passes) c.lines.items) }
-    ensures fault { IfErr result (λ f. f ≢ Fault.Memory → IsFault text.now f) }
+    ensures fault { IfErr result (λ f. f ≢ Fault.Memory → IsCallsFault text.now f) }
 
     // What is so is answered, unless memory runs out.
     ensures only_calls { (header : Header) (calls : List CallLine) → IsCalls text.now header calls
         → GivesCalls result (Ok (header, calls)) }
-    ensures only_fault { (f : Fault) → IsFault text.now f
+    ensures only_fault { (f : Fault) → IsCallsFault text.now f
         → GivesCalls result (Err f) }
 {
-    parse(alloc, text)
+    calls(alloc, text)
+}
+
+/// The events of a script: its header, and its event lines in order. Keys stand in them as they are written, also where
+/// the header has a tag.
+///
+/// Faults are answered as by `parse_calls`.
+pub fn parse_events(alloc: Global, text: &[u8]) -> Result<Events, Fault>
+    // What is answered is so.
+    ensures events { IfOk result (λ e. IsEvents text.now e.header e.lines.items) }
+    ensures tag { IfOk result (λ e. HasTag e.header.layout e.header.tag) }
+    ensures passes { IfOk result (λ e. All (λ l. l.pass < e.header.shape.passes) e.lines.items) }
+    ensures fault { IfErr result (λ f. f ≢ Fault.Memory → IsEventsFault text.now f) }
+
+    // What is so is answered, unless memory runs out.
+    ensures only_events { (header : Header) (events : List Event) → IsEvents text.now header events
+        → GivesEvents result (Ok (header, events)) }
+    ensures only_fault { (f : Fault) → IsEventsFault text.now f
+        → GivesEvents result (Err f) }
+{
+    events(alloc, text)
 }

@@ -1,28 +1,20 @@
-use Rattle.std.proofs.Common.{Result, Ok, Err, IfOk, List, ℕ, ◌<◌}
-use Rattle.std.specs.List.{All}
-use Rattle.sh_script.specs.Answer.{GivesCalls}
-use Rattle.sh_script.specs.Script.{script_of}
-use Rattle.sh_script.specs.declared.fault.Fault.{Fault}
-use Rattle.sh_script.specs.declared.calls.Calls.{Calls}
-use Rattle.sh_script.proofs.GrammarLemmas.{calls_found, calls_of_result, fault_of_result, calls_only, fault_only}
-use Rattle.sh_script.proofs.PassLemmas.{calls_below}
+use Rattle.sh_script.proofs.ScriptLemmas.{calls_of_result, passes_of_calls, tag_of_calls, calls_fault_of_result, calls_only, calls_fault_only}
 use Rattle.sh_script.proofs.script.parse_calls.Goals as goal
 
 pub returns-clause-calls : goal.returns-clause-calls
-returns-clause-calls c = calls_of_result c.args.text.now c.parse.result c.parse.ensures
-
-passes_of_result : (text : List ℕ) (r : Result Calls Fault) → GivesCalls r (script_of text) → IfOk r (λ c. All (λ l. l.pass < c.header.shape.passes) c.lines.items)
-passes_of_result text (Ok c) h = calls_below text c.header c.lines.items (calls_found text c.header c.lines.items h)
-passes_of_result text (Err f) h = tt
+returns-clause-calls c = calls_of_result c.args.text.now c.calls.result c.calls.ensures
 
 pub returns-clause-passes : goal.returns-clause-passes
-returns-clause-passes c = passes_of_result c.args.text.now c.parse.result c.parse.ensures
+returns-clause-passes c = passes_of_calls c.args.text.now c.calls.result c.calls.ensures
+
+pub returns-clause-tag : goal.returns-clause-tag
+returns-clause-tag c = tag_of_calls c.args.text.now c.calls.result c.calls.ensures
 
 pub returns-clause-fault : goal.returns-clause-fault
-returns-clause-fault c = fault_of_result c.args.text.now c.parse.result c.parse.ensures
+returns-clause-fault c = calls_fault_of_result c.args.text.now c.calls.result c.calls.ensures
 
 pub returns-clause-only_calls : goal.returns-clause-only_calls
-returns-clause-only_calls c = λ header calls h. rw (calls_only c.args.text.now header calls h) at c.parse.ensures
+returns-clause-only_calls c = λ header lines h. rw (calls_only c.args.text.now header lines h) at c.calls.ensures
 
 pub returns-clause-only_fault : goal.returns-clause-only_fault
-returns-clause-only_fault c = λ f h. rw (fault_only c.args.text.now f h) at c.parse.ensures
+returns-clause-only_fault c = λ f h. rw (calls_fault_only c.args.text.now f h) at c.calls.ensures

@@ -1,17 +1,19 @@
 //! A line with a call, read from its words.
-ghost use Rattle.std.specs.Prelude.{◌≡◌, map, option_map, [], None, IfOk, IfSome};
-ghost use Rattle.sh_script.specs.Words.{number_of};
-ghost use Rattle.sh_script.specs.Trouble.{Gives, or_cause};
+ghost use Rattle.std.specs.Prelude.{◌≡◌, map, option_map, None, IfOk, IfSome};
+ghost use Rattle.sh_script.specs.Trouble.{Gives};
 ghost use Rattle.sh_script.specs.Names.{binding_of, find_from};
-ghost use Rattle.sh_script.specs.Lines.{only_of, none_of, found_of, reference_of, about_of, new_name, numbers_from, command_of, call_of, line_of};
+ghost use Rattle.sh_script.specs.CallLines.{found_of, reference_of, about_of, new_name, command_of, call_of, line_of, call_added};
 
-use crate::calls::{Call, CallLine, Numbers, Reference};
+use crate::arguments::{next, next_pass, none, number_or_cause, only};
+use crate::calls::{Call, CallLine, Reference};
 use crate::fault::Cause;
-use crate::header::{next, next_number};
 use crate::names::{Binder, Bound, Found, Names};
+use crate::numbers::read_numbers;
+use crate::reader::Body;
 use crate::trouble::Trouble;
-use crate::words::{is_name, number};
+use crate::words::is_name;
 use std::alloc::Global;
+use std::marker::Model;
 
 /// The commands.
 #[derive(Clone, Copy, Debug, PartialEq, Eq)]
@@ -36,33 +38,7 @@ pub enum Command {
     Wait,
 }
 
-fn none(words: &[&[u8]]) -> Result<(), Trouble>
-    ensures { Gives (λ u. u) result (none_of (map (λ w. w.now) words.now)) }
-{
-    if words.is_empty() {
-        Ok(())
-    } else {
-        Err(Trouble::Because(Cause::Count))
-    }
-}
-
-fn only<'a>(words: &[&'a [u8]]) -> Result<&'a [u8], Trouble>
-    ensures { Gives (λ w. w.now) result (only_of (map (λ w. w.now) words.now)) }
-{
-    let (word, rest) = next(Cause::Count, words)?;
-    if !rest.is_empty() {
-        return Err(Trouble::Because(Cause::Count));
-    }
-    Ok(word)
-}
-
-fn number_or_cause(word: &[u8]) -> Result<u64, Trouble>
-    ensures { Gives (λ n. n) result (or_cause Cause.Number (number_of word.now)) }
-{
-    number(word).ok_or(Trouble::Because(Cause::Number))
-}
-
-#[tactic(auto, unfolding(crate::specs::Lines::found_of))]
+#[tactic(auto, unfolding(crate::specs::CallLines::found_of))]
 fn found(names: &Names<'_>, word: &[u8]) -> Result<Found, Trouble>
     ensures { Gives (λ f. f) result (found_of names.now word.now) }
 {
@@ -75,7 +51,7 @@ fn found(names: &Names<'_>, word: &[u8]) -> Result<Found, Trouble>
     }
 }
 
-#[tactic(auto, unfolding(crate::specs::Lines::reference_of))]
+#[tactic(auto, unfolding(crate::specs::CallLines::reference_of))]
 fn reference(names: &Names<'_>, word: &[u8]) -> Result<Reference, Trouble>
     ensures { Gives (λ r. r) result (reference_of names.now word.now) }
 {
@@ -89,7 +65,7 @@ fn reference(names: &Names<'_>, word: &[u8]) -> Result<Reference, Trouble>
     }
 }
 
-#[tactic(auto, unfolding(crate::specs::Lines::about_of))]
+#[tactic(auto, unfolding(crate::specs::CallLines::about_of))]
 fn about(names: &Names<'_>, words: &[&[u8]]) -> Result<Reference, Trouble>
     ensures { Gives (λ r. r) result (about_of names.now (map (λ w. w.now) words.now)) }
 {
@@ -122,7 +98,7 @@ fn command_named(word: &[u8]) -> Option<Command>
     }
 }
 
-#[tactic(auto, unfolding(crate::specs::Lines::new_name))]
+#[tactic(auto, unfolding(crate::specs::CallLines::new_name))]
 fn new_name<'a>(names: &Names<'_>, word: &'a [u8]) -> Result<&'a [u8], Trouble>
     ensures name { Gives (λ w. w.now) result (new_name names.now word.entry.now) }
     ensures new { IfOk result (λ w. find_from 0 names.now w.now ≡ None) }
@@ -136,18 +112,8 @@ fn new_name<'a>(names: &Names<'_>, word: &'a [u8]) -> Result<&'a [u8], Trouble>
     Ok(word)
 }
 
-fn numbers(alloc: Global, words: &[&[u8]]) -> Result<Numbers, Trouble>
-    ensures { Gives (λ v. v) result (numbers_from [] (map (λ w. w.now) words.now)) }
-{
-    let mut numbers = Numbers::new(alloc);
-    for word in words {
-        numbers.push(number_or_cause(word)?)?;
-    }
-    Ok(numbers)
-}
-
 /// The call, and the name that it binds.
-#[tactic(auto, unfolding(crate::specs::Lines::call_of))]
+#[tactic(auto, unfolding(crate::specs::CallLines::call_of))]
 fn call<'a>(
     alloc: Global,
     names: &Names<'_>,
@@ -170,7 +136,7 @@ fn call<'a>(
             let (word, rest) = next(Cause::Count, words)?;
             let name = new_name(names, word)?;
             let by = Binder::Insert;
-            let value = numbers(alloc, rest)?;
+            let value = read_numbers(alloc, rest)?;
             Ok((Call::Insert(value), Some(Bound { name, by })))
         }
         Command::Get => Ok((Call::Get(about(names, words)?), None)),
@@ -190,7 +156,7 @@ fn call<'a>(
 }
 
 /// The line that the words say, and the name that it binds, which is not bound yet.
-#[tactic(auto, unfolding(crate::specs::Lines::line_of))]
+#[tactic(auto, unfolding(crate::specs::CallLines::line_of))]
 pub fn line<'a>(
     alloc: Global,
     passes: u32,
@@ -200,15 +166,60 @@ pub fn line<'a>(
     ensures line { Gives (λ c. (c.0, option_map binding_of c.1)) result (line_of passes names.now (map (λ w. w.now) words.now)) }
     ensures new { IfOk result (λ c. IfSome c.1 (λ b. find_from 0 names.now b.name.now ≡ None)) }
 {
-    let (pass, rest) = next_number(Cause::Number, words)?;
-    if passes as u64 <= pass {
-        return Err(Trouble::Because(Cause::Pass));
-    }
-    let pass = pass as u32;
+    let (pass, rest) = next_pass(passes, words)?;
     let (word, rest) = next(Cause::Count, rest)?;
     let Some(command) = command_named(word) else {
         return Err(Trouble::Because(Cause::Command));
     };
     let (call, binds) = call(alloc, names, command, rest)?;
     Ok((CallLine { pass, call }, binds))
+}
+
+/// The calls so far, and the names that they bind. A contract sees both.
+#[derive(Drop)]
+pub struct CallsRead<'a> {
+    names: Names<'a>,
+    lines: Vec<CallLine>,
+}
+
+impl<'a> Model for CallsRead<'a> {
+    ghost use Rattle.sh_script.specs.CallLines.{CallsSoFar};
+
+    ghost Value = { CallsSoFar };
+
+    ghost view = { λ c. record { names = c.names; lines = c.lines.items } };
+}
+
+impl<'a> CallsRead<'a> {
+    ghost use Rattle.sh_script.specs.CallLines.{no_calls};
+
+    /// No calls.
+    pub fn new(alloc: Global) -> Self
+        ensures { result ≡ no_calls }
+    {
+        CallsRead {
+            names: Names::new(alloc),
+            lines: Vec::new(alloc),
+        }
+    }
+
+    /// The calls, in order.
+    pub fn into_lines(self) -> Vec<CallLine>
+        ensures { result.items ≡ self.entry.lines }
+    {
+        self.lines
+    }
+}
+
+impl<'a> Body<'a> for CallsRead<'a> {
+    ghost adds = { call_added };
+
+    fn add(&mut self, alloc: Global, passes: u32, words: &[&'a [u8]]) -> Result<(), Trouble> {
+        let (line, binds) = line(alloc, passes, &self.names, words)?;
+        if let Some(bound) = binds {
+            self.names.push(bound.name, bound.by)?;
+        }
+        self.lines.push(line)?;
+        Ok(())
+    }
 }

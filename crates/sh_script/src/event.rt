@@ -1,0 +1,244 @@
+//! A line with an event, read from its words.
+ghost use Rattle.std.specs.Prelude.{◌≡◌, map};
+ghost use Rattle.sh_script.specs.Trouble.{Gives};
+ghost use Rattle.sh_script.specs.EventLines.{kinds, kind_of, number_alone, page_alone, bare, enter_of, drop_of, fill_of, part_of, read_of, set_class_of, put_of, action_of, event_of, event_added};
+
+use crate::arguments::{next, next_pass, none, number_or_cause, only, two};
+use crate::fault::Cause;
+use crate::header::Header;
+use crate::numbers::read_numbers;
+use crate::place::{page, slot};
+use crate::reader::Body;
+use crate::trouble::Trouble;
+use sh_step::{Action, Event, Kind, PageName};
+use sh_value::Value;
+use std::alloc::Global;
+use std::marker::Model;
+
+/// A script of events: its header, and its events in order.
+#[derive(Debug, Drop)]
+pub struct Events {
+    pub header: Header,
+    pub lines: Vec<Event>,
+}
+
+const KINDS: [Kind; 19] = [
+    Kind::Enter,
+    Kind::Mark,
+    Kind::Drop,
+    Kind::Finish,
+    Kind::Fill,
+    Kind::Publish,
+    Kind::Read,
+    Kind::SetClass,
+    Kind::Take,
+    Kind::Follow,
+    Kind::Put,
+    Kind::Tie,
+    Kind::Adopt,
+    Kind::Leave,
+    Kind::Arm,
+    Kind::Ring,
+    Kind::RingTie,
+    Kind::TakeBell,
+    Kind::FollowBell,
+];
+
+fn kind_named(word: &[u8]) -> Option<Kind>
+    ensures { result ≡ kind_of word.now }
+{
+    KINDS
+        .iter()
+        .copied()
+        .find(|kind| kind.name().as_bytes() == word)
+}
+
+fn number_alone(words: &[&[u8]]) -> Result<u64, Trouble>
+    ensures { Gives (λ n. n) result (number_alone (map (λ w. w.now) words.now)) }
+{
+    number_or_cause(only(words)?)
+}
+
+fn page_alone(words: &[&[u8]]) -> Result<PageName, Trouble>
+    ensures { Gives (λ p. p) result (page_alone (map (λ w. w.now) words.now)) }
+{
+    page(only(words)?)
+}
+
+// An action that has no arguments.
+fn bare(action: Action, words: &[&[u8]]) -> Result<Action, Trouble>
+    ensures { Gives (λ a. a) result (bare action (map (λ w. w.now) words.now)) }
+{
+    none(words)?;
+    Ok(action)
+}
+
+#[tactic(auto, unfolding(crate::specs::EventLines::enter_of))]
+fn enter(words: &[&[u8]]) -> Result<Action, Trouble>
+    ensures { Gives (λ a. a) result (enter_of (map (λ w. w.now) words.now)) }
+{
+    let (way, rest) = next(Cause::Count, words)?;
+    if way == b"get".as_slice() {
+        Ok(Action::EnterGet(number_alone(rest)?))
+    } else if way == b"remove".as_slice() {
+        Ok(Action::EnterRemove(number_alone(rest)?))
+    } else {
+        Err(Trouble::Because(Cause::Command))
+    }
+}
+
+#[tactic(auto, unfolding(crate::specs::EventLines::drop_of))]
+fn drop(words: &[&[u8]]) -> Result<Action, Trouble>
+    ensures { Gives (λ a. a) result (drop_of (map (λ w. w.now) words.now)) }
+{
+    if words.is_empty() {
+        return Ok(Action::Drop);
+    }
+    Ok(Action::DropHold(number_alone(words)?))
+}
+
+#[tactic(auto, unfolding(crate::specs::EventLines::put_of))]
+fn put(words: &[&[u8]]) -> Result<Action, Trouble>
+    ensures { Gives (λ a. a) result (put_of (map (λ w. w.now) words.now)) }
+{
+    if words.is_empty() {
+        return Ok(Action::Put);
+    }
+    Ok(Action::PutSlot(slot(only(words)?)?))
+}
+
+// A value, whose words are at most 16, and its slot; or no word.
+#[tactic(auto, unfolding(crate::specs::EventLines::fill_of))]
+fn fill(alloc: Global, words: &[&[u8]]) -> Result<Action, Trouble>
+    ensures { Gives (λ a. a) result (fill_of (map (λ w. w.now) words.now)) }
+{
+    let Some((place, others)) = words.split_first() else {
+        return Ok(Action::Fill);
+    };
+    if others.len() > 16 {
+        return Err(Trouble::Because(Cause::Count));
+    }
+    let slot = slot(place)?;
+    let words = read_numbers(alloc, others)?;
+    match Value::new(words.as_slice()) {
+        Ok(value) => Ok(Action::FillSlot(slot, value)),
+        Err(_) => unreachable!(),
+    }
+}
+
+// What number j reads of a key: its class, its length, or word j - 2.
+fn part(key: u64, number: u64) -> Action
+    ensures { result ≡ part_of key number }
+{
+    match number {
+        0 => Action::ReadClass(key),
+        1 => Action::ReadLength(key),
+        _ => Action::ReadWord(key, number - 2),
+    }
+}
+
+#[tactic(auto, unfolding(crate::specs::EventLines::read_of))]
+fn read(words: &[&[u8]]) -> Result<Action, Trouble>
+    ensures { Gives (λ a. a) result (read_of (map (λ w. w.now) words.now)) }
+{
+    let Some((key, number)) = two(words) else {
+        return Ok(Action::ReadPage(page_alone(words)?));
+    };
+    let key = number_or_cause(key)?;
+    let number = number_or_cause(number)?;
+    Ok(part(key, number))
+}
+
+#[tactic(auto, unfolding(crate::specs::EventLines::set_class_of))]
+fn set_class(words: &[&[u8]]) -> Result<Action, Trouble>
+    ensures { Gives (λ a. a) result (set_class_of (map (λ w. w.now) words.now)) }
+{
+    let (place, class) = two(words).ok_or(Trouble::Because(Cause::Count))?;
+    let page = page(place)?;
+    Ok(Action::SetClass(page, number_or_cause(class)?))
+}
+
+#[tactic(auto, unfolding(crate::specs::EventLines::action_of))]
+fn action(alloc: Global, kind: Kind, words: &[&[u8]]) -> Result<Action, Trouble>
+    ensures { Gives (λ a. a) result (action_of kind (map (λ w. w.now) words.now)) }
+{
+    match kind {
+        Kind::Enter => enter(words),
+        Kind::Mark => bare(Action::Mark, words),
+        Kind::Drop => drop(words),
+        Kind::Finish => bare(Action::Finish, words),
+        Kind::Fill => fill(alloc, words),
+        Kind::Publish => bare(Action::Publish, words),
+        Kind::Read => read(words),
+        Kind::SetClass => set_class(words),
+        Kind::Take => Ok(Action::Take(page_alone(words)?)),
+        Kind::Follow => Ok(Action::Follow(page_alone(words)?)),
+        Kind::Put => put(words),
+        Kind::Tie => bare(Action::Tie, words),
+        Kind::Adopt => Ok(Action::Adopt(number_alone(words)?)),
+        Kind::Leave => bare(Action::Leave, words),
+        Kind::Arm => Ok(Action::Arm(page_alone(words)?)),
+        Kind::Ring => bare(Action::Ring, words),
+        Kind::RingTie => bare(Action::RingTie, words),
+        Kind::TakeBell => bare(Action::TakeBell, words),
+        Kind::FollowBell => bare(Action::FollowBell, words),
+    }
+}
+
+/// The event that the words say.
+#[tactic(auto, unfolding(crate::specs::EventLines::event_of))]
+pub fn event(alloc: Global, passes: u32, words: &[&[u8]]) -> Result<Event, Trouble>
+    ensures { Gives (λ e. e) result (event_of passes (map (λ w. w.now) words.now)) }
+{
+    let (pass, rest) = next_pass(passes, words)?;
+    let (word, rest) = next(Cause::Count, rest)?;
+    let Some(kind) = kind_named(word) else {
+        return Err(Trouble::Because(Cause::Command));
+    };
+    let action = action(alloc, kind, rest)?;
+    Ok(Event { pass, action })
+}
+
+/// The events so far. A contract sees the list of them.
+#[derive(Drop)]
+pub struct EventsRead {
+    lines: Vec<Event>,
+}
+
+impl Model for EventsRead {
+    ghost use Rattle.std.specs.Prelude.{List};
+    ghost use Rattle.sh_step.specs.declared.action.Event.{Event};
+
+    ghost Value = { List Event };
+
+    ghost view = { λ e. e.lines.items };
+}
+
+impl EventsRead {
+    ghost use Rattle.std.specs.Prelude.{[]};
+
+    /// No events.
+    pub fn new(alloc: Global) -> Self
+        ensures { result ≡ [] }
+    {
+        EventsRead {
+            lines: Vec::new(alloc),
+        }
+    }
+
+    /// The events, in order.
+    pub fn into_lines(self) -> Vec<Event>
+        ensures { result.items ≡ self }
+    {
+        self.lines
+    }
+}
+
+impl<'a> Body<'a> for EventsRead {
+    ghost adds = { event_added };
+
+    fn add(&mut self, alloc: Global, passes: u32, words: &[&'a [u8]]) -> Result<(), Trouble> {
+        self.lines.push(event(alloc, passes, words)?)?;
+        Ok(())
+    }
+}
