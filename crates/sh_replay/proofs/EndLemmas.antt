@@ -43,9 +43,6 @@ ends_here a b c text more n most limit h p e le =
 pub wrote_nothing : (a : Option (List ℕ)) (bytes : List ℕ) → WroteBeginning a a bytes
 wrote_nothing a bytes = record { rest = bytes; wrote = wrote_none a bytes }
 
-pub wrote_some : (a b : Option (List ℕ)) (bytes rest : List ℕ) → Wrote a b bytes rest → WroteBeginning a b bytes
-wrote_some a b bytes rest h = record { rest = rest; wrote = h }
-
 kept_more : (a b : Option (List ℕ)) → Keeps a b → Appends a b []
 kept_more None b h = tt
 kept_more (Some x) None h = absurd h

@@ -1,11 +1,11 @@
 -- Runs on the plain store, one line more.
-use Rattle.std.proofs.Common.{◌≡◌, ℕ, ◌+◌, ◌<◌, List, [], ◌∷◌, ◌++◌, length, take, get_or, refl, sym, ap, subst, ◌∙◌, append_assoc, append-nil, Bool, false, Result, Ok, Err, OnOk}
+use Rattle.std.proofs.Common.{◌≡◌, ℕ, ◌+◌, ◌<◌, List, [], ◌∷◌, ◌++◌, length, take, get_or, refl, sym, ap, subst, ◌∙◌, append_assoc, append-nil, false, Result, Ok, Err, OnOk}
 use Rattle.std.specs.Prelude.{is_err}
 use Rattle.std.proofs.lemmas.List.{take_more}
 use Rattle.sh_key.specs.Layout.{Layout}
 use Rattle.sh_script.specs.declared.calls.CallLine.{CallLine}
 use Rattle.sh_script.specs.Trouble.{FailsWith}
-use Rattle.sh_script.specs.declared.calls.Header.{Header}
+use Rattle.sh_script.specs.declared.header.Header.{Header}
 use Rattle.sh_script.specs.declared.fault.Fault.{Fault}
 use Rattle.sh_script.specs.declared.fault.Fault.TheVariants as fault
 use Rattle.sh_replay.specs.Ends.{IsEndFault}
@@ -13,9 +13,6 @@ use Rattle.sh_replay.specs.declared.answer.Answer.{Answer}
 use Rattle.sh_replay.specs.Replies.{reply_line, replies_text}
 use Rattle.sh_replay.specs.PlainRun.{Run, Steps, Ran}
 use Rattle.sh_replay.specs.Output.{Writes}
-
-pub none_yet : (layout : Layout) (run : Run) → Writes layout run [] run []
-none_yet layout run = record { answers = []; ran = refl; is = refl }
 
 record OneMore (layout : Layout) (before : Run) (lines : List CallLine) (answers : List Answer) (l : CallLine) (a : Answer) (next : Run) : Type 0 where
   ran : Ran layout before (lines ++ l ∷ []) (answers ++ a ∷ []) next

@@ -3,10 +3,10 @@ use Rattle.std.specs.Prelude.{◌≡◌, ℕ, List, Option, ◌⊎◌}
 use Rattle.std.specs.Io.KnownBytes.{Appends, Keeps}
 use Rattle.sh_key.specs.Layout.{Layout}
 use Rattle.sh_shape.specs.Shape.{Numbers}
-use Rattle.sh_script.specs.Meaning.{layout_of}
-use Rattle.sh_script.specs.Grammar.{IsCalls, IsFault}
+use Rattle.sh_script.specs.HeaderMeaning.{layout_of}
+use Rattle.sh_script.specs.Scripts.{IsCalls, IsCallsFault}
 use Rattle.sh_script.specs.declared.calls.CallLine.{CallLine}
-use Rattle.sh_script.specs.declared.calls.Header.{Header}
+use Rattle.sh_script.specs.declared.header.Header.{Header}
 use Rattle.sh_script.specs.declared.fault.Fault.{Fault}
 use Rattle.sh_script.specs.declared.fault.Fault.TheVariants as fault
 use Rattle.sh_replay.specs.declared.answer.Answer.{Answer}
@@ -23,12 +23,12 @@ pub record Writes (layout : Layout) (before : Run) (lines : List CallLine) (afte
   pub is : output ≡ replies_text lines answers
 
 -- the output is what mode plain may write for these lines; it is one text alone unless memory is refused
-abbrev pub IsPlainOutput : Layout → Numbers → List CallLine → List ℕ → Type 0
-IsPlainOutput layout shape lines output =
-    (after : Run) × Writes layout (opening shape.shards shape.passes) lines after output
+abbrev pub IsPlainOutput : Layout → Numbers → Option ℕ → List CallLine → List ℕ → Type 0
+IsPlainOutput layout shape tag lines output =
+    (after : Run) × Writes layout (opening shape.shards shape.passes tag) lines after output
 
 abbrev pub IsOutput : Mode → Header → List CallLine → List ℕ → Type 0
-IsOutput mode.Plain header lines output = IsPlainOutput (layout_of header.layout) header.shape lines output
+IsOutput mode.Plain header lines output = IsPlainOutput (layout_of header.layout) header.shape header.tag lines output
 
 -- the text is a script, and the whole output of its run was written
 pub record Runs (mode : Mode) (text : List ℕ) (old new : Option (List ℕ)) : Type 0 where
@@ -56,4 +56,4 @@ Stops mode text old new = Keeps old new ⊎ Begins mode text old new
 abbrev pub IsFaultOf : List ℕ → Fault → Type 0
 IsFaultOf text fault.Memory = Unit {0}
 IsFaultOf text fault.Io = Unit {0}
-IsFaultOf text f = IsFault text f
+IsFaultOf text f = IsCallsFault text f

@@ -1,10 +1,10 @@
 -- A run of calls on the plain store, line by line.
-use Rattle.std.specs.Prelude.{◌≡◌, ℕ, ◌<◌, nat_lt, nat_le, not, Bool, true, false, List, [], ◌∷◌, ◌++◌, length, replicate, slice_get, slice_index_or, slice_set, Option, Some, None, Result, Ok, Err, if◌then◌else◌}
+use Rattle.std.specs.Prelude.{◌≡◌, ℕ, ◌+◌, ◌*◌, ◌/◌, ◌%◌, ◌^◌, ◌==◌, ◌≤◌, ok_or, nat_lt, nat_le, not, Bool, true, false, List, [], ◌∷◌, ◌++◌, length, replicate, slice_get, slice_index_or, slice_set, Option, Some, None, Result, Ok, Err, if◌then◌else◌}
 use Rattle.std.specs.Result.{result_ok}
-use Rattle.sh_value.specs.declared.hold.Hold.{Hold}
 use Rattle.sh_value.specs.declared.refusal.Refusal.{Refusal}
 use Rattle.sh_value.specs.declared.refusal.Refusal.TheVariants as refusal
-use Rattle.sh_key.specs.Layout.{Layout}
+use Rattle.sh_key.specs.Layout.{Layout, first_key, key_count}
+use Rattle.sh_key.specs.Tag.{with_tag}
 use Rattle.sh_plain.specs.Plain.{Plain, Reply, Replied, refused, with_added, insert_reply, get_reply, read_answer, remove_reply, release_reply}
 use Rattle.sh_script.specs.declared.calls.Reference.{Reference}
 use Rattle.sh_script.specs.declared.calls.Reference.TheVariants as reference
@@ -14,21 +14,22 @@ use Rattle.sh_script.specs.declared.calls.CallLine.{CallLine}
 use Rattle.sh_replay.specs.declared.answer.Answer.{Answer}
 use Rattle.sh_replay.specs.declared.answer.Answer.TheVariants as answer
 
--- the store; for each pass whether it has a shard; for each name that is bound its key, or none where the insert was
--- refused or a post bound it
+-- the tag of the keys in the script, if they have one; the store; for each pass whether it has a shard; for each name that
+-- is bound its key, or none where the insert was refused or a post bound it
 pub record Run : Type 0 where
   pub shards : ℕ
+  pub tag : Option ℕ
   pub store : Plain
   pub owners : List Bool
   pub keys : List (Option ℕ)
 
-abbrev pub run_of : ℕ → Plain → List Bool → List (Option ℕ) → Run
-run_of shards store owners keys = record { shards = shards; store = store; owners = owners; keys = keys }
+abbrev pub run_of : ℕ → Option ℕ → Plain → List Bool → List (Option ℕ) → Run
+run_of shards tag store owners keys = record { shards = shards; tag = tag; store = store; owners = owners; keys = keys }
 
 -- no pass has a shard, and no name is bound
-abbrev pub opening : (shards passes : ℕ) → Run
-opening shards passes =
-    run_of shards (record { entries = []; pass = 0; passes = passes }) (replicate 64 false) []
+abbrev pub opening : (shards passes : ℕ) → Option ℕ → Run
+opening shards passes tag =
+    run_of shards tag (record { entries = []; pass = 0; passes = passes }) (replicate 64 false) []
 
 -- the pass whose call is run
 abbrev pub at_turn : Run → ℕ → Run
@@ -37,6 +38,23 @@ at_turn run pass = record run { store = record run.store { pass = pass } }
 -- whether that pass has a shard
 abbrev pub has_shard : Run → Bool
 has_shard run = slice_index_or run.owners run.store.pass false
+
+-- ---- keys as a script has them
+
+-- a key of the store is written with the tag, if there is one
+abbrev pub shown : Option ℕ → ℕ → ℕ
+shown None key = key
+shown (Some tag) key = with_tag key tag
+
+-- a number is the key of the store that is written so: with a tag, it is one with this tag and bits 52 to 55 zero
+abbrev pub key_shown : Option ℕ → ℕ → Option ℕ
+key_shown None number = Some number
+key_shown (Some tag) number = if number / 2 ^ 52 == tag * 16 then Some (number % 2 ^ 52) else None
+
+-- where there is a tag, the layout's keys leave room for it
+abbrev pub HasRoom : Layout → Option ℕ → Type 0
+HasRoom layout None = Unit {0}
+HasRoom layout (Some tag) = first_key layout + key_count layout ≤ 2 ^ 52
 
 -- ---- adopt: whoever else adopted the shard
 
@@ -69,26 +87,27 @@ insert_attempt layout run words =
     else if not (has_shard run) then refused refusal.NoShard
     else insert_reply layout run.store words
 
-abbrev pub key_answer : Result ℕ Refusal → Answer
-key_answer (Ok key) = answer.Key key
-key_answer (Err r) = answer.Refused r
+abbrev pub key_answer : Option ℕ → Result ℕ Refusal → Answer
+key_answer tag (Ok key) = answer.Key (shown tag key)
+key_answer tag (Err r) = answer.Refused r
 
 -- the attempt was answered so, or its memory was refused; the name is bound to the key, if there is one
 pub record Inserts (layout : Layout) (run : Run) (words : List ℕ) (told : Answer) (next : Run) : Type 0 where
   pub result : Result ℕ Refusal
   pub replied : Replied (insert_attempt layout run words) run.store result next.store
-  pub is : told ≡ key_answer result
+  pub is : told ≡ key_answer run.tag result
   pub next_is : next ≡ record run { store = next.store; keys = run.keys ++ result_ok result ∷ [] }
 
 -- ---- calls on a name or a key
 
 -- the key of a name, if its insert was not refused
-abbrev pub bound_key : Option (Option ℕ) → Option ℕ
-bound_key None = None
-bound_key (Some key) = key
+abbrev pub bound_key : Option (Option ℕ) → Result ℕ Answer
+bound_key (Some (Some key)) = Ok key
+bound_key _ = Err answer.Unbound
 
-abbrev pub key_of : Run → Reference → Option ℕ
-key_of run (reference.Key key) = Some key
+-- the key that a call speaks of, or what is answered where there is none
+abbrev pub key_of : Run → Reference → Result ℕ Answer
+key_of run (reference.Key number) = ok_or (key_shown run.tag number) (answer.Refused refusal.BadKey)
 key_of run (reference.Name i) = bound_key (slice_get run.keys i)
 
 abbrev pub done_answer : {A : Type 0} → Result A Refusal → Answer
@@ -100,15 +119,15 @@ value_answer (Ok words) = answer.Read words
 value_answer (Err r) = answer.Refused r
 
 -- the call on a key has this reply, whose entry the store gains
-abbrev pub Tells : {A : Type 0} → (Plain → ℕ → Reply A) → Run → Option ℕ → Answer → Run → Type 0
-Tells reply run None told next = (told ≡ answer.Unbound) × (next ≡ run)
-Tells reply run (Some key) told next =
+abbrev pub Tells : {A : Type 0} → (Plain → ℕ → Reply A) → Run → Result ℕ Answer → Answer → Run → Type 0
+Tells reply run (Err a) told next = (told ≡ a) × (next ≡ run)
+Tells reply run (Ok key) told next =
     (told ≡ done_answer (reply run.store key).answer)
     × (next ≡ record run { store = with_added run.store (reply run.store key).adds })
 
-abbrev pub Reads : Run → Option ℕ → Answer → Run → Type 0
-Reads run None told next = (told ≡ answer.Unbound) × (next ≡ run)
-Reads run (Some key) told next = (told ≡ value_answer (read_answer run.store key)) × (next ≡ run)
+abbrev pub Reads : Run → Result ℕ Answer → Answer → Run → Type 0
+Reads run (Err a) told next = (told ≡ a) × (next ≡ run)
+Reads run (Ok key) told next = (told ≡ value_answer (read_answer run.store key)) × (next ≡ run)
 
 -- ---- a line, and lines
 

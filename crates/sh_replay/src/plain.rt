@@ -1,37 +1,65 @@
 //! Mode plain: the calls of a script on the plain store, in the order of their lines.
-ghost use Rattle.std.specs.Prelude.{◌≡◌, ◌<◌, ◌≤◌, ◌++◌, ◌∷◌, [], None, IfOk, IfErr};
-ghost use Rattle.sh_key.specs.Layout.{Layout};
+ghost use Rattle.std.specs.Prelude.{◌≡◌, ◌+◌, ◌^◌, ◌<◌, ◌≤◌, ◌++◌, ◌∷◌, [], None, IfOk, IfErr, IfSome};
+ghost use Rattle.sh_key.specs.Layout.{Layout, first_key, key_count};
 ghost use Rattle.sh_plain.specs.Plain.{Plain, Replied, get_reply, remove_reply, release_reply};
-ghost use Rattle.sh_replay.specs.PlainRun.{run_of, at_turn, has_shard, adopt_answer, adopts, opening, leave_answer, leaves, insert_attempt, Inserts, key_of, Tells, Reads, Steps};
+ghost use Rattle.sh_replay.specs.PlainRun.{run_of, at_turn, shown, key_shown, HasRoom, has_shard, adopt_answer, adopts, opening, leave_answer, leaves, insert_attempt, Inserts, key_of, Tells, Reads, Steps};
 
 use crate::Answer;
-use sh_key::KeyLayout;
+use sh_key::{KeyLayout, Tagged};
 use sh_plain::{PlainStore, Store};
 use sh_script::{Call, CallLine, Fault, Reference};
 use sh_value::{Hold, Refusal, Value};
 use std::alloc::Global;
 
+// A key of the store as a script has it: with the tag, if there is one.
+fn shown(tag: Option<u8>, key: u64) -> u64
+    requires { IfSome tag (λ _. key < 2 ^ 52) }
+    ensures { result ≡ shown tag key }
+{
+    match tag {
+        Some(tag) => Tagged::tag(key, tag),
+        None => key,
+    }
+}
+
+// The key of the store that is written so. With a tag, a number without it is no key.
+#[tactic(auto, using(crate::proofs::KeyLemmas::untags, crate::proofs::KeyLemmas::untags_none))]
+fn key_shown(tag: Option<u8>, number: u64) -> Option<u64>
+    ensures { result ≡ key_shown tag number }
+{
+    let Some(tag) = tag else {
+        return Some(number);
+    };
+    match Tagged::untag(number) {
+        Some((found, key)) if found == tag => Some(key),
+        _ => None,
+    }
+}
+
 // As many passes as a shape may have.
 const PASSES_MAX: usize = 64;
 
-/// A run on the plain store: which passes have a shard, and which key each bound name has.
+/// A run on the plain store: the tag of its keys, which passes have a shard, and which key each bound name has.
 #[derive(Drop)]
 pub struct PlainRun<L: KeyLayout> {
     shards: u32,
+    tag: Option<u8>,
     store: PlainStore<L>,
     owners: [bool; 64],
     keys: Vec<Option<u64>>,
 }
 
 impl<L: KeyLayout> PlainRun<L> {
-    /// A run of this many shards and passes, in which nobody has a shard and nothing is bound.
-    pub fn new(alloc: Global, shards: u32, passes: u32) -> Self
+    /// A run of this many shards and passes, in which nobody has a shard and nothing is bound. Where there is a tag, keys
+    /// are written with it.
+    pub fn new(alloc: Global, shards: u32, passes: u32, tag: Option<u8>) -> Self
         requires some { 1 ≤ passes }
         requires few { passes ≤ 64 }
-        ensures { run_of result.shards result.store result.owners result.keys.items ≡ opening shards passes }
+        ensures { run_of result.shards result.tag result.store result.owners result.keys.items ≡ opening shards passes tag }
     {
         PlainRun {
             shards,
+            tag,
             store: PlainStore::new(alloc, passes),
             owners: [false; PASSES_MAX],
             keys: Vec::new(alloc),
@@ -42,11 +70,13 @@ impl<L: KeyLayout> PlainRun<L> {
     pub fn step(&mut self, line: &CallLine) -> Result<Answer, Fault>
         requires pass { line.now.pass < self.old.store.passes }
         requires few { self.old.store.passes ≤ 64 }
+        requires room { HasRoom L.layout self.old.tag }
         ensures steps { IfOk result (λ answer. Steps L.layout
-            (run_of self.old.shards self.old.store self.old.owners self.old.keys.items) line.now answer
-            (run_of self.new.shards self.new.store self.new.owners self.new.keys.items)) }
+            (run_of self.old.shards self.old.tag self.old.store self.old.owners self.old.keys.items) line.now answer
+            (run_of self.new.shards self.new.tag self.new.store self.new.owners self.new.keys.items)) }
         ensures memory { IfErr result (λ fault. fault ≡ Fault.Memory) }
         ensures passes { self.new.store.passes ≡ self.old.store.passes }
+        ensures tag { self.new.tag ≡ self.old.tag }
     {
         self.store.turn(line.pass);
         match &line.call {
@@ -65,9 +95,9 @@ impl<L: KeyLayout> PlainRun<L> {
     fn adopt(&mut self, pass: u32, shard: u64) -> Answer
         requires own { pass ≡ self.old.store.pass }
         requires few { pass < 64 }
-        ensures answer { result ≡ adopt_answer (run_of self.old.shards self.old.store self.old.owners self.old.keys.items) shard }
-        ensures adopts { run_of self.new.shards self.new.store self.new.owners self.new.keys.items
-            ≡ adopts (run_of self.old.shards self.old.store self.old.owners self.old.keys.items) shard }
+        ensures answer { result ≡ adopt_answer (run_of self.old.shards self.old.tag self.old.store self.old.owners self.old.keys.items) shard }
+        ensures adopts { run_of self.new.shards self.new.tag self.new.store self.new.owners self.new.keys.items
+            ≡ adopts (run_of self.old.shards self.old.tag self.old.store self.old.owners self.old.keys.items) shard }
     {
         if self.owners[pass as usize] {
             return Answer::Refused(Refusal::Taken);
@@ -82,9 +112,9 @@ impl<L: KeyLayout> PlainRun<L> {
     fn leave(&mut self, pass: u32) -> Answer
         requires own { pass ≡ self.old.store.pass }
         requires few { pass < 64 }
-        ensures answer { result ≡ leave_answer (run_of self.old.shards self.old.store self.old.owners self.old.keys.items) }
-        ensures leaves { run_of self.new.shards self.new.store self.new.owners self.new.keys.items
-            ≡ leaves (run_of self.old.shards self.old.store self.old.owners self.old.keys.items) }
+        ensures answer { result ≡ leave_answer (run_of self.old.shards self.old.tag self.old.store self.old.owners self.old.keys.items) }
+        ensures leaves { run_of self.new.shards self.new.tag self.new.store self.new.owners self.new.keys.items
+            ≡ leaves (run_of self.old.shards self.old.tag self.old.store self.old.owners self.old.keys.items) }
     {
         if !self.owners[pass as usize] {
             return Answer::Refused(Refusal::NoShard);
@@ -97,9 +127,10 @@ impl<L: KeyLayout> PlainRun<L> {
     fn try_insert(&mut self, pass: u32, words: &[u64]) -> Result<u64, Refusal>
         requires own { pass ≡ self.old.store.pass }
         requires few { pass < 64 }
-        ensures replied { Replied (insert_attempt L.layout (run_of self.old.shards self.old.store self.old.owners self.old.keys.items) words.now)
+        ensures replied { Replied (insert_attempt L.layout (run_of self.old.shards self.old.tag self.old.store self.old.owners self.old.keys.items) words.now)
             self.old.store result self.new.store }
         ensures same { self.new ≡ record self.old { store = self.new.store } }
+        ensures small { IfOk result (λ key. key < first_key L.layout + key_count L.layout) }
     {
         let value = Value::new(words)?;
         if !self.owners[pass as usize] {
@@ -111,45 +142,52 @@ impl<L: KeyLayout> PlainRun<L> {
     fn insert(&mut self, pass: u32, words: &[u64]) -> Result<Answer, Fault>
         requires own { pass ≡ self.old.store.pass }
         requires few { pass < 64 }
+        requires room { HasRoom L.layout self.old.tag }
         ensures inserts { IfOk result (λ answer. Inserts L.layout
-            (run_of self.old.shards self.old.store self.old.owners self.old.keys.items) words.now answer
-            (run_of self.new.shards self.new.store self.new.owners self.new.keys.items)) }
+            (run_of self.old.shards self.old.tag self.old.store self.old.owners self.old.keys.items) words.now answer
+            (run_of self.new.shards self.new.tag self.new.store self.new.owners self.new.keys.items)) }
         ensures memory { IfErr result (λ fault. fault ≡ Fault.Memory) }
         ensures passes { self.new.store.passes ≡ self.old.store.passes }
+        ensures tag { self.new.tag ≡ self.old.tag }
     {
         let result = self.try_insert(pass, words);
         if self.keys.push(result.ok()).is_err() {
             return Err(Fault::Memory);
         }
         match result {
-            Ok(key) => Ok(Answer::Key(key)),
+            Ok(key) => Ok(Answer::Key(shown(self.tag, key))),
             Err(refusal) => Ok(Answer::Refused(refusal)),
         }
     }
 
-    // The key that a call speaks of, if its name has one.
-    fn key_of(&self, reference: Reference) -> Option<u64>
-        ensures { result ≡ key_of (run_of self.now.shards self.now.store self.now.owners self.now.keys.items) reference }
+    // The key that a call speaks of, or what it is answered where there is none.
+    fn key_of(&self, reference: Reference) -> Result<u64, Answer>
+        ensures { result ≡ key_of (run_of self.now.shards self.now.tag self.now.store self.now.owners self.now.keys.items) reference }
     {
         match reference {
-            Reference::Key(key) => Some(key),
+            Reference::Key(number) => match key_shown(self.tag, number) {
+                Some(key) => Ok(key),
+                None => Err(Answer::Refused(Refusal::BadKey)),
+            },
             Reference::Name(i) => match self.keys.get(i) {
-                Some(key) => *key,
-                None => None,
+                Some(Some(key)) => Ok(*key),
+                Some(None) | None => Err(Answer::Unbound),
             },
         }
     }
 
     fn get(&mut self, reference: Reference) -> Result<Answer, Fault>
         ensures tells { IfOk result (λ answer. Tells (get_reply L.layout)
-            (run_of self.old.shards self.old.store self.old.owners self.old.keys.items)
-            (key_of (run_of self.old.shards self.old.store self.old.owners self.old.keys.items) reference) answer
-            (run_of self.new.shards self.new.store self.new.owners self.new.keys.items)) }
+            (run_of self.old.shards self.old.tag self.old.store self.old.owners self.old.keys.items)
+            (key_of (run_of self.old.shards self.old.tag self.old.store self.old.owners self.old.keys.items) reference) answer
+            (run_of self.new.shards self.new.tag self.new.store self.new.owners self.new.keys.items)) }
         ensures memory { IfErr result (λ fault. fault ≡ Fault.Memory) }
         ensures passes { self.new.store.passes ≡ self.old.store.passes }
+        ensures tag { self.new.tag ≡ self.old.tag }
     {
-        let Some(key) = self.key_of(reference) else {
-            return Ok(Answer::Unbound);
+        let key = match self.key_of(reference) {
+            Ok(key) => key,
+            Err(answer) => return Ok(answer),
         };
         match self.store.get(key) {
             Ok(_) => Ok(Answer::Done),
@@ -159,12 +197,13 @@ impl<L: KeyLayout> PlainRun<L> {
     }
 
     fn read(&mut self, reference: Reference) -> Answer
-        ensures { Reads (run_of self.old.shards self.old.store self.old.owners self.old.keys.items)
-            (key_of (run_of self.old.shards self.old.store self.old.owners self.old.keys.items) reference) result
-            (run_of self.new.shards self.new.store self.new.owners self.new.keys.items) }
+        ensures { Reads (run_of self.old.shards self.old.tag self.old.store self.old.owners self.old.keys.items)
+            (key_of (run_of self.old.shards self.old.tag self.old.store self.old.owners self.old.keys.items) reference) result
+            (run_of self.new.shards self.new.tag self.new.store self.new.owners self.new.keys.items) }
     {
-        let Some(key) = self.key_of(reference) else {
-            return Answer::Unbound;
+        let key = match self.key_of(reference) {
+            Ok(key) => key,
+            Err(answer) => return answer,
         };
         match self.store.read(Hold { key }) {
             Ok(value) => Answer::Read(value),
@@ -174,14 +213,16 @@ impl<L: KeyLayout> PlainRun<L> {
 
     fn remove(&mut self, reference: Reference) -> Result<Answer, Fault>
         ensures tells { IfOk result (λ answer. Tells (remove_reply L.layout)
-            (run_of self.old.shards self.old.store self.old.owners self.old.keys.items)
-            (key_of (run_of self.old.shards self.old.store self.old.owners self.old.keys.items) reference) answer
-            (run_of self.new.shards self.new.store self.new.owners self.new.keys.items)) }
+            (run_of self.old.shards self.old.tag self.old.store self.old.owners self.old.keys.items)
+            (key_of (run_of self.old.shards self.old.tag self.old.store self.old.owners self.old.keys.items) reference) answer
+            (run_of self.new.shards self.new.tag self.new.store self.new.owners self.new.keys.items)) }
         ensures memory { IfErr result (λ fault. fault ≡ Fault.Memory) }
         ensures passes { self.new.store.passes ≡ self.old.store.passes }
+        ensures tag { self.new.tag ≡ self.old.tag }
     {
-        let Some(key) = self.key_of(reference) else {
-            return Ok(Answer::Unbound);
+        let key = match self.key_of(reference) {
+            Ok(key) => key,
+            Err(answer) => return Ok(answer),
         };
         match self.store.remove(key) {
             Ok(_) => Ok(Answer::Done),
@@ -192,14 +233,16 @@ impl<L: KeyLayout> PlainRun<L> {
 
     fn release(&mut self, reference: Reference) -> Result<Answer, Fault>
         ensures tells { IfOk result (λ answer. Tells (release_reply)
-            (run_of self.old.shards self.old.store self.old.owners self.old.keys.items)
-            (key_of (run_of self.old.shards self.old.store self.old.owners self.old.keys.items) reference) answer
-            (run_of self.new.shards self.new.store self.new.owners self.new.keys.items)) }
+            (run_of self.old.shards self.old.tag self.old.store self.old.owners self.old.keys.items)
+            (key_of (run_of self.old.shards self.old.tag self.old.store self.old.owners self.old.keys.items) reference) answer
+            (run_of self.new.shards self.new.tag self.new.store self.new.owners self.new.keys.items)) }
         ensures memory { IfErr result (λ fault. fault ≡ Fault.Memory) }
         ensures passes { self.new.store.passes ≡ self.old.store.passes }
+        ensures tag { self.new.tag ≡ self.old.tag }
     {
-        let Some(key) = self.key_of(reference) else {
-            return Ok(Answer::Unbound);
+        let key = match self.key_of(reference) {
+            Ok(key) => key,
+            Err(answer) => return Ok(answer),
         };
         match self.store.release(Hold { key }) {
             Ok(_) => Ok(Answer::Done),
@@ -211,10 +254,11 @@ impl<L: KeyLayout> PlainRun<L> {
     // Binds the next name, to no key.
     fn post(&mut self) -> Result<Answer, Fault>
         ensures binds { IfOk result (λ answer. (answer ≡ Answer.Done)
-            × (run_of self.new.shards self.new.store self.new.owners self.new.keys.items
-            ≡ run_of self.old.shards self.old.store self.old.owners (self.old.keys.items ++ None ∷ []))) }
+            × (run_of self.new.shards self.new.tag self.new.store self.new.owners self.new.keys.items
+            ≡ run_of self.old.shards self.old.tag self.old.store self.old.owners (self.old.keys.items ++ None ∷ []))) }
         ensures memory { IfErr result (λ fault. fault ≡ Fault.Memory) }
         ensures passes { self.new.store.passes ≡ self.old.store.passes }
+        ensures tag { self.new.tag ≡ self.old.tag }
     {
         match self.keys.push(None) {
             Ok(()) => Ok(Answer::Done),

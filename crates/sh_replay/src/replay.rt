@@ -1,9 +1,11 @@
 //! A whole run: read, parsed, run and written.
 ghost use Rattle.std.specs.Prelude.{◌≡◌, ◌<◌, ℕ, List, IfOk, IfErr, OnOk, OnErr, Some, take};
 ghost use Rattle.std.specs.List.{All};
-ghost use Rattle.sh_script.specs.Grammar.{IsCalls};
+ghost use Rattle.sh_script.specs.Scripts.{IsCalls};
 ghost use Rattle.sh_script.specs.declared.calls.CallLine.{CallLine};
-ghost use Rattle.sh_script.specs.declared.calls.Header.{Header};
+ghost use Rattle.sh_script.specs.declared.header.Header.{Header};
+ghost use Rattle.sh_script.specs.HeaderMeaning.{HasTag};
+ghost use Rattle.sh_replay.specs.PlainRun.{HasRoom};
 ghost use Rattle.sh_replay.specs.Ends.{IsEndFault, ReadsAtMostBytes};
 ghost use Rattle.sh_replay.specs.Output.{IsPlainOutput, IsOutput, Runs, Stops, IsFaultOf};
 
@@ -11,8 +13,8 @@ use crate::Mode;
 use crate::answer::push_reply;
 use crate::ends::{read_text, write_text};
 use crate::plain::PlainRun;
-use sh_key::{KeyLayout, Tiny};
-use sh_script::{CallLine, Calls, Fault, Layout, parse_calls};
+use sh_key::{KeyLayout, Tagged, Tiny, Wide};
+use sh_script::{CallLine, Calls, Fault, Header, Layout, parse_calls};
 use sh_shape::Shape;
 use std::alloc::Global;
 use std::io::{Read, Write};
@@ -21,13 +23,15 @@ use std::io::{Read, Write};
 fn plain_lines<L: KeyLayout>(
     alloc: Global,
     shape: Shape,
+    tag: Option<u8>,
     lines: &[CallLine],
 ) -> Result<Vec<u8>, Fault>
-    requires { All (λ (l : CallLine). l.pass < shape.passes) lines.now }
-    ensures output { IfOk result (λ output. IsPlainOutput L.layout shape lines.now output.items) }
+    requires room { HasRoom L.layout tag }
+    requires passes { All (λ (l : CallLine). l.pass < shape.passes) lines.now }
+    ensures output { IfOk result (λ output. IsPlainOutput L.layout shape tag lines.now output.items) }
     ensures memory { IfErr result (λ fault. fault ≡ Fault.Memory) }
 {
-    let mut run = PlainRun::<L>::new(alloc, shape.shards(), shape.passes());
+    let mut run = PlainRun::<L>::new(alloc, shape.shards(), shape.passes(), tag);
     let mut output = Vec::new(alloc);
     for line in lines {
         let answer = run.step(line)?;
@@ -40,13 +44,17 @@ fn plain_lines<L: KeyLayout>(
 
 // The output of a script's calls in a mode.
 fn output(alloc: Global, mode: Mode, calls: &Calls) -> Result<Vec<u8>, Fault>
-    requires { All (λ (l : CallLine). l.pass < calls.now.header.shape.passes) calls.now.lines.items }
+    requires tag { HasTag calls.now.header.layout calls.now.header.tag }
+    requires passes { All (λ (l : CallLine). l.pass < calls.now.header.shape.passes) calls.now.lines.items }
     ensures output { IfOk result (λ output. IsOutput mode calls.now.header calls.now.lines.items output.items) }
     ensures memory { IfErr result (λ fault. fault ≡ Fault.Memory) }
 {
-    let shape = calls.header.shape;
-    match (mode, calls.header.layout) {
-        (Mode::Plain, Layout::Tiny) => plain_lines::<Tiny>(alloc, shape, calls.lines.as_slice()),
+    let Header { layout, shape, tag } = calls.header;
+    let lines = calls.lines.as_slice();
+    match (mode, layout) {
+        (Mode::Plain, Layout::Tiny) => plain_lines::<Tiny>(alloc, shape, tag, lines),
+        (Mode::Plain, Layout::Wide) => plain_lines::<Wide>(alloc, shape, tag, lines),
+        (Mode::Plain, Layout::Tagged) => plain_lines::<Tagged>(alloc, shape, tag, lines),
     }
 }
 

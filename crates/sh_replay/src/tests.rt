@@ -85,6 +85,57 @@ fn owners_leave_and_names_are_posted(rt: HostRuntime) {
 }
 
 #[test]
+fn a_pass_has_at_most_16_holds(rt: HostRuntime) -> Result<(), Fail> {
+    let mut script = String::from_str(rt.alloc(), "heap wide 1 1 1\n0 adopt 0\n0 insert a 1\n")?;
+    let mut output = String::from_str(rt.alloc(), "0 adopt ok\n0 insert 16777216\n")?;
+    for _ in 0..16 {
+        script.push_str("0 get a\n")?;
+        output.push_str("0 get ok\n")?;
+    }
+    script.push_str("0 get a\n")?;
+    output.push_str("0 get refused 4 HoldsFull\n")?;
+    expect(&rt, rt.alloc(), script.as_str(), output.as_str());
+    Ok(())
+}
+
+#[test]
+fn the_greatest_keys_of_the_layouts(rt: HostRuntime) {
+    let wide =
+        "heap wide 1 1 1\n0 get #72057594037927935\n0 get #72057594037927936\n0 get #16777216\n0 get #16777215\n";
+    let tiny = "version 2\nheap tiny 1 1 1\n0 get #16383\n0 get #16384\n0 get #4096\n0 get #4095\n";
+    // The keys with tag 5 are those from 5 * 2^56 + 2^20 to 5 * 2^56 + 2^52 - 1.
+    let tagged =
+        "version 2\nheap tagged 1 1 1 tag 5\n0 get #364791569817010175\n0 get #364791569817010176\n0 get #360287970190688256\n0 get #360287970190688255\n";
+    let output =
+        "0 get refused 2 Gone\n0 get refused 1 BadKey\n0 get refused 2 Gone\n0 get refused 1 BadKey\n";
+    expect(&rt, rt.alloc(), wide, output);
+    expect(&rt, rt.alloc(), tiny, output);
+    expect(&rt, rt.alloc(), tagged, output);
+}
+
+#[test]
+fn keys_have_the_tag_of_the_header(rt: HostRuntime) {
+    let script =
+        "version 2\nheap tagged 1 1 1 tag 5\n0 adopt 0\n0 insert a 7\n0 get a\n0 get #360287970190688256\n0 get #1048576\n0 get #4503599628419072\n";
+    let output =
+        "0 adopt ok\n0 insert 360287970190688256\n0 get ok\n0 get ok\n0 get refused 1 BadKey\n0 get refused 1 BadKey\n";
+    expect(&rt, rt.alloc(), script, output);
+    let script = "version 2\nheap tagged 1 1 1 tag 0\n0 adopt 0\n0 insert a 7\n0 get #1048576\n";
+    let output = "0 adopt ok\n0 insert 1048576\n0 get ok\n";
+    expect(&rt, rt.alloc(), script, output);
+}
+
+#[test]
+fn another_tag_is_a_bad_key_in_each_call(rt: HostRuntime) {
+    // 432345564228616192 is key 1048576 with tag 6.
+    let script =
+        "version 2\nheap tagged 1 1 1 tag 5\n0 adopt 0\n0 insert a 7\n0 get a\n0 get #432345564228616192\n0 read #432345564228616192\n0 remove #432345564228616192\n0 release #432345564228616192\n0 release #1048576\n0 read #360287970190688256\n0 release #360287970190688256\n0 remove #360287970190688256\n0 get a\n";
+    let output =
+        "0 adopt ok\n0 insert 360287970190688256\n0 get ok\n0 get refused 1 BadKey\n0 read refused 1 BadKey\n0 remove refused 1 BadKey\n0 release refused 1 BadKey\n0 release refused 1 BadKey\n0 read 1 7\n0 release ok\n0 remove ok\n0 get refused 2 Gone\n";
+    expect(&rt, rt.alloc(), script, output);
+}
+
+#[test]
 fn faults_write_nothing(rt: HostRuntime) -> Result<(), Fail> {
     let table = [
         ("heap tiny 1 1 2\n0 adopt 0", Fault::Script(2, Cause::Cut)),
@@ -94,6 +145,7 @@ fn faults_write_nothing(rt: HostRuntime) -> Result<(), Fail> {
         ),
         ("", Fault::Script(1, Cause::Header)),
         ("heap tiny 5 1 1\n", Fault::BadShape),
+        ("heap tagged 1 1 1 tag 5\n", Fault::Script(1, Cause::Header)),
     ];
     for (script, fault) in table {
         let mut out = Vec::new(rt.alloc());

@@ -3,9 +3,9 @@ use Rattle.std.specs.Prelude.{◌≡◌, ◌≢◌, ◌⊎◌, ℕ, Bool, List, 
 use Rattle.clap.specs.Words.{Text}
 use Rattle.clap.specs.declared.error.kind.ErrorKind.{ErrorKind}
 use Rattle.clap.specs.declared.error.kind.ErrorKind.TheVariants.{DisplayHelp, DisplayVersion, OutOfMemory}
-use Rattle.sh_script.specs.Grammar.{IsCalls}
+use Rattle.sh_script.specs.Scripts.{IsCalls}
 use Rattle.sh_script.specs.declared.calls.CallLine.{CallLine}
-use Rattle.sh_script.specs.declared.calls.Header.{Header}
+use Rattle.sh_script.specs.declared.header.Header.{Header}
 use Rattle.sh_script.specs.declared.fault.Fault.{Fault}
 use Rattle.sh_replay.specs.declared.mode.Mode.{Mode}
 use Rattle.sh_replay.specs.Ends.{IsEndFault}

@@ -1,6 +1,5 @@
 use Rattle.std.proofs.Common.{ℕ, List, subst, sym, ◌∙◌}
-use Rattle.std.specs.Prelude.{IfErr}
-use Rattle.sh_script.specs.Grammar.{IsCalls}
+use Rattle.sh_script.specs.Scripts.{IsCalls}
 use Rattle.sh_replay.proofs.replay.replay_alone.Goals as goal
 
 pub returns-clause-answers : goal.returns-clause-answers
