@@ -86,6 +86,13 @@ impl<L: KeyLayout> World<L> {
         &self.words
     }
 
+    /// What each pass has of its own.
+    pub fn parts(&self) -> &[Part]
+        ensures { result.now ≡ self.now.parts }
+    {
+        &self.parts
+    }
+
     /// The shape.
     pub fn shape(&self) -> Shape
         ensures { result ≡ self.now.shape }

@@ -4,3 +4,4 @@ pub mod Plans
 pub mod Operations
 pub mod Rows
 pub mod Moves
+pub mod Fits

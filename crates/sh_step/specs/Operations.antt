@@ -1,5 +1,5 @@
 -- What an operation leaves of the word that it finds, and what it answers.
-use Rattle.std.specs.Prelude.{ℕ, ◌+◌, ◌-◌, ◌==◌, cond, bit_or, Option, Some, None}
+use Rattle.std.specs.Prelude.{ℕ, ◌+◌, ◌-◌, ◌^◌, ◌<◌, ◌==◌, cond, bit_or, Option, Some, None}
 use Rattle.sh_step.specs.declared.operation.Operation.{Operation}
 use Rattle.sh_step.specs.declared.operation.Operation.TheVariants.{FetchAdd, FetchSub, FetchOr, Swap, Store, CompareExchange, Load}
 
@@ -12,6 +12,12 @@ operate (Swap m) n = m
 operate (Store m) n = m
 operate (CompareExchange old new) n = cond (n == old) new n
 operate Load n = n
+
+-- what a swap or an exchange stores is a word
+abbrev pub StoresWord : Operation → Type 0
+StoresWord (Swap m) = m < 2 ^ 64
+StoresWord (CompareExchange old new) = new < 2 ^ 64
+StoresWord _ = Unit {0}
 
 -- what it answers: the word that it found, but for a store
 abbrev pub answer : Operation → ℕ → Option ℕ

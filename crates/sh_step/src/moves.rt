@@ -38,8 +38,8 @@ pub enum Move {
     ReadWord(u64, Name, u64, u64),
     /// Reads the class of the page.
     ReadPage(u64),
-    /// Gives the page the class.
-    SetClass(u64, u64),
+    /// Gives the page the class, below 8.
+    SetClass(u64, u32),
     /// Takes what was put on the page.
     Take(u64),
     /// Reads the link of the page's slot.

@@ -112,12 +112,13 @@ pub fn set_class<L: KeyLayout>(
     let Some(page) = page_of_name::<L>(shape, name) else {
         return None;
     };
-    match part.class_noted(page) {
-        Some(word) => may_set_class::<L>(shape, part, page, word, class).then_some(Move::SetClass(
-            page, class,
-        )),
-        None => None,
+    let Some(word) = part.class_noted(page) else {
+        return None;
+    };
+    if !may_set_class::<L>(shape, part, page, word, class) {
+        return None;
     }
+    Some(Move::SetClass(page, class as u32))
 }
 
 /// The move of a page's cursor.
