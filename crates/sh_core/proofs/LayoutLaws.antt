@@ -8,6 +8,7 @@ use Rattle.sh_key.specs.declared.parts.Parts.{Parts}
 use Rattle.sh_key.specs.Layout.{Layout, IsLayout, IsInRange, IsKeyOf, unpacked}
 use Rattle.sh_key.proofs.Packing.{unpacked-packed, unpacked_is}
 use Rattle.sh_shape.specs.Shape.{Numbers, IsShape, Fits, segment_pages}
+use Rattle.sh_shape.proofs.PlaceLaws.{few_pages}
 use Rattle.sh_slots.specs.declared.hand.Name.{Name}
 use Rattle.sh_step.specs.Plans.{name_in, keys_of, plan_of, Lawful}
 
@@ -78,6 +79,8 @@ plan_lawful layout n l s f =
       passes = s.few_passes;
       generations = gens;
       guards = guards;
+      last_generation = last;
+      few_pages = few_pages n s;
     } where
       gen_le : (m : Name) → m.generation ≤ (keys_of layout n.shards (segment_pages * n.segments)).gen_max → m.generation ≤ layout.gen_max
       gen_le m h = h
@@ -90,3 +93,6 @@ plan_lawful layout n l s f =
 
       guards : (keys_of layout n.shards (segment_pages * n.segments)).guard_max + 64 < 2 ^ 30
       guards = l.guards_fit
+
+      last : (keys_of layout n.shards (segment_pages * n.segments)).gen_max < 2 ^ 32
+      last = l.generations_fit

@@ -147,7 +147,7 @@ module _ (plan : Plan) (w : World) (l : Lists) (laws : Lawful plan) (all : All p
   steps_within a p Mark m at e = let h = meets plan p Mark m e in placed a p at Mark _ m h.4 (h.3.page, h.3.slot)
   steps_within a p Drop m at e = let h = meets plan p Drop m e in placed a p at Drop _ m h.2 (handed a p (Leaving h.0) at h.1)
   steps_within a p (DropHold k) m at e = let h = meets plan p (DropHold k) m e in placed a p at (DropHold k) _ m h.4 (h.1.page, h.1.slot)
-  steps_within a p Finish m at e = let h = meets plan p Finish m e in placed a p at Finish _ m h.3 (handed a p (Finishing h.0 h.1) at h.2)
+  steps_within a p Finish m at e = let h = meets plan p Finish m e in placed a p at Finish _ m h.3 (handed a p (Finishing h.0 h.1) at h.2).0
   steps_within a p (FillSlot y v) m at e = let h = meets plan p (FillSlot y v) m e in placed a p at (FillSlot y v) _ m h.7 (h.0, h.1)
   steps_within a p Fill m at e = let h = meets plan p Fill m e in placed a p at Fill _ m h.5 ((handed a p (Filling h.0 h.1 h.2) at h.3).0, filling a p h.0 h.1 h.2 at h.3 h.4)
   steps_within a p Publish m at e = let h = meets plan p Publish m e in placed a p at Publish _ m h.5 (handed a p (Filling h.0 h.1 h.2) at h.3)

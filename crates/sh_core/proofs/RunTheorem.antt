@@ -25,6 +25,7 @@ use Rattle.sh_step.specs.Rows.{own}
 use Rattle.sh_core.specs.Refines.{OwnPartsStand, FillsAreKeys, Refines, CountIsFew, PastIsRemoved}
 use Rattle.sh_core.specs.Within.{AllWithin, ValuesFit}
 use Rattle.sh_core.proofs.BellWords.{bells_are_small}
+use Rattle.sh_core.proofs.RowsFit.{stores_words, issues_keys}
 use Rattle.sh_core.specs.Stacks.{cursor_at}
 use Rattle.sh_core.specs.Tallies.{held, visits}
 use Rattle.sh_core.proofs.LayoutLaws.{plan_lawful}
@@ -53,7 +54,7 @@ pub record Kept (plan : Plan) (w : World) (l : Lists) : Type 0 where
 kept_from : (plan : Plan) (w : World) (l : Lists) (es : List Event) → Lawful plan → Kept plan w l → Kept plan (run_from plan w es) (lists_from plan w l es)
 unfolding run_from lists_from
 kept_from plan w l [] laws k = k
-kept_from plan w l (e ∷ es) laws k = kept_from plan (step plan w e) (list_step plan w e l) es laws (record { all = all_step plan w l e laws k.all; know = know_step plan w l e k.all k.know; within = within_step plan w e k.within })
+kept_from plan w l (e ∷ es) laws k = kept_from plan (step plan w e) (list_step plan w e l) es laws (record { all = all_step plan w l e laws k.all; know = know_step plan w l e k.all k.know; within = within_step plan w e (λ q s. (k.all.sound.generations q s).1) k.within })
 
 module _ (plan : Plan) (w : World) (l : Lists) (laws : Lawful plan) (kept : Kept plan w l) where
   abbrev all : All plan w l
@@ -129,6 +130,8 @@ module _ (plan : Plan) (w : World) (l : Lists) (laws : Lawful plan) (kept : Kept
     passes = all.good.passes;
     bells = bells_are_small plan w l laws all kept.know kept.within;
     values = values_fit;
+    stores = stores_words plan w laws fills kept.within;
+    issues = issues_keys plan w laws fills kept.within;
   }
 
 -- every run of every heap

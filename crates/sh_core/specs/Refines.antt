@@ -7,7 +7,7 @@ use Rattle.sh_word.specs.Fields.{Fields}
 use Rattle.sh_key.specs.Layout.{Layout, IsLayout}
 use Rattle.sh_shape.specs.Shape.{Numbers, IsShape, Fits}
 use Rattle.sh_step.specs.Rows.{own}
-use Rattle.sh_core.specs.Within.{StepsWithin, CountsFit, BellsAreSmall, ValuesFit}
+use Rattle.sh_core.specs.Within.{StepsWithin, CountsFit, BellsAreSmall, ValuesFit, StoresWords, IssuesKeys}
 use Rattle.sh_slots.specs.declared.hand.Hand.TheVariants.{Filling}
 use Rattle.sh_slots.specs.Slots.{name_of}
 use Rattle.sh_step.specs.Plans.{plan_of, Plan, all_pages, home}
@@ -146,6 +146,8 @@ pub record Refines (plan : Plan) (w : World) (l : Lists) : Type 0 where
   pub passes : length w.parts ≡ plan.passes
   pub bells : BellsAreSmall plan w
   pub values : ValuesFit plan w
+  pub stores : StoresWords plan w
+  pub issues : IssuesKeys plan w
 
 -- P holds after every list of events, in every heap whose shape fits its layout
 abbrev pub Always : (Plan → World → Lists → Type 0) → Type 0

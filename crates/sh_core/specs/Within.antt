@@ -1,5 +1,5 @@
 -- What a part names lies within the heap.
-use Rattle.std.specs.Prelude.{◌||◌, ◌-◌, true, ℕ, ◌≡◌, ◌+◌, ◌^◌, ◌<◌, ◌≤◌, Some, slice_get}
+use Rattle.std.specs.Prelude.{◌||◌, ◌-◌, true, ℕ, ◌≡◌, ◌+◌, ◌^◌, ◌<◌, ◌≤◌, List, Some, slice_get}
 use Rattle.sh_shape.specs.declared.places.Place.{Place}
 use Rattle.sh_shape.specs.declared.places.Place.TheVariants.{Class, Head, PageLink, State, Link, Length, Payload, Owner, Bell}
 use Rattle.sh_slots.specs.declared.hand.Hand.{Hand}
@@ -13,17 +13,19 @@ use Rattle.sh_shape.specs.Classes.{width, slots}
 use Rattle.sh_word.specs.Fields.{fields_of}
 use Rattle.sh_step.specs.declared.operation.Operation.{Operation}
 use Rattle.sh_step.specs.declared.operation.Operation.TheVariants.{FetchAdd, FetchSub}
+use Rattle.sh_slots.specs.declared.reply.Reply.TheVariants.{Insert}
+use Rattle.sh_step.specs.Operations.{StoresWord}
 use Rattle.sh_core.specs.Words.{read}
 use Rattle.sh_core.specs.Worlds.{World}
 use Rattle.sh_core.specs.Lists.{times}
 
--- the slot of a page of the heap
+-- the slot of a page of the heap, and for an end of a generation one that there is
 abbrev pub SpotWithin : Plan → Spot → Type 0
 SpotWithin plan x = (x.page < all_pages plan) × (x.slot < 48)
 
 abbrev pub HandWithin : Plan → Hand → Type 0
 HandWithin plan (Leaving x) = SpotWithin plan x
-HandWithin plan (Finishing x g) = SpotWithin plan x
+HandWithin plan (Finishing x g) = SpotWithin plan x × (g ≤ plan.keys.gen_max)
 HandWithin plan (ToPut x) = SpotWithin plan x
 HandWithin plan (Tying x l r) = SpotWithin plan x
 HandWithin plan (Ringing q) = q < all_pages plan
@@ -64,6 +66,15 @@ CountFits _ n = Unit {0}
 
 abbrev pub CountsFit : Plan → World → Type 0
 CountsFit plan w = (a : ℕ) (p : Body) (x : Action) (r : Row) → slice_get w.parts a ≡ Some p → row plan p x ≡ Some r → CountFits r.operation (read w.words r.place)
+
+-- each enabled action that swaps or exchanges a word stores one
+abbrev pub StoresWords : Plan → World → Type 0
+StoresWords plan w = (a : ℕ) (p : Body) (x : Action) (r : Row) → slice_get w.parts a ≡ Some p → row plan p x ≡ Some r → StoresWord r.operation
+
+-- a key that an enabled action would issue is one of the layout: it names the slot, in the generation that it is in
+abbrev pub IssuesKeys : Plan → World → Type 0
+IssuesKeys plan w = (a : ℕ) (p : Body) (x : Action) (r : Row) (k : ℕ) (v : List ℕ) (q s : ℕ) → slice_get w.parts a ≡ Some p → row plan p x ≡ Some r → r.reply (read w.words r.place) ≡ Some (Insert k v) → r.place ≡ State q s
+    → plan.keys.unpack k ≡ Some (record { page = q; slot = s; generation = (fields_of (read w.words r.place)).generation })
 
 -- bells and the links of pages name pages of the heap
 abbrev pub BellsAreSmall : Plan → World → Type 0

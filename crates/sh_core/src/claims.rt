@@ -1,7 +1,7 @@
 //! What holds of every run.
 ghost use Rattle.std.specs.Prelude.{◌≡◌, length};
 ghost use Rattle.sh_history.specs.History.{Legal};
-ghost use Rattle.sh_core.specs.Within.{StepsWithin, CountsFit, BellsAreSmall, ValuesFit};
+ghost use Rattle.sh_core.specs.Within.{StepsWithin, CountsFit, BellsAreSmall, ValuesFit, StoresWords, IssuesKeys};
 ghost use Rattle.sh_core.specs.Refines.{Always, OneKind, Filled, HeldStands, ReadsWithin, Counted, CountIsFew, PastIsRemoved, GenerationsEnd, Finished, Armed, LeftEmpty, Linked, OwnPartsStand, FillsAreKeys};
 
 /// The core refines the map: in every heap whose shape fits its layout, after every list of events, whoever did them and
@@ -39,5 +39,7 @@ pub fn refines_map()
     ensures places { Always (λ plan w l. StepsWithin plan w) }
     ensures bells { Always (λ plan w l. BellsAreSmall plan w) }
     ensures values { Always (λ plan w l. ValuesFit plan w) }
+    ensures stores { Always (λ plan w l. StoresWords plan w) }
+    ensures issues { Always (λ plan w l. IssuesKeys plan w) }
     ensures passes { Always (λ plan w l. length w.parts ≡ plan.passes) }
 {}

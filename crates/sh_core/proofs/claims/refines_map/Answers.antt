@@ -60,3 +60,9 @@ returns-clause-bells c = λ layout shape a b f es. (theorem layout shape a b f e
 
 pub returns-clause-values : goal.returns-clause-values
 returns-clause-values c = λ layout shape a b f es. (theorem layout shape a b f es).values
+
+pub returns-clause-stores : goal.returns-clause-stores
+returns-clause-stores c = λ layout shape a b f es. (theorem layout shape a b f es).stores
+
+pub returns-clause-issues : goal.returns-clause-issues
+returns-clause-issues c = λ layout shape a b f es. (theorem layout shape a b f es).issues
