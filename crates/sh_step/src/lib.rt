@@ -10,6 +10,7 @@ mod classes;
 mod in_hand;
 mod keyed;
 pub mod kind;
+mod limits;
 mod lists;
 pub mod moves;
 pub mod names;
@@ -19,6 +20,7 @@ mod paged;
 pub mod part;
 mod slotted;
 pub mod step;
+mod steps;
 #[cfg(test)]
 mod tests;
 

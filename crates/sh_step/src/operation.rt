@@ -1,4 +1,6 @@
 //! Operations on one word.
+ghost use Rattle.std.specs.Prelude.{◌≡◌, ◌^◌, ◌<◌};
+ghost use Rattle.sh_step.specs.Operations.{operate};
 
 /// What a step does with the one word that it touches.
 #[derive(Clone, Copy, Debug, PartialEq, Eq)]
@@ -17,4 +19,21 @@ pub enum Operation {
     CompareExchange(u64, u64),
     /// Answers the word found, which stays.
     Load,
+}
+
+impl Operation {
+    /// The word that it leaves, by the word that it found. What it leaves fits a word: an addition has room.
+    pub fn after(&self, found: u64) -> u64
+        requires { operate self.now found < 2 ^ 64 }
+        ensures { result ≡ operate self.now found }
+    {
+        match self {
+            Operation::FetchAdd(more) => found + *more,
+            Operation::FetchSub(less) => found.saturating_sub(*less),
+            Operation::FetchOr(bits) => found | *bits,
+            Operation::Swap(word) | Operation::Store(word) => *word,
+            Operation::CompareExchange(old, new) => { if found == *old { *new } else { found } }
+            Operation::Load => found,
+        }
+    }
 }
