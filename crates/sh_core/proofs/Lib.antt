@@ -32,6 +32,7 @@ pub mod KnowKinds
 pub mod HeldStands
 pub mod PlacesWithin
 pub mod BellWords
+pub mod KeptValues
 pub mod RowsFit
 pub mod RunTheorem
 pub mod OpeningWords

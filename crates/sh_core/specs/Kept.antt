@@ -1,10 +1,17 @@
 -- The world as the code keeps it: one list of words, and what it stands for.
-use Rattle.std.specs.Prelude.{ℕ, ◌≡◌, ◌≢◌, ◌+◌, ◌*◌, ◌^◌, ◌<◌, ◌≤◌, List, [], ◌∷◌, length, get_or, Option, Some, None, Result, Ok, Err}
+use Rattle.std.specs.Prelude.{ℕ, ◌≡◌, ◌≢◌, ◌+◌, ◌-◌, ◌*◌, ◌^◌, ◌<◌, ◌≤◌, List, [], ◌∷◌, length, get_or, slice_set, Option, Some, None, Result, Ok, Err}
 use Rattle.sh_history.specs.declared.entry.Entry.{Entry}
 use Rattle.sh_key.specs.Layout.{Layout, IsLayout}
 use Rattle.sh_shape.specs.declared.places.Place.{Place}
+use Rattle.sh_shape.specs.declared.places.Place.TheVariants.{Class, State, Length, Payload}
+use Rattle.sh_shape.specs.Classes.{width, slots}
 use Rattle.sh_shape.specs.Shape.{Numbers, IsShape, Fits}
-use Rattle.sh_shape.specs.Places.{IsPlace, number, words_of}
+use Rattle.sh_shape.specs.Places.{IsPlace, number, words_of, all_pages}
+use Rattle.sh_slots.specs.declared.hand.Spot.{Spot}
+use Rattle.sh_slots.specs.declared.reply.Reply.TheVariants.{Got}
+use Rattle.sh_step.specs.Operations.{operate}
+use Rattle.sh_step.specs.Rows.{Row}
+use Rattle.sh_step.specs.Fits.{Fits as RowFits}
 use Rattle.sh_step.specs.declared.action.Event.{Event}
 use Rattle.sh_step.specs.declared.body.Body.{Body}
 use Rattle.sh_step.specs.Plans.{Plan, plan_of}
@@ -13,8 +20,9 @@ use Rattle.sh_value.specs.declared.refusal.Refusal.TheVariants.{BadShape, Memory
 use Rattle.sh_core.specs.declared.outcome.Outcome.{Outcome}
 use Rattle.sh_core.specs.declared.outcome.Outcome.TheVariants.{Skipped}
 use Rattle.sh_core.specs.Words.{Words, read}
-use Rattle.sh_core.specs.Worlds.{World, step, run, open_world}
-use Rattle.sh_core.specs.Outcomes.{outcome_of}
+use Rattle.sh_core.specs.Worlds.{World, step, run, open_world, words_from, entry_of, joined}
+use Rattle.sh_core.specs.Outcomes.{outcome_of, done}
+use Rattle.sh_core.specs.Within.{CountFits}
 
 -- what contracts see of a world
 pub record Kept : Type 0 where
@@ -27,6 +35,48 @@ pub record Kept : Type 0 where
 pub record Hold (shape : Numbers) (list : List ℕ) (words : Words) : Type 0 where
   pub count : length list ≡ words_of shape
   pub at : (p : Place) → IsPlace shape p → get_or list (number shape p) 0 ≡ read words p
+
+-- the word of the list at a place
+abbrev pub word_at : Numbers → List ℕ → Place → ℕ
+word_at shape list place = get_or list (number shape place) 0
+
+-- the value that stands in a slot's words, and that one stands there: the slot is one of its page's class, and the value is no longer than that allows
+abbrev pub value_in : Numbers → List ℕ → Spot → List ℕ
+value_in shape list x = words_from (λ i. word_at shape list (Payload x.page i)) (x.slot * width (word_at shape list (Class x.page) - 1)) (word_at shape list (Length x.page x.slot))
+
+pub record HasValue (shape : Numbers) (list : List ℕ) (x : Spot) : Type 0 where
+  pub page : x.page < all_pages shape
+  pub has_class : 0 < word_at shape list (Class x.page)
+  pub is_class : word_at shape list (Class x.page) ≤ 8
+  pub slot : x.slot < slots (word_at shape list (Class x.page) - 1)
+  pub length : word_at shape list (Length x.page x.slot) ≤ width (word_at shape list (Class x.page) - 1)
+
+-- the same of the slot of a state word
+abbrev pub value_kept : Numbers → List ℕ → Place → List ℕ
+value_kept shape list (State q s) = value_in shape list (record { page = q; slot = s })
+value_kept shape list _ = []
+
+abbrev pub KeepsValue : Numbers → List ℕ → Place → Type 0
+KeepsValue shape list (State q s) = HasValue shape list (record { page = q; slot = s })
+KeepsValue shape list _ = ⊥
+
+-- a row may be done on the list: its place is one of the shape, the count of a slot has room, and where it gets a value one stands there
+pub record IsReady (layout : Layout) (shape : Numbers) (list : List ℕ) (r : Row) : Type 0 where
+  pub count : length list ≡ words_of shape
+  pub row : RowFits shape (plan_of layout shape) r (word_at shape list r.place)
+  pub counts : CountFits r.operation (word_at shape list r.place)
+  pub gets : (k : ℕ) → r.reply (word_at shape list r.place) ≡ Some (Got k) → KeepsValue shape list r.place
+
+-- what joins the log where a pass does the row
+abbrev pub new_entry : Numbers → List ℕ → ℕ → Row → Option Entry
+new_entry shape list a r = entry_of a (value_kept shape list r.place) (r.reply (word_at shape list r.place))
+
+-- what it leaves of the list, the pass's part and the log, and what came of it
+pub record Does (shape : Numbers) (a : ℕ) (r : Row) (list : List ℕ) (entries : List Entry) (came : Outcome) (list' : List ℕ) (part' : Body) (entries' : List Entry) : Type 0 where
+  pub words : list' ≡ slice_set list (number shape r.place) (operate r.operation (word_at shape list r.place))
+  pub part : part' ≡ r.part (word_at shape list r.place)
+  pub log : entries' ≡ joined entries (new_entry shape list a r)
+  pub outcome : came ≡ done (new_entry shape list a r)
 
 -- it stands for this world
 pub record Stands (k : Kept) (w : World) : Type 0 where
@@ -58,3 +108,10 @@ Opens layout shape (Ok k) = Fits layout shape × (k.shape ≡ shape) × Stands k
 Opens layout shape (Err BadShape) = ¬ Fits layout shape
 Opens layout shape (Err Memory) = Fits layout shape
 Opens layout shape (Err _) = ⊥
+
+-- a heap of this shape after these events, unless the shape does not fit the layout or memory is refused
+abbrev pub Runs : Layout → Numbers → List Event → Result Kept Refusal → Type 0
+Runs layout shape es (Ok k) = Fits layout shape × (k.shape ≡ shape) × Stands k (run (plan_of layout shape) es)
+Runs layout shape es (Err BadShape) = ¬ Fits layout shape
+Runs layout shape es (Err Memory) = Fits layout shape
+Runs layout shape es (Err _) = ⊥

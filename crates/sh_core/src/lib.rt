@@ -6,6 +6,7 @@
 
 pub mod accounts;
 pub mod claims;
+mod entry;
 mod opening;
 pub mod outcome;
 #[cfg(test)]

@@ -19,6 +19,11 @@ StoresWord (Swap m) = m < 2 ^ 64
 StoresWord (CompareExchange old new) = new < 2 ^ 64
 StoresWord _ = Unit {0}
 
+-- an addition has room
+abbrev pub HasRoom : Operation → ℕ → Type 0
+HasRoom (FetchAdd m) n = n + m < 2 ^ 64
+HasRoom _ n = Unit {0}
+
 -- what it answers: the word that it found, but for a store
 abbrev pub answer : Operation → ℕ → Option ℕ
 answer (Store m) n = None

@@ -1,6 +1,6 @@
 //! Operations on one word.
-ghost use Rattle.std.specs.Prelude.{◌≡◌, ◌^◌, ◌<◌};
-ghost use Rattle.sh_step.specs.Operations.{operate};
+ghost use Rattle.std.specs.Prelude.{◌≡◌};
+ghost use Rattle.sh_step.specs.Operations.{operate, HasRoom};
 
 /// What a step does with the one word that it touches.
 #[derive(Clone, Copy, Debug, PartialEq, Eq)]
@@ -22,9 +22,9 @@ pub enum Operation {
 }
 
 impl Operation {
-    /// The word that it leaves, by the word that it found. What it leaves fits a word: an addition has room.
+    /// The word that it leaves, by the word that it found. An addition has room.
     pub fn after(&self, found: u64) -> u64
-        requires { operate self.now found < 2 ^ 64 }
+        requires { HasRoom self.now found }
         ensures { result ≡ operate self.now found }
     {
         match self {

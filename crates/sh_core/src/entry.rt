@@ -1,0 +1,65 @@
+//! The entry of a reply, with the value that stands in the slot where it is got.
+ghost use Rattle.std.specs.Prelude.{ℕ, ◌≡◌, length};
+ghost use Rattle.sh_shape.specs.Places.{IsPlace, words_of};
+ghost use Rattle.sh_slots.specs.declared.reply.Reply.TheVariants.{Got};
+ghost use Rattle.sh_core.specs.Worlds.{entry};
+ghost use Rattle.sh_core.specs.Kept.{word_at, HasValue, value_in, KeepsValue, value_kept};
+
+use sh_history::Entry;
+use sh_shape::{Place, Shape, classes};
+use sh_slots::{Reply, Spot};
+use sh_value::Value;
+
+/// The word at a place.
+pub fn word_at(shape: &Shape, words: &[u64], place: Place) -> u64
+    requires place { IsPlace shape.now place }
+    requires count { length words.now ≡ words_of shape.now }
+    ensures { result ≡ word_at shape.now words.now place }
+{
+    words[shape.index(place) as usize]
+}
+
+// The value that stands in a slot.
+#[tactic(auto, using(crate::proofs::KeptValues::payload_range, crate::proofs::KeptValues::row_begins, crate::proofs::KeptValues::row_within))]
+fn value_in(shape: &Shape, words: &[u64], spot: Spot) -> Value
+    requires count { length words.now ≡ words_of shape.now }
+    requires value { HasValue shape.now words.now spot }
+    ensures { result ≡ value_in shape.now words.now spot }
+{
+    let class = word_at(shape, words, Place::Class(spot.page)) - 1;
+    let length = word_at(shape, words, Place::Length(spot.page, spot.slot));
+    let first = spot.slot * u64::from(classes::width(class as u32));
+    let start = shape.index(Place::Payload(spot.page, first)) as usize;
+    match Value::new(&words[start..start + length as usize]) {
+        Ok(value) => value,
+        Err(_) => unreachable!(),
+    }
+}
+
+// The value that stands in the slot of a state word.
+fn value_kept(shape: &Shape, words: &[u64], place: Place) -> Value
+    requires count { length words.now ≡ words_of shape.now }
+    requires value { KeepsValue shape.now words.now place }
+    ensures { result ≡ value_kept shape.now words.now place }
+{
+    match place {
+        Place::State(page, slot) => value_in(shape, words, Spot { page, slot }),
+        _ => unreachable!(),
+    }
+}
+
+/// The entry of a reply to a pass for a step on the word at a place.
+pub fn entry(shape: &Shape, words: &[u64], pass: u32, place: Place, reply: Reply) -> Entry
+    requires count { length words.now ≡ words_of shape.now }
+    requires gets { (k : ℕ) → reply ≡ Got k → KeepsValue shape.now words.now place }
+    ensures { result ≡ entry pass (value_kept shape.now words.now place) reply }
+{
+    match reply {
+        Reply::Insert(key, value) => Entry::Insert(pass, key, value),
+        Reply::Got(key) => Entry::Got(pass, key, value_kept(shape, words, place)),
+        Reply::Gone(key) => Entry::Gone(pass, key),
+        Reply::Crowded(key) => Entry::Crowded(pass, key),
+        Reply::Removed(key) => Entry::Removed(pass, key),
+        Reply::Released(key) => Entry::Released(pass, key),
+    }
+}
