@@ -35,6 +35,7 @@ pub mod BellWords
 pub mod KeptValues
 pub mod RowsFit
 pub mod RunTheorem
+pub mod Ready
 pub mod OpeningWords
 pub mod KeptWords
 pub mod Stepping

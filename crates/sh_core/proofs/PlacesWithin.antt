@@ -33,7 +33,7 @@ use Rattle.sh_core.proofs.BellKinds.{ties_home, owned_at}
 use Rattle.sh_core.proofs.HeldStands.{rows_fit, has_room, reads}
 use Rattle.sh_core.proofs.Conditions.{Meets, meets}
 
-slots_few : (c : ℕ) → c < 8 → slots c ≤ 48
+pub slots_few : (c : ℕ) → c < 8 → slots c ≤ 48
 slots_few zero h = omega arith
 slots_few (suc zero) h = omega arith
 slots_few (suc (suc zero)) h = omega arith
