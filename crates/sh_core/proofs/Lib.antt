@@ -36,6 +36,8 @@ pub mod KeptValues
 pub mod RowsFit
 pub mod RunTheorem
 pub mod Ready
+pub mod Operating
+pub mod Doing
 pub mod OpeningWords
 pub mod KeptWords
 pub mod Stepping

@@ -7,6 +7,7 @@
 pub mod accounts;
 pub mod claims;
 mod entry;
+mod moving;
 mod opening;
 pub mod outcome;
 #[cfg(test)]

@@ -1,15 +1,17 @@
 //! A heap as a state machine.
-ghost use Rattle.std.specs.Prelude.{◌≡◌, IfOk, IfErr, [], length, replicate};
+ghost use Rattle.std.specs.Prelude.{◌≡◌, IfOk, IfErr, OnErr, [], length, replicate};
 ghost use Rattle.sh_shape.specs.Shape.{Fits};
 ghost use Rattle.sh_step.specs.Plans.{plan_of};
 ghost use Rattle.sh_core.specs.Worlds.{open_world, newcomer};
-ghost use Rattle.sh_core.specs.Kept.{Stands, Opens};
+ghost use Rattle.sh_core.specs.Kept.{Stands, Opens, Steps, IsDone};
 
+use crate::Outcome;
+use crate::moving::do_move;
 use crate::opening::opening_of;
 use sh_history::Entry;
 use sh_key::KeyLayout;
 use sh_shape::{Shape, fits};
-use sh_step::Part;
+use sh_step::{Event, Move, Part};
 use sh_value::Refusal;
 use std::alloc::{AllocError, Global};
 use std::marker::{Model, PhantomData};
@@ -98,5 +100,32 @@ impl<L: KeyLayout> World<L> {
         ensures { result ≡ self.now.shape }
     {
         self.shape
+    }
+
+    /// Does one event: by the row of its action, where there is such a pass and the action's condition holds of its own
+    /// part, and else nothing, which is `Skipped`. Only a step that is not skipped may be refused, as `Memory`, and then
+    /// nothing changed.
+    pub fn step(&mut self, event: &Event) -> Result<Outcome, Refusal>
+        ensures ok { IfOk result (λ outcome. Steps L.layout self.old event.now outcome self.new) }
+        ensures err { OnErr result (self.new ≡ self.old) }
+        ensures done { OnErr result (IsDone L.layout self.old event.now) }
+        ensures memory { IfErr result (λ refusal. refusal ≡ Refusal.Memory) }
+    {
+        let pass = event.pass as usize;
+        if pass >= self.parts.len() {
+            return Ok(Outcome::Skipped);
+        }
+        let part = &mut self.parts[pass];
+        match Move::of::<L>(&self.shape, part, &event.action) {
+            Some(the_move) => do_move::<L>(
+                &self.shape,
+                &mut self.words,
+                part,
+                &mut self.log,
+                event.pass,
+                &the_move,
+            ),
+            None => Ok(Outcome::Skipped),
+        }
     }
 }

@@ -1,4 +1,6 @@
 //! Entries of a history.
+ghost use Rattle.std.specs.Prelude.{◌≡◌};
+
 use sh_value::Value;
 
 /// One answer of a heap: which pass was answered, on which key, and the value where there is one.
@@ -16,4 +18,20 @@ pub enum Entry {
     Removed(u32, u64),
     /// The pass released a hold on the key.
     Released(u32, u64),
+}
+
+impl Entry {
+    /// The same entry again. It takes no memory.
+    pub fn copy(&self) -> Entry
+        ensures { result ≡ self.now }
+    {
+        match self {
+            Entry::Insert(pass, key, value) => Entry::Insert(*pass, *key, value.copy()),
+            Entry::Got(pass, key, value) => Entry::Got(*pass, *key, value.copy()),
+            Entry::Gone(pass, key) => Entry::Gone(*pass, *key),
+            Entry::Crowded(pass, key) => Entry::Crowded(*pass, *key),
+            Entry::Removed(pass, key) => Entry::Removed(*pass, *key),
+            Entry::Released(pass, key) => Entry::Released(*pass, *key),
+        }
+    }
 }

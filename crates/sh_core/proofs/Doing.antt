@@ -1,0 +1,123 @@
+-- A move that was done is the step of each world that the kept words stand for.
+use Rattle.std.proofs.Common.{◌≡◌, ◌≢◌, ℕ, zero, suc, ◌+◌, ◌-◌, ◌*◌, ◌<◌, ◌≤◌, List, [], ◌∷◌, length, get_or, set, sym, refl, ap, ◌∙◌, subst, arith, Option, Some, None, slice_get}
+use Rattle.sh_history.specs.declared.entry.Entry.{Entry}
+use Rattle.sh_key.specs.Layout.{Layout}
+use Rattle.sh_shape.specs.declared.places.Place.{Place}
+use Rattle.sh_shape.specs.declared.places.Place.TheVariants.{Class, Head, PageLink, State, Link, Length, Payload, Owner, Bell}
+use Rattle.sh_shape.specs.Classes.{width}
+use Rattle.sh_shape.specs.Shape.{Numbers}
+use Rattle.sh_shape.specs.Places.{number}
+use Rattle.sh_slots.specs.declared.reply.Reply.{Reply}
+use Rattle.sh_slots.specs.declared.reply.Reply.TheVariants as reply
+use Rattle.sh_step.specs.declared.action.Event.{Event}
+use Rattle.sh_step.specs.declared.body.Body.{Body}
+use Rattle.sh_step.specs.Operations.{operate}
+use Rattle.sh_step.specs.Plans.{Plan, plan_of}
+use Rattle.sh_step.specs.Rows.{Row, row}
+use Rattle.sh_core.specs.declared.outcome.Outcome.{Outcome}
+use Rattle.sh_core.specs.declared.outcome.Outcome.TheVariants.{Skipped}
+use Rattle.sh_core.specs.Words.{Words, read}
+use Rattle.sh_core.specs.Worlds.{World, step, words_from, value_at, value_of, entry_of, joined}
+use Rattle.sh_core.specs.Outcomes.{row_of, outcome_of, done}
+use Rattle.sh_core.specs.Kept.{Kept, Stands, Hold, Reached, IsReady, Does, Steps, IsDone, HasValue, KeepsValue, value_in, value_kept, word_at, new_entry}
+use Rattle.sh_core.proofs.PlacesWithin.{slots_few}
+use Rattle.sh_core.proofs.KeptValues.{row_within}
+use Rattle.sh_core.proofs.Stepping.{stands_moves, stands_skips, stands_past, row_of_at, row_of_past, outcome_done, outcome_skipped, outcome_not_skipped, reached_on, moved}
+
+words_same : (f g : ℕ → ℕ) (i n : ℕ) → ((j : ℕ) → i ≤ j → j < i + n → f j ≡ g j) → words_from f i n ≡ words_from g i n
+words_same f g i zero h = refl
+words_same f g i (suc n) h = let here : f i ≡ g i = h i (omega arith) (omega arith) in let rest = words_same f g (i + 1) n (λ j a b. h j (omega arith) (omega arith)) in λ k. here k ∷ rest k
+
+-- a value that stands in the list is that of the world
+value_same : (shape : Numbers) (list : List ℕ) (w : Words) (q s : ℕ) → Hold shape list w → HasValue shape list (record { page = q; slot = s }) → value_in shape list (record { page = q; slot = s }) ≡ value_at w q s
+unfolding value_at
+value_same shape list w q s h v =
+    let c : word_at shape list (Class q) ≡ w.class_at q = h.at (Class q) v.page in
+    let few = slots_few (word_at shape list (Class q) - 1) (let a = v.has_class in let b = v.is_class in omega arith) in
+    let low : s < 48 = let a = v.slot in omega arith in
+    let l : word_at shape list (Length q s) ≡ w.length_at q s = h.at (Length q s) (v.page, low) in
+    let within = row_within (word_at shape list (Class q) - 1) s (word_at shape list (Length q s)) (let a = v.has_class in let b = v.is_class in omega arith) v.slot v.length in
+    words_same (λ i. word_at shape list (Payload q i)) (w.payload_at q) (s * width (word_at shape list (Class q) - 1)) (word_at shape list (Length q s)) (λ j a b. h.at (Payload q j) (v.page, omega arith))
+    ∙ λ i. words_from (w.payload_at q) (s * width (c i - 1)) (l i)
+
+kept_same : (shape : Numbers) (list : List ℕ) (w : Words) (p : Place) → Hold shape list w → KeepsValue shape list p → value_kept shape list p ≡ value_of w p
+kept_same shape list w (State q s) h v = value_same shape list w q s h v
+kept_same shape list w (Class q) h v = absurd v
+kept_same shape list w (Head q) h v = absurd v
+kept_same shape list w (PageLink q) h v = absurd v
+kept_same shape list w (Link q s) h v = absurd v
+kept_same shape list w (Length q s) h v = absurd v
+kept_same shape list w (Payload q s) h v = absurd v
+kept_same shape list w (Owner q) h v = absurd v
+kept_same shape list w (Bell q) h v = absurd v
+
+-- an entry has a value only where it is got
+entry_same : (a : ℕ) (v u : List ℕ) (o : Option Reply) → ((k : ℕ) → o ≡ Some (reply.Got k) → v ≡ u) → entry_of a v o ≡ entry_of a u o
+entry_same a v u (Some (reply.Got k)) h = let e = h k refl in ap (λ (xs : List ℕ). entry_of a xs (Some (reply.Got k))) e
+entry_same a v u (Some (reply.Insert k x)) h = refl
+entry_same a v u (Some (reply.Gone k)) h = refl
+entry_same a v u (Some (reply.Crowded k)) h = refl
+entry_same a v u (Some (reply.Removed k)) h = refl
+entry_same a v u (Some (reply.Released k)) h = refl
+entry_same a v u None h = refl
+
+new_same : (layout : Layout) (k : Kept) (w : World) (a : ℕ) (r : Row) → Stands k w → IsReady layout k.shape k.words r → new_entry k.shape k.words a r ≡ entry_of a (value_of w.words r.place) (r.reply (word_at k.shape k.words r.place))
+new_same layout k w a r s ready = entry_same a (value_kept k.shape k.words r.place) (value_of w.words r.place) (r.reply (word_at k.shape k.words r.place)) (λ j g. kept_same k.shape k.words w.words r.place s.words (ready.gets j g))
+
+-- what is kept once a move was done
+record Done (k k' : Kept) (e : Event) (r : Row) (came : Outcome) : Type 0 where
+  pub part : Body
+  pub does : Does k.shape e.pass r k.words k.log came k'.words part k'.log
+  pub shape : k'.shape ≡ k.shape
+  pub parts : k'.parts ≡ set k.parts e.pass part
+
+module _ (layout : Layout) (k k' : Kept) (e : Event) (p : Body) (r : Row) (came : Outcome) (reached : Reached layout k) (at : slice_get k.parts e.pass ≡ Some p) (is : row (plan_of layout k.shape) p e.action ≡ Some r) (ready : IsReady layout k.shape k.words r) where
+  abbrev plan : Plan
+  plan = plan_of layout k.shape
+
+  row_here : (w : World) → Stands k w → row_of plan w e ≡ Some r
+  row_here w s = let here : slice_get w.parts e.pass ≡ Some p = rw (← s.parts) at in row_of_at plan w e p here ∙ is
+
+  world_done : Done k k' e r came → (w : World) → Stands k w → Stands k' (step plan w e)
+  world_done d w s =
+      let n : ℕ = word_at k.shape k.words r.place in
+      let new : Option Entry = entry_of e.pass (value_of w.words r.place) (r.reply n) in
+      let same : moved k e.pass r n new ≡ k' = λ i. record {
+        shape = sym d.shape i;
+        words = sym d.does.words i;
+        parts = (sym (ap (λ (b : Body). set k.parts e.pass b) d.does.part) ∙ sym d.parts) i;
+        log = (sym (ap (joined k.log) (new_same layout k w e.pass r s ready)) ∙ sym d.does.log) i;
+      } in
+      let P : Kept → Type 0 = λ u. Stands u (step plan w e) in
+      subst P same (stands_moves plan k w e p r s at is ready.row.place)
+
+  outcome_is : Done k k' e r came → (w : World) → Stands k w → came ≡ outcome_of plan w e
+  outcome_is d w s =
+      let n : word_at k.shape k.words r.place ≡ read w.words r.place = s.words.at r.place ready.row.place in
+      d.does.outcome ∙ (ap done (new_same layout k w e.pass r s ready) ∙ (ap (λ (m : ℕ). done (entry_of e.pass (value_of w.words r.place) (r.reply m))) n ∙ sym (outcome_done plan w e r (row_here w s))))
+
+  pub steps_done : Done k k' e r came → Steps layout k e came k'
+  steps_done d = record { shape = d.shape; world = world_done d; outcome_is = outcome_is d }
+
+  pub reached_done : Done k k' e r came → Reached layout k'
+  reached_done d = reached_on layout k k' e reached d.shape (world_done d)
+
+  pub is_done : IsDone layout k e
+  is_done w s = outcome_not_skipped plan w e r (row_here w s)
+
+-- nothing changed where there is no such pass, or the condition does not hold
+pub steps_past : (layout : Layout) (k : Kept) (e : Event) → slice_get k.parts e.pass ≡ None → Steps layout k e Skipped k
+steps_past layout k e at =
+    let plan : Plan = plan_of layout k.shape in record {
+      shape = refl;
+      world = λ w s. stands_past plan k w e s at;
+      outcome_is = λ w s. sym (outcome_skipped plan w e (row_of_past plan w e (let here : slice_get w.parts e.pass ≡ None = rw (← s.parts) at in here)));
+    }
+
+pub steps_skipped : (layout : Layout) (k : Kept) (e : Event) (p : Body) → slice_get k.parts e.pass ≡ Some p → row (plan_of layout k.shape) p e.action ≡ None → Steps layout k e Skipped k
+steps_skipped layout k e p at is =
+    let plan : Plan = plan_of layout k.shape in record {
+      shape = refl;
+      world = λ w s. stands_skips plan k w e p s at is;
+      outcome_is = λ w s. sym (outcome_skipped plan w e (row_of_at plan w e p (let here : slice_get w.parts e.pass ≡ Some p = rw (← s.parts) at in here) ∙ is));
+    }

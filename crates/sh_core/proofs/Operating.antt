@@ -1,0 +1,25 @@
+-- An operation whose count fits has room.
+use Rattle.std.proofs.Common.{◌≡◌, ℕ, ◌+◌, ◌*◌, ◌/◌, ◌%◌, ◌^◌, ◌<◌, ◌≤◌, sym, subst, arith}
+use Rattle.std.proofs.Math.Nat.{div-add-mod}
+use Rattle.sh_word.specs.Fields.{fields_of}
+use Rattle.sh_step.specs.declared.operation.Operation.{Operation}
+use Rattle.sh_step.specs.declared.operation.Operation.TheVariants.{FetchAdd, FetchSub, FetchOr, Swap, Store, CompareExchange, Load}
+use Rattle.sh_step.specs.Operations.{HasRoom}
+use Rattle.sh_core.specs.Within.{CountFits}
+
+-- the count stands lowest in a state word
+add_fits : (n m : ℕ) → n < 2 ^ 64 → (fields_of n).count + m < 2 ^ 30 → n + m < 2 ^ 64
+unfolding fields_of
+add_fits n m h f = omega arith
+
+fits_room : (o : Operation) (n : ℕ) → n < 2 ^ 64 → CountFits o n → HasRoom o n
+fits_room (FetchAdd m) n h f = add_fits n m h f
+fits_room (FetchSub m) n h f = tt
+fits_room (FetchOr m) n h f = tt
+fits_room (Swap m) n h f = tt
+fits_room (Store m) n h f = tt
+fits_room (CompareExchange a b) n h f = tt
+fits_room Load n h f = tt
+
+pub has_room : (o o' : Operation) (n n' : ℕ) → o ≡ o' → n ≡ n' → n < 2 ^ 64 → CountFits o' n' → HasRoom o n
+has_room o o' n n' e f h c = fits_room o n h (let P : Operation → Type 0 = λ x. CountFits x n in subst P (sym e) (let Q : ℕ → Type 0 = λ x. CountFits o' x in subst Q (sym f) c))
