@@ -1,0 +1,1 @@
+//! What a move leaves in a pass's own part.
