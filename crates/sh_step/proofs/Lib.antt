@@ -4,3 +4,4 @@ pub mod MoveLaws
 pub mod WordLaws
 pub mod PageLaws
 pub mod HoldLaws
+pub mod KeyLaws

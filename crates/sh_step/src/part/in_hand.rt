@@ -1,5 +1,6 @@
 //! What actions on what a pass has begun leave in its own part.
-ghost use Rattle.std.specs.Prelude.{◌≡◌, ◌+◌, ◌^◌, ◌<◌, ◌≤◌, Bool, List, ℕ, IfOk, IfErr, OnOk, OnErr};
+ghost use Rattle.std.specs.Prelude.{◌≡◌, ◌+◌, ◌≤◌, ℕ, IfOk, IfErr, OnOk, OnErr};
+ghost use Rattle.sh_shape.specs.Places.{all_pages};
 ghost use Rattle.sh_step.specs.Plans.{Plan, plan_of};
 ghost use Rattle.sh_step.specs.Rows.{drop_hand, finish, put_at, tie, ring, ring_tie};
 
@@ -64,10 +65,12 @@ impl Part {
     }
 
     // A ring that found this word on the bell.
-    pub(super) fn ring(&mut self, page: u64, found: u64)
-        requires { found + 1 < 2 ^ 64 }
+    #[tactic(auto, using(sh_shape::proofs::PlaceLaws::few_pages))]
+    pub(super) fn ring(&mut self, shape: &Shape, page: u64, found: u64)
+        requires { found ≤ all_pages shape.now + 1 }
         ensures { (plan : Plan) → self.new ≡ (ring plan self.old page).part found }
     {
+        let _pages = shape.pages();
         self.hand = Hand::RingTying(page, link_over(found));
     }
 
