@@ -1,6 +1,6 @@
 -- What each action's row comes to once what the action names is known.
 use Rattle.std.proofs.Common.{◌≡◌, ℕ, ◌-◌, ◌<◌, ◌==◌, ◌&&◌, ◌||◌, not, Bool, true, false, cond, length, List, Option, Some, None, refl, sym, ap, ◌∙◌}
-use Rattle.std.specs.Prelude.{option_map, nat_lt, nat_le}
+use Rattle.std.specs.Prelude.{option_map, is_some, nat_lt, nat_le}
 use Rattle.std.specs.Bool.{then_some}
 use Rattle.sh_shape.specs.Classes.{width, slots}
 use Rattle.sh_slots.specs.declared.hand.Hand.{Hand}
@@ -224,3 +224,9 @@ PutSlot_none plan p y e = slotted_none plan y (λ x. when (idle p && own plan p 
 pub PutSlot_some : (plan : Plan) (p : Body) (y : SlotName) (x : Spot) → slot_named plan y ≡ Some x → row plan p (action.PutSlot y) ≡ when (idle p && own plan p x.page && has (same_spot x) p.mine) (put_at (record p { mine = without (same_spot x) p.mine }) x)
 unfolding row
 PutSlot_some plan p y x e = slotted_some plan y (λ x. when (idle p && own plan p x.page && has (same_spot x) p.mine) (put_at (record p { mine = without (same_spot x) p.mine }) x)) x e
+
+-- ---- whether there is a move
+
+pub enabled_by : (plan : Plan) (p : Body) (a : Action) (m : Option Move) → row plan p a ≡ option_map (row_of plan p) m → is_some m ≡ is_some (row plan p a)
+enabled_by plan p a None e = sym (ap is_some e)
+enabled_by plan p a (Some m) e = sym (ap is_some e)

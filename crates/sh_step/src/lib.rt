@@ -27,7 +27,7 @@ mod tests;
 pub use action::{Action, Event, PageName, SlotName};
 pub use body::Body;
 pub use kind::Kind;
-pub use moves::Move;
+pub use moves::{Move, enabled};
 pub use operation::Operation;
 pub use part::Part;
 pub use step::Step;

@@ -130,6 +130,7 @@ pub fn remove_spot(slots: &mut Vec<Spot>, spot: Spot)
 pub fn remove_note(notes: &mut Vec<(u64, u64)>, number: u64)
     ensures items { notes.new.items ≡ without (λ x. x.0 == number) notes.old.items }
     ensures capacity { vec_capacity notes.new ≡ vec_capacity notes.old }
+    ensures fewer { vec_len notes.new ≤ vec_len notes.old }
 {
     if let Some(i) = note_at(notes, number) {
         notes.remove(i);
@@ -184,6 +185,17 @@ pub fn make_room<T>(items: &mut Vec<T>, more: usize) -> Result<(), Refusal>
     match items.reserve(more) {
         Ok(()) => Ok(()),
         Err(_) => Err(Refusal::Memory),
+    }
+}
+
+/// Puts the item first. There is room for it.
+pub fn put_in_room<T: Copy + Drop>(items: &mut Vec<T>, item: T)
+    requires { vec_len items.old < vec_capacity items.old }
+    ensures { items.new.items ≡ item ∷ items.old.items }
+{
+    match put_first(items, item) {
+        Ok(()) => {}
+        Err(_) => unreachable!(),
     }
 }
 

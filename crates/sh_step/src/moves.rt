@@ -1,6 +1,7 @@
 //! Actions that may be done.
+ghost use Rattle.std.specs.Prelude.{◌≡◌};
 ghost use Rattle.sh_step.specs.Plans.{plan_of, Plan};
-ghost use Rattle.sh_step.specs.Moves.{IsMoveOf};
+ghost use Rattle.sh_step.specs.Moves.{IsMoveOf, is_enabled};
 
 use crate::{Action, Part, in_hand, keyed, owners, paged, slotted};
 use sh_key::KeyLayout;
@@ -100,4 +101,11 @@ impl Move {
             Action::FollowBell => owners::follow_bell(part),
         }
     }
+}
+
+/// Whether a pass with this part may do the action: the action's condition holds.
+pub fn enabled<L: KeyLayout>(shape: &Shape, part: &Part, action: &Action) -> bool
+    ensures { result ≡ is_enabled (plan_of L.layout shape.now) part.now action.now }
+{
+    Move::of::<L>(shape, part, action).is_some()
 }

@@ -5,6 +5,13 @@ ghost use Rattle.sh_slots.specs.declared.hand.Hand.TheVariants.{Idle};
 ghost use Rattle.sh_step.specs.Collections.{has, noted, every};
 ghost use Rattle.sh_step.specs.Rows.{idle, class_of, no_cursor, all_mine};
 
+mod acts;
+mod in_hand;
+mod keyed;
+mod owners;
+mod paged;
+mod slotted;
+
 use crate::lists::{has_number, has_slots, has_spot, value_noted};
 use sh_slots::{Hand, Spot};
 use std::alloc::Global;

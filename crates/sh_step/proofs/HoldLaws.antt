@@ -1,0 +1,19 @@
+-- What is left of a key with one hold less.
+use Rattle.std.proofs.Common.{◌≡◌, ℕ, ◌==◌, Bool, true, false, cond, ap}
+use Rattle.sh_step.specs.declared.body.Body.{Body}
+use Rattle.sh_step.specs.Collections.{has, without, off}
+use Rattle.sh_step.specs.Rows.{freed}
+
+-- what is left where there is another hold, and where there is none
+freed_by : Body → ℕ → Bool → Body
+freed_by p k other = record p {
+  holds = without (λ j. j == k) p.holds;
+  widths = cond other p.widths (off (λ x. x.0 == k) p.widths);
+  lengths = cond other p.lengths (off (λ x. x.0 == k) p.lengths);
+  contents = cond other p.contents (off (λ x. x.0 == k) p.contents);
+}
+
+pub freed_last : (p : Body) (k : ℕ) → has (λ j. j == k) (without (λ j. j == k) p.holds) ≡ false
+    → freed p k ≡ record p { holds = without (λ j. j == k) p.holds; widths = off (λ x. x.0 == k) p.widths; lengths = off (λ x. x.0 == k) p.lengths; contents = off (λ x. x.0 == k) p.contents }
+unfolding freed_by
+freed_last p k last = ap (freed_by p k) last

@@ -1,0 +1,83 @@
+//! What actions on what a pass has begun leave in its own part.
+ghost use Rattle.std.specs.Prelude.{◌≡◌, ◌+◌, ◌≤◌, ℕ, IfOk, IfErr, OnOk, OnErr};
+ghost use Rattle.sh_shape.specs.Places.{all_pages};
+ghost use Rattle.sh_step.specs.Plans.{Plan, plan_of};
+ghost use Rattle.sh_step.specs.Rows.{drop_hand, finish, put_at, tie, ring, ring_tie};
+
+use super::Part;
+use crate::limits::gen_max;
+use crate::lists::put_first;
+use crate::paged::owns;
+use sh_bell::{is_armed, top_of};
+use sh_key::KeyLayout;
+use sh_shape::Shape;
+use sh_slots::{Hand, Spot, after_drop, is_reusable_after};
+use sh_stack::link_over;
+use sh_value::Refusal;
+
+impl Part {
+    // A drop of what it leaves that found this word.
+    pub(super) fn drop_hand(&mut self, spot: Spot, found: u64)
+        ensures { self.new ≡ (drop_hand self.old spot).part found }
+    {
+        self.hand = after_drop(spot, found);
+    }
+
+    // The end of a generation that found this word: the slot is then its own where its shard is, and else to be put.
+    pub(super) fn finish<L: KeyLayout>(
+        &mut self,
+        shape: &Shape,
+        spot: Spot,
+        generation: u32,
+        found: u64,
+    ) -> Result<(), Refusal>
+        ensures part { OnOk result (self.new ≡ (finish (plan_of L.layout shape.now) self.old spot generation).part found) }
+        ensures err { OnErr result (self.new ≡ self.old) }
+        ensures memory { IfErr result (λ refusal. refusal ≡ Refusal.Memory) }
+    {
+        if !is_reusable_after(generation, gen_max::<L>(), found) {
+            self.hand = Hand::Idle;
+        } else if owns::<L>(shape, self, spot.page) {
+            put_first(&mut self.mine, spot)?;
+            self.hand = Hand::Idle;
+        } else {
+            self.hand = Hand::ToPut(spot);
+        }
+        Ok(())
+    }
+
+    // A put that found this head word: the link is to be stored, and then to be rung where the flag was found.
+    pub(super) fn put(&mut self, spot: Spot, found: u64)
+        ensures { self.new ≡ (put_at self.old spot).part found }
+    {
+        self.hand = Hand::Tying(spot, link_over(top_of(found)), is_armed(found));
+    }
+
+    // The store of a slot's link.
+    pub(super) fn tie(&mut self, spot: Spot, ring: bool)
+        ensures { (link found : ℕ) → self.new ≡ (tie self.old spot link ring).part found }
+    {
+        self.hand = if ring {
+            Hand::Ringing(spot.page)
+        } else {
+            Hand::Idle
+        };
+    }
+
+    // A ring that found this word on the bell.
+    #[tactic(auto, using(sh_shape::proofs::PlaceLaws::few_pages))]
+    pub(super) fn ring(&mut self, shape: &Shape, page: u64, found: u64)
+        requires { found ≤ all_pages shape.now + 1 }
+        ensures { (plan : Plan) → self.new ≡ (ring plan self.old page).part found }
+    {
+        let _pages = shape.pages();
+        self.hand = Hand::RingTying(page, link_over(found));
+    }
+
+    // The store of a page's link.
+    pub(super) fn ring_tie(&mut self)
+        ensures { (page link found : ℕ) → self.new ≡ (ring_tie self.old page link).part found }
+    {
+        self.hand = Hand::Idle;
+    }
+}

@@ -1,0 +1,118 @@
+//! What actions on keys leave in a pass's own part.
+ghost use Rattle.std.specs.Prelude.{◌≡◌, ℕ, IfOk, IfErr, OnOk, OnErr};
+ghost use Rattle.sh_shape.specs.Shape.{Numbers};
+ghost use Rattle.sh_step.specs.Plans.{Plan, plan_of};
+ghost use Rattle.sh_step.specs.Rows.{enter_get, enter_remove, mark, freed, drop_key, read_class, read_length, read_word};
+
+use super::Part;
+use crate::limits::guard_max;
+use crate::lists::{forget_notes, forget_words, has_number, put_first, remove_number};
+use sh_key::KeyLayout;
+use sh_slots::{
+    GetAnswer, Hand, Name, Reply, after_drop, after_enter_remove, answer_to_get, is_first_mark,
+};
+use sh_value::Refusal;
+
+impl Part {
+    // An entry to get that found this word: a hold, where the value is there and its key has room for one.
+    pub(super) fn enter_get<L: KeyLayout>(
+        &mut self,
+        key: u64,
+        name: Name,
+        found: u64,
+    ) -> Result<Option<Reply>, Refusal>
+        ensures reply { (n : Numbers) → IfOk result (λ reply. reply ≡ (enter_get (plan_of L.layout n) self.old key name).reply found) }
+        ensures part { (n : Numbers) → OnOk result (self.new ≡ (enter_get (plan_of L.layout n) self.old key name).part found) }
+        ensures err { OnErr result (self.new ≡ self.old) }
+        ensures memory { IfErr result (λ refusal. refusal ≡ Refusal.Memory) }
+    {
+        match answer_to_get(name.generation, guard_max::<L>(), found) {
+            GetAnswer::Got => {
+                put_first(&mut self.holds, key)?;
+                Ok(Some(Reply::Got(key)))
+            }
+            GetAnswer::Crowded => {
+                self.hand = Hand::Leaving(name.spot());
+                Ok(Some(Reply::Crowded(key)))
+            }
+            GetAnswer::Gone => {
+                self.hand = Hand::Leaving(name.spot());
+                Ok(Some(Reply::Gone(key)))
+            }
+        }
+    }
+
+    // An entry to remove that found this word.
+    pub(super) fn enter_remove(&mut self, key: u64, name: Name, found: u64) -> Option<Reply>
+        ensures reply { (plan : Plan) → result ≡ (enter_remove plan self.old key name).reply found }
+        ensures part { (plan : Plan) → self.new ≡ (enter_remove plan self.old key name).part found }
+    {
+        self.hand = after_enter_remove(key, name, found);
+        match self.hand {
+            Hand::Leaving(_) => Some(Reply::Gone(key)),
+            _ => None,
+        }
+    }
+
+    // A mark that found this word.
+    pub(super) fn mark(&mut self, key: u64, name: Name, found: u64) -> Option<Reply>
+        ensures reply { result ≡ (mark self.old key name).reply found }
+        ensures part { self.new ≡ (mark self.old key name).part found }
+    {
+        self.hand = Hand::Leaving(name.spot());
+        if is_first_mark(found) {
+            Some(Reply::Removed(key))
+        } else {
+            Some(Reply::Gone(key))
+        }
+    }
+
+    // One hold less on the key; what was read of it is forgotten with the last.
+    fn free(&mut self, key: u64)
+        ensures { self.new ≡ freed self.old key }
+    {
+        remove_number(&mut self.holds, key);
+        if !has_number(&self.holds, key) {
+            forget_notes(&mut self.widths, key);
+            forget_notes(&mut self.lengths, key);
+            forget_words(&mut self.contents, key);
+        }
+    }
+
+    // A drop of a hold that found this word.
+    pub(super) fn drop_hold(&mut self, key: u64, name: Name, found: u64) -> Option<Reply>
+        ensures reply { result ≡ (drop_key self.old key name).reply found }
+        ensures part { self.new ≡ (drop_key self.old key name).part found }
+    {
+        self.free(key);
+        self.hand = after_drop(name.spot(), found);
+        Some(Reply::Released(key))
+    }
+
+    // A read of the class of a held key's page.
+    pub(super) fn read_class(&mut self, key: u64, name: Name, found: u64) -> Result<(), Refusal>
+        ensures part { OnOk result (self.new ≡ (read_class self.old key name).part found) }
+        ensures err { OnErr result (self.new ≡ self.old) }
+        ensures memory { IfErr result (λ refusal. refusal ≡ Refusal.Memory) }
+    {
+        put_first(&mut self.widths, (key, found))
+    }
+
+    // A read of the length of a held key's value.
+    pub(super) fn read_length(&mut self, key: u64, name: Name, found: u64) -> Result<(), Refusal>
+        ensures part { OnOk result (self.new ≡ (read_length self.old key name).part found) }
+        ensures err { OnErr result (self.new ≡ self.old) }
+        ensures memory { IfErr result (λ refusal. refusal ≡ Refusal.Memory) }
+    {
+        put_first(&mut self.lengths, (key, found))
+    }
+
+    // A read of a word, of this number, of a held key's value.
+    pub(super) fn read_word(&mut self, key: u64, i: u64, found: u64) -> Result<(), Refusal>
+        ensures part { (name : Name) (class_word : ℕ) → OnOk result (self.new ≡ (read_word self.old key name class_word i).part found) }
+        ensures err { OnErr result (self.new ≡ self.old) }
+        ensures memory { IfErr result (λ refusal. refusal ≡ Refusal.Memory) }
+    {
+        put_first(&mut self.contents, (key, i, found))
+    }
+}

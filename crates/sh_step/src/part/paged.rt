@@ -1,0 +1,98 @@
+//! What actions on pages leave in a pass's own part.
+ghost use Rattle.std.specs.Prelude.{◌≡◌, ℕ, IfOk, IfErr, OnOk, OnErr, ◌-◌, ◌/◌};
+ghost use Rattle.sh_step.specs.Rows.{read_page, set_class, take_page, follow, arm, point};
+
+use super::Part;
+use crate::classes::slots_of_word;
+use crate::lists::{
+    forget_page, make_room, put_first, put_in_room, put_slots, remove_note, remove_number,
+};
+use sh_bell::{is_armed, top_of};
+use sh_slots::Spot;
+use sh_stack::{Link, top_item};
+use sh_value::Refusal;
+
+// Notes the slot that a page's head word names, if it names one, as the one to follow next.
+fn point_to_top(cursors: &mut Vec<(u64, u64)>, page: u64, head: u64) -> Result<(), Refusal>
+    ensures ok { OnOk result (cursors.new.items ≡ point 1 page (head / 2) cursors.old.items) }
+    ensures err { OnErr result (cursors.new.items ≡ cursors.old.items) }
+    ensures memory { IfErr result (λ refusal. refusal ≡ Refusal.Memory) }
+{
+    match top_item(top_of(head)) {
+        Some(slot) => put_first(cursors, (page, slot)),
+        None => Ok(()),
+    }
+}
+
+impl Part {
+    // A read of a page's class.
+    pub(super) fn read_page(&mut self, page: u64, found: u64) -> Result<(), Refusal>
+        ensures part { OnOk result (self.new ≡ (read_page self.old page).part found) }
+        ensures err { OnErr result (self.new ≡ self.old) }
+        ensures memory { IfErr result (λ refusal. refusal ≡ Refusal.Memory) }
+    {
+        put_first(&mut self.classes, (page, found))
+    }
+
+    // The change of a page's class: all its slots are then its own, and none but those.
+    pub(super) fn set_class(&mut self, page: u64, class: u32) -> Result<(), Refusal>
+        ensures part { (found : ℕ) → OnOk result (self.new ≡ (set_class self.old page class).part found) }
+        ensures err { OnErr result (self.new ≡ self.old) }
+        ensures memory { IfErr result (λ refusal. refusal ≡ Refusal.Memory) }
+    {
+        let word = u64::from(class) + 1;
+        let count = slots_of_word(word);
+        make_room(&mut self.mine, count as usize)?;
+        put_first(&mut self.classes, (page, word))?;
+        forget_page(&mut self.mine, page);
+        put_slots(&mut self.mine, page, count);
+        Ok(())
+    }
+
+    // A take that found this head word.
+    pub(super) fn take(&mut self, page: u64, found: u64) -> Result<(), Refusal>
+        ensures part { OnOk result (self.new ≡ (take_page self.old page).part found) }
+        ensures err { OnErr result (self.new ≡ self.old) }
+        ensures memory { IfErr result (λ refusal. refusal ≡ Refusal.Memory) }
+    {
+        point_to_top(&mut self.cursors, page, found)?;
+        if is_armed(found) {
+            remove_number(&mut self.armed, page);
+        }
+        Ok(())
+    }
+
+    // A read of the link of a page's slot that found this word: the slot is its own once the link is written.
+    pub(super) fn follow(&mut self, page: u64, slot: u64, found: u64) -> Result<(), Refusal>
+        ensures part { OnOk result (self.new ≡ (follow self.old page slot).part found) }
+        ensures err { OnErr result (self.new ≡ self.old) }
+        ensures memory { IfErr result (λ refusal. refusal ≡ Refusal.Memory) }
+    {
+        match Link::of(found) {
+            Link::Unwritten => {}
+            Link::End => {
+                put_first(&mut self.mine, Spot { page, slot })?;
+                remove_note(&mut self.cursors, page);
+            }
+            Link::Next(next) => {
+                make_room(&mut self.cursors, 1)?;
+                put_first(&mut self.mine, Spot { page, slot })?;
+                remove_note(&mut self.cursors, page);
+                put_in_room(&mut self.cursors, (page, next));
+            }
+        }
+        Ok(())
+    }
+
+    // An arming that found this head word.
+    pub(super) fn arm(&mut self, page: u64, found: u64) -> Result<(), Refusal>
+        ensures part { OnOk result (self.new ≡ (arm self.old page).part found) }
+        ensures err { OnErr result (self.new ≡ self.old) }
+        ensures memory { IfErr result (λ refusal. refusal ≡ Refusal.Memory) }
+    {
+        make_room(&mut self.armed, 1)?;
+        point_to_top(&mut self.cursors, page, found)?;
+        put_in_room(&mut self.armed, page);
+        Ok(())
+    }
+}

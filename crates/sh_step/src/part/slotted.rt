@@ -1,0 +1,80 @@
+//! What actions on slots leave in a pass's own part.
+ghost use Rattle.std.specs.Prelude.{◌≡◌, ◌+◌, ◌/◌, ◌%◌, ◌^◌, ◌<◌, ℕ, Some};
+ghost use Rattle.sh_key.specs.Layout.{IsInRange};
+ghost use Rattle.sh_shape.specs.Places.{all_pages, pages_of};
+ghost use Rattle.sh_slots.specs.Slots.{same_spot, published_name};
+ghost use Rattle.sh_step.specs.Plans.{plan_of};
+ghost use Rattle.sh_step.specs.Collections.{without};
+ghost use Rattle.sh_step.specs.Rows.{fill_slot, fill, publish, put_at};
+
+use super::Part;
+use crate::lists::remove_spot;
+use sh_bell::{home_of, local_of};
+use sh_key::{KeyLayout, Parts};
+use sh_shape::Shape;
+use sh_slots::{Hand, Name, Reply, Spot, published_name};
+use sh_value::Value;
+
+// The key of a name that the layout has a key for.
+#[tactic(auto, unfolding(crate::specs::Plans::keys_of))]
+fn key_of<L: KeyLayout>(shape: &Shape, name: Name) -> u64
+    requires page { name.page < all_pages shape.now }
+    requires slot { name.slot < 48 }
+    requires range { IsInRange L.layout (record { generation = name.generation; shard = name.page / pages_of shape.now; page = name.page % pages_of shape.now; slot = name.slot }) }
+    ensures { result ≡ (plan_of L.layout shape.now).keys.pack name }
+{
+    let pages = u64::from(shape.pages());
+    L::pack(Parts {
+        generation: name.generation,
+        shard: home_of(pages, name.page) as u32,
+        page: local_of(pages, name.page) as u32,
+        slot: name.slot as u32,
+    })
+}
+
+impl Part {
+    // The begin of a filling.
+    pub(super) fn fill_slot(&mut self, spot: Spot, value: &Value)
+        ensures { (found : ℕ) → self.new ≡ (fill_slot self.old spot value.now).part found }
+    {
+        remove_spot(&mut self.mine, spot);
+        self.hand = Hand::Filling(spot, value.copy(), 0);
+    }
+
+    // The store of the value's word of this number.
+    pub(super) fn fill(&mut self, spot: Spot, value: &Value, i: u64)
+        requires { i + 1 < 2 ^ 64 }
+        ensures { (found : ℕ) → self.new ≡ (fill self.old spot value.now i).part found }
+    {
+        self.hand = Hand::Filling(spot, value.copy(), i + 1);
+    }
+
+    // The end of a filling that found this state word: the value is inserted under the slot's key in the generation found,
+    // which names it.
+    #[tactic(auto, using(crate::proofs::KeyLaws::parts_in_range))]
+    pub(super) fn publish<L: KeyLayout>(
+        &mut self,
+        shape: &Shape,
+        spot: Spot,
+        value: &Value,
+        found: u64,
+    ) -> Option<Reply>
+        requires page { spot.page < all_pages shape.now }
+        requires slot { spot.slot < 48 }
+        requires names { (plan_of L.layout shape.now).keys.unpack ((plan_of L.layout shape.now).keys.pack (published_name spot found)) ≡ Some (published_name spot found) }
+        ensures reply { result ≡ (publish (plan_of L.layout shape.now) self.old spot value.now).reply found }
+        ensures part { self.new ≡ (publish (plan_of L.layout shape.now) self.old spot value.now).part found }
+    {
+        self.hand = Hand::Idle;
+        let key = key_of::<L>(shape, published_name(spot, found));
+        Some(Reply::Insert(key, value.copy()))
+    }
+
+    // A put of a slot of its own that found this head word.
+    pub(super) fn put_slot(&mut self, spot: Spot, found: u64)
+        ensures { self.new ≡ (put_at (record self.old { mine = without (same_spot spot) self.old.mine }) spot).part found }
+    {
+        remove_spot(&mut self.mine, spot);
+        self.put(spot, found);
+    }
+}
