@@ -1,5 +1,7 @@
 -- A move that was done is the step of each world that the kept words stand for.
 use Rattle.std.proofs.Common.{◌≡◌, ◌≢◌, ℕ, zero, suc, ◌+◌, ◌-◌, ◌*◌, ◌<◌, ◌≤◌, List, [], ◌∷◌, length, get_or, set, sym, refl, ap, ◌∙◌, subst, arith, Option, Some, None, slice_get}
+use Rattle.std.specs.Prelude.{Result, Ok, Err, IfOk, OnErr}
+use Rattle.sh_value.specs.declared.refusal.Refusal.{Refusal}
 use Rattle.sh_history.specs.declared.entry.Entry.{Entry}
 use Rattle.sh_key.specs.Layout.{Layout}
 use Rattle.sh_shape.specs.declared.places.Place.{Place}
@@ -65,7 +67,7 @@ new_same : (layout : Layout) (k : Kept) (w : World) (a : ℕ) (r : Row) → Stan
 new_same layout k w a r s ready = entry_same a (value_kept k.shape k.words r.place) (value_of w.words r.place) (r.reply (word_at k.shape k.words r.place)) (λ j g. kept_same k.shape k.words w.words r.place s.words (ready.gets j g))
 
 -- what is kept once a move was done
-record Done (k k' : Kept) (e : Event) (r : Row) (came : Outcome) : Type 0 where
+pub record Done (k k' : Kept) (e : Event) (r : Row) (came : Outcome) : Type 0 where
   pub part : Body
   pub does : Does k.shape e.pass r k.words k.log came k'.words part k'.log
   pub shape : k'.shape ≡ k.shape
@@ -121,3 +123,42 @@ steps_skipped layout k e p at is =
       world = λ w s. stands_skips plan k w e p s at is;
       outcome_is = λ w s. sym (outcome_skipped plan w e (row_of_at plan w e p (let here : slice_get w.parts e.pass ≡ Some p = rw (← s.parts) at in here) ∙ is));
     }
+
+pub get_past : (ps : List Body) (a : ℕ) → length ps ≤ a → slice_get ps a ≡ None
+get_past [] a h = refl
+get_past (x ∷ ps) zero h = absurd (omega arith)
+get_past (x ∷ ps) (suc a) h = get_past ps a (omega arith)
+
+pub set_here : (ps : List Body) (a : ℕ) (p : Body) → slice_get ps a ≡ Some p → set ps a p ≡ ps
+set_here [] a p h = refl
+set_here (x ∷ ps) zero p h = let same : p ≡ x = cc in ap (λ (u : Body). u ∷ ps) same
+set_here (x ∷ ps) (suc a) p h = ap (λ (us : List Body). x ∷ us) (set_here ps a p h)
+
+-- after a move was tried: done, or nothing changed
+module _ (layout : Layout) (k : Kept) (e : Event) (p : Body) (r : Row) (reached : Reached layout k) (at : slice_get k.parts e.pass ≡ Some p) (is : row (plan_of layout k.shape) p e.action ≡ Some r) (ready : IsReady layout k.shape k.words r) (res : Result Outcome Refusal) (words' : List ℕ) (part' : Body) (log' : List Entry) (ok : IfOk res (λ came. Does k.shape e.pass r k.words k.log came words' part' log')) where
+  abbrev after : Kept
+  after = record { shape = k.shape; words = words'; parts = set k.parts e.pass part'; log = log' }
+
+  done_with : (came : Outcome) → Does k.shape e.pass r k.words k.log came words' part' log' → Done k after e r came
+  done_with came d = record { part = part'; does = d; shape = refl; parts = refl }
+
+  pub reached_after : OnErr res (words' ≡ k.words) → OnErr res (part' ≡ p) → OnErr res (log' ≡ k.log) → Reached layout after
+  reached_after a b c = go res ok a b c where
+    go : (s : Result Outcome Refusal) → IfOk s (λ came. Does k.shape e.pass r k.words k.log came words' part' log') → OnErr s (words' ≡ k.words) → OnErr s (part' ≡ p) → OnErr s (log' ≡ k.log) → Reached layout after
+    go (Ok came) d a b c = reached_done layout k after e p r came reached at is ready (done_with came d)
+    go (Err x) d a b c =
+        let parts : set k.parts e.pass part' ≡ k.parts = ap (λ (u : Body). set k.parts e.pass u) b ∙ set_here k.parts e.pass p at in
+        let same : after ≡ k = λ i. record { shape = k.shape; words = a i; parts = parts i; log = c i } in
+        subst (Reached layout) (sym same) reached
+
+  pub steps_after : IfOk res (λ came. Steps layout k e came after)
+  steps_after = go res ok where
+    go : (s : Result Outcome Refusal) → IfOk s (λ came. Does k.shape e.pass r k.words k.log came words' part' log') → IfOk s (λ came. Steps layout k e came after)
+    go (Ok came) d = steps_done layout k after e p r came reached at is ready (done_with came d)
+    go (Err x) d = tt
+
+  pub done_after : OnErr res (IsDone layout k e)
+  done_after = go res where
+    go : (s : Result Outcome Refusal) → OnErr s (IsDone layout k e)
+    go (Ok came) = tt
+    go (Err x) = is_done layout k after e p r Skipped reached at is ready

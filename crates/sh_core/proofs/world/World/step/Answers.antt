@@ -1,30 +1,73 @@
-use Rattle.std.proofs.Common.{rules, ◌≡◌, IfOk, IfErr, OnErr, [], length, replicate, ℕ, ◌+◌, ◌-◌, ◌*◌, ◌<◌, ◌≤◌, ◌/◌, ◌%◌, Bool, true, false, nat_eq, nat_lt, List, ◌∷◌, ◌++◌, slice_index_or, slice_set, bit_and, bit_or, w8, w32, w64, Bor, MutBor}
-use Rattle.sh_shape.specs.Shape.{Fits}
+use Rattle.std.proofs.Common.{◌≡◌, ◌≤◌, ◌<◌, ◌∙◌, sym, ap, subst, arith, length, ℕ, List, Option, Some, None, slice_get, set, vec_len}
+use Rattle.std.specs.Prelude.{option_map, IfOk, OnErr}
+use Rattle.std.proofs.lemmas.Option.{slice_get-get_or}
+use Rattle.sh_step.specs.declared.body.Body.{Body}
+use Rattle.sh_step.specs.Moves.{row_of}
 use Rattle.sh_step.specs.Plans.{plan_of}
-use Rattle.sh_core.specs.Worlds.{open_world, newcomer}
-use Rattle.sh_core.specs.Kept.{Stands, Opens, Steps, IsDone}
+use Rattle.sh_core.specs.declared.outcome.Outcome.TheVariants.{Skipped}
+use Rattle.sh_core.specs.Kept.{Kept, Steps, IsDone}
+use Rattle.sh_core.proofs.Doing.{reached_after, steps_after, done_after, steps_past, steps_skipped, get_past, set_here}
+use Rattle.sh_core.proofs.Ready.{ready}
 use Rattle.sh_core.proofs.world.World.step.Goals as goal
 
--- src/world.rt:116:13
 pub returns-then-pass-len-clause-ok : goal.returns-then-pass-len-clause-ok
-returns-then-pass-len-clause-ok g c = ?
+returns-then-pass-len-clause-ok g c =
+    let many = c.len.ensures in
+    let vec = c.self.inside.parts.ok in
+    let some = c.if-pass-len.true in
+    steps_past g.L.KeyLayout.layout c.args.self.now c.args.event.now (ap (λ (k : Kept). slice_get k.parts c.args.event.now.pass) (sym c.self.view_is) ∙ get_past c.self.inside.parts.items c.args.event.now.pass (omega arith))
 
--- src/world.rt:120:31
 pub do_move-requires : goal.do_move-requires
-do_move-requires g c = ?
+do_move-requires g c =
+    let many = c.len.ensures in
+    let vec = c.self.inside.parts.ok in
+    let less = c.if-pass-len.false in
+    let at = slice_get-get_or c.self.inside.parts.items c.args.event.now.pass c.index_mut-part.result.now (omega arith) ∙ ap (λ (p : Body). Some p) (sym c.index_mut-part.ensures.value) in
+    ready g.L.KeyLayout.layout _ c.args.event.now.pass c.index_mut-part.result.now c.args.event.now.action _ c.self.invariant at (c.in-Some.ensures)
 
--- src/world.rt:120:31
 pub invariant_of-self : goal.invariant_of-self
-invariant_of-self g c = ?
+invariant_of-self g c =
+    let many = c.len.ensures in
+    let vec = c.self.inside.parts.ok in
+    let less = c.if-pass-len.false in
+    let at = slice_get-get_or c.self.inside.parts.items c.args.event.now.pass c.index_mut-part.result.now (omega arith) ∙ ap (λ (p : Body). Some p) (sym c.index_mut-part.ensures.value) in
+    let is = c.in-Some.ensures in
+    let row = row_of (plan_of g.L.KeyLayout.layout c.self.inside.shape) c.index_mut-part.result.now c.in-Some.the_move in
+    let t = ready g.L.KeyLayout.layout _ c.args.event.now.pass c.index_mut-part.result.now c.args.event.now.action row c.self.invariant at is in
+    reached_after g.L.KeyLayout.layout _ c.args.event.now c.index_mut-part.result.now row c.self.invariant at is t c.do_move.result c.do_move.new.words.items c.do_move.new.part c.do_move.new.log.items c.do_move.ensures.ok c.do_move.ensures.words c.do_move.ensures.part c.do_move.ensures.log
 
--- src/world.rt:108:5
 pub returns-in-Some-clause-ok : goal.returns-in-Some-clause-ok
-returns-in-Some-clause-ok g c = ?
+returns-in-Some-clause-ok g c =
+    let many = c.len.ensures in
+    let vec = c.self.inside.parts.ok in
+    let less = c.if-pass-len.false in
+    let at = slice_get-get_or c.self.inside.parts.items c.args.event.now.pass c.index_mut-part.result.now (omega arith) ∙ ap (λ (p : Body). Some p) (sym c.index_mut-part.ensures.value) in
+    let is = c.in-Some.ensures in
+    let row = row_of (plan_of g.L.KeyLayout.layout c.self.inside.shape) c.index_mut-part.result.now c.in-Some.the_move in
+    let t = ready g.L.KeyLayout.layout _ c.args.event.now.pass c.index_mut-part.result.now c.args.event.now.action row c.self.invariant at is in
+    subst (λ (k : Kept). IfOk c.do_move.result (λ came. Steps g.L.KeyLayout.layout k c.args.event.now came (record { shape = c.self.inside.shape; words = c.do_move.new.words.items; parts = set c.self.inside.parts.items c.args.event.now.pass c.do_move.new.part; log = c.do_move.new.log.items }))) c.self.view_is
+    (steps_after g.L.KeyLayout.layout _ c.args.event.now c.index_mut-part.result.now row c.self.invariant at is t c.do_move.result c.do_move.new.words.items c.do_move.new.part c.do_move.new.log.items c.do_move.ensures.ok)
 
--- src/world.rt:108:5
 pub returns-in-Some-clause-done : goal.returns-in-Some-clause-done
-returns-in-Some-clause-done g c = ?
+returns-in-Some-clause-done g c =
+    let many = c.len.ensures in
+    let vec = c.self.inside.parts.ok in
+    let less = c.if-pass-len.false in
+    let at = slice_get-get_or c.self.inside.parts.items c.args.event.now.pass c.index_mut-part.result.now (omega arith) ∙ ap (λ (p : Body). Some p) (sym c.index_mut-part.ensures.value) in
+    let is = c.in-Some.ensures in
+    let row = row_of (plan_of g.L.KeyLayout.layout c.self.inside.shape) c.index_mut-part.result.now c.in-Some.the_move in
+    let t = ready g.L.KeyLayout.layout _ c.args.event.now.pass c.index_mut-part.result.now c.args.event.now.action row c.self.invariant at is in
+    subst (λ (k : Kept). OnErr c.do_move.result (IsDone g.L.KeyLayout.layout k c.args.event.now)) c.self.view_is
+    (done_after g.L.KeyLayout.layout _ c.args.event.now c.index_mut-part.result.now row c.self.invariant at is t c.do_move.result c.do_move.new.words.items c.do_move.new.part c.do_move.new.log.items c.do_move.ensures.ok)
 
--- src/world.rt:108:5
 pub returns-in-None-clause-ok : goal.returns-in-None-clause-ok
-returns-in-None-clause-ok g c = ?
+returns-in-None-clause-ok g c =
+    let many = c.len.ensures in
+    let vec = c.self.inside.parts.ok in
+    let less = c.if-pass-len.false in
+    let at = slice_get-get_or c.self.inside.parts.items c.args.event.now.pass c.index_mut-part.result.now (omega arith) ∙ ap (λ (p : Body). Some p) (sym c.index_mut-part.ensures.value) in
+    let k : Kept = record { shape = c.self.inside.shape; words = c.self.inside.words.items; parts = c.self.inside.parts.items; log = c.self.inside.log.items } in
+    let same : set k.parts c.args.event.now.pass c.index_mut-part.result.now ≡ k.parts = set_here k.parts c.args.event.now.pass c.index_mut-part.result.now at in
+    let skips = steps_skipped g.L.KeyLayout.layout k c.args.event.now c.index_mut-part.result.now at c.in-None.ensures in
+    subst (λ (b : Kept). Steps g.L.KeyLayout.layout b c.args.event.now Skipped (record k { parts = set k.parts c.args.event.now.pass c.index_mut-part.result.now })) c.self.view_is
+    (subst (λ (ps : List Body). Steps g.L.KeyLayout.layout k c.args.event.now Skipped (record k { parts = ps })) (sym same) skips)
