@@ -1,6 +1,18 @@
-use crate::{Action, Kind, PageName, SlotName};
+ghost use Rattle.std.specs.Prelude.{◌≡◌};
+
+use crate::{Action, Kind, Move, Operation, PageName, Part, SlotName, enabled};
+use sh_key::Tiny;
+use sh_shape::{Place, Shape};
+use sh_slots::Spot;
 use sh_value::Value;
+use std::process::Abort;
 use std::test::Fail;
+
+fn one_shard(rt: &impl Abort) -> Shape
+    ensures { result ≡ record { shards = 1; segments = 1; passes = 1 } }
+{
+    Shape::new(1, 1, 1).expect(rt, "one shard of one segment is a shape")
+}
 
 #[test]
 fn forms_are_of_their_kinds(rt: HostRuntime) -> Result<(), Fail> {
@@ -16,5 +28,59 @@ fn forms_are_of_their_kinds(rt: HostRuntime) -> Result<(), Fail> {
     assert_eq!(rt; Action::FillSlot(slot, value).kind().name(), "Fill");
     assert_eq!(rt; Action::DropHold(4096).kind(), Kind::Drop);
     assert_eq!(rt; Action::Arm(page).kind().name(), "Arm");
+    Ok(())
+}
+
+#[test]
+fn operations_leave_words(rt: HostRuntime) {
+    assert_eq!(rt; Operation::FetchAdd(1).after(5368709120), 5368709121);
+    assert_eq!(rt; Operation::FetchSub(1).after(5368709121), 5368709120);
+    assert_eq!(rt; Operation::FetchOr(1 << 31).after(5368709120), 7516192768);
+    assert_eq!(rt; Operation::Swap(96).after(1), 96);
+    assert_eq!(rt; Operation::Store(3).after(7), 3);
+    assert_eq!(rt; Operation::CompareExchange(7, 8).after(7), 8);
+    assert_eq!(rt; Operation::CompareExchange(7, 8).after(9), 9);
+    assert_eq!(rt; Operation::Load.after(7), 7);
+}
+
+// An idle pass may enter the slot of a key, and has nothing to drop.
+#[test]
+fn moves_have_steps(rt: HostRuntime) -> Result<(), Fail> {
+    let shape = one_shard(&rt);
+    let part = Part::new(rt.alloc());
+    assert!(rt; enabled::<Tiny>(&shape, &part, &Action::EnterGet(4096)));
+    assert!(rt; !enabled::<Tiny>(&shape, &part, &Action::EnterGet(4095)));
+    assert!(rt; !enabled::<Tiny>(&shape, &part, &Action::Drop));
+    assert!(rt; !enabled::<Tiny>(&shape, &part, &Action::Leave));
+    assert!(rt; Move::of::<Tiny>(&shape, &part, &Action::Adopt(0)).is_some());
+    assert!(rt; Move::of::<Tiny>(&shape, &part, &Action::Adopt(1)).is_none());
+    let spot = Spot { page: 0, slot: 2 };
+    let put = Move::Put(spot).step::<Tiny>(&shape, &part);
+    assert_eq!(rt; put.place, Place::Head(0));
+    assert_eq!(rt; put.operation, Operation::Swap(6));
+    let followed = Move::Follow(0, 2).step::<Tiny>(&shape, &part);
+    assert_eq!(rt; followed.place, Place::Link(0, 2));
+    assert_eq!(rt; followed.operation, Operation::Swap(0));
+    Ok(())
+}
+
+// In its last generation a slot is used up.
+#[test]
+#[tactic(auto, unfolding(crate::specs::Plans::keys_of, sh_word::specs::Fields::word_of))]
+fn generations_end_in_one_exchange(rt: HostRuntime) -> Result<(), Fail> {
+    let shape = one_shard(&rt);
+    let part = Part::new(rt.alloc());
+    let spot = Spot { page: 0, slot: 2 };
+    let ended = Move::Finish(spot, 1).step::<Tiny>(&shape, &part);
+    assert_eq!(rt; ended.place, Place::State(0, 2));
+    assert_eq!(rt;
+        ended.operation,
+        Operation::CompareExchange(7516192768, 8589934592)
+    );
+    let used_up = Move::Finish(spot, 3).step::<Tiny>(&shape, &part);
+    assert_eq!(rt;
+        used_up.operation,
+        Operation::CompareExchange(16106127360, 15032385536)
+    );
     Ok(())
 }
