@@ -1,0 +1,35 @@
+use crate::{Accounts, page};
+use sh_core::World;
+use sh_key::{Tiny, Wide};
+use sh_shape::Shape;
+use std::test::Fail;
+
+// A page without a class, of whose slots nothing is counted.
+const BLANK: Accounts = Accounts {
+    class: None,
+    live: 0,
+    marked: 0,
+    retired: 0,
+    mine: 0,
+    hand: 0,
+    queued: 0,
+};
+
+#[test]
+fn pages_of_a_fresh_heap_are_blank(rt: HostRuntime) -> Result<(), Fail> {
+    let shape = Shape::new(2, 1, 1).expect(&rt, "two shards of one segment are a shape");
+    let world = World::<Tiny>::new(rt.alloc(), shape).expect(&rt, "it fits tiny");
+    assert_eq!(rt; page(&world, 0, 0), Some(BLANK));
+    assert_eq!(rt; page(&world, 1, 7), Some(BLANK));
+    Ok(())
+}
+
+#[test]
+fn page_that_is_not_there_has_no_accounts(rt: HostRuntime) -> Result<(), Fail> {
+    let shape = Shape::new(2, 1, 1).expect(&rt, "two shards of one segment are a shape");
+    let world = World::<Wide>::new(rt.alloc(), shape).expect(&rt, "it fits wide");
+    assert_eq!(rt; page(&world, 2, 0), None);
+    assert_eq!(rt; page(&world, 0, 8), None);
+    assert_eq!(rt; page(&world, 4294967295, 4294967295), None);
+    Ok(())
+}
