@@ -12,7 +12,7 @@ use sh_key::KeyLayout;
 use sh_shape::slots;
 use sh_slots::Spot;
 
-// The word of this number, 0 where there is none.
+// The word of this number, 0 where there is none. A world has all words of its shape, but its contracts do not say so.
 fn word_at(words: &[u64], number: u32) -> u64
     ensures { result ≡ get_or words.now number 0 }
 {

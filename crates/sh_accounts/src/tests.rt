@@ -1,7 +1,10 @@
+use crate::kinds::{SlotKind, slot_kind};
 use crate::{Accounts, page};
 use sh_core::World;
 use sh_key::{Tiny, Wide};
 use sh_shape::Shape;
+use sh_slots::Spot;
+use sh_word::{Kind, State};
 use std::test::Fail;
 
 // A page without a class, of whose slots nothing is counted.
@@ -31,5 +34,24 @@ fn page_that_is_not_there_has_no_accounts(rt: HostRuntime) -> Result<(), Fail> {
     assert_eq!(rt; page(&world, 2, 0), None);
     assert_eq!(rt; page(&world, 0, 8), None);
     assert_eq!(rt; page(&world, 4294967295, 4294967295), None);
+    Ok(())
+}
+
+// What no pass has is queued.
+#[test]
+fn state_words_say_what_slots_are(rt: HostRuntime) -> Result<(), Fail> {
+    let shape = Shape::new(1, 1, 3).expect(&rt, "one shard of one segment is a shape");
+    let world = World::<Tiny>::new(rt.alloc(), shape).expect(&rt, "it fits tiny");
+    let spot = Spot { page: 1, slot: 2 };
+    let table = [
+        (Kind::Live, SlotKind::Live),
+        (Kind::Marked, SlotKind::Marked),
+        (Kind::Retired, SlotKind::Retired),
+        (Kind::Empty, SlotKind::Queued),
+    ];
+    for (kind, expected) in table {
+        let word = State::new(kind, 1, 0).word();
+        assert_eq!(rt; slot_kind(word, world.parts(), spot), expected);
+    }
     Ok(())
 }
