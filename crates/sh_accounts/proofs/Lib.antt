@@ -1,0 +1,3 @@
+pub mod Counts
+pub mod OneByOne
+pub mod PageCounts

@@ -1,0 +1,132 @@
+-- The accounts of a page are those that the code counts.
+use Rattle.std.proofs.Common.{◌≡◌, ℕ, zero, suc, ◌+◌, ◌-◌, ◌<◌, ◌≤◌, ◌==◌, ◌&&◌, ◌∙◌, Bool, true, false, cond, List, refl, ap, arith, Some, None}
+use Rattle.std.specs.Prelude.{not}
+use Rattle.std.proofs.lemmas.Bool.Decides.{nat_tests}
+use Rattle.sh_word.specs.Kinds.{kind_of}
+use Rattle.sh_key.specs.Layout.{Layout, IsLayout}
+use Rattle.sh_shape.specs.declared.places.Place.TheVariants.{Class, State}
+use Rattle.sh_shape.specs.Classes.{slots}
+use Rattle.sh_shape.specs.Places.{all_pages}
+use Rattle.sh_shape.specs.Shape.{IsShape, Fits}
+use Rattle.sh_slots.specs.declared.hand.Spot.{Spot}
+use Rattle.sh_slots.specs.Slots.{spots}
+use Rattle.sh_step.specs.declared.action.Event.{Event}
+use Rattle.sh_step.specs.Collections.{total, if1}
+use Rattle.sh_step.specs.Plans.{Plan, plan_of, Lawful}
+use Rattle.sh_core.specs.declared.accounts.Accounts.{Accounts}
+use Rattle.sh_core.specs.Kept.{Kept, Stands}
+use Rattle.sh_core.specs.Lists.{Lists, accounts, among, class_named, lists_of, mine_at, in_hand, no_lists, slots_under, state_of, times}
+use Rattle.sh_core.specs.Placed.{All}
+use Rattle.sh_core.specs.Worlds.{World, run, open_world}
+use Rattle.sh_core.proofs.LayoutLaws.{plan_lawful}
+use Rattle.sh_core.proofs.RunAll.{all_from}
+use Rattle.sh_core.proofs.RunRefines.{all_open, one_kind}
+use Rattle.sh_accounts.specs.declared.kinds.SlotKind.{SlotKind}
+use Rattle.sh_accounts.specs.declared.kinds.SlotKind.TheVariants.{Live, Marked, Retired, Mine, Hand, Queued}
+use Rattle.sh_accounts.specs.Kinds.{is, kind_by}
+use Rattle.sh_accounts.specs.Accounts.{AreAccounts, FillPage, all_slots, no_slots, counted, kind_in, class_word}
+use Rattle.sh_accounts.proofs.OneByOne.{Once, once}
+
+-- sums over the same slots of what is the same
+among_same : (q : ℕ) (f g : Spot → ℕ) (n : ℕ) → ((t : ℕ) → t < n → f (record { page = q; slot = t }) ≡ g (record { page = q; slot = t })) → among q f n ≡ among q g n
+unfolding total spots
+among_same q f g n h = go 0 n (λ t a b. h t (omega arith)) where
+  go : (s n : ℕ) → ((t : ℕ) → s ≤ t → t < s + n → f (record { page = q; slot = t }) ≡ g (record { page = q; slot = t })) → total f (spots q s n) ≡ total g (spots q s n)
+  go s zero h = refl
+  go s (suc n) h = let here = h s (omega arith) (omega arith) in let rest = go (s + 1) n (λ t a b. h t (omega arith) (omega arith)) in omega arith
+
+under_some : (n c : ℕ) → n ≡ c + 1 → slots_under n ≡ slots c
+under_some n c e = let z : (n == 0) ≡ false = grind (arith, nat_tests) in let d : n - 1 ≡ c = omega arith in rw (z, d) refl
+
+named_some : (n c : ℕ) → n ≡ c + 1 → class_named n ≡ Some c
+named_some n c e = let z : (n == 0) ≡ false = grind (arith, nat_tests) in let d : n - 1 ≡ c = omega arith in rw (z, d) refl
+
+-- which class word names a class, and which none
+names_some : (n c : ℕ) → Some c ≡ class_named n → n ≡ c + 1
+names_some n c e = go (n == 0) refl e where
+  go : (b : Bool) → (n == 0) ≡ b → Some c ≡ cond b None (Some (n - 1)) → n ≡ c + 1
+  go true is e = absurd (let z : Some c ≡ None = e in cc)
+  go false is e = let z : c ≡ n - 1 = cc in let some : 0 < n = grind (arith, nat_tests) in omega arith
+
+names_none : (n : ℕ) → None ≡ class_named n → n ≡ 0
+names_none n e = go (n == 0) refl e where
+  go : (b : Bool) → (n == 0) ≡ b → None ≡ cond b None (Some (n - 1)) → n ≡ 0
+  go true is e = grind (arith, nat_tests)
+  go false is e = absurd (let z : None ≡ Some (n - 1) = e in cc)
+
+slots_few : (c : ℕ) → slots c ≤ 48
+slots_few zero = omega arith
+slots_few (suc zero) = omega arith
+slots_few (suc (suc zero)) = omega arith
+slots_few (suc (suc (suc zero))) = omega arith
+slots_few (suc (suc (suc (suc zero)))) = omega arith
+slots_few (suc (suc (suc (suc (suc zero))))) = omega arith
+slots_few (suc (suc (suc (suc (suc (suc zero)))))) = omega arith
+slots_few (suc (suc (suc (suc (suc (suc (suc zero))))))) = omega arith
+slots_few (suc (suc (suc (suc (suc (suc (suc (suc n)))))))) = omega arith
+
+-- what is kept stands for the world, and all that holds of runs holds of it
+module _ (plan : Plan) (k : Kept) (w : World) (l : Lists) (stands : Stands k w) (all : All plan w l) (q : ℕ) (there : q < all_pages k.shape) where
+  class_is : class_word k q ≡ w.words.class_at q
+  class_is = stands.words.at (Class q) there
+
+  kind_is : (t : ℕ) → t < 48 → kind_in k (record { page = q; slot = t }) ≡ kind_by (kind_of (state_of w (record { page = q; slot = t }))) w.parts (record { page = q; slot = t })
+  kind_is t low = rw (stands.words.at (State q t) (there, low), stands.parts) refl
+
+  each : (c t : ℕ) → w.words.class_at q ≡ c + 1 → t < slots c → let x : Spot = record { page = q; slot = t } in
+      Once w.parts x (state_of w x).marked (state_of w x).present (times t (l.stack q) + times t (l.chain q))
+  each c t e low = let x : Spot = record { page = q; slot = t } in once w.parts x (state_of w x).marked (state_of w x).present (times t (l.stack q) + times t (l.chain q)) ((one_kind plan w l all x c e).0 low)
+
+  -- one number of the accounts
+  number_is : (kind : SlotKind) (g : Spot → ℕ) (n : ℕ) → n ≤ 48
+      → ((t : ℕ) → t < n → if1 (is kind (kind_by (kind_of (state_of w (record { page = q; slot = t }))) w.parts (record { page = q; slot = t }))) ≡ g (record { page = q; slot = t }))
+      → among q (λ x. if1 (is kind (kind_in k x))) n ≡ among q g n
+  number_is kind g n few h = among_same q (λ x. if1 (is kind (kind_in k x))) g n (λ t low. ap (λ y. if1 (is kind y)) (kind_is t (omega arith)) ∙ h t low)
+
+  pub counted_is : (c : ℕ) → w.words.class_at q ≡ c + 1 → counted k q c (slots c) ≡ accounts w l q
+  unfolding counted accounts
+  counted_is c e =
+      let u : slots_under (w.words.class_at q) ≡ slots c = under_some (w.words.class_at q) c e in
+      let live = number_is Live (λ x. if1 ((state_of w x).present && not (state_of w x).marked)) (slots c) (slots_few c) (λ t low. (each c t e low).live) in
+      let marked = number_is Marked (λ x. if1 ((state_of w x).present && (state_of w x).marked)) (slots c) (slots_few c) (λ t low. (each c t e low).marked) in
+      let retired = number_is Retired (λ x. if1 (not (state_of w x).present && (state_of w x).marked)) (slots c) (slots_few c) (λ t low. (each c t e low).retired) in
+      let mine = number_is Mine (λ x. total (mine_at x) w.parts) (slots c) (slots_few c) (λ t low. (each c t e low).mine) in
+      let hand = number_is Hand (λ x. total (in_hand x) w.parts) (slots c) (slots_few c) (λ t low. (each c t e low).hand) in
+      let queued = number_is Queued (λ x. times x.slot (l.stack q) + times x.slot (l.chain q)) (slots c) (slots_few c) (λ t low. (each c t e low).queued) in
+      let named : class_named (w.words.class_at q) ≡ Some c = named_some (w.words.class_at q) c e in
+      rw (u, named, live, marked, retired, mine, hand, queued) refl
+
+  pub blank_is : w.words.class_at q ≡ 0 → no_slots None ≡ accounts w l q
+  unfolding accounts total spots
+  blank_is e = rw e refl
+
+-- what holds of each list of events
+all_of : (layout : Layout) (k : Kept) (es : List Event) → IsLayout layout → IsShape k.shape → Fits layout k.shape → All (plan_of layout k.shape) (run (plan_of layout k.shape) es) (lists_of (plan_of layout k.shape) es)
+all_of layout k es is_layout is_shape fits =
+    let plan : Plan = plan_of layout k.shape in
+    let laws : Lawful plan = plan_lawful layout k.shape is_layout is_shape fits in all_from plan (open_world plan) no_lists es laws (all_open plan laws)
+
+-- a page of a class
+pub are_counted : (layout : Layout) (k : Kept) (q c : ℕ) (a : Accounts) → IsLayout layout → IsShape k.shape → q < all_pages k.shape
+    → (class_word k q ≤ 8 → Some c ≡ class_named (class_word k q)) → a ≡ counted k q c (slots c) → AreAccounts layout k q a
+are_counted layout k q c a is_layout is_shape there named same fits es stands =
+    let plan : Plan = plan_of layout k.shape in
+    let all = all_of layout k es is_layout is_shape fits in
+    let e = class_is plan k (run plan es) (lists_of plan es) stands all q there in
+    let low = (all.sound.classes q).0 in
+    same ∙ counted_is plan k (run plan es) (lists_of plan es) stands all q there c (omega (arith, names_some (class_word k q) c (named (omega arith))))
+
+-- a blank page
+pub are_none : (layout : Layout) (k : Kept) (q : ℕ) (a : Accounts) → IsLayout layout → IsShape k.shape → q < all_pages k.shape
+    → (class_word k q ≤ 8 → None ≡ class_named (class_word k q)) → a ≡ no_slots None → AreAccounts layout k q a
+are_none layout k q a is_layout is_shape there named same fits es stands =
+    let plan : Plan = plan_of layout k.shape in
+    let all = all_of layout k es is_layout is_shape fits in
+    let e = class_is plan k (run plan es) (lists_of plan es) stands all q there in
+    let low = (all.sound.classes q).0 in
+    same ∙ blank_is plan k (run plan es) (lists_of plan es) stands all q there (omega (arith, names_none (class_word k q) (named (omega arith))))
+
+-- each slot is counted once
+pub fills : (k : Kept) (q c : ℕ) (a : Accounts) → c < 8 → all_slots a ≡ slots c → a ≡ counted k q c (slots c) → FillPage a
+unfolding counted
+fills k q c a small full same = let e : a.class ≡ Some c = ap (λ (a : Accounts). a.class) same in rw e (small, full)

@@ -1,0 +1,10 @@
+//! The accounts of a heap's pages: how many of the slots of a page's class are of each kind, after every list of events.
+#![tactic(auto)]
+
+mod kinds;
+pub mod pages;
+#[cfg(test)]
+mod tests;
+
+pub use pages::page;
+pub use sh_core::Accounts;
