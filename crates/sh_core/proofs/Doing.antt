@@ -1,5 +1,5 @@
 -- A move that was done is the step of each world that the kept words stand for.
-use Rattle.std.proofs.Common.{◌≡◌, ◌≢◌, ℕ, zero, suc, ◌+◌, ◌-◌, ◌*◌, ◌<◌, ◌≤◌, List, [], ◌∷◌, length, get_or, set, sym, refl, ap, ◌∙◌, subst, arith, Option, Some, None, slice_get}
+use Rattle.std.proofs.Common.{◌≡◌, ◌≢◌, ℕ, zero, suc, ◌+◌, ◌-◌, ◌*◌, ◌<◌, ◌≤◌, List, [], ◌∷◌, length, get_or, set, take, ◌++◌, sym, refl, ap, ◌∙◌, subst, arith, Option, Some, None, slice_get}
 use Rattle.std.specs.Prelude.{Result, Ok, Err, IfOk, OnErr}
 use Rattle.sh_value.specs.declared.refusal.Refusal.{Refusal}
 use Rattle.sh_history.specs.declared.entry.Entry.{Entry}
@@ -19,7 +19,9 @@ use Rattle.sh_step.specs.Rows.{Row, row}
 use Rattle.sh_core.specs.declared.outcome.Outcome.{Outcome}
 use Rattle.sh_core.specs.declared.outcome.Outcome.TheVariants.{Skipped}
 use Rattle.sh_core.specs.Words.{Words, read}
-use Rattle.sh_core.specs.Worlds.{World, step, words_from, value_at, value_of, entry_of, joined}
+use Rattle.std.proofs.lemmas.List.{take_more}
+use Rattle.sh_core.proofs.Steps.{run_snoc}
+use Rattle.sh_core.specs.Worlds.{World, step, run, open_world, words_from, value_at, value_of, entry_of, joined}
 use Rattle.sh_core.specs.Outcomes.{row_of, outcome_of, done}
 use Rattle.sh_core.specs.Kept.{Kept, Stands, Hold, Reached, IsReady, Does, Steps, IsDone, HasValue, KeepsValue, value_in, value_kept, word_at, new_entry}
 use Rattle.sh_core.proofs.PlacesWithin.{slots_few}
@@ -124,11 +126,6 @@ steps_skipped layout k e p at is =
       outcome_is = λ w s. sym (outcome_skipped plan w e (row_of_at plan w e p (let here : slice_get w.parts e.pass ≡ Some p = rw (← s.parts) at in here) ∙ is));
     }
 
-pub get_past : (ps : List Body) (a : ℕ) → length ps ≤ a → slice_get ps a ≡ None
-get_past [] a h = refl
-get_past (x ∷ ps) zero h = absurd (omega arith)
-get_past (x ∷ ps) (suc a) h = get_past ps a (omega arith)
-
 pub set_here : (ps : List Body) (a : ℕ) (p : Body) → slice_get ps a ≡ Some p → set ps a p ≡ ps
 set_here [] a p h = refl
 set_here (x ∷ ps) zero p h = let same : p ≡ x = cc in ap (λ (u : Body). u ∷ ps) same
@@ -162,3 +159,14 @@ module _ (layout : Layout) (k : Kept) (e : Event) (p : Body) (r : Row) (reached 
     go : (s : Result Outcome Refusal) → OnErr s (IsDone layout k e)
     go (Ok came) = tt
     go (Err x) = is_done layout k after e p r Skipped reached at is ready
+
+-- one more event of a list
+pub goes_on : (plan : Numbers → Plan) (k k' : Kept) (es : List Event) (i : ℕ) (e : Event) {shape : Numbers} → k.shape ≡ shape → i < length es → e ≡ get_or es i e → ((w : World) → Stands k w → Stands k' (step (plan k.shape) w e))
+    → Stands k (run (plan shape) (take i es)) → Stands k' (run (plan shape) (take (i + 1) es))
+goes_on plan k k' es i e {shape} same less is steps old =
+    let more : take (i + 1) es ≡ take i es ++ e ∷ [] = take_more es i e less ∙ ap (λ (d : Event). take i es ++ d ∷ []) (sym is) in
+    let P : Numbers → Type 0 = λ n. Stands k (run (plan n) (take i es)) in
+    let Q : Numbers → Type 0 = λ n. Stands k' (run (plan n) (take (i + 1) es)) in
+    let R : World → Type 0 = λ w. Stands k' w in
+    let here : run (plan k.shape) (take (i + 1) es) ≡ step (plan k.shape) (run (plan k.shape) (take i es)) e = ap (λ (ds : List Event). run (plan k.shape) ds) more ∙ run_snoc (plan k.shape) (open_world (plan k.shape)) (take i es) e in
+    subst Q same (subst R (sym here) (steps (run (plan k.shape) (take i es)) (subst P (sym same) old)))

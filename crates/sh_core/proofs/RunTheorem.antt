@@ -2,7 +2,8 @@
 use Rattle.std.proofs.Common.{◌||◌, ◌≡◌, ℕ, ◌<◌, Bool, true, false, List, [], ◌∷◌, refl, subst, arith, Some, None}
 use Rattle.sh_slots.specs.declared.hand.Hand.{Hand}
 use Rattle.sh_slots.specs.declared.hand.Hand.TheVariants.{Filling}
-use Rattle.sh_step.specs.Plans.{Plan, Lawful}
+use Rattle.sh_history.specs.History.{Legal}
+use Rattle.sh_step.specs.Plans.{Plan, Lawful, keys_of}
 use Rattle.sh_step.specs.Collections.{total, if1, noted}
 use Rattle.sh_step.specs.declared.body.Body.{Body}
 use Rattle.sh_core.specs.Lists.{Lists, times, mine_at}
@@ -140,3 +141,8 @@ theorem layout shape a b c es =
     let plan : Plan = plan_of layout shape in
     let laws : Lawful plan = plan_lawful layout shape a b c in
     refines plan (run plan es) (lists_of plan es) laws (kept_from plan (open_world plan) no_lists es laws (record { all = all_open plan laws; know = know_open plan; within = within_open plan }))
+
+-- its log, in the layout's own number of holds
+pub legal_of : (layout : Layout) (shape : Numbers) → IsLayout layout → IsShape shape → Fits layout shape → (es : List Event) → Legal shape.passes layout.guard_max (run (plan_of layout shape) es).log
+unfolding keys_of
+legal_of layout shape a b c es = (theorem layout shape a b c es).legal

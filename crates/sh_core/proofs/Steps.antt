@@ -26,3 +26,7 @@ pub run_snoc : (plan : Plan) (w : World) (es : List Event) (e : Event) → run_f
 unfolding run_from
 run_snoc plan w [] e = refl
 run_snoc plan w (d ∷ es) e = run_snoc plan (step plan w d) es e
+
+pub run_none : (plan : Plan) (w : World) → run_from plan w [] ≡ w
+unfolding run_from
+run_none plan w = refl

@@ -17,4 +17,4 @@ pub mod world;
 pub use accounts::Accounts;
 pub use claims::refines_map;
 pub use outcome::Outcome;
-pub use world::World;
+pub use world::{World, run};

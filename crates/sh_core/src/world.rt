@@ -1,9 +1,12 @@
 //! A heap as a state machine.
-ghost use Rattle.std.specs.Prelude.{◌≡◌, IfOk, IfErr, OnErr, [], length, replicate};
+ghost use Rattle.std.specs.Prelude.{◌≡◌, IfOk, IfErr, OnOk, OnErr, [], length, replicate};
 ghost use Rattle.sh_shape.specs.Shape.{Fits};
 ghost use Rattle.sh_step.specs.Plans.{plan_of};
-ghost use Rattle.sh_core.specs.Worlds.{open_world, newcomer};
-ghost use Rattle.sh_core.specs.Kept.{Stands, Opens, Steps, IsDone};
+ghost use Rattle.sh_history.specs.History.{Legal};
+ghost use Rattle.sh_core.specs.Worlds.{open_world, newcomer, run};
+ghost use Rattle.sh_core.specs.Lists.{lists_of};
+ghost use Rattle.sh_core.specs.Refines.{Refines};
+ghost use Rattle.sh_core.specs.Kept.{Stands, Reached, Opens, Runs, Steps, IsDone};
 
 use crate::Outcome;
 use crate::moving::do_move;
@@ -54,7 +57,8 @@ impl<L: KeyLayout> World<L> {
     /// A heap of this shape as it opens. Refused as `BadShape` where the shape does not fit the layout, and as `Memory`
     /// where memory for the words and parts is refused.
     pub fn new(alloc: Global, shape: Shape) -> Result<World<L>, Refusal>
-        ensures { Opens L.layout shape result }
+        ensures opens { Opens L.layout shape result }
+        ensures reached { IfOk result (Reached L.layout) }
     {
         if !fits::<L>(&shape) {
             return Err(Refusal::BadShape);
@@ -95,9 +99,10 @@ impl<L: KeyLayout> World<L> {
         &self.parts
     }
 
-    /// The shape.
+    /// The shape. Some list of events leads from the heap as it opens to this world.
     pub fn shape(&self) -> Shape
-        ensures { result ≡ self.now.shape }
+        ensures is { result ≡ self.now.shape }
+        ensures reached { Reached L.layout self.now }
     {
         self.shape
     }
@@ -128,4 +133,19 @@ impl<L: KeyLayout> World<L> {
             None => Ok(Outcome::Skipped),
         }
     }
+}
+
+/// The heap of this shape after these events, one after the other. Refused as `BadShape` where the shape does not fit the
+/// layout, and as `Memory` where memory is refused to the heap or to one of its steps.
+pub fn run<L: KeyLayout>(alloc: Global, shape: Shape, events: &[Event]) -> Result<World<L>, Refusal>
+    ensures runs { Runs L.layout shape events.now result }
+    // What holds of every run holds of this one.
+    ensures refines { OnOk result (Refines (plan_of L.layout shape) (run (plan_of L.layout shape) events.now) (lists_of (plan_of L.layout shape) events.now)) }
+    ensures legal { IfOk result (λ world. Legal shape.passes L.layout.guard_max world.log) }
+{
+    let mut world = World::<L>::new(alloc, shape)?;
+    for event in events {
+        world.step(event)?;
+    }
+    Ok(world)
 }

@@ -1,12 +1,12 @@
 use Rattle.std.proofs.Common.{◌≡◌, ◌≤◌, ◌<◌, ◌∙◌, sym, ap, subst, arith, length, ℕ, List, Option, Some, None, slice_get, set, vec_len}
 use Rattle.std.specs.Prelude.{option_map, IfOk, OnErr}
-use Rattle.std.proofs.lemmas.Option.{slice_get-get_or}
+use Rattle.std.proofs.lemmas.Option.{slice_get-get_or, slice_get_past}
 use Rattle.sh_step.specs.declared.body.Body.{Body}
 use Rattle.sh_step.specs.Moves.{row_of}
 use Rattle.sh_step.specs.Plans.{plan_of}
 use Rattle.sh_core.specs.declared.outcome.Outcome.TheVariants.{Skipped}
 use Rattle.sh_core.specs.Kept.{Kept, Steps, IsDone}
-use Rattle.sh_core.proofs.Doing.{reached_after, steps_after, done_after, steps_past, steps_skipped, get_past, set_here}
+use Rattle.sh_core.proofs.Doing.{reached_after, steps_after, done_after, steps_past, steps_skipped, set_here}
 use Rattle.sh_core.proofs.Ready.{ready}
 use Rattle.sh_core.proofs.world.World.step.Goals as goal
 
@@ -15,7 +15,7 @@ returns-then-pass-len-clause-ok g c =
     let many = c.len.ensures in
     let vec = c.self.inside.parts.ok in
     let some = c.if-pass-len.true in
-    steps_past g.L.KeyLayout.layout c.args.self.now c.args.event.now (ap (λ (k : Kept). slice_get k.parts c.args.event.now.pass) (sym c.self.view_is) ∙ get_past c.self.inside.parts.items c.args.event.now.pass (omega arith))
+    steps_past g.L.KeyLayout.layout c.args.self.now c.args.event.now (ap (λ (k : Kept). slice_get k.parts c.args.event.now.pass) (sym c.self.view_is) ∙ slice_get_past c.self.inside.parts.items c.args.event.now.pass (omega arith))
 
 pub do_move-requires : goal.do_move-requires
 do_move-requires g c =
