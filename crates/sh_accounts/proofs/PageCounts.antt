@@ -107,9 +107,9 @@ all_of layout k es is_layout is_shape fits =
     let laws : Lawful plan = plan_lawful layout k.shape is_layout is_shape fits in all_from plan (open_world plan) no_lists es laws (all_open plan laws)
 
 -- a page of a class
-pub are_counted : (layout : Layout) (k : Kept) (q c : ℕ) (a : Accounts) → IsLayout layout → IsShape k.shape → q < all_pages k.shape
+pub are_counted : (layout : Layout) (k : Kept) (q c : ℕ) (a : Accounts) → IsLayout layout → IsShape k.shape → Fits layout k.shape → q < all_pages k.shape
     → (class_word k q ≤ 8 → Some c ≡ class_named (class_word k q)) → a ≡ counted k q c (slots c) → AreAccounts layout k q a
-are_counted layout k q c a is_layout is_shape there named same fits es stands =
+are_counted layout k q c a is_layout is_shape fits there named same es stands =
     let plan : Plan = plan_of layout k.shape in
     let all = all_of layout k es is_layout is_shape fits in
     let e = class_is plan k (run plan es) (lists_of plan es) stands all q there in
@@ -117,9 +117,9 @@ are_counted layout k q c a is_layout is_shape there named same fits es stands =
     same ∙ counted_is plan k (run plan es) (lists_of plan es) stands all q there c (omega (arith, names_some (class_word k q) c (named (omega arith))))
 
 -- a blank page
-pub are_none : (layout : Layout) (k : Kept) (q : ℕ) (a : Accounts) → IsLayout layout → IsShape k.shape → q < all_pages k.shape
+pub are_none : (layout : Layout) (k : Kept) (q : ℕ) (a : Accounts) → IsLayout layout → IsShape k.shape → Fits layout k.shape → q < all_pages k.shape
     → (class_word k q ≤ 8 → None ≡ class_named (class_word k q)) → a ≡ no_slots None → AreAccounts layout k q a
-are_none layout k q a is_layout is_shape there named same fits es stands =
+are_none layout k q a is_layout is_shape fits there named same es stands =
     let plan : Plan = plan_of layout k.shape in
     let all = all_of layout k es is_layout is_shape fits in
     let e = class_is plan k (run plan es) (lists_of plan es) stands all q there in

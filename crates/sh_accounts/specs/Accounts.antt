@@ -7,7 +7,7 @@ use Rattle.sh_shape.specs.declared.places.Place.{Place}
 use Rattle.sh_shape.specs.declared.places.Place.TheVariants.{Class, State}
 use Rattle.sh_shape.specs.Classes.{class_count, slots}
 use Rattle.sh_shape.specs.Places.{number, pages_of}
-use Rattle.sh_shape.specs.Shape.{Numbers, Fits}
+use Rattle.sh_shape.specs.Shape.{Numbers}
 use Rattle.sh_slots.specs.declared.hand.Spot.{Spot}
 use Rattle.sh_step.specs.declared.action.Event.{Event}
 use Rattle.sh_step.specs.Collections.{if1}
@@ -26,7 +26,7 @@ HasPage shape shard page = (shard < shape.shards) × (page < pages_of shape)
 
 -- they are those of page q over the whole heap, after whatever list of events led to what is kept
 abbrev pub AreAccounts : Layout → Kept → ℕ → Accounts → Type 0
-AreAccounts layout k q a = Fits layout k.shape → (es : List Event) → Stands k (run (plan_of layout k.shape) es)
+AreAccounts layout k q a = (es : List Event) → Stands k (run (plan_of layout k.shape) es)
     → a ≡ accounts (run (plan_of layout k.shape) es) (lists_of (plan_of layout k.shape) es) q
 
 -- the six numbers together

@@ -12,16 +12,6 @@ use sh_key::KeyLayout;
 use sh_shape::slots;
 use sh_slots::Spot;
 
-// The word of this number, 0 where there is none. A world has all words of its shape, but its contracts do not say so.
-fn word_at(words: &[u64], number: u32) -> u64
-    ensures { result ≡ get_or words.now number 0 }
-{
-    match words.get(number as usize) {
-        Some(word) => *word,
-        None => 0,
-    }
-}
-
 // The class that a class word names.
 fn class_of(word: u64) -> Option<u32>
     ensures is { word ≤ class_count → result ≡ class_named word }
@@ -39,7 +29,8 @@ fn class_at<L: KeyLayout>(world: &World<L>, shard: u32, page: u32) -> Option<u32
     ensures is { let word = class_word world.now (page_number world.now.shape shard page) in word ≤ class_count → result ≡ class_named word }
     ensures known { IfSome result (λ class. class < class_count) }
 {
-    class_of(word_at(world.words(), world.shape().class_at(shard, page)))
+    let number = world.shape().class_at(shard, page);
+    class_of(world.words()[number as usize])
 }
 
 // The accounts of a page of this class, of which no slot is counted yet.
@@ -80,7 +71,7 @@ fn kind_at<L: KeyLayout>(world: &World<L>, shard: u32, page: u32, slot: u32) -> 
     ensures { result ≡ kind_in world.now (record { page = page_number world.now.shape shard page; slot = slot }) }
 {
     let shape = world.shape();
-    let word = word_at(world.words(), shape.state_at(shard, page, slot));
+    let word = world.words()[shape.state_at(shard, page, slot) as usize];
     let spot = Spot {
         page: u64::from(shape.page_number(shard, page)),
         slot: u64::from(slot),
