@@ -1,6 +1,7 @@
 -- The words of `Collections` by those of the library.
 use Rattle.std.proofs.Common.{◌≡◌, ℕ, ◌==◌, ◌||◌, ◌&&◌, ◌+◌, ◌-◌, ◌<◌, subst, arith, Bool, true, false, cond, not, List, [], ◌∷◌, ◌++◌, Option, Some, None, ◌≤◌, zero, suc, refl, ltb-false, ap, sym, ◌∙◌}
-use Rattle.std.specs.Prelude.{option_map, filter, nat_lt, length}
+use Rattle.std.specs.Prelude.{option_map, filter, nat_lt, length, OnSome}
+use Rattle.std.proofs.lemmas.Bool.Decides.{nat_tests}
 use Rattle.std.specs.List.{list_any, find, remove, position, position_or_len}
 use Rattle.sh_slots.specs.declared.hand.Spot.{Spot}
 use Rattle.sh_slots.specs.Slots.{spots}
@@ -84,3 +85,14 @@ every_more P q s n below =
 pub every_none : (P : Spot → Bool) (q s n : ℕ) → n ≤ s → every P (spots q s (n - s)) ≡ true
 unfolding every
 every_none P q s n past = ap (λ xs. every P xs) (spots_none q s n past)
+
+-- ---- what a removal from a deque says, where the item is there
+
+pub on_some : {A P : Type 0} (o : Option A) (x : A) → o ≡ Some x → OnSome o P → P
+on_some {A} {P} o x e h = let Q : Option A → Type 0 = λ o. OnSome o P in subst Q e h
+
+pub position_within : {A : Type 0} (p : A → Bool) (xs : List A) (i : ℕ) → position p xs ≡ Some i → i < length xs
+position_within p xs i e = go (nat_lt (position_or_len p xs) (length xs)) refl e where
+  go : (b : Bool) → nat_lt (position_or_len p xs) (length xs) ≡ b → cond b (Some (position_or_len p xs)) None ≡ Some i → i < length xs
+  go true is e = let at : position_or_len p xs ≡ i = cc in let less : position_or_len p xs < length xs = grind (arith, nat_tests) in omega arith
+  go false is e = absurd (let no_none : ⊥ = cc in no_none)

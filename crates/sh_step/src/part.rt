@@ -17,6 +17,7 @@ mod tests;
 use crate::lists::{has_number, has_slots, has_spot, value_noted};
 use sh_slots::{Hand, Spot};
 use std::alloc::Global;
+use std::collections::VecDeque;
 use std::marker::Model;
 
 // How many holds a pass may have.
@@ -26,15 +27,15 @@ const HOLDS_MAX: usize = 16;
 #[derive(Drop)]
 pub struct Part {
     hand: Hand,
-    holds: Vec<u64>,
-    widths: Vec<(u64, u64)>,
-    lengths: Vec<(u64, u64)>,
-    contents: Vec<(u64, u64, u64)>,
+    holds: VecDeque<u64>,
+    widths: VecDeque<(u64, u64)>,
+    lengths: VecDeque<(u64, u64)>,
+    contents: VecDeque<(u64, u64, u64)>,
     owned: Option<u64>,
-    classes: Vec<(u64, u64)>,
-    mine: Vec<Spot>,
-    cursors: Vec<(u64, u64)>,
-    armed: Vec<u64>,
+    classes: VecDeque<(u64, u64)>,
+    mine: VecDeque<Spot>,
+    cursors: VecDeque<(u64, u64)>,
+    armed: VecDeque<u64>,
     bell_cursor: Option<u64>,
 }
 
@@ -53,15 +54,15 @@ impl Part {
     {
         Part {
             hand: Hand::Idle,
-            holds: Vec::new(alloc),
-            widths: Vec::new(alloc),
-            lengths: Vec::new(alloc),
-            contents: Vec::new(alloc),
+            holds: VecDeque::new(alloc),
+            widths: VecDeque::new(alloc),
+            lengths: VecDeque::new(alloc),
+            contents: VecDeque::new(alloc),
             owned: None,
-            classes: Vec::new(alloc),
-            mine: Vec::new(alloc),
-            cursors: Vec::new(alloc),
-            armed: Vec::new(alloc),
+            classes: VecDeque::new(alloc),
+            mine: VecDeque::new(alloc),
+            cursors: VecDeque::new(alloc),
+            armed: VecDeque::new(alloc),
             bell_cursor: None,
         }
     }

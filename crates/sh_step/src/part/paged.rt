@@ -11,9 +11,10 @@ use sh_bell::{is_armed, top_of};
 use sh_slots::Spot;
 use sh_stack::{Link, top_item};
 use sh_value::Refusal;
+use std::collections::VecDeque;
 
 // Notes the slot that a page's head word names, if it names one, as the one to follow next.
-fn point_to_top(cursors: &mut Vec<(u64, u64)>, page: u64, head: u64) -> Result<(), Refusal>
+fn point_to_top(cursors: &mut VecDeque<(u64, u64)>, page: u64, head: u64) -> Result<(), Refusal>
     ensures ok { OnOk result (cursors.new.items ≡ point 1 page (head / 2) cursors.old.items) }
     ensures err { OnErr result (cursors.new.items ≡ cursors.old.items) }
     ensures memory { IfErr result (λ refusal. refusal ≡ Refusal.Memory) }

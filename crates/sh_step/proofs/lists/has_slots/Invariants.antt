@@ -6,5 +6,5 @@ use Rattle.sh_step.proofs.lists.has_slots.Given as goal
 -- the answer rests with the slots from here on
 abbrev pub invariant-loop-slot : goal.invariant-loop-slot
 invariant-loop-slot l =
-    every (λ x. has (same_spot x) l.mine) (spots l.page 0 l.count)
-    ≡ every (λ x. has (same_spot x) l.mine) (spots l.page l.slot (l.count - l.slot))
+    every (λ x. has (same_spot x) l.mine.items) (spots l.page 0 l.count)
+    ≡ every (λ x. has (same_spot x) l.mine.items) (spots l.page l.slot (l.count - l.slot))

@@ -17,6 +17,6 @@ loop-slot-preserved c =
     let before = spots_before c.args.page c.loop-slot.slot c.args.count c.loop-slot-test.true kept.within in
     record {
       within = omega arith;
-      room = omega (arith, c.in-Ok.ensures.len);
-      items = c.in-Ok.ensures.ok ∙ (ap (λ xs. first ∷ xs) kept.items ∙ sym (ap (λ xs. xs ++ c.args.slots.now.items) before));
+      room = let l = c.push_front_reserved.ensures.len in let k = c.push_front_reserved.ensures.capacity in let r = kept.room in omega arith;
+      items = c.push_front_reserved.ensures.items ∙ (ap (λ xs. first ∷ xs) kept.items ∙ sym (ap (λ xs. xs ++ c.args.slots.now.items) before));
     }

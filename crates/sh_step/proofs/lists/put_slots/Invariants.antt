@@ -1,4 +1,5 @@
-use Rattle.std.proofs.Common.{◌≡◌, ◌+◌, ◌-◌, ◌≤◌, ◌++◌, vec_len, vec_capacity}
+use Rattle.std.proofs.Common.{◌≡◌, ◌+◌, ◌-◌, ◌≤◌, ◌++◌}
+use Rattle.std.specs.VecDeque.{deque_len, deque_capacity}
 use Rattle.sh_slots.specs.Slots.{spots}
 use Rattle.sh_step.proofs.lists.put_slots.Given as goal
 
@@ -6,7 +7,7 @@ use Rattle.sh_step.proofs.lists.put_slots.Given as goal
 abbrev pub invariant-loop-slot : goal.invariant-loop-slot
 invariant-loop-slot l = record {
   within : l.slot ≤ l.count;
-  room : vec_len l.slots + l.slot ≤ vec_capacity l.slots;
+  room : deque_len l.slots + l.slot ≤ deque_capacity l.slots;
   items : l.slots.items ≡ spots l.page l.slot (l.count - l.slot) ++ l.initial.slots.items;
 }
 
