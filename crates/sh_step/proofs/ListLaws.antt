@@ -1,6 +1,6 @@
 -- The words of `Collections` by those of the library.
 use Rattle.std.proofs.Common.{◌≡◌, ℕ, ◌==◌, ◌||◌, ◌&&◌, ◌+◌, ◌-◌, ◌<◌, subst, arith, Bool, true, false, cond, not, List, [], ◌∷◌, ◌++◌, Option, Some, None, ◌≤◌, zero, suc, refl, ltb-false, ap, sym, ◌∙◌}
-use Rattle.std.specs.Prelude.{option_map, filter, nat_lt, length, OnSome}
+use Rattle.std.specs.Prelude.{option_map, filter, nat_lt, length, OnSome, replicate, get_or}
 use Rattle.std.proofs.lemmas.Bool.Decides.{nat_tests}
 use Rattle.std.specs.List.{list_any, find, remove, position, position_or_len}
 use Rattle.sh_slots.specs.declared.hand.Spot.{Spot}
@@ -96,3 +96,22 @@ position_within p xs i e = go (nat_lt (position_or_len p xs) (length xs)) refl e
   go : (b : Bool) → nat_lt (position_or_len p xs) (length xs) ≡ b → cond b (Some (position_or_len p xs)) None ≡ Some i → i < length xs
   go true is e = let at : position_or_len p xs ≡ i = cc in let less : position_or_len p xs < length xs = grind (arith, nat_tests) in omega arith
   go false is e = absurd (let no_none : ⊥ = cc in no_none)
+
+-- one item more
+pub has_more : {A : Type 0} (p : A → Bool) (xs : List A) (x : A) → has p (xs ++ x ∷ []) ≡ (has p xs || p x)
+unfolding has
+has_more p [] x = go (p x) where
+  go : (b : Bool) → (b || false) ≡ (false || b)
+  go true = refl
+  go false = refl
+has_more p (y ∷ ys) x = ap (λ b. p y || b) (has_more p ys x) ∙ go (p y) (has p ys) (p x) where
+  go : (a b c : Bool) → (a || (b || c)) ≡ ((a || b) || c)
+  go true b c = refl
+  go false b c = refl
+
+-- before the first item nothing is seen
+pub none_seen : {A : Type 0} (p : A → Bool) (n i : ℕ) → get_or (replicate n false) i false ≡ has p []
+unfolding has
+none_seen p zero i = refl
+none_seen p (suc n) zero = refl
+none_seen p (suc n) (suc i) = none_seen p n i

@@ -1,5 +1,5 @@
 //! What stands in the lists of a pass's own part. Lists are newest first, and each call walks one.
-ghost use Rattle.std.specs.Prelude.{◌≡◌, ◌==◌, ◌+◌, ◌<◌, ◌≤◌, ◌∷◌, ◌++◌, not, filter, IsOk, OnOk, OnErr, IfErr};
+ghost use Rattle.std.specs.Prelude.{ℕ, ◌≡◌, get_or, false, ◌==◌, ◌||◌, ◌+◌, ◌<◌, ◌≤◌, ◌∷◌, ◌++◌, not, filter, IsOk, OnOk, OnErr, IfErr};
 ghost use Rattle.std.specs.VecDeque.{deque_len, deque_capacity};
 ghost use Rattle.std.specs.List.{list_any, find, position};
 ghost use Rattle.sh_slots.specs.Slots.{same_spot, spots};
@@ -8,6 +8,9 @@ ghost use Rattle.sh_step.specs.Collections.{has, noted, without, off, every};
 use sh_slots::Spot;
 use sh_value::Refusal;
 use std::collections::VecDeque;
+
+// For how many slots a page has places.
+const SLOT_PLACES: u64 = 48;
 
 // Whether a number is this one.
 fn any_number(numbers: &VecDeque<u64>, number: u64) -> bool
@@ -98,12 +101,34 @@ pub fn value_noted(notes: &VecDeque<(u64, u64)>, number: u64) -> Option<u64>
     }
 }
 
-/// Whether the first slots of a page, so many, are all there.
+// Notes a slot as seen, where it is one of the page.
+fn see(seen: &mut [bool; 48], page: u64, spot: Spot)
+    ensures { (slot : ℕ) → slot < 48 → get_or seen.new slot false ≡ (get_or seen.old slot false || same_spot (record { page = page; slot = slot }) spot) }
+{
+    if spot.page == page && spot.slot < SLOT_PLACES {
+        seen[spot.slot as usize] = true;
+    }
+}
+
+// Which slots of the page are there, by one walk.
+fn slots_seen(mine: &VecDeque<Spot>, page: u64) -> [bool; 48]
+    ensures { (slot : ℕ) → slot < 48 → get_or result slot false ≡ has (same_spot (record { page = page; slot = slot })) mine.now.items }
+{
+    let mut seen = [false; 48];
+    for i in 0..mine.len() {
+        see(&mut seen, page, mine[i]);
+    }
+    seen
+}
+
+/// Whether the first slots of a page, so many, are all there. It walks the list once.
 pub fn has_slots(mine: &VecDeque<Spot>, page: u64, count: u64) -> bool
+    requires { count ≤ 48 }
     ensures { result ≡ every (λ x. has (same_spot x) mine.now.items) (spots page 0 count) }
 {
+    let seen = slots_seen(mine, page);
     for slot in 0..count {
-        if !has_spot(mine, Spot { page, slot }) {
+        if !seen[slot as usize] {
             return false;
         }
     }
