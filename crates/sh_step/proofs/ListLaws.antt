@@ -1,5 +1,5 @@
 -- The words of `Collections` by those of the library.
-use Rattle.std.proofs.Common.{◌≡◌, ℕ, ◌==◌, ◌||◌, ◌&&◌, ◌+◌, ◌-◌, ◌<◌, subst, arith, Bool, true, false, cond, not, List, [], ◌∷◌, ◌++◌, Option, Some, None, ◌≤◌, zero, suc, refl, ltb-false, ap, sym, ◌∙◌}
+use Rattle.std.proofs.Common.{◌≡◌, ℕ, ◌==◌, ◌||◌, ◌&&◌, ◌+◌, ◌-◌, ◌<◌, subst, arith, Bool, true, false, cond, not, List, [], ◌∷◌, Some, None, ◌≤◌, zero, suc, refl, ltb-false, ap, sym, ◌∙◌}
 use Rattle.std.specs.Prelude.{option_map, filter, nat_lt, length}
 use Rattle.std.specs.List.{list_any, find, remove, position, position_or_len}
 use Rattle.sh_slots.specs.declared.hand.Spot.{Spot}
