@@ -1,3 +1,7 @@
 pub mod EndLemmas
 pub mod RunLemmas
 pub mod KeyLemmas
+pub mod StepKeys
+pub mod RangeLemmas
+pub mod HeaderShapes
+pub mod StepLemmas

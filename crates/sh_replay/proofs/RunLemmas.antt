@@ -48,7 +48,7 @@ from_ok (Ok x) e h = h
 from_ok (Err x) e h = cc
 
 -- a script is refused only for want of memory
-pub only_memory : (f : Fault) (header : Header) (lines : List CallLine) → FailsWith {Y = Header × List CallLine} f (Ok (header, lines)) → IsEndFault f
+pub only_memory : {A : Type 0} (f : Fault) (header : Header) (lines : List A) → FailsWith {Y = Header × List A} f (Ok (header, lines)) → IsEndFault f
 only_memory fault.Memory header lines h = tt
 only_memory fault.Io header lines h = tt
 only_memory fault.Waiting header lines h = cc

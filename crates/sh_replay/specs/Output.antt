@@ -1,10 +1,11 @@
 -- What a run writes for a script.
-use Rattle.std.specs.Prelude.{◌≡◌, ℕ, List, Option, ◌⊎◌}
+use Rattle.std.specs.Prelude.{◌≡◌, ℕ, Bool, List, Option, ◌⊎◌}
 use Rattle.std.specs.Io.KnownBytes.{Appends, Keeps}
 use Rattle.sh_key.specs.Layout.{Layout}
 use Rattle.sh_shape.specs.Shape.{Numbers}
+use Rattle.sh_step.specs.declared.action.Event.{Event}
 use Rattle.sh_script.specs.HeaderMeaning.{layout_of}
-use Rattle.sh_script.specs.Scripts.{IsCalls, IsCallsFault}
+use Rattle.sh_script.specs.Scripts.{IsCalls, IsCallsFault, IsEvents, IsEventsFault}
 use Rattle.sh_script.specs.declared.calls.CallLine.{CallLine}
 use Rattle.sh_script.specs.declared.header.Header.{Header}
 use Rattle.sh_script.specs.declared.fault.Fault.{Fault}
@@ -14,7 +15,10 @@ use Rattle.sh_replay.specs.declared.mode.Mode.{Mode}
 use Rattle.sh_replay.specs.declared.mode.Mode.TheVariants as mode
 use Rattle.sh_replay.specs.Replies.{replies_text}
 use Rattle.sh_replay.specs.PlainRun.{Run, Ran, opening}
+use Rattle.sh_replay.specs.StepsOutput.{steps_output}
 use Rattle.sh_replay.specs.Ends.{WroteBeginning}
+
+-- ---- mode plain
 
 -- from one state of the run to another, the lines are answered somehow, and these are the reply lines
 pub record Writes (layout : Layout) (before : Run) (lines : List CallLine) (after : Run) (output : List ℕ) : Type 0 where
@@ -27,33 +31,57 @@ abbrev pub IsPlainOutput : Layout → Numbers → Option ℕ → List CallLine �
 IsPlainOutput layout shape tag lines output =
     (after : Run) × Writes layout (opening shape.shards shape.passes tag) lines after output
 
-abbrev pub IsOutput : Mode → Header → List CallLine → List ℕ → Type 0
-IsOutput mode.Plain header lines output = IsPlainOutput (layout_of header.layout) header.shape header.tag lines output
-
--- the text is a script, and the whole output of its run was written
-pub record Runs (mode : Mode) (text : List ℕ) (old new : Option (List ℕ)) : Type 0 where
+-- the text is a script of calls, and this is what mode plain may write for it
+pub record IsPlain (text output : List ℕ) : Type 0 where
   pub header : Header
   pub lines : List CallLine
-  pub output : List ℕ
   pub is_calls : IsCalls text header lines
-  pub is_output : IsOutput mode header lines output
+  pub is_output : IsPlainOutput (layout_of header.layout) header.shape header.tag lines output
+
+-- ---- mode steps
+
+-- the text is a script of events, and this is what mode steps writes for it, with accounts where they are asked for
+pub record IsSteps (asked : Bool) (text output : List ℕ) : Type 0 where
+  pub header : Header
+  pub lines : List Event
+  pub is_events : IsEvents text header lines
+  pub is_output : output ≡ steps_output (layout_of header.layout) header.shape header.tag lines asked
+
+-- ---- either mode
+
+-- the text is a script of the mode, and this is what its run may write
+abbrev pub IsOutput : Mode → (accounts : Bool) → (text output : List ℕ) → Type 0
+IsOutput mode.Plain accounts text output = IsPlain text output
+IsOutput mode.Steps accounts text output = IsSteps accounts text output
+
+-- the text is a script of the mode
+abbrev pub IsScriptOf : Mode → List ℕ → Type 0
+IsScriptOf mode.Plain text = (header : Header) × (lines : List CallLine) × IsCalls text header lines
+IsScriptOf mode.Steps text = (header : Header) × (lines : List Event) × IsEvents text header lines
+
+-- the first fault of a text that is no script of the mode
+abbrev pub IsScriptFault : Mode → List ℕ → Fault → Type 0
+IsScriptFault mode.Plain text f = IsCallsFault text f
+IsScriptFault mode.Steps text f = IsEventsFault text f
+
+-- the text is a script, and the whole output of its run was written
+pub record Runs (mode : Mode) (accounts : Bool) (text : List ℕ) (old new : Option (List ℕ)) : Type 0 where
+  pub output : List ℕ
+  pub is_output : IsOutput mode accounts text output
   pub written : Appends old new output
 
 -- the text is a script, and a beginning of an output of its run was written
-pub record Begins (mode : Mode) (text : List ℕ) (old new : Option (List ℕ)) : Type 0 where
-  pub header : Header
-  pub lines : List CallLine
+pub record Begins (mode : Mode) (accounts : Bool) (text : List ℕ) (old new : Option (List ℕ)) : Type 0 where
   pub output : List ℕ
-  pub is_calls : IsCalls text header lines
-  pub is_output : IsOutput mode header lines output
+  pub is_output : IsOutput mode accounts text output
   pub written : WroteBeginning old new output
 
 -- what a run that ends with a fault has written: nothing, or a beginning of an output
-abbrev pub Stops : Mode → List ℕ → Option (List ℕ) → Option (List ℕ) → Type 0
-Stops mode text old new = Keeps old new ⊎ Begins mode text old new
+abbrev pub Stops : Mode → (accounts : Bool) → List ℕ → Option (List ℕ) → Option (List ℕ) → Type 0
+Stops mode accounts text old new = Keeps old new ⊎ Begins mode accounts text old new
 
 -- memory may be refused and an end may fail at any text; any other fault is the text's
-abbrev pub IsFaultOf : List ℕ → Fault → Type 0
-IsFaultOf text fault.Memory = Unit {0}
-IsFaultOf text fault.Io = Unit {0}
-IsFaultOf text f = IsCallsFault text f
+abbrev pub IsFaultOf : Mode → List ℕ → Fault → Type 0
+IsFaultOf mode text fault.Memory = Unit {0}
+IsFaultOf mode text fault.Io = Unit {0}
+IsFaultOf mode text f = IsScriptFault mode text f

@@ -1,10 +1,9 @@
 -- A run of calls on the plain store, line by line.
-use Rattle.std.specs.Prelude.{◌≡◌, ℕ, ◌+◌, ◌*◌, ◌/◌, ◌%◌, ◌^◌, ◌==◌, ◌≤◌, ok_or, nat_lt, nat_le, not, Bool, true, false, List, [], ◌∷◌, ◌++◌, length, replicate, slice_get, slice_index_or, slice_set, Option, Some, None, Result, Ok, Err, if◌then◌else◌}
+use Rattle.std.specs.Prelude.{◌≡◌, ℕ, ok_or, nat_lt, nat_le, not, Bool, true, false, List, [], ◌∷◌, ◌++◌, length, replicate, slice_get, slice_index_or, slice_set, Option, Some, None, Result, Ok, Err, if◌then◌else◌}
 use Rattle.std.specs.Result.{result_ok}
 use Rattle.sh_value.specs.declared.refusal.Refusal.{Refusal}
 use Rattle.sh_value.specs.declared.refusal.Refusal.TheVariants as refusal
-use Rattle.sh_key.specs.Layout.{Layout, first_key, key_count}
-use Rattle.sh_key.specs.Tag.{with_tag}
+use Rattle.sh_key.specs.Layout.{Layout}
 use Rattle.sh_plain.specs.Plain.{Plain, Reply, Replied, refused, with_added, insert_reply, get_reply, read_answer, remove_reply, release_reply}
 use Rattle.sh_script.specs.declared.calls.Reference.{Reference}
 use Rattle.sh_script.specs.declared.calls.Reference.TheVariants as reference
@@ -13,6 +12,7 @@ use Rattle.sh_script.specs.declared.calls.Call.TheVariants as call
 use Rattle.sh_script.specs.declared.calls.CallLine.{CallLine}
 use Rattle.sh_replay.specs.declared.answer.Answer.{Answer}
 use Rattle.sh_replay.specs.declared.answer.Answer.TheVariants as answer
+use Rattle.sh_replay.specs.Keys.{shown, key_shown}
 
 -- the tag of the keys in the script, if they have one; the store; for each pass whether it has a shard; for each name that
 -- is bound its key, or none where the insert was refused or a post bound it
@@ -38,23 +38,6 @@ at_turn run pass = record run { store = record run.store { pass = pass } }
 -- whether that pass has a shard
 abbrev pub has_shard : Run → Bool
 has_shard run = slice_index_or run.owners run.store.pass false
-
--- ---- keys as a script has them
-
--- a key of the store is written with the tag, if there is one
-abbrev pub shown : Option ℕ → ℕ → ℕ
-shown None key = key
-shown (Some tag) key = with_tag key tag
-
--- a number is the key of the store that is written so: with a tag, it is one with this tag and bits 52 to 55 zero
-abbrev pub key_shown : Option ℕ → ℕ → Option ℕ
-key_shown None number = Some number
-key_shown (Some tag) number = if number / 2 ^ 52 == tag * 16 then Some (number % 2 ^ 52) else None
-
--- where there is a tag, the layout's keys leave room for it
-abbrev pub HasRoom : Layout → Option ℕ → Type 0
-HasRoom layout None = Unit {0}
-HasRoom layout (Some tag) = first_key layout + key_count layout ≤ 2 ^ 52
 
 -- ---- adopt: whoever else adopted the shard
 

@@ -1,12 +1,12 @@
 -- Reply lines: `a COMMAND RESULT` and a newline.
-use Rattle.std.specs.Prelude.{ℕ, List, [], ◌∷◌, ◌++◌, codes, decimal, length}
-use Rattle.std.specs.List.{flat_map}
+use Rattle.std.specs.Prelude.{ℕ, List, [], ◌∷◌, ◌++◌, codes, decimal}
 use Rattle.sh_value.specs.Refusal.{number_of, name_of}
 use Rattle.sh_script.specs.declared.calls.Call.{Call}
 use Rattle.sh_script.specs.declared.calls.Call.TheVariants as call
 use Rattle.sh_script.specs.declared.calls.CallLine.{CallLine}
 use Rattle.sh_replay.specs.declared.answer.Answer.{Answer}
 use Rattle.sh_replay.specs.declared.answer.Answer.TheVariants as answer
+use Rattle.sh_replay.specs.Numbers.{value_text}
 
 -- the command of a call
 abbrev pub call_text : Call → List ℕ
@@ -20,15 +20,11 @@ call_text (call.Release reference) = codes "release"
 call_text call.Post = codes "post"
 call_text (call.Wait name) = codes "wait"
 
--- each word after one space
-abbrev pub words_text : List ℕ → List ℕ
-words_text words = flat_map (λ word. codes " " ++ decimal word) words
-
 -- the result
 abbrev pub answer_text : Answer → List ℕ
 answer_text answer.Done = codes "ok"
 answer_text (answer.Key key) = decimal key
-answer_text (answer.Read words) = decimal (length words) ++ words_text words
+answer_text (answer.Read words) = value_text words
 answer_text (answer.Refused r) = codes "refused " ++ decimal (number_of r) ++ codes " " ++ name_of r
 answer_text answer.Unbound = codes "unbound"
 

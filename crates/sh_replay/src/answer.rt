@@ -1,8 +1,8 @@
 //! What a call of a script is answered, and how a reply line says it.
-ghost use Rattle.std.specs.Prelude.{◌≡◌, ◌++◌, OnOk, decimal, ℕ};
-ghost use Rattle.sh_replay.specs.Replies.{call_text, words_text, answer_text, reply_line};
+ghost use Rattle.std.specs.Prelude.{◌≡◌, ◌++◌, OnOk};
+ghost use Rattle.sh_replay.specs.Replies.{call_text, answer_text, reply_line};
 
-use itoa::Buffer;
+use crate::numbers::{push_number, push_value};
 use sh_script::{Call, CallLine};
 use sh_value::{Refusal, Value};
 use std::alloc::AllocError;
@@ -22,13 +22,6 @@ pub enum Answer {
     Unbound,
 }
 
-fn push_number(out: &mut Vec<u8>, number: u64) -> Result<(), AllocError>
-    ensures { OnOk result (out.new.items ≡ out.old.items ++ decimal number) }
-{
-    let mut buffer = Buffer::new();
-    out.extend_from_slice(buffer.format(number).as_bytes())
-}
-
 fn push_call(out: &mut Vec<u8>, call: &Call) -> Result<(), AllocError>
     ensures { OnOk result (out.new.items ≡ out.old.items ++ call_text call.now) }
 {
@@ -45,26 +38,13 @@ fn push_call(out: &mut Vec<u8>, call: &Call) -> Result<(), AllocError>
     }
 }
 
-fn push_words(out: &mut Vec<u8>, words: &[u64]) -> Result<(), AllocError>
-    ensures { OnOk result (out.new.items ≡ out.old.items ++ words_text words.now) }
-{
-    for word in words {
-        out.extend_from_slice(b" ")?;
-        push_number(out, *word)?;
-    }
-    Ok(())
-}
-
 fn push_answer(out: &mut Vec<u8>, answer: &Answer) -> Result<(), AllocError>
     ensures { OnOk result (out.new.items ≡ out.old.items ++ answer_text answer.now) }
 {
     match answer {
         Answer::Done => out.extend_from_slice(b"ok"),
         Answer::Key(key) => push_number(out, *key),
-        Answer::Read(value) => {
-            push_number(out, value.words().len() as u64)?;
-            push_words(out, value.words())
-        }
+        Answer::Read(value) => push_value(out, value),
         Answer::Refused(refusal) => push_refusal(out, *refusal),
         Answer::Unbound => out.extend_from_slice(b"unbound"),
     }

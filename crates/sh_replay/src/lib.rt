@@ -1,11 +1,18 @@
 //! Runs of scripts: a script is read and parsed whole, run in a mode, and its replies are written.
 #![tactic(auto)]
 
+mod account_line;
 mod answer;
 mod ends;
+mod event_line;
+mod keys;
 mod mode;
+mod numbers;
 mod plain;
+mod plain_output;
 mod replay;
+mod steps;
+mod steps_output;
 
 pub use answer::Answer;
 pub use mode::Mode;

@@ -3,6 +3,8 @@
 /// What runs a script.
 #[derive(Clone, Copy, Debug, PartialEq, Eq)]
 pub enum Mode {
-    /// The plain store, which keeps the history of its answers.
+    /// The plain store, which keeps the history of its answers. The script is one of calls.
     Plain,
+    /// The core, step by step. The script is one of events.
+    Steps,
 }

@@ -1,40 +1,17 @@
 //! Mode plain: the calls of a script on the plain store, in the order of their lines.
-ghost use Rattle.std.specs.Prelude.{◌≡◌, ◌+◌, ◌^◌, ◌<◌, ◌≤◌, ◌++◌, ◌∷◌, [], None, IfOk, IfErr, IfSome};
+ghost use Rattle.std.specs.Prelude.{◌≡◌, ◌+◌, ◌<◌, ◌≤◌, ◌++◌, ◌∷◌, [], None, IfOk, IfErr};
 ghost use Rattle.sh_key.specs.Layout.{Layout, first_key, key_count};
 ghost use Rattle.sh_plain.specs.Plain.{Plain, Replied, get_reply, remove_reply, release_reply};
-ghost use Rattle.sh_replay.specs.PlainRun.{run_of, at_turn, shown, key_shown, HasRoom, has_shard, adopt_answer, adopts, opening, leave_answer, leaves, insert_attempt, Inserts, key_of, Tells, Reads, Steps};
+ghost use Rattle.sh_replay.specs.Keys.{HasRoom};
+ghost use Rattle.sh_replay.specs.PlainRun.{run_of, at_turn, has_shard, adopt_answer, adopts, opening, leave_answer, leaves, insert_attempt, Inserts, key_of, Tells, Reads, Steps};
 
 use crate::Answer;
-use sh_key::{KeyLayout, Tagged};
+use crate::keys::{key_shown, shown};
+use sh_key::KeyLayout;
 use sh_plain::{PlainStore, Store};
 use sh_script::{Call, CallLine, Fault, Reference};
 use sh_value::{Hold, Refusal, Value};
 use std::alloc::Global;
-
-// A key of the store as a script has it: with the tag, if there is one.
-fn shown(tag: Option<u8>, key: u64) -> u64
-    requires { IfSome tag (λ _. key < 2 ^ 52) }
-    ensures { result ≡ shown tag key }
-{
-    match tag {
-        Some(tag) => Tagged::tag(key, tag),
-        None => key,
-    }
-}
-
-// The key of the store that is written so. With a tag, a number without it is no key.
-#[tactic(auto, using(crate::proofs::KeyLemmas::untags, crate::proofs::KeyLemmas::untags_none))]
-fn key_shown(tag: Option<u8>, number: u64) -> Option<u64>
-    ensures { result ≡ key_shown tag number }
-{
-    let Some(tag) = tag else {
-        return Some(number);
-    };
-    match Tagged::untag(number) {
-        Some((found, key)) if found == tag => Some(key),
-        _ => None,
-    }
-}
 
 // As many passes as a shape may have.
 const PASSES_MAX: usize = 64;

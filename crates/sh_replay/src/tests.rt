@@ -1,4 +1,7 @@
 //! Whole runs over memory: worked scripts, faults, and ends that fail.
+mod step_ends;
+mod steps;
+
 use crate::{Mode, replay_alone};
 use sh_script::{Cause, Fault};
 use std::alloc::Global;

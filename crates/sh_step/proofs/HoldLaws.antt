@@ -1,5 +1,5 @@
 -- What is left of a key with one hold less.
-use Rattle.std.proofs.Common.{◌≡◌, ℕ, ◌==◌, Bool, true, false, cond, ap}
+use Rattle.std.proofs.Common.{◌≡◌, ℕ, ◌==◌, Bool, false, cond, ap}
 use Rattle.sh_step.specs.declared.body.Body.{Body}
 use Rattle.sh_step.specs.Collections.{has, without, off}
 use Rattle.sh_step.specs.Rows.{freed}

@@ -1,8 +1,8 @@
 -- What each action's row comes to once what the action names is known.
-use Rattle.std.proofs.Common.{◌≡◌, ℕ, ◌-◌, ◌<◌, ◌==◌, ◌&&◌, ◌||◌, not, Bool, true, false, cond, length, List, Option, Some, None, refl, sym, ap, ◌∙◌}
+use Rattle.std.proofs.Common.{◌≡◌, ℕ, ◌-◌, ◌==◌, ◌&&◌, ◌||◌, not, Bool, true, false, cond, length, List, Option, Some, None, refl, sym, ap, ◌∙◌}
 use Rattle.std.specs.Prelude.{option_map, is_some, nat_lt, nat_le}
 use Rattle.std.specs.Bool.{then_some}
-use Rattle.sh_shape.specs.Classes.{width, slots}
+use Rattle.sh_shape.specs.Classes.{width}
 use Rattle.sh_slots.specs.declared.hand.Hand.{Hand}
 use Rattle.sh_slots.specs.declared.hand.Hand.TheVariants.{Removing}
 use Rattle.sh_slots.specs.declared.hand.Spot.{Spot}
@@ -14,7 +14,7 @@ use Rattle.sh_step.specs.declared.action.PageName.{PageName}
 use Rattle.sh_step.specs.declared.action.SlotName.{SlotName}
 use Rattle.sh_step.specs.declared.body.Body.{Body}
 use Rattle.sh_step.specs.declared.moves.Move.{Move}
-use Rattle.sh_step.specs.Collections.{has, noted, without, every}
+use Rattle.sh_step.specs.Collections.{has, noted, without}
 use Rattle.sh_step.specs.Plans.{Plan, all_pages, page_of, slot_of}
 use Rattle.sh_step.specs.Rows.{Row, row, when, named, paged, slotted, idle, own, class_of, no_cursor, all_mine, enter_get, enter_remove, mark, drop_key, fill_slot, read_class, read_length, read_word, read_page, set_class, take_page, follow, put_at, arm}
 use Rattle.sh_step.specs.Moves.{row_of, place_named, page_named, slot_named}

@@ -1,9 +1,9 @@
 -- What the key of a layout names in a shape.
-use Rattle.std.proofs.Common.{◌≡◌, ℕ, ◌+◌, ◌*◌, ◌<◌, ◌&&◌, Bool, true, false, cond, Option, Some, None, refl, sym, ap, ◌∙◌, ltb-true, lt-ltb}
+use Rattle.std.proofs.Common.{◌≡◌, ℕ, ◌&&◌, Bool, true, false, cond, Option, Some, None, refl, ap, ◌∙◌, ltb-true, lt-ltb}
 use Rattle.std.specs.Prelude.{nat_lt}
 use Rattle.sh_key.specs.declared.parts.Parts.{Parts}
 use Rattle.sh_key.specs.Layout.{Layout, unpacked}
-use Rattle.sh_shape.specs.Shape.{Numbers, segment_pages}
+use Rattle.sh_shape.specs.Shape.{Numbers}
 use Rattle.sh_shape.specs.Places.{pages_of, all_pages, page_number}
 use Rattle.sh_shape.proofs.PlaceLaws.{page_is_below}
 use Rattle.sh_slots.specs.declared.hand.Name.{Name}

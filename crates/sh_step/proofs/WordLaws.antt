@@ -1,5 +1,5 @@
 -- What the words of states say of the numbers in them.
-use Rattle.std.proofs.Common.{◌≡◌, ℕ, ◌+◌, ◌*◌, ◌^◌, ◌<◌, ◌==◌, ◌≢◌, cond, false, arith}
+use Rattle.std.proofs.Common.{◌≡◌, ℕ, ◌+◌, ◌^◌, ◌<◌, ◌==◌, ◌≢◌, cond, false, arith}
 use Rattle.std.proofs.lemmas.Bool.Decides.{nat_tests}
 use Rattle.sh_word.specs.Fields.{word_of}
 use Rattle.sh_slots.specs.Slots.{reusable_word, retired_word}

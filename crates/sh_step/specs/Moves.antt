@@ -5,7 +5,6 @@ use Rattle.sh_shape.specs.Shape.{Numbers}
 use Rattle.sh_shape.specs.Places.{pages_of}
 use Rattle.sh_slots.specs.declared.hand.Spot.{Spot}
 use Rattle.sh_slots.specs.declared.hand.Name.{Name}
-use Rattle.sh_slots.specs.declared.reply.Reply.{Reply}
 use Rattle.sh_slots.specs.Slots.{same_spot}
 use Rattle.sh_step.specs.declared.action.Action.{Action}
 use Rattle.sh_step.specs.declared.action.PageName.{PageName}

@@ -9,7 +9,7 @@ use Rattle.clap.specs.declared.error.kind.ErrorKind.{ErrorKind}
 use Rattle.clap.specs.declared.error.kind.ErrorKind.TheVariants.{OutOfMemory}
 use Rattle.clap.proofs.WalkLemmas.{first_value-rows, one_text-rows}
 use Rattle.sh_replay.specs.declared.mode.Mode.{Mode}
-use Rattle.sh_replay.specs.declared.mode.Mode.TheVariants.{Plain}
+use Rattle.sh_replay.specs.declared.mode.Mode.TheVariants.{Plain, Steps}
 use Rattle.shardheap.specs.Options.{IsCommandLine, IsNoMode, IsRefused, IsUnknown, accounts_text, command_line, mode_word, name_of}
 
 simple_and_free : is_simple_and_free command_line ≡ true
@@ -46,6 +46,7 @@ flag_is words m rows = one_text-rows (found_of m) (codes "accounts") ∙ ap (one
 pub given_word : (o : Option Text) (w : Text) (mode : Mode) → w ≡ unwrap_or o [] → w ≡ name_of mode → o ≡ Some (name_of mode)
 given_word (Some t) w mode e h = ap Some (sym e ∙ h)
 given_word None w Plain e h = absurd (cc)
+given_word None w Steps e h = absurd (cc)
 
 other_word : (o : Option Text) (w : Text) (mode : Mode) → w ≡ unwrap_or o [] → IsNoMode w → o ≢ Some (name_of mode)
 other_word (Some t) w mode e unnamed h = let same : t ≡ name_of mode = cc in unnamed mode (e ∙ same)

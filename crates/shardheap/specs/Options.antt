@@ -6,11 +6,12 @@ use Rattle.clap.specs.declared.builder.action.ArgAction.TheVariants.{Set, SetTru
 use Rattle.clap.specs.declared.error.kind.ErrorKind.{ErrorKind}
 use Rattle.clap.specs.declared.error.kind.ErrorKind.TheVariants.{InvalidValue, OutOfMemory}
 use Rattle.sh_replay.specs.declared.mode.Mode.{Mode}
-use Rattle.sh_replay.specs.declared.mode.Mode.TheVariants.{Plain}
+use Rattle.sh_replay.specs.declared.mode.Mode.TheVariants.{Plain, Steps}
 
 -- how a mode is written
 abbrev pub name_of : Mode → Text
 name_of Plain = codes "plain"
+name_of Steps = codes "steps"
 
 -- the word names no mode
 abbrev pub IsNoMode : Text → Type 0

@@ -3,13 +3,10 @@ use Rattle.std.specs.Prelude.{◌≡◌, ◌≢◌, ◌⊎◌, ℕ, Bool, List, 
 use Rattle.clap.specs.Words.{Text}
 use Rattle.clap.specs.declared.error.kind.ErrorKind.{ErrorKind}
 use Rattle.clap.specs.declared.error.kind.ErrorKind.TheVariants.{DisplayHelp, DisplayVersion, OutOfMemory}
-use Rattle.sh_script.specs.Scripts.{IsCalls}
-use Rattle.sh_script.specs.declared.calls.CallLine.{CallLine}
-use Rattle.sh_script.specs.declared.header.Header.{Header}
 use Rattle.sh_script.specs.declared.fault.Fault.{Fault}
 use Rattle.sh_replay.specs.declared.mode.Mode.{Mode}
 use Rattle.sh_replay.specs.Ends.{IsEndFault}
-use Rattle.sh_replay.specs.Output.{IsFaultOf, Runs, Stops}
+use Rattle.sh_replay.specs.Output.{IsFaultOf, IsScriptOf, Runs, Stops}
 use Rattle.shardheap.specs.Faults.{status_of}
 use Rattle.shardheap.specs.Options.{IsRefused, Says}
 
@@ -29,19 +26,19 @@ pub record EndsRefused (words : List Text) (old new : Option (List ℕ)) (status
   pub quiet : kind ≢ DisplayHelp → kind ≢ DisplayVersion → new ≡ old
 
 -- the run ended with a fault, and the exit status is that fault's
-pub record EndsFaulty (mode : Mode) (text : List ℕ) (old new : Option (List ℕ)) (status : ℕ) : Type 0 where
+pub record EndsFaulty (mode : Mode) (accounts : Bool) (text : List ℕ) (old new : Option (List ℕ)) (status : ℕ) : Type 0 where
   pub fault : Fault
   pub is : status ≡ status_of fault
-  pub may : IsFaultOf text fault
-  pub answers : (header : Header) (lines : List CallLine) → IsCalls text header lines → IsEndFault fault
-  pub stops : Stops mode text old new
+  pub may : IsFaultOf mode text fault
+  pub answers : IsScriptOf mode text → IsEndFault fault
+  pub stops : Stops mode accounts text old new
 
 -- the words say a mode, and the script was run in it: to its end, with status 0, or up to a fault
 pub record EndsRun (words : List Text) (text : List ℕ) (old new : Option (List ℕ)) (status : ℕ) : Type 0 where
   pub mode : Mode
   pub accounts : Bool
   pub said : Says words mode accounts
-  pub ends : ((status ≡ 0) × Runs mode text old new) ⊎ EndsFaulty mode text old new status
+  pub ends : ((status ≡ 0) × Runs mode accounts text old new) ⊎ EndsFaulty mode accounts text old new status
 
 -- the exit statuses that there are
 abbrev pub IsStatus : ℕ → Type 0

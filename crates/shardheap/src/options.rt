@@ -14,7 +14,7 @@ fn command<'a>(alloc: Global) -> Result<Command<'a>, AllocError>
     let mode = Arg::new(alloc, "mode")
         .required(true)
         .action(ArgAction::Set)
-        .help("What runs the script [possible values: plain]");
+        .help("What runs the script [possible values: plain, steps]");
     let accounts = Arg::new(alloc, "accounts")
         .long("accounts")
         .action(ArgAction::SetTrue)
@@ -32,6 +32,7 @@ fn mode_named(word: &str) -> Option<Mode>
 {
     match word {
         "plain" => Some(Mode::Plain),
+        "steps" => Some(Mode::Steps),
         _ => None,
     }
 }
@@ -41,7 +42,7 @@ fn unknown_mode(alloc: Global, command: &mut Command<'_>, word: &str) -> Result<
     ensures { IfOk result (λ e. kind_of e ≡ ErrorKind.InvalidValue) }
 {
     let text = format!(in alloc;
-        "invalid value '{word}' for '<mode>'\n  [possible values: plain]"
+        "invalid value '{word}' for '<mode>'\n  [possible values: plain, steps]"
     )?;
     command.error(ErrorKind::InvalidValue, text.as_str())
 }

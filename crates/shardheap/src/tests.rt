@@ -69,6 +69,8 @@ fn options_are_taken(rt: HostRuntime) -> Result<(), Fail> {
     assert!(rt; options(alloc, &["shardheap", "plain"])? == (Mode::Plain, false));
     assert!(rt; options(alloc, &["shardheap", "plain", "--accounts"])? == (Mode::Plain, true));
     assert!(rt; options(alloc, &["shardheap", "--accounts", "plain"])? == (Mode::Plain, true));
+    assert!(rt; options(alloc, &["shardheap", "steps"])? == (Mode::Steps, false));
+    assert!(rt; options(alloc, &["shardheap", "steps", "--accounts"])? == (Mode::Steps, true));
     Ok(())
 }
 
@@ -76,7 +78,7 @@ fn options_are_taken(rt: HostRuntime) -> Result<(), Fail> {
 fn options_are_refused(rt: HostRuntime) -> Result<(), Fail> {
     let table: [(&[&str], ErrorKind, bool); 5] = [
         (&["shardheap"], ErrorKind::MissingRequiredArgument, true),
-        (&["shardheap", "steps"], ErrorKind::InvalidValue, true),
+        (&["shardheap", "heap"], ErrorKind::InvalidValue, true),
         (
             &["shardheap", "plain", "x"],
             ErrorKind::UnknownArgument,
@@ -109,6 +111,28 @@ fn a_script_runs(rt: HostRuntime) -> Result<(), Fail> {
         let status = run(rt.alloc(), words, &mut input, &mut output, &mut errors);
         assert_eq!(rt; status, 0);
         assert!(rt; output.as_slice() == REPLIES.as_bytes());
+        assert!(rt; errors.is_empty());
+    }
+    Ok(())
+}
+
+#[test]
+fn a_script_of_events_runs(rt: HostRuntime) -> Result<(), Fail> {
+    let script = "heap tiny 1 1 2\n0 Adopt 0\n0 Read 0.0\n0 SetClass 0.0 7\n";
+    let lines = "0 Adopt moved\n0 Read moved\n0 SetClass moved\n";
+    let accounts = "page 0.0 class 7 live 0 marked 0 retired 0 mine 3 hand 0 queued 0\n";
+    let table: [(&[&str], &str); 2] = [
+        (&["shardheap", "steps"], ""),
+        (&["shardheap", "steps", "--accounts"], accounts),
+    ];
+    for (words, accounts) in table {
+        let mut output = Vec::new(rt.alloc());
+        let mut errors = Vec::new(rt.alloc());
+        let mut input = script.as_bytes();
+        let status = run(rt.alloc(), words, &mut input, &mut output, &mut errors);
+        assert_eq!(rt; status, 0);
+        let text = format!(in rt.alloc(); "{lines}{accounts}")?;
+        assert!(rt; output.as_slice() == text.as_bytes());
         assert!(rt; errors.is_empty());
     }
     Ok(())
@@ -154,8 +178,8 @@ fn a_mistake_in_the_words_is_shown(rt: HostRuntime) -> Result<(), Fail> {
             "error: the following required arguments were not provided:\n  <mode>\n\nUsage: shardheap <mode>\n\nFor more information, try '--help'.\n",
         ),
         (
-            &["shardheap", "steps"],
-            "error: invalid value 'steps' for '<mode>'\n  [possible values: plain]\n\nUsage: shardheap [OPTIONS] <mode>\n\nFor more information, try '--help'.\n",
+            &["shardheap", "heap"],
+            "error: invalid value 'heap' for '<mode>'\n  [possible values: plain, steps]\n\nUsage: shardheap [OPTIONS] <mode>\n\nFor more information, try '--help'.\n",
         ),
     ];
     for (words, text) in table {

@@ -1,4 +1,4 @@
-use Rattle.std.proofs.Common.{◌≡◌, ◌==◌, ◌∙◌, sym, ap}
+use Rattle.std.proofs.Common.{◌==◌, ◌∙◌}
 use Rattle.sh_step.proofs.ListLaws.{off_is_filtered}
 use Rattle.sh_step.proofs.lists.forget_page.Goals as goal
 

@@ -1,4 +1,4 @@
-use Rattle.std.proofs.Common.{◌≡◌, ◌==◌, ◌∙◌, sym, ap}
+use Rattle.std.proofs.Common.{◌∙◌}
 use Rattle.sh_slots.specs.Slots.{same_spot}
 use Rattle.sh_step.proofs.ListLaws.{any_is_has}
 use Rattle.sh_step.proofs.lists.has_spot.Goals as goal

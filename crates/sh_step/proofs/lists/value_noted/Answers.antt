@@ -1,4 +1,4 @@
-use Rattle.std.proofs.Common.{◌≡◌, ◌==◌, ◌∙◌, sym, ap, Some, None}
+use Rattle.std.proofs.Common.{◌∙◌, sym, ap}
 use Rattle.std.specs.Prelude.{option_map}
 use Rattle.sh_step.proofs.ListLaws.{noted_is_found}
 use Rattle.sh_step.proofs.lists.value_noted.Goals as goal

@@ -1,5 +1,5 @@
 -- The laws of names, at what the code learned of the key and its parts.
-use Rattle.std.proofs.Common.{◌≡◌, ◌∙◌, sym, ap, Some, None, true, false}
+use Rattle.std.proofs.Common.{◌≡◌, ◌∙◌, sym, Some, None, true, false}
 use Rattle.sh_key.specs.Layout.{unpacked}
 use Rattle.sh_step.specs.Moves.{has_place}
 use Rattle.sh_step.proofs.NameLaws.{no_key, no_place, a_place}

@@ -1,0 +1,19 @@
+-- Keys as a script has them: with the tag of the header, where it has one.
+use Rattle.std.specs.Prelude.{ℕ, ◌+◌, ◌*◌, ◌/◌, ◌%◌, ◌^◌, ◌==◌, ◌≤◌, Option, Some, None, if◌then◌else◌}
+use Rattle.sh_key.specs.Layout.{Layout, first_key, key_count}
+use Rattle.sh_key.specs.Tag.{with_tag}
+
+-- a key of the heap is written with the tag, if there is one
+abbrev pub shown : Option ℕ → ℕ → ℕ
+shown None key = key
+shown (Some tag) key = with_tag key tag
+
+-- a number is the key of the heap that is written so: with a tag, it is one with this tag and bits 52 to 55 zero
+abbrev pub key_shown : Option ℕ → ℕ → Option ℕ
+key_shown None number = Some number
+key_shown (Some tag) number = if number / 2 ^ 52 == tag * 16 then Some (number % 2 ^ 52) else None
+
+-- where there is a tag, the layout's keys leave room for it
+abbrev pub HasRoom : Layout → Option ℕ → Type 0
+HasRoom layout None = Unit {0}
+HasRoom layout (Some tag) = first_key layout + key_count layout ≤ 2 ^ 52
