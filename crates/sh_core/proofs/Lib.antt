@@ -34,6 +34,7 @@ pub mod PlacesWithin
 pub mod BellWords
 pub mod KeptValues
 pub mod RowsFit
+pub mod FewHolds
 pub mod RunTheorem
 pub mod Ready
 pub mod Operating

@@ -76,9 +76,9 @@ holds_now plan x st p = total (λ k. if1 (at_spot x (plan.keys.unpack k) && curr
 abbrev pub Counted : Plan → World → Type 0
 Counted plan w = (x : Spot) → (state_of w x).count ≡ total (holds_now plan x (state_of w x)) w.parts + total (visits plan x) w.parts
 
--- at most 16 holds of each pass and one visit
-abbrev pub CountIsFew : World → Type 0
-CountIsFew w = (x : Spot) → (state_of w x).count ≤ 17 * length w.parts
+-- holds on the present key are at most guard_max, and each pass is on the slot once more for a moment
+abbrev pub CountIsFew : Plan → World → Type 0
+CountIsFew plan w = (x : Spot) → (state_of w x).count ≤ plan.keys.guard_max + length w.parts
 
 -- each generation of a slot below its present one was issued and removed
 abbrev pub PastIsRemoved : Plan → World → Type 0
@@ -132,7 +132,7 @@ pub record Refines (plan : Plan) (w : World) (l : Lists) : Type 0 where
   pub held : HeldStands plan w
   pub reads : ReadsWithin plan w
   pub counted : Counted plan w
-  pub few : CountIsFew w
+  pub few : CountIsFew plan w
   pub past : PastIsRemoved plan w
   pub generations : GenerationsEnd plan w
   pub finished : Finished plan w

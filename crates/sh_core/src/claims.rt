@@ -20,7 +20,7 @@ pub fn refines_map()
 
     // A slot's count is its holds and the passes on it for a moment, and has room.
     ensures counted { Always (λ plan w l. Counted plan w) }
-    ensures few { Always (λ plan w l. CountIsFew w) }
+    ensures few { Always (λ plan w l. CountIsFew plan w) }
     ensures counts { Always (λ plan w l. CountsFit plan w) }
 
     // Generations go up, and end.
