@@ -1,5 +1,5 @@
 -- The holds on a slot's key are at most as many as the layout allows, step by step.
-use Rattle.std.proofs.Common.{◌≡◌, ℕ, suc, ◌+◌, ◌<◌, ◌≤◌, ◌==◌, ◌&&◌, ◌⊎◌, inl, inr, ⊎_elim, Bool, true, false, cond, List, ◌∷◌, set, refl, sym, ap, subst, arith, Option, Some, None, slice_get}
+use Rattle.std.proofs.Common.{◌≡◌, ℕ, suc, ◌+◌, ◌<◌, ◌≤◌, ◌==◌, ◌&&◌, ◌⊎◌, inl, inr, ⊎_elim, Bool, true, false, cond, List, ◌∷◌, refl, sym, ap, subst, arith, Option, Some, None, slice_get}
 use Rattle.std.specs.Prelude.{nat_lt, not}
 use Rattle.sh_word.specs.Fields.{fields_of}
 use Rattle.sh_slots.specs.declared.hand.Spot.{Spot}
@@ -22,7 +22,7 @@ use Rattle.sh_core.proofs.Totals.{total_set, total_without}
 use Rattle.sh_core.proofs.Slots.{same_spot-true}
 use Rattle.sh_core.proofs.OpenGood.{none_new}
 use Rattle.sh_core.proofs.StackSteps.{same_page}
-use Rattle.sh_core.proofs.Conditions.{Meets, meets, and2, lt_of}
+use Rattle.sh_core.proofs.Conditions.{Meets, meets, lt_of}
 
 -- every key that names a slot and is held is held in its present generation, so these are the holds on the slot's key
 abbrev pub FewHolds : Plan → World → Type 0

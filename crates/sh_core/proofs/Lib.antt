@@ -1,4 +1,5 @@
 pub mod Worked
+pub mod WrongRows
 pub mod Totals
 pub mod StateWords
 pub mod Slots

@@ -12,7 +12,6 @@ use Rattle.sh_core.specs.Placed.{All}
 use Rattle.sh_step.specs.declared.action.Event.{Event}
 use Rattle.sh_core.specs.Worlds.{World, step, run, run_from, open_world}
 use Rattle.sh_core.specs.Lists.{lists_of, lists_from, list_step, no_lists, state_of}
-use Rattle.sh_core.specs.Tallies.{room}
 use Rattle.sh_core.specs.Knows.{KnowsPart, AllKnow}
 use Rattle.sh_core.proofs.OpenGood.{part_new}
 use Rattle.sh_core.proofs.RunAll.{all_step}
@@ -28,7 +27,7 @@ use Rattle.sh_core.specs.Within.{AllWithin, ValuesFit}
 use Rattle.sh_core.proofs.BellWords.{bells_are_small}
 use Rattle.sh_core.proofs.RowsFit.{stores_words, issues_keys}
 use Rattle.sh_core.specs.Stacks.{cursor_at}
-use Rattle.sh_core.specs.Tallies.{held, visits}
+use Rattle.sh_core.specs.Tallies.{visits}
 use Rattle.sh_core.proofs.LayoutLaws.{plan_lawful}
 use Rattle.sh_core.proofs.More.{accounts_fill}
 use Rattle.sh_core.proofs.Permits.{value_some, removed_by}
