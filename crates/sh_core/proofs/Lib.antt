@@ -36,6 +36,7 @@ pub mod BellWords
 pub mod KeptValues
 pub mod RowsFit
 pub mod FewHolds
+pub mod KeyNotes
 pub mod RunTheorem
 pub mod Ready
 pub mod Operating

@@ -37,6 +37,7 @@ use Rattle.sh_core.proofs.PlacesWithin.{steps_within, counts_fit, pointed, rung,
 use Rattle.sh_core.proofs.SlotGood.{total_length, visits_few}
 use Rattle.sh_core.proofs.SlotGood.{room_few}
 use Rattle.sh_core.proofs.FewHolds.{FewHolds, few_step, few_open}
+use Rattle.sh_core.proofs.KeyNotes.{AllTold, told_step, told_open, notes}
 use Rattle.sh_core.proofs.Totals.{total_at}
 
 know_open : (plan : Plan) → AllKnow plan (open_world plan)
@@ -46,17 +47,18 @@ know_open plan a p at =
     let P : Body → Type 0 = λ u. KnowsPart plan (open_world plan).words u in
     subst P e (record { named = λ k h. absurd (omega arith); classed = λ k c h. absurd (let z : None ≡ Some c = h in cc); measured = λ k c h. absurd (let z : None ≡ Some c = h in cc) })
 
--- the four are kept along a run
+-- all five are kept along a run
 pub record Kept (plan : Plan) (w : World) (l : Lists) : Type 0 where
   pub all : All plan w l
   pub know : AllKnow plan w
   pub within : AllWithin plan w
   pub few : FewHolds plan w
+  pub told : AllTold w
 
 kept_from : (plan : Plan) (w : World) (l : Lists) (es : List Event) → Lawful plan → Kept plan w l → Kept plan (run_from plan w es) (lists_from plan w l es)
 unfolding run_from lists_from
 kept_from plan w l [] laws k = k
-kept_from plan w l (e ∷ es) laws k = kept_from plan (step plan w e) (list_step plan w e l) es laws (record { all = all_step plan w l e laws k.all; know = know_step plan w l e k.all k.know; within = within_step plan w e (λ q s. (k.all.sound.generations q s).1) k.within; few = few_step plan w l e k.all.good k.few })
+kept_from plan w l (e ∷ es) laws k = kept_from plan (step plan w e) (list_step plan w e l) es laws (record { all = all_step plan w l e laws k.all; know = know_step plan w l e k.all k.know; within = within_step plan w e (λ q s. (k.all.sound.generations q s).1) k.within; few = few_step plan w l e k.all.good k.few; told = told_step plan w l e k.all k.know k.told })
 
 module _ (plan : Plan) (w : World) (l : Lists) (laws : Lawful plan) (kept : Kept plan w l) where
   abbrev all : All plan w l
@@ -117,6 +119,7 @@ module _ (plan : Plan) (w : World) (l : Lists) (laws : Lawful plan) (kept : Kept
     filled = λ q c is. accounts_fill plan w l q c all.good.slots is;
     held = held_keys plan w l all kept.know;
     reads = reads plan w l all kept.know;
+    notes = notes plan w l all kept.know kept.told;
     counted = counted plan w l all;
     few = few;
     past = past;
@@ -141,7 +144,7 @@ pub theorem : (layout : Layout) (shape : Numbers) → IsLayout layout → IsShap
 theorem layout shape a b c es =
     let plan : Plan = plan_of layout shape in
     let laws : Lawful plan = plan_lawful layout shape a b c in
-    refines plan (run plan es) (lists_of plan es) laws (kept_from plan (open_world plan) no_lists es laws (record { all = all_open plan laws; know = know_open plan; within = within_open plan; few = few_open plan }))
+    refines plan (run plan es) (lists_of plan es) laws (kept_from plan (open_world plan) no_lists es laws (record { all = all_open plan laws; know = know_open plan; within = within_open plan; few = few_open plan; told = told_open plan }))
 
 -- its log, in the layout's own number of holds
 pub legal_of : (layout : Layout) (shape : Numbers) → IsLayout layout → IsShape shape → Fits layout shape → (es : List Event) → Legal shape.passes layout.guard_max (run (plan_of layout shape) es).log
