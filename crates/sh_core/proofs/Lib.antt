@@ -1,4 +1,5 @@
 pub mod Worked
+pub mod WrongRows
 pub mod Totals
 pub mod StateWords
 pub mod Slots
@@ -34,6 +35,8 @@ pub mod PlacesWithin
 pub mod BellWords
 pub mod KeptValues
 pub mod RowsFit
+pub mod FewHolds
+pub mod KeyNotes
 pub mod RunTheorem
 pub mod Ready
 pub mod Operating

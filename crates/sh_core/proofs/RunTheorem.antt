@@ -12,7 +12,6 @@ use Rattle.sh_core.specs.Placed.{All}
 use Rattle.sh_step.specs.declared.action.Event.{Event}
 use Rattle.sh_core.specs.Worlds.{World, step, run, run_from, open_world}
 use Rattle.sh_core.specs.Lists.{lists_of, lists_from, list_step, no_lists, state_of}
-use Rattle.sh_core.specs.Tallies.{room}
 use Rattle.sh_core.specs.Knows.{KnowsPart, AllKnow}
 use Rattle.sh_core.proofs.OpenGood.{part_new}
 use Rattle.sh_core.proofs.RunAll.{all_step}
@@ -28,15 +27,17 @@ use Rattle.sh_core.specs.Within.{AllWithin, ValuesFit}
 use Rattle.sh_core.proofs.BellWords.{bells_are_small}
 use Rattle.sh_core.proofs.RowsFit.{stores_words, issues_keys}
 use Rattle.sh_core.specs.Stacks.{cursor_at}
-use Rattle.sh_core.specs.Tallies.{held, visits}
+use Rattle.sh_core.specs.Tallies.{visits}
 use Rattle.sh_core.proofs.LayoutLaws.{plan_lawful}
 use Rattle.sh_core.proofs.More.{accounts_fill}
 use Rattle.sh_core.proofs.Permits.{value_some, removed_by}
 use Rattle.sh_core.proofs.HeldStands.{has_room, held as held_keys, reads}
 use Rattle.sh_core.proofs.StaysWithin.{within_step, within_open}
 use Rattle.sh_core.proofs.PlacesWithin.{steps_within, counts_fit, pointed, rung, roomy, noted_at}
-use Rattle.sh_core.proofs.SlotGood.{total_few, total_length, visits_few, if1_few}
+use Rattle.sh_core.proofs.SlotGood.{total_length, visits_few}
 use Rattle.sh_core.proofs.SlotGood.{room_few}
+use Rattle.sh_core.proofs.FewHolds.{FewHolds, few_step, few_open}
+use Rattle.sh_core.proofs.KeyNotes.{AllTold, told_step, told_open, notes}
 use Rattle.sh_core.proofs.Totals.{total_at}
 
 know_open : (plan : Plan) → AllKnow plan (open_world plan)
@@ -46,25 +47,27 @@ know_open plan a p at =
     let P : Body → Type 0 = λ u. KnowsPart plan (open_world plan).words u in
     subst P e (record { named = λ k h. absurd (omega arith); classed = λ k c h. absurd (let z : None ≡ Some c = h in cc); measured = λ k c h. absurd (let z : None ≡ Some c = h in cc) })
 
--- the three are kept along a run
+-- all five are kept along a run
 pub record Kept (plan : Plan) (w : World) (l : Lists) : Type 0 where
   pub all : All plan w l
   pub know : AllKnow plan w
   pub within : AllWithin plan w
+  pub few : FewHolds plan w
+  pub told : AllTold w
 
 kept_from : (plan : Plan) (w : World) (l : Lists) (es : List Event) → Lawful plan → Kept plan w l → Kept plan (run_from plan w es) (lists_from plan w l es)
 unfolding run_from lists_from
 kept_from plan w l [] laws k = k
-kept_from plan w l (e ∷ es) laws k = kept_from plan (step plan w e) (list_step plan w e l) es laws (record { all = all_step plan w l e laws k.all; know = know_step plan w l e k.all k.know; within = within_step plan w e (λ q s. (k.all.sound.generations q s).1) k.within })
+kept_from plan w l (e ∷ es) laws k = kept_from plan (step plan w e) (list_step plan w e l) es laws (record { all = all_step plan w l e laws k.all; know = know_step plan w l e k.all k.know; within = within_step plan w e (λ q s. (k.all.sound.generations q s).1) k.within; few = few_step plan w l e k.all.good k.few; told = told_step plan w l e k.all k.know k.told })
 
 module _ (plan : Plan) (w : World) (l : Lists) (laws : Lawful plan) (kept : Kept plan w l) where
   abbrev all : All plan w l
   all = kept.all
 
-  few : CountIsFew w
+  few : CountIsFew plan w
   few x =
       let f = all.good.slots x in
-      let h = total_few (held plan x) 16 w.parts (λ a p at. let n = total_length (λ k. if1 (Rattle.sh_core.specs.Tallies.at_spot x (plan.keys.unpack k))) (λ k. if1_few (Rattle.sh_core.specs.Tallies.at_spot x (plan.keys.unpack k))) p.holds in let m = (all.good.parts a p at).0 in omega arith) in
+      let h = kept.few x in
       let v = total_length (visits plan x) (λ p. visits_few plan x p p.hand) w.parts in omega arith
 
   past : PastIsRemoved plan w
@@ -116,6 +119,7 @@ module _ (plan : Plan) (w : World) (l : Lists) (laws : Lawful plan) (kept : Kept
     filled = λ q c is. accounts_fill plan w l q c all.good.slots is;
     held = held_keys plan w l all kept.know;
     reads = reads plan w l all kept.know;
+    notes = notes plan w l all kept.know kept.told;
     counted = counted plan w l all;
     few = few;
     past = past;
@@ -140,7 +144,7 @@ pub theorem : (layout : Layout) (shape : Numbers) → IsLayout layout → IsShap
 theorem layout shape a b c es =
     let plan : Plan = plan_of layout shape in
     let laws : Lawful plan = plan_lawful layout shape a b c in
-    refines plan (run plan es) (lists_of plan es) laws (kept_from plan (open_world plan) no_lists es laws (record { all = all_open plan laws; know = know_open plan; within = within_open plan }))
+    refines plan (run plan es) (lists_of plan es) laws (kept_from plan (open_world plan) no_lists es laws (record { all = all_open plan laws; know = know_open plan; within = within_open plan; few = few_open plan; told = told_open plan }))
 
 -- its log, in the layout's own number of holds
 pub legal_of : (layout : Layout) (shape : Numbers) → IsLayout layout → IsShape shape → Fits layout shape → (es : List Event) → Legal shape.passes layout.guard_max (run (plan_of layout shape) es).log

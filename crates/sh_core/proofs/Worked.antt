@@ -1,9 +1,8 @@
 -- Worked examples, computed on the definitions: outcomes, accounts and words.
 use Rattle.std.specs.Prelude.{None, ℕ, ◌≡◌, List, [], ◌∷◌, ◌++◌, Some, refl}
-use Rattle.sh_history.specs.declared.entry.Entry.{Entry}
 use Rattle.sh_history.specs.declared.entry.Entry.TheVariants.{Insert, Gone, Removed}
 use Rattle.sh_step.specs.declared.action.Action.{Action}
-use Rattle.sh_step.specs.declared.action.Action.TheVariants.{EnterGet, EnterRemove, Mark, Drop, DropHold, Finish, FillSlot, Fill, Publish, ReadClass, ReadLength, ReadWord, ReadPage, SetClass, Take, Follow, Put, PutSlot, Tie, Adopt, Leave, Arm, Ring, RingTie, TakeBell, FollowBell}
+use Rattle.sh_step.specs.declared.action.Action.TheVariants.{EnterGet, EnterRemove, Mark, Drop, Finish, FillSlot, Fill, Publish, ReadPage, SetClass, Take, Follow, Put, PutSlot, Tie, Adopt, Leave, Arm, Ring, RingTie, TakeBell, FollowBell}
 use Rattle.sh_step.specs.declared.action.Event.{Event}
 use Rattle.sh_step.specs.declared.action.PageName.{PageName}
 use Rattle.sh_step.specs.declared.action.SlotName.{SlotName}
@@ -21,16 +20,16 @@ use Rattle.sh_core.specs.declared.outcome.Outcome.{Outcome}
 use Rattle.sh_core.specs.declared.outcome.Outcome.TheVariants.{Moved, Replied, Skipped}
 use Rattle.sh_core.specs.Outcomes.{row_of, outcome_of, outcomes_from, outcomes}
 
-abbrev small : ℕ → Plan
+abbrev pub small : ℕ → Plan
 small n = plan_of tiny (record { shards = 1; segments = 1; passes = n })
 
-abbrev ev : ℕ → Action → Event
+abbrev pub ev : ℕ → Action → Event
 ev a x = record { pass = a; action = x }
 
-abbrev at : ℕ → ℕ → ℕ → SlotName
+abbrev pub at : ℕ → ℕ → ℕ → SlotName
 at n p s = record { shard = n; page = p; slot = s }
 
-abbrev page : ℕ → ℕ → PageName
+abbrev pub page : ℕ → ℕ → PageName
 page n p = record { shard = n; page = p }
 
 abbrev moved : Outcome
@@ -53,7 +52,7 @@ ends n es = (outcomes (small n) es, accounts (run (small n) es) (lists_of (small
 abbrev words : ℕ → List Event → Words
 words n es = (run (small n) es).words
 
-everything : ℕ
+unfoldable pub everything : ℕ
 unfolding fields_of word_of put put2 total without has noted off every home spots row apply step run_from value_at keys_of page_number local over_heap accounts listed list_step lists_from row_of outcome_of outcomes_from
 everything = 0
 

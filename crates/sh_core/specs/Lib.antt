@@ -14,3 +14,5 @@ pub mod Kept
 pub mod Refines
 pub mod Knows
 pub mod Within
+pub mod Variants
+pub mod WrongRows

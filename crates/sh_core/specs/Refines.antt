@@ -1,5 +1,5 @@
 -- What holds after every list of events: the clauses of the theorem, each of a world and of the lists of what was put.
-use Rattle.std.specs.Prelude.{IsSome, ℕ, ◌+◌, ◌-◌, ◌*◌, ◌/◌, ◌%◌, ◌≡◌, ◌<◌, ◌≤◌, true, not, ◌&&◌, List, Some, length, slice_get}
+use Rattle.std.specs.Prelude.{IsSome, ℕ, ◌+◌, ◌-◌, ◌*◌, ◌/◌, ◌%◌, ◌≡◌, ◌<◌, ◌≤◌, true, not, ◌&&◌, List, Some, length, slice_get, slice_index}
 use Rattle.sh_step.specs.declared.action.Event.{Event}
 use Rattle.sh_slots.specs.declared.hand.Spot.{Spot}
 use Rattle.sh_slots.specs.declared.hand.Name.{Name}
@@ -69,6 +69,15 @@ abbrev pub ReadsWithin : Plan → World → Type 0
 ReadsWithin plan w = (a : ℕ) (p : Body) (k : ℕ) (n : Name) (c m i : ℕ) → slice_get w.parts a ≡ Some p → plan.keys.unpack k ≡ Some n → noted k p.widths ≡ Some c → noted k p.lengths ≡ Some m → i < m →
     (c ≡ w.words.class_at n.page) × (m ≡ w.words.length_at n.page n.slot) × (n.slot * width (c - 1) + i < 48)
 
+-- what a pass noted of a key is of one that it holds, and true: the class word of its page, the length of its value, and words of it
+pub record KeyNotes (plan : Plan) (w : World) (p : Body) : Type 0 where
+  pub widths : (k c : ℕ) → noted k p.widths ≡ Some c → (0 < times k p.holds) × ((n : Name) → plan.keys.unpack k ≡ Some n → w.words.class_at n.page ≡ c)
+  pub lengths : (k m : ℕ) → noted k p.lengths ≡ Some m → (0 < times k p.holds) × ((v : List ℕ) → value_of w.log k ≡ Some v → length v ≡ m)
+  pub words : (j k i n : ℕ) → slice_get p.contents j ≡ Some (k, i, n) → (0 < times k p.holds) × ((v : List ℕ) → value_of w.log k ≡ Some v → (i < length v) × (slice_index v i ≡ n))
+
+abbrev pub NotesAreTrue : Plan → World → Type 0
+NotesAreTrue plan w = (a : ℕ) (p : Body) → slice_get w.parts a ≡ Some p → KeyNotes plan w p
+
 -- a slot's count is the holds on its present key, and the passes that remove or leave there
 abbrev pub holds_now : Plan → Spot → Fields → Body → ℕ
 holds_now plan x st p = total (λ k. if1 (at_spot x (plan.keys.unpack k) && current st (plan.keys.unpack k))) p.holds
@@ -76,9 +85,9 @@ holds_now plan x st p = total (λ k. if1 (at_spot x (plan.keys.unpack k) && curr
 abbrev pub Counted : Plan → World → Type 0
 Counted plan w = (x : Spot) → (state_of w x).count ≡ total (holds_now plan x (state_of w x)) w.parts + total (visits plan x) w.parts
 
--- at most 16 holds of each pass and one visit
-abbrev pub CountIsFew : World → Type 0
-CountIsFew w = (x : Spot) → (state_of w x).count ≤ 17 * length w.parts
+-- holds on the present key are at most guard_max, and each pass is on the slot once more for a moment
+abbrev pub CountIsFew : Plan → World → Type 0
+CountIsFew plan w = (x : Spot) → (state_of w x).count ≤ plan.keys.guard_max + length w.parts
 
 -- each generation of a slot below its present one was issued and removed
 abbrev pub PastIsRemoved : Plan → World → Type 0
@@ -131,8 +140,9 @@ pub record Refines (plan : Plan) (w : World) (l : Lists) : Type 0 where
   pub filled : Filled w l
   pub held : HeldStands plan w
   pub reads : ReadsWithin plan w
+  pub notes : NotesAreTrue plan w
   pub counted : Counted plan w
-  pub few : CountIsFew w
+  pub few : CountIsFew plan w
   pub past : PastIsRemoved plan w
   pub generations : GenerationsEnd plan w
   pub finished : Finished plan w

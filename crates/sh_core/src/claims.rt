@@ -2,7 +2,7 @@
 ghost use Rattle.std.specs.Prelude.{◌≡◌, length};
 ghost use Rattle.sh_history.specs.History.{Legal};
 ghost use Rattle.sh_core.specs.Within.{StepsWithin, CountsFit, BellsAreSmall, ValuesFit, StoresWords, IssuesKeys};
-ghost use Rattle.sh_core.specs.Refines.{Always, OneKind, Filled, HeldStands, ReadsWithin, Counted, CountIsFew, PastIsRemoved, GenerationsEnd, Finished, Armed, LeftEmpty, Linked, OwnPartsStand, FillsAreKeys};
+ghost use Rattle.sh_core.specs.Refines.{Always, OneKind, Filled, HeldStands, ReadsWithin, NotesAreTrue, Counted, CountIsFew, PastIsRemoved, GenerationsEnd, Finished, Armed, LeftEmpty, Linked, OwnPartsStand, FillsAreKeys};
 
 /// The core refines the map: in every heap whose shape fits its layout, after every list of events, whoever did them and
 /// in whatever order, and wherever calls were left unfinished.
@@ -17,10 +17,11 @@ pub fn refines_map()
     // What is held stands in its slot, unchanged.
     ensures held { Always (λ plan w l. HeldStands plan w) }
     ensures reads { Always (λ plan w l. ReadsWithin plan w) }
+    ensures notes { Always (λ plan w l. NotesAreTrue plan w) }
 
     // A slot's count is its holds and the passes on it for a moment, and has room.
     ensures counted { Always (λ plan w l. Counted plan w) }
-    ensures few { Always (λ plan w l. CountIsFew w) }
+    ensures few { Always (λ plan w l. CountIsFew plan w) }
     ensures counts { Always (λ plan w l. CountsFit plan w) }
 
     // Generations go up, and end.

@@ -16,6 +16,9 @@ returns-clause-held c = λ layout shape a b f es. (theorem layout shape a b f es
 pub returns-clause-reads : goal.returns-clause-reads
 returns-clause-reads c = λ layout shape a b f es. (theorem layout shape a b f es).reads
 
+pub returns-clause-notes : goal.returns-clause-notes
+returns-clause-notes c = λ layout shape a b f es. (theorem layout shape a b f es).notes
+
 pub returns-clause-counted : goal.returns-clause-counted
 returns-clause-counted c = λ layout shape a b f es. (theorem layout shape a b f es).counted
 

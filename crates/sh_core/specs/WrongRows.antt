@@ -1,0 +1,115 @@
+-- Tables that are the right one but for one action, or for two whose order is turned.
+use Rattle.std.specs.Prelude.{ℕ, ◌+◌, ◌-◌, ◌*◌, ◌%◌, ◌==◌, nat_lt, Bool, true, false, cond, not, ◌&&◌, ◌||◌, ◌∷◌, Some, None, length}
+use Rattle.sh_shape.specs.declared.places.Place.TheVariants.{State, Link, Head}
+use Rattle.sh_shape.specs.Classes.{slots}
+use Rattle.sh_slots.specs.declared.hand.Hand.TheVariants.{Idle, Finishing, ToPut, Tying, Ringing}
+use Rattle.sh_slots.specs.declared.hand.Spot.{Spot}
+use Rattle.sh_slots.specs.Slots.{same_spot, spots, marked_word, reusable_word, retired_word}
+use Rattle.sh_step.specs.declared.action.Action.TheVariants.{Finish, SetClass, Follow, Put, Tie, Leave}
+use Rattle.sh_step.specs.declared.body.Body.{Body}
+use Rattle.sh_step.specs.declared.operation.Operation.{Operation}
+use Rattle.sh_step.specs.declared.operation.Operation.TheVariants.{Swap, Store, CompareExchange, Load}
+use Rattle.sh_step.specs.Collections.{has, noted, every}
+use Rattle.sh_step.specs.Plans.{Plan}
+use Rattle.sh_step.specs.Rows.{Row, row, when, silent, hand, idle, own, paged, point, unpoint, set_class, follow, leave}
+use Rattle.sh_word.specs.Fields.{word_of}
+use Rattle.sh_core.specs.Variants.{Table}
+
+-- ---- the end of a generation
+
+-- the slot is empty, and the pass has it
+abbrev pub has_empty : Plan → Body → Spot → Body
+has_empty plan p x = cond (own plan p x.page) (hand (record p { mine = x ∷ p.mine }) Idle) (hand p (ToPut x))
+
+abbrev pub finish_by : Plan → Body → Spot → Operation → (ℕ → Bool) → Row
+finish_by plan p x operation ends = record {
+  place = State x.page x.slot;
+  operation = operation;
+  part = λ n. cond (ends n) (has_empty plan p x) (hand p Idle);
+  reply = silent;
+}
+
+-- the flags are cleared, as by an `and`, and the generation stays
+unfoldable pub keeps_generation : Table
+keeps_generation plan p Finish = elim (p.hand) [ Finishing x g ↦ Some (finish_by plan p x (CompareExchange (marked_word g) (word_of (record { generation = g; marked = false; present = false; count = 0 }))) (λ n. n == marked_word g)) | _ ↦ None ]
+keeps_generation plan p x = row plan p x
+
+-- whatever stands in the state word, it is overwritten
+unfoldable pub ignores_count : Table
+ignores_count plan p Finish = elim (p.hand) [ Finishing x g ↦ Some (finish_by plan p x (Swap (cond (g == plan.keys.gen_max) (retired_word g) (reusable_word g))) (λ n. not (g == plan.keys.gen_max))) | _ ↦ None ]
+ignores_count plan p x = row plan p x
+
+-- after the last generation comes the first
+unfoldable pub wraps_generation : Table
+wraps_generation plan p Finish = elim (p.hand) [ Finishing x g ↦ Some (finish_by plan p x (CompareExchange (marked_word g) (cond (g == plan.keys.gen_max) (reusable_word 0) (reusable_word g))) (λ n. n == marked_word g)) | _ ↦ None ]
+wraps_generation plan p x = row plan p x
+
+-- ---- stacks
+
+abbrev pub tie_first : Body → Spot → Row
+tie_first p x = record {
+  place = Link x.page x.slot;
+  operation = Store 1;
+  part = λ n. hand p (Tying x 1 false);
+  reply = silent;
+}
+
+abbrev pub put_last : Body → Spot → Row
+put_last p x = record {
+  place = Head x.page;
+  operation = Swap ((x.slot + 1) * 2);
+  part = λ n. hand p (cond (n % 2 == 1) (Ringing x.page) Idle);
+  reply = silent;
+}
+
+-- the link is stored before the slot is put, so it cannot name what the put finds
+unfoldable pub ties_first : Table
+ties_first plan p Put = elim (p.hand) [ ToPut x ↦ Some (tie_first p x) | _ ↦ None ]
+ties_first plan p Tie = elim (p.hand) [ Tying x l r ↦ Some (put_last p x) | _ ↦ None ]
+ties_first plan p x = row plan p x
+
+abbrev pub follow_to_end : Body → ℕ → ℕ → Row
+follow_to_end p q s = record {
+  place = Link q s;
+  operation = Swap 0;
+  part = λ n. record p { cursors = point 2 q n (unpoint q p.cursors); mine = record { page = q; slot = s } ∷ p.mine };
+  reply = silent;
+}
+
+-- a link that is not written is taken for the end
+unfoldable pub ends_at_unwritten : Table
+ends_at_unwritten plan p (Follow y) = paged plan y (λ q. elim (noted q p.cursors) [ Some s ↦ when (idle p && own plan p q) (follow_to_end p q s) | None ↦ None ])
+ends_at_unwritten plan p x = row plan p x
+
+-- a link that was followed stays
+unfoldable pub leaves_link : Table
+leaves_link plan p (Follow y) = paged plan y (λ q. elim (noted q p.cursors) [ Some s ↦ when (idle p && own plan p q) (record (follow p q s) { operation = Load }) | None ↦ None ])
+leaves_link plan p x = row plan p x
+
+abbrev pub tie_and_stop : Body → Spot → ℕ → Row
+tie_and_stop p x l = record {
+  place = Link x.page x.slot;
+  operation = Store l;
+  part = λ n. hand p Idle;
+  reply = silent;
+}
+
+-- whoever finds the flag of an armed page does not ring
+unfoldable pub never_rings : Table
+never_rings plan p Tie = elim (p.hand) [ Tying x l r ↦ Some (tie_and_stop p x l) | _ ↦ None ]
+never_rings plan p x = row plan p x
+
+-- ---- owners
+
+-- an owner leaves though slots are its own
+unfoldable pub leaves_slots : Table
+leaves_slots plan p Leave = elim (p.owned) [ Some n ↦ when (idle p && (length p.cursors == 0) && (length p.armed == 0) && (elim (p.bell_cursor) [ None ↦ true | _ ↦ false ])) (leave p n) | None ↦ None ]
+leaves_slots plan p x = row plan p x
+
+-- all slots but the last one are asked for
+abbrev pub most_mine : Body → ℕ → ℕ → Bool
+most_mine p q n = every (λ x. has (same_spot x) p.mine) (spots q 0 (slots (n - 1) - 1))
+
+unfoldable pub forgets_last_slot : Table
+forgets_last_slot plan p (SetClass y c) = paged plan y (λ q. elim (noted q p.classes) [ Some n ↦ when (idle p && own plan p q && ((n == 0) || most_mine p q n) && nat_lt c 8) (set_class p q c) | None ↦ None ])
+forgets_last_slot plan p x = row plan p x
