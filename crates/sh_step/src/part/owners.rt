@@ -1,5 +1,5 @@
 //! What actions on shards and their bells leave in a pass's own part.
-ghost use Rattle.std.specs.Prelude.{◌≡◌, ◌+◌, ◌*◌, ◌^◌, ◌<◌, ◌≤◌, ℕ};
+ghost use Rattle.std.specs.Prelude.{◌≡◌, ◌+◌, ◌<◌, ◌≤◌, ℕ};
 ghost use Rattle.sh_shape.specs.Places.{all_pages};
 ghost use Rattle.sh_step.specs.Plans.{plan_of, over_heap};
 ghost use Rattle.sh_step.specs.Rows.{adopt, leave, take_bell, follow_bell};
@@ -53,8 +53,8 @@ impl Part {
         self.bell_cursor = top_item(over_heap::<L>(shape, shard, 1, found));
     }
 
-    #[tactic(auto, using(crate::proofs::PageLaws::home_is_shard), unfolding(crate::specs::Plans::home))]
     // A read of the link of a page of the bell that found this word: once it is written the page is off the bell.
+    #[tactic(auto, using(crate::proofs::PageLaws::home_is_shard), unfolding(crate::specs::Plans::home))]
     pub(super) fn follow_bell<L: KeyLayout>(&mut self, shape: &Shape, page: u64, found: u64)
         requires page { page < all_pages shape.now }
         requires word { found ≤ all_pages shape.now + 1 }
