@@ -66,10 +66,35 @@ fn forged_keys_are_refused(rt: HostRuntime) -> Result<(), Fail> {
     Ok(())
 }
 
-// A get of a key that was never issued, once more where memory was refused.
-fn get_nothing(store: &mut PlainStore<Tiny>, key: u64) -> Result<Hold, Refusal> {
+// How much the store keeps. A call that is refused for memory leaves each of these as it was.
+fn sizes(store: &PlainStore<Tiny>) -> (usize, usize, usize) {
+    (store.entries.len(), store.issued.len(), store.holds.len())
+}
+
+// A get, once more where memory was refused.
+fn get_once_more(store: &mut PlainStore<Tiny>, key: u64, rt: &impl Abort) -> Result<Hold, Refusal> {
+    let before = sizes(store);
     match store.get(key) {
-        Err(Refusal::Memory) => store.get(key),
+        Err(Refusal::Memory) => {
+            assert_eq!(rt; sizes(store), before);
+            store.get(key)
+        }
+        answer => answer,
+    }
+}
+
+// A remove, once more where memory was refused.
+fn remove_once_more(
+    store: &mut PlainStore<Tiny>,
+    key: u64,
+    rt: &impl Abort,
+) -> Result<(), Refusal> {
+    let before = sizes(store);
+    match store.remove(key) {
+        Err(Refusal::Memory) => {
+            assert_eq!(rt; sizes(store), before);
+            store.remove(key)
+        }
         answer => answer,
     }
 }
@@ -77,12 +102,15 @@ fn get_nothing(store: &mut PlainStore<Tiny>, key: u64) -> Result<Hold, Refusal> 
 // An insert, once more where memory was refused: then the key is not used up, and is still not issued.
 fn insert_with_memory(
     store: &mut PlainStore<Tiny>,
+    key: u64,
     value: &Value,
     rt: &impl Abort,
 ) -> Result<u64, Refusal> {
+    let before = sizes(store);
     match store.insert(value) {
         Err(Refusal::Memory) => {
-            assert_eq!(rt; store.get(4096), Err(Refusal::Gone));
+            assert_eq!(rt; sizes(store), before);
+            assert_eq!(rt; store.get(key), Err(Refusal::Gone));
             store.insert(value)
         }
         answer => answer,
@@ -95,8 +123,10 @@ fn get_with_memory(
     key: u64,
     rt: &impl Abort,
 ) -> Result<Hold, Refusal> {
+    let before = sizes(store);
     match store.get(key) {
         Err(Refusal::Memory) => {
+            assert_eq!(rt; sizes(store), before);
             assert_eq!(rt; store.read(Hold { key }), Err(Refusal::NotHeld));
             assert_eq!(rt; store.release(Hold { key }), Err(Refusal::NotHeld));
             store.get(key)
@@ -111,8 +141,10 @@ fn remove_with_memory(
     key: u64,
     rt: &impl Abort,
 ) -> Result<(), Refusal> {
+    let before = sizes(store);
     match store.remove(key) {
         Err(Refusal::Memory) => {
+            assert_eq!(rt; sizes(store), before);
             assert_eq!(rt; store.get(key), Ok(Hold { key }));
             assert_eq!(rt; store.release(Hold { key }), Ok(()));
             store.remove(key)
@@ -128,8 +160,10 @@ fn release_with_memory(
     value: &Value,
     rt: &impl Abort,
 ) -> Result<(), Refusal> {
+    let before = sizes(store);
     match store.release(hold) {
         Err(Refusal::Memory) => {
+            assert_eq!(rt; sizes(store), before);
             assert_eq!(rt; store.read(hold), Ok(value.copy()));
             store.release(hold)
         }
@@ -137,24 +171,78 @@ fn release_with_memory(
     }
 }
 
-// Each number of entries before the calls has the entries grow in another call.
+// Each key's four calls add an entry each, so the entries grow in the same call for each key; the entries before them say in
+// which one. A list's room is 4, 8, 16, 32 and 64, so with 17 keys each of these is outgrown.
 #[test]
 fn a_call_refused_for_memory_changes_nothing(rt: HostRuntime) -> Result<(), Fail> {
     let words = value(&[7, 8], &rt);
-    let hold = Hold { key: 4096 };
-    for before in 0..8 {
+    for before in 0..4 {
         let mut store = PlainStore::<Tiny>::new(rt.alloc(), 1);
         for _ in 0..before {
-            assert_eq!(rt; get_nothing(&mut store, 4096), Err(Refusal::Gone));
+            assert_eq!(rt; get_once_more(&mut store, 4096, &rt), Err(Refusal::Gone));
         }
-        assert_eq!(rt; insert_with_memory(&mut store, &words, &rt), Ok(4096));
-        assert_eq!(rt; get_with_memory(&mut store, 4096, &rt), Ok(hold));
-        assert_eq!(rt; store.read(hold), Ok(words.copy()));
-        assert_eq!(rt; remove_with_memory(&mut store, 4096, &rt), Ok(()));
-        assert_eq!(rt; release_with_memory(&mut store, hold, &words, &rt), Ok(()));
-        assert_eq!(rt; store.release(hold), Err(Refusal::NotHeld));
-        assert_eq!(rt; get_nothing(&mut store, 4096), Err(Refusal::Gone));
-        assert_eq!(rt; insert_with_memory(&mut store, &words, &rt), Ok(4097));
+        for key in 4096..4113 {
+            let hold = Hold { key };
+            assert_eq!(rt; insert_with_memory(&mut store, key, &words, &rt), Ok(key));
+            assert_eq!(rt; get_with_memory(&mut store, key, &rt), Ok(hold));
+            assert_eq!(rt; store.read(hold), Ok(words.copy()));
+            assert_eq!(rt; remove_with_memory(&mut store, key, &rt), Ok(()));
+            assert_eq!(rt; release_with_memory(&mut store, hold, &words, &rt), Ok(()));
+            assert_eq!(rt; store.release(hold), Err(Refusal::NotHeld));
+        }
+        assert_eq!(rt; get_once_more(&mut store, 4096, &rt), Err(Refusal::Gone));
+        assert_eq!(rt; insert_with_memory(&mut store, 4113, &words, &rt), Ok(4113));
+    }
+    Ok(())
+}
+
+// Two passes hold each key, so the holds outgrow a room of 4, 8 and 16, where the entries have room and where they have
+// none.
+#[test]
+fn a_hold_refused_for_memory_is_not_taken(rt: HostRuntime) -> Result<(), Fail> {
+    let words = value(&[9], &rt);
+    for before in 0..4 {
+        let mut store = PlainStore::<Tiny>::new(rt.alloc(), 2);
+        for _ in 0..before {
+            assert_eq!(rt; remove_once_more(&mut store, 4096, &rt), Err(Refusal::Gone));
+        }
+        for key in 4096..4105 {
+            assert_eq!(rt; insert_with_memory(&mut store, key, &words, &rt), Ok(key));
+        }
+        for pass in 0..2 {
+            assert!(rt; pass < store.passes);
+            store.turn(pass);
+            for key in 4096..4105 {
+                let hold = Hold { key };
+                assert_eq!(rt; get_with_memory(&mut store, key, &rt), Ok(hold));
+                assert_eq!(rt; store.read(hold), Ok(words.copy()));
+            }
+        }
+        for key in 4096..4105 {
+            let hold = Hold { key };
+            assert_eq!(rt; release_with_memory(&mut store, hold, &words, &rt), Ok(()));
+            assert_eq!(rt; store.read(hold), Err(Refusal::NotHeld));
+        }
+    }
+    Ok(())
+}
+
+// What is refused with an entry is refused in the same way once there is memory.
+#[test]
+fn a_refusal_refused_for_memory_is_answered_after_it(rt: HostRuntime) -> Result<(), Fail> {
+    let words = value(&[1], &rt);
+    let mut store = PlainStore::<Tiny>::new(rt.alloc(), 1);
+    assert_eq!(rt; insert_with_memory(&mut store, 4096, &words, &rt), Ok(4096));
+    for _ in 0..4 {
+        assert_eq!(rt;
+            get_once_more(&mut store, 4096, &rt),
+            Ok(Hold { key: 4096 })
+        );
+    }
+    for _ in 0..30 {
+        assert_eq!(rt; get_once_more(&mut store, 4096, &rt), Err(Refusal::Crowded));
+        assert_eq!(rt; get_once_more(&mut store, 4097, &rt), Err(Refusal::Gone));
+        assert_eq!(rt; remove_once_more(&mut store, 4097, &rt), Err(Refusal::Gone));
     }
     Ok(())
 }
