@@ -1,5 +1,5 @@
 -- What reads and writes add up to.
-use Rattle.std.proofs.Common.{◌≡◌, ℕ, ◌+◌, ◌≤◌, List, [], ◌++◌, length, take, drop, Option, Some, None, refl, sym, ap, ◌∙◌, append_assoc, append-nil, arith, take-append-drop, subst, length-append}
+use Rattle.std.proofs.Common.{◌≡◌, ◌≢◌, ℕ, ◌+◌, ◌≤◌, List, [], ◌++◌, length, take, drop, Option, Some, None, refl, sym, ap, ◌∙◌, append_assoc, append-nil, arith, take-append-drop, subst, length-append}
 use Rattle.std.proofs.lemmas.List.{take_at, take_all, length-take}
 use Rattle.std.proofs.KnownBytes.{Appends-nil, Appends-trans, Consumes-trans}
 use Rattle.std.specs.Io.KnownBytes.{Appends, Consumes, IsAtEnd, Keeps}
@@ -40,17 +40,15 @@ ends_here a b c text more n most limit h p e le =
     at_end a c more limit (subst P (sym p.grows) (Consumes-trans a b c text p.piece h p.taken)) (p.none e)
     (omega (arith, p.many, ap length p.grows, length-append text p.piece))
 
-pub wrote_nothing : (a : Option (List ℕ)) (bytes : List ℕ) → WroteBeginning a a bytes
-wrote_nothing a bytes = record { rest = bytes; wrote = wrote_none a bytes }
-
 kept_more : (a b : Option (List ℕ)) → Keeps a b → Appends a b []
 kept_more None b h = tt
 kept_more (Some x) None h = absurd h
 kept_more (Some x) (Some y) h = h ∙ sym (append-nil x)
 
-pub wrote_and_failed : (a b c : Option (List ℕ)) (bytes rest : List ℕ) → Wrote a b bytes rest → Keeps b c → WroteBeginning a c bytes
-wrote_and_failed a b c bytes rest w h = record {
+pub wrote_and_failed : (a b c : Option (List ℕ)) (bytes rest : List ℕ) → Wrote a b bytes rest → rest ≢ [] → Keeps b c → WroteBeginning a c bytes
+wrote_and_failed a b c bytes rest w some h = record {
   rest = rest;
+  left = some;
   wrote = record { front = w.front ++ []; split = w.split ∙ ap (λ l. l ++ rest) (sym (append-nil w.front)); written = Appends-trans a b c w.front [] w.written (kept_more b c h) };
 }
 

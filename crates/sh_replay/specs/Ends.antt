@@ -1,5 +1,5 @@
 -- What reads and writes, one after the other, do to the bytes that are known.
-use Rattle.std.specs.Prelude.{◌≡◌, ℕ, ◌≤◌, List, ◌++◌, length, Option}
+use Rattle.std.specs.Prelude.{◌≡◌, ◌≢◌, ℕ, ◌≤◌, List, [], ◌++◌, length, Option}
 use Rattle.sh_script.specs.declared.fault.Fault.{Fault}
 use Rattle.sh_script.specs.declared.fault.Fault.TheVariants as fault
 use Rattle.std.specs.Io.KnownBytes.{Appends, Consumes, IsAtEnd}
@@ -25,10 +25,11 @@ pub record Wrote (old new : Option (List ℕ)) (bytes rest : List ℕ) : Type 0 
   pub split : bytes ≡ front ++ rest
   pub written : Appends old new front
 
--- a beginning of the bytes was written
+-- a beginning of the bytes was written, and not all of them
 pub record WroteBeginning (old new : Option (List ℕ)) (bytes : List ℕ) : Type 0 where
   pub rest : List ℕ
   pub wrote : Wrote old new bytes rest
+  pub left : rest ≢ []
 
 -- a fault that has nothing to do with the bytes
 abbrev pub IsEndFault : Fault → Type 0

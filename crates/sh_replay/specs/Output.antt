@@ -70,13 +70,13 @@ pub record Runs (mode : Mode) (accounts : Bool) (text : List ℕ) (old new : Opt
   pub is_output : IsOutput mode accounts text output
   pub written : Appends old new output
 
--- the text is a script, and a beginning of an output of its run was written
+-- the text is a script, and a beginning of an output of its run was written, and not all of it
 pub record Begins (mode : Mode) (accounts : Bool) (text : List ℕ) (old new : Option (List ℕ)) : Type 0 where
   pub output : List ℕ
   pub is_output : IsOutput mode accounts text output
   pub written : WroteBeginning old new output
 
--- what a run that ends with a fault has written: nothing, or a beginning of an output
+-- what a run that ends with a fault has written: nothing, or a beginning of an output, and never a whole one
 abbrev pub Stops : Mode → (accounts : Bool) → List ℕ → Option (List ℕ) → Option (List ℕ) → Type 0
 Stops mode accounts text old new = Keeps old new ⊎ Begins mode accounts text old new
 
