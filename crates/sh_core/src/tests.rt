@@ -43,21 +43,14 @@ fn empty_world<L: KeyLayout>(alloc: Global, passes: u32, rt: &impl Abort) -> Wor
     World::<L>::new(alloc, shape).expect(rt, "it fits every layout")
 }
 
-fn step<L: KeyLayout>(world: &mut World<L>, pass: u32, action: Action, rt: &impl Abort) -> Outcome {
-    world
-        .step(&event(pass, action))
-        .expect(rt, "memory is given")
+fn step<L: KeyLayout>(world: &mut World<L>, event: &Event, rt: &impl Abort) -> Outcome {
+    world.step(event).expect(rt, "memory is given")
 }
 
-// Has the pass do these, each of which decides nothing.
-fn moves<L: KeyLayout, const N: usize>(
-    world: &mut World<L>,
-    pass: u32,
-    actions: [Action; N],
-    rt: &impl Abort,
-) {
-    for action in actions {
-        assert_eq!(rt; step(world, pass, action, rt), Outcome::Moved);
+// Does these, each of which decides nothing.
+fn moves<L: KeyLayout>(world: &mut World<L>, events: &[Event], rt: &impl Abort) {
+    for event in events {
+        assert_eq!(rt; step(world, event, rt), Outcome::Moved);
     }
 }
 
@@ -69,12 +62,15 @@ fn replies<L: KeyLayout>(
     entry: Entry,
     rt: &impl Abort,
 ) {
-    assert_eq!(rt; step(world, pass, action, rt), Outcome::Replied(entry));
+    assert_eq!(rt;
+        step(world, &event(pass, action), rt),
+        Outcome::Replied(entry)
+    );
 }
 
 // Has the pass try this, whose condition fails.
 fn skips<L: KeyLayout>(world: &mut World<L>, pass: u32, action: Action, rt: &impl Abort) {
-    assert_eq!(rt; step(world, pass, action, rt), Outcome::Skipped);
+    assert_eq!(rt; step(world, &event(pass, action), rt), Outcome::Skipped);
 }
 
 // The log is this.
@@ -102,11 +98,10 @@ fn with_page(alloc: Global, passes: u32, rt: &impl Abort) -> World<Tiny> {
     let mut world = empty_world::<Tiny>(alloc, passes, rt);
     moves(
         &mut world,
-        0,
-        [
-            Action::Adopt(0),
-            Action::ReadPage(PAGE),
-            Action::SetClass(PAGE, 7),
+        &[
+            event(0, Action::Adopt(0)),
+            event(0, Action::ReadPage(PAGE)),
+            event(0, Action::SetClass(PAGE, 7)),
         ],
         rt,
     );
@@ -131,10 +126,9 @@ fn opened(alloc: Global, passes: u32, rt: &impl Abort) -> World<Tiny> {
 fn fills(world: &mut World<Tiny>, number: u64, word: u64, rt: &impl Abort) {
     moves(
         world,
-        0,
-        [
-            Action::FillSlot(slot(number), value(&[word], rt)),
-            Action::Fill,
+        &[
+            event(0, Action::FillSlot(slot(number), value(&[word], rt))),
+            event(0, Action::Fill),
         ],
         rt,
     );
@@ -142,7 +136,11 @@ fn fills(world: &mut World<Tiny>, number: u64, word: u64, rt: &impl Abort) {
 
 // The pass removes the key: it marks the slot, gives its count back and ends the generation.
 fn removes(world: &mut World<Tiny>, pass: u32, key: u64, rt: &impl Abort) {
-    moves(world, pass, [Action::EnterRemove(key)], rt);
+    moves(world, &[event(pass, Action::EnterRemove(key))], rt);
     replies(world, pass, Action::Mark, Entry::Removed(pass, key), rt);
-    moves(world, pass, [Action::Drop, Action::Finish], rt);
+    moves(
+        world,
+        &[event(pass, Action::Drop), event(pass, Action::Finish)],
+        rt,
+    );
 }

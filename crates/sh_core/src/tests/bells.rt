@@ -1,4 +1,4 @@
-use super::{PAGE, has_words, moves, opened, removes, skips};
+use super::{PAGE, event, has_words, moves, opened, removes, skips};
 use sh_step::Action;
 use std::test::Fail;
 
@@ -6,16 +6,32 @@ use std::test::Fail;
 #[test]
 fn a_ring_tells_the_owner(rt: HostRuntime) -> Result<(), Fail> {
     let mut world = opened(rt.alloc(), 2, &rt);
-    moves(&mut world, 0, [Action::Arm(PAGE)], &rt);
+    moves(&mut world, &[event(0, Action::Arm(PAGE))], &rt);
     has_words(&world, [(1, 1)], &rt);
     removes(&mut world, 1, 4096, &rt);
-    moves(&mut world, 1, [Action::Put, Action::Tie, Action::Ring], &rt);
+    moves(
+        &mut world,
+        &[
+            event(1, Action::Put),
+            event(1, Action::Tie),
+            event(1, Action::Ring),
+        ],
+        &rt,
+    );
     has_words(&world, [(1, 2), (2, 0), (51, 1), (1561, 1)], &rt);
-    moves(&mut world, 0, [Action::TakeBell, Action::FollowBell], &rt);
+    moves(
+        &mut world,
+        &[event(0, Action::TakeBell), event(0, Action::FollowBell)],
+        &rt,
+    );
     skips(&mut world, 0, Action::Arm(PAGE), &rt);
-    moves(&mut world, 1, [Action::RingTie], &rt);
+    moves(&mut world, &[event(1, Action::RingTie)], &rt);
     has_words(&world, [(2, 1), (1561, 0)], &rt);
-    moves(&mut world, 0, [Action::FollowBell, Action::Arm(PAGE)], &rt);
+    moves(
+        &mut world,
+        &[event(0, Action::FollowBell), event(0, Action::Arm(PAGE))],
+        &rt,
+    );
     has_words(&world, [(1, 1), (2, 0), (51, 1), (1561, 0)], &rt);
     Ok(())
 }
@@ -24,15 +40,23 @@ fn a_ring_tells_the_owner(rt: HostRuntime) -> Result<(), Fail> {
 #[test]
 fn a_taken_stack_leaves_the_page_armed(rt: HostRuntime) -> Result<(), Fail> {
     let mut world = opened(rt.alloc(), 2, &rt);
-    moves(&mut world, 0, [Action::Arm(PAGE)], &rt);
+    moves(&mut world, &[event(0, Action::Arm(PAGE))], &rt);
     removes(&mut world, 1, 4096, &rt);
-    moves(&mut world, 1, [Action::Put], &rt);
-    moves(&mut world, 0, [Action::Take(PAGE)], &rt);
-    moves(&mut world, 1, [Action::Tie, Action::Ring], &rt);
-    moves(&mut world, 0, [Action::TakeBell, Action::FollowBell], &rt);
+    moves(&mut world, &[event(1, Action::Put)], &rt);
+    moves(&mut world, &[event(0, Action::Take(PAGE))], &rt);
+    moves(
+        &mut world,
+        &[event(1, Action::Tie), event(1, Action::Ring)],
+        &rt,
+    );
+    moves(
+        &mut world,
+        &[event(0, Action::TakeBell), event(0, Action::FollowBell)],
+        &rt,
+    );
     skips(&mut world, 0, Action::Arm(PAGE), &rt);
-    moves(&mut world, 1, [Action::RingTie], &rt);
-    moves(&mut world, 0, [Action::FollowBell], &rt);
+    moves(&mut world, &[event(1, Action::RingTie)], &rt);
+    moves(&mut world, &[event(0, Action::FollowBell)], &rt);
     skips(&mut world, 0, Action::Arm(PAGE), &rt);
     has_words(&world, [(1, 0), (2, 0), (51, 1), (1561, 0)], &rt);
     Ok(())

@@ -11,13 +11,12 @@ use std::test::Fail;
 fn one_value<L: KeyLayout>(world: &mut World<L>, key: u64, rt: &impl Abort) {
     moves(
         world,
-        0,
-        [
-            Action::Adopt(0),
-            Action::ReadPage(PAGE),
-            Action::SetClass(PAGE, 7),
-            Action::FillSlot(slot(0), value(&[5], rt)),
-            Action::Fill,
+        &[
+            event(0, Action::Adopt(0)),
+            event(0, Action::ReadPage(PAGE)),
+            event(0, Action::SetClass(PAGE, 7)),
+            event(0, Action::FillSlot(slot(0), value(&[5], rt))),
+            event(0, Action::Fill),
         ],
         rt,
     );
@@ -40,22 +39,21 @@ fn one_value<L: KeyLayout>(world: &mut World<L>, key: u64, rt: &impl Abort) {
         Entry::Got(1, key, value(&[5], rt)),
         rt,
     );
-    moves(world, 0, [Action::EnterRemove(key)], rt);
+    moves(world, &[event(0, Action::EnterRemove(key))], rt);
     replies(world, 0, Action::Mark, Entry::Removed(0, key), rt);
-    moves(world, 0, [Action::Drop], rt);
+    moves(world, &[event(0, Action::Drop)], rt);
     has_words(world, [(3, 7516192769)], rt);
     moves(
         world,
-        1,
-        [
-            Action::ReadClass(key),
-            Action::ReadLength(key),
-            Action::ReadWord(key, 0),
+        &[
+            event(1, Action::ReadClass(key)),
+            event(1, Action::ReadLength(key)),
+            event(1, Action::ReadWord(key, 0)),
         ],
         rt,
     );
     replies(world, 1, Action::DropHold(key), Entry::Released(1, key), rt);
-    moves(world, 1, [Action::Finish], rt);
+    moves(world, &[event(1, Action::Finish)], rt);
     has_words(world, [(3, 8589934592)], rt);
     assert_eq!(rt; world.log().len(), 4);
 }
@@ -91,13 +89,12 @@ fn the_second_shard_has_its_own_words(rt: HostRuntime) -> Result<(), Fail> {
     };
     moves(
         &mut world,
-        0,
-        [
-            Action::Adopt(1),
-            Action::ReadPage(page),
-            Action::SetClass(page, 7),
-            Action::FillSlot(first, value(&[5], &rt)),
-            Action::Fill,
+        &[
+            event(0, Action::Adopt(1)),
+            event(0, Action::ReadPage(page)),
+            event(0, Action::SetClass(page, 7)),
+            event(0, Action::FillSlot(first, value(&[5], &rt))),
+            event(0, Action::Fill),
         ],
         &rt,
     );

@@ -68,9 +68,9 @@ fn both(pair: &mut Pair, event: &Event, outcome: Outcome, rt: &impl Abort) {
     assert_same(&pair.world, &pair.twin, rt);
 }
 
-fn both_move<const N: usize>(pair: &mut Pair, pass: u32, actions: [Action; N], rt: &impl Abort) {
-    for action in actions {
-        both(pair, &event(pass, action), Outcome::Moved, rt);
+fn both_move(pair: &mut Pair, events: &[Event], rt: &impl Abort) {
+    for event in events {
+        both(pair, event, Outcome::Moved, rt);
     }
 }
 
@@ -82,13 +82,12 @@ fn both_reply(pair: &mut Pair, pass: u32, action: Action, entry: Entry, rt: &imp
 fn open_both(pair: &mut Pair, rt: &impl Abort) {
     both_move(
         pair,
-        0,
-        [
-            Action::Adopt(0),
-            Action::ReadPage(PAGE),
-            Action::SetClass(PAGE, 7),
-            Action::FillSlot(slot(0), value(&[5], rt)),
-            Action::Fill,
+        &[
+            event(0, Action::Adopt(0)),
+            event(0, Action::ReadPage(PAGE)),
+            event(0, Action::SetClass(PAGE, 7)),
+            event(0, Action::FillSlot(slot(0), value(&[5], rt))),
+            event(0, Action::Fill),
         ],
         rt,
     );
@@ -98,9 +97,13 @@ fn open_both(pair: &mut Pair, rt: &impl Abort) {
 
 // The pass removes the value.
 fn remove_both(pair: &mut Pair, pass: u32, rt: &impl Abort) {
-    both_move(pair, pass, [Action::EnterRemove(4096)], rt);
+    both_move(pair, &[event(pass, Action::EnterRemove(4096))], rt);
     both_reply(pair, pass, Action::Mark, Entry::Removed(pass, 4096), rt);
-    both_move(pair, pass, [Action::Drop, Action::Finish], rt);
+    both_move(
+        pair,
+        &[event(pass, Action::Drop), event(pass, Action::Finish)],
+        rt,
+    );
 }
 
 // Holds, and what is read of a held key, are noted; the log grows twice.
@@ -115,11 +118,10 @@ fn a_read_refused_for_memory_changes_nothing(rt: HostRuntime) -> Result<(), Fail
     }
     both_move(
         pair,
-        1,
-        [
-            Action::ReadClass(4096),
-            Action::ReadLength(4096),
-            Action::ReadWord(4096, 0),
+        &[
+            event(1, Action::ReadClass(4096)),
+            event(1, Action::ReadLength(4096)),
+            event(1, Action::ReadWord(4096, 0)),
         ],
         &rt,
     );
@@ -130,7 +132,7 @@ fn a_read_refused_for_memory_changes_nothing(rt: HostRuntime) -> Result<(), Fail
         Entry::Crowded(2, 4096),
         &rt,
     );
-    both_move(pair, 2, [Action::Drop], &rt);
+    both_move(pair, &[event(2, Action::Drop)], &rt);
     for _ in 0..4 {
         both_reply(
             pair,
@@ -153,18 +155,21 @@ fn an_arm_refused_for_memory_changes_nothing(rt: HostRuntime) -> Result<(), Fail
     open_both(pair, &rt);
 
     remove_both(pair, 1, &rt);
-    both_move(pair, 1, [Action::Put, Action::Tie], &rt);
-    both_move(pair, 0, [Action::Arm(PAGE), Action::Follow(PAGE)], &rt);
+    both_move(pair, &[event(1, Action::Put), event(1, Action::Tie)], &rt);
     both_move(
         pair,
-        0,
-        [
-            Action::PutSlot(slot(0)),
-            Action::Tie,
-            Action::Ring,
-            Action::RingTie,
-            Action::TakeBell,
-            Action::FollowBell,
+        &[event(0, Action::Arm(PAGE)), event(0, Action::Follow(PAGE))],
+        &rt,
+    );
+    both_move(
+        pair,
+        &[
+            event(0, Action::PutSlot(slot(0))),
+            event(0, Action::Tie),
+            event(0, Action::Ring),
+            event(0, Action::RingTie),
+            event(0, Action::TakeBell),
+            event(0, Action::FollowBell),
         ],
         &rt,
     );
@@ -180,28 +185,37 @@ fn a_slot_refused_for_memory_changes_nothing(rt: HostRuntime) -> Result<(), Fail
     open_both(pair, &rt);
 
     for number in [1, 2] {
-        both_move(pair, 0, [Action::PutSlot(slot(number)), Action::Tie], &rt);
+        both_move(
+            pair,
+            &[
+                event(0, Action::PutSlot(slot(number))),
+                event(0, Action::Tie),
+            ],
+            &rt,
+        );
     }
-    both_move(pair, 0, [Action::Leave], &rt);
-    both_move(pair, 1, [Action::Adopt(0)], &rt);
+    both_move(pair, &[event(0, Action::Leave)], &rt);
+    both_move(pair, &[event(1, Action::Adopt(0))], &rt);
     remove_both(pair, 1, &rt);
     both_move(
         pair,
-        1,
-        [Action::PutSlot(slot(0)), Action::Tie, Action::Leave],
+        &[
+            event(1, Action::PutSlot(slot(0))),
+            event(1, Action::Tie),
+            event(1, Action::Leave),
+        ],
         &rt,
     );
     both_move(
         pair,
-        2,
-        [
-            Action::Adopt(0),
-            Action::ReadPage(PAGE),
-            Action::Take(PAGE),
-            Action::Follow(PAGE),
-            Action::Follow(PAGE),
-            Action::Follow(PAGE),
-            Action::SetClass(PAGE, 0),
+        &[
+            event(2, Action::Adopt(0)),
+            event(2, Action::ReadPage(PAGE)),
+            event(2, Action::Take(PAGE)),
+            event(2, Action::Follow(PAGE)),
+            event(2, Action::Follow(PAGE)),
+            event(2, Action::Follow(PAGE)),
+            event(2, Action::SetClass(PAGE, 0)),
         ],
         &rt,
     );

@@ -1,5 +1,6 @@
 use super::{
-    fills, has_log, has_words, moves, opened, removes, replies, skips, slot, value, with_page,
+    event, fills, has_log, has_words, moves, opened, removes, replies, skips, slot, value,
+    with_page,
 };
 use sh_history::Entry;
 use sh_step::Action;
@@ -33,8 +34,8 @@ fn a_value_stands_in_its_slot(rt: HostRuntime) -> Result<(), Fail> {
 #[test]
 fn the_first_mark_removes(rt: HostRuntime) -> Result<(), Fail> {
     let mut world = opened(rt.alloc(), 2, &rt);
-    moves(&mut world, 0, [Action::EnterRemove(4096)], &rt);
-    moves(&mut world, 1, [Action::EnterRemove(4096)], &rt);
+    moves(&mut world, &[event(0, Action::EnterRemove(4096))], &rt);
+    moves(&mut world, &[event(1, Action::EnterRemove(4096))], &rt);
     has_words(&world, [(3, 5368709122)], &rt);
     replies(&mut world, 1, Action::Mark, Entry::Removed(1, 4096), &rt);
     replies(&mut world, 0, Action::Mark, Entry::Gone(0, 4096), &rt);
@@ -71,14 +72,18 @@ fn a_slot_is_used_again_under_a_pass(rt: HostRuntime) -> Result<(), Fail> {
         Entry::Gone(1, 4096),
         &rt,
     );
-    moves(&mut world, 0, [Action::EnterRemove(8192)], &rt);
+    moves(&mut world, &[event(0, Action::EnterRemove(8192))], &rt);
     replies(&mut world, 0, Action::Mark, Entry::Removed(0, 8192), &rt);
-    moves(&mut world, 0, [Action::Drop], &rt);
+    moves(&mut world, &[event(0, Action::Drop)], &rt);
     has_words(&world, [(3, 11811160065)], &rt);
     moves(
         &mut world,
-        1,
-        [Action::Drop, Action::Finish, Action::Put, Action::Tie],
+        &[
+            event(1, Action::Drop),
+            event(1, Action::Finish),
+            event(1, Action::Put),
+            event(1, Action::Tie),
+        ],
         &rt,
     );
     has_words(&world, [(1, 2), (3, 12884901888), (51, 1)], &rt);
@@ -100,9 +105,9 @@ fn a_slot_is_used_again_under_a_pass(rt: HostRuntime) -> Result<(), Fail> {
 #[test]
 fn a_late_finish_changes_nothing(rt: HostRuntime) -> Result<(), Fail> {
     let mut world = opened(rt.alloc(), 2, &rt);
-    moves(&mut world, 0, [Action::EnterRemove(4096)], &rt);
+    moves(&mut world, &[event(0, Action::EnterRemove(4096))], &rt);
     replies(&mut world, 0, Action::Mark, Entry::Removed(0, 4096), &rt);
-    moves(&mut world, 0, [Action::Drop], &rt);
+    moves(&mut world, &[event(0, Action::Drop)], &rt);
     replies(
         &mut world,
         1,
@@ -111,9 +116,13 @@ fn a_late_finish_changes_nothing(rt: HostRuntime) -> Result<(), Fail> {
         &rt,
     );
     has_words(&world, [(3, 7516192769)], &rt);
-    moves(&mut world, 0, [Action::Finish], &rt);
+    moves(&mut world, &[event(0, Action::Finish)], &rt);
     has_words(&world, [(3, 7516192769)], &rt);
-    moves(&mut world, 1, [Action::Drop, Action::Finish], &rt);
+    moves(
+        &mut world,
+        &[event(1, Action::Drop), event(1, Action::Finish)],
+        &rt,
+    );
     has_words(&world, [(1, 0), (3, 8589934592)], &rt);
     Ok(())
 }
@@ -134,7 +143,7 @@ fn a_fifth_get_is_crowded(rt: HostRuntime) -> Result<(), Fail> {
         Entry::Crowded(1, 4096),
         &rt,
     );
-    moves(&mut world, 1, [Action::Drop], &rt);
+    moves(&mut world, &[event(1, Action::Drop)], &rt);
     replies(
         &mut world,
         1,
@@ -154,8 +163,7 @@ fn the_third_generation_is_the_last(rt: HostRuntime) -> Result<(), Fail> {
     for key in [4096, 8192, 12288] {
         moves(
             &mut world,
-            0,
-            [Action::FillSlot(slot(0), value(&[], &rt))],
+            &[event(0, Action::FillSlot(slot(0), value(&[], &rt)))],
             &rt,
         );
         replies(

@@ -1,4 +1,6 @@
-use super::{PAGE, has_log, has_words, moves, removes, replies, skips, slot, value, with_page};
+use super::{
+    PAGE, event, has_log, has_words, moves, removes, replies, skips, slot, value, with_page,
+};
 use crate::World;
 use sh_history::Entry;
 use sh_key::Tiny;
@@ -13,26 +15,28 @@ fn untied(alloc: Global, rt: &impl Abort) -> World<Tiny> {
     for number in [0, 1] {
         moves(
             &mut world,
-            0,
-            [Action::FillSlot(slot(number), value(&[], rt))],
+            &[event(0, Action::FillSlot(slot(number), value(&[], rt)))],
             rt,
         );
         let inserted = Entry::Insert(0, 4096 + number, value(&[], rt));
         replies(&mut world, 0, Action::Publish, inserted, rt);
     }
     removes(&mut world, 1, 4096, rt);
-    moves(&mut world, 1, [Action::Put], rt);
+    moves(&mut world, &[event(1, Action::Put)], rt);
     has_words(&world, [(1, 2), (51, 0)], rt);
     removes(&mut world, 2, 4097, rt);
-    moves(&mut world, 2, [Action::Put, Action::Tie], rt);
+    moves(
+        &mut world,
+        &[event(2, Action::Put), event(2, Action::Tie)],
+        rt,
+    );
     has_words(&world, [(1, 4), (51, 0), (52, 2)], rt);
     moves(
         &mut world,
-        0,
-        [
-            Action::Take(PAGE),
-            Action::Follow(PAGE),
-            Action::Follow(PAGE),
+        &[
+            event(0, Action::Take(PAGE)),
+            event(0, Action::Follow(PAGE)),
+            event(0, Action::Follow(PAGE)),
         ],
         rt,
     );
@@ -53,9 +57,9 @@ fn following_stops_at_a_link_that_is_not_written(rt: HostRuntime) -> Result<(), 
         ],
         &rt,
     );
-    moves(&mut world, 1, [Action::Tie], &rt);
+    moves(&mut world, &[event(1, Action::Tie)], &rt);
     has_words(&world, [(51, 1)], &rt);
-    moves(&mut world, 0, [Action::Follow(PAGE)], &rt);
+    moves(&mut world, &[event(0, Action::Follow(PAGE))], &rt);
     has_words(&world, [(51, 0)], &rt);
     skips(&mut world, 0, Action::Follow(PAGE), &rt);
     Ok(())
@@ -66,30 +70,31 @@ fn following_stops_at_a_link_that_is_not_written(rt: HostRuntime) -> Result<(), 
 fn a_shard_goes_to_the_next_owner(rt: HostRuntime) -> Result<(), Fail> {
     let mut world = untied(rt.alloc(), &rt);
     skips(&mut world, 0, Action::Leave, &rt);
-    moves(&mut world, 1, [Action::Tie], &rt);
-    moves(&mut world, 0, [Action::Follow(PAGE)], &rt);
+    moves(&mut world, &[event(1, Action::Tie)], &rt);
+    moves(&mut world, &[event(0, Action::Follow(PAGE))], &rt);
     for number in [0, 1, 2] {
         moves(
             &mut world,
-            0,
-            [Action::PutSlot(slot(number)), Action::Tie],
+            &[
+                event(0, Action::PutSlot(slot(number))),
+                event(0, Action::Tie),
+            ],
             &rt,
         );
     }
     has_words(&world, [(1, 6), (51, 1), (52, 2), (53, 3), (1560, 1)], &rt);
-    moves(&mut world, 0, [Action::Leave], &rt);
+    moves(&mut world, &[event(0, Action::Leave)], &rt);
     has_words(&world, [(1560, 0)], &rt);
     moves(
         &mut world,
-        1,
-        [
-            Action::Adopt(0),
-            Action::ReadPage(PAGE),
-            Action::Take(PAGE),
-            Action::Follow(PAGE),
-            Action::Follow(PAGE),
-            Action::FillSlot(slot(1), value(&[9], &rt)),
-            Action::Fill,
+        &[
+            event(1, Action::Adopt(0)),
+            event(1, Action::ReadPage(PAGE)),
+            event(1, Action::Take(PAGE)),
+            event(1, Action::Follow(PAGE)),
+            event(1, Action::Follow(PAGE)),
+            event(1, Action::FillSlot(slot(1), value(&[9], &rt))),
+            event(1, Action::Fill),
         ],
         &rt,
     );
