@@ -1,19 +1,16 @@
 -- What bells and the links of pages name are pages of the heap, so their words are small.
-use Rattle.std.proofs.Common.{◌≡◌, ◌≢◌, ℕ, zero, suc, ◌+◌, ◌-◌, ◌*◌, ◌<◌, ◌≤◌, ◌==◌, Bool, true, false, cond, List, [], ◌∷◌, refl, sym, ap, ◌∙◌, subst, arith}
+use Rattle.std.proofs.Common.{◌≡◌, ℕ, zero, suc, ◌+◌, ◌-◌, ◌*◌, ◌<◌, ◌≤◌, ◌==◌, Bool, true, false, cond, List, [], ◌∷◌, refl, ap, ◌∙◌, subst, arith}
 use Rattle.std.specs.Prelude.{not, nat_lt}
-use Rattle.std.proofs.lemmas.Bool.Decides.{nat_tests}
 use Rattle.sh_step.specs.Collections.{total, if1}
 use Rattle.sh_step.specs.Plans.{Plan, Lawful, all_pages, home, page_number, over_heap}
 use Rattle.sh_core.specs.Worlds.{World}
 use Rattle.sh_core.specs.Lists.{Lists, times}
-use Rattle.sh_core.specs.Stacks.{Chained, Chains, top, link_to, ring_tying, ring_ties, bell_link}
-use Rattle.sh_core.specs.Bells.{rings, armed_at}
+use Rattle.sh_core.specs.Stacks.{Chained, top, link_to, ring_tying, bell_link}
 use Rattle.sh_core.specs.Placed.{All}
 use Rattle.sh_core.specs.Knows.{AllKnow}
 use Rattle.sh_core.specs.Within.{AllWithin, BellsAreSmall}
 use Rattle.sh_core.proofs.PageNumbers.{over_some}
 use Rattle.sh_core.proofs.PlacesWithin.{belled}
-use Rattle.sh_core.proofs.RestSteps.{no_ring_ties}
 use Rattle.sh_core.proofs.StackSteps.{page_same, same_page, times_cons}
 
 -- an item of a chain links to what stands behind it

@@ -1,5 +1,5 @@
 -- A move that was done is the step of each world that the kept words stand for.
-use Rattle.std.proofs.Common.{◌≡◌, ◌≢◌, ℕ, zero, suc, ◌+◌, ◌-◌, ◌*◌, ◌<◌, ◌≤◌, List, [], ◌∷◌, length, get_or, set, take, ◌++◌, sym, refl, ap, ◌∙◌, subst, arith, Option, Some, None, slice_get}
+use Rattle.std.proofs.Common.{◌≡◌, ℕ, zero, suc, ◌+◌, ◌-◌, ◌*◌, ◌<◌, ◌≤◌, List, [], ◌∷◌, length, get_or, set, take, ◌++◌, sym, refl, ap, ◌∙◌, subst, arith, Option, Some, None, slice_get}
 use Rattle.std.specs.Prelude.{Result, Ok, Err, IfOk, OnErr}
 use Rattle.sh_value.specs.declared.refusal.Refusal.{Refusal}
 use Rattle.sh_history.specs.declared.entry.Entry.{Entry}
@@ -8,12 +8,10 @@ use Rattle.sh_shape.specs.declared.places.Place.{Place}
 use Rattle.sh_shape.specs.declared.places.Place.TheVariants.{Class, Head, PageLink, State, Link, Length, Payload, Owner, Bell}
 use Rattle.sh_shape.specs.Classes.{width}
 use Rattle.sh_shape.specs.Shape.{Numbers}
-use Rattle.sh_shape.specs.Places.{number}
 use Rattle.sh_slots.specs.declared.reply.Reply.{Reply}
 use Rattle.sh_slots.specs.declared.reply.Reply.TheVariants as reply
 use Rattle.sh_step.specs.declared.action.Event.{Event}
 use Rattle.sh_step.specs.declared.body.Body.{Body}
-use Rattle.sh_step.specs.Operations.{operate}
 use Rattle.sh_step.specs.Plans.{Plan, plan_of}
 use Rattle.sh_step.specs.Rows.{Row, row}
 use Rattle.sh_core.specs.declared.outcome.Outcome.{Outcome}

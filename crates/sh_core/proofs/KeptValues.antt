@@ -1,15 +1,14 @@
 -- The value in a slot is a range of the list of words.
-use Rattle.std.proofs.Common.{◌≡◌, ℕ, zero, suc, ◌+◌, ◌-◌, ◌*◌, ◌<◌, ◌≤◌, List, [], ◌∷◌, length, get_or, take, drop, refl, sym, ap, ◌∙◌, arith}
+use Rattle.std.proofs.Common.{◌≡◌, ℕ, zero, suc, ◌+◌, ◌-◌, ◌*◌, ◌<◌, ◌≤◌, List, ◌∷◌, length, take, drop, refl, ap, ◌∙◌, arith}
 use Rattle.std.specs.List.{slice_range}
 use Rattle.std.proofs.Math.Seq.{drop-cons}
-use Rattle.sh_shape.specs.declared.places.Place.TheVariants.{Class, Length, Payload}
+use Rattle.sh_shape.specs.declared.places.Place.TheVariants.{Payload}
 use Rattle.sh_shape.specs.Classes.{width, slots}
 use Rattle.sh_shape.specs.Shape.{Numbers}
-use Rattle.sh_shape.specs.Places.{number, words_of, all_pages}
-use Rattle.sh_slots.specs.declared.hand.Spot.{Spot}
+use Rattle.sh_shape.specs.Places.{number}
 use Rattle.sh_core.proofs.HeldStands.{rows_fit}
 use Rattle.sh_core.specs.Worlds.{words_from}
-use Rattle.sh_core.specs.Kept.{HasValue, word_at, value_in}
+use Rattle.sh_core.specs.Kept.{word_at}
 
 -- the words of a page's payload, from one on
 payload_taken : (shape : Numbers) (list : List ℕ) (q i n : ℕ) → number shape (Payload q i) + n ≤ length list → take n (drop (number shape (Payload q i)) list) ≡ words_from (λ j. word_at shape list (Payload q j)) i n

@@ -1,14 +1,14 @@
 -- No two words share a place, so a write to one word of the list is a write to its place.
-use Rattle.std.proofs.Common.{◌≡◌, ◌≢◌, ℕ, ◌+◌, ◌*◌, ◌<◌, ◌≤◌, ◌==◌, ◌&&◌, Bool, true, false, List, length, get_or, set, sym, refl, ap, ◌∙◌, subst, arith, ⊎_elim}
+use Rattle.std.proofs.Common.{◌≡◌, ◌≢◌, ℕ, ◌<◌, ◌==◌, ◌&&◌, true, false, List, length, set, refl, ap, ◌∙◌, arith, ⊎_elim}
 use Rattle.std.proofs.lemmas.Bool.{cases_eq}
 use Rattle.std.proofs.lemmas.Bool.Decides.{nat_tests}
 use Rattle.std.proofs.lemmas.List.{get_or-set_same, get_or-set_other, length-set}
 use Rattle.sh_shape.specs.declared.places.Place.{Place}
 use Rattle.sh_shape.specs.declared.places.Place.TheVariants.{Class, Head, PageLink, State, Link, Length, Payload, Owner, Bell}
 use Rattle.sh_shape.specs.Shape.{Numbers}
-use Rattle.sh_shape.specs.Places.{IsPlace, number, words_of}
+use Rattle.sh_shape.specs.Places.{IsPlace, number}
 use Rattle.sh_shape.proofs.PlaceLaws.{places_differ, places_are_words}
-use Rattle.sh_core.specs.Words.{Words, put, put2, read, write}
+use Rattle.sh_core.specs.Words.{Words, read, write}
 use Rattle.sh_core.specs.Kept.{Hold}
 use Rattle.sh_core.proofs.StateWords.{put2_same, put2_other}
 use Rattle.sh_core.proofs.StackSteps.{put_same, put_other}

@@ -17,7 +17,7 @@ use Rattle.sh_step.specs.Plans.{Plan, page_of}
 use Rattle.sh_step.specs.Rows.{Row, row, hand, own, freed}
 use Rattle.sh_word.specs.Fields.{fields_of}
 use Rattle.sh_core.specs.Words.{read}
-use Rattle.sh_core.specs.Worlds.{World, apply, step, open_world, newcomer, value_at, words_from, joined, entry_of, value_of as value_there}
+use Rattle.sh_core.specs.Worlds.{World, apply, step, open_world, value_at, words_from, joined, entry_of, value_of as value_there}
 use Rattle.sh_core.specs.Lists.{Lists, times}
 use Rattle.sh_core.specs.Placed.{All}
 use Rattle.sh_core.specs.Knows.{AllKnow}

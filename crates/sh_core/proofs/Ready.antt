@@ -1,31 +1,28 @@
 -- A step on the words that are kept: what is read there, and that a row may be done.
-use Rattle.std.proofs.Common.{◌≡◌, ℕ, ◌+◌, ◌-◌, ◌<◌, ◌≤◌, ◌==◌, ◌&&◌, ◌||◌, Bool, true, false, cond, List, length, get_or, refl, sym, ap, ◌∙◌, subst, arith, Option, Some, None, slice_get}
+use Rattle.std.proofs.Common.{◌≡◌, ℕ, ◌-◌, ◌<◌, ◌==◌, Bool, true, false, cond, List, refl, sym, ap, ◌∙◌, subst, arith, Option, Some, None, slice_get}
 use Rattle.std.specs.Prelude.{not, nat_lt}
 use Rattle.sh_key.specs.Layout.{Layout}
 use Rattle.sh_word.specs.Fields.{fields_of}
-use Rattle.sh_shape.specs.Classes.{width, slots}
 use Rattle.sh_shape.specs.declared.places.Place.{Place}
 use Rattle.sh_shape.specs.declared.places.Place.TheVariants.{Class, Head, PageLink, State, Link, Length, Payload, Owner, Bell}
 use Rattle.sh_shape.specs.Shape.{Numbers}
-use Rattle.sh_shape.specs.Places.{IsPlace, number}
+use Rattle.sh_shape.specs.Places.{IsPlace}
 use Rattle.sh_slots.specs.declared.hand.Name.{Name}
-use Rattle.sh_slots.specs.declared.hand.Spot.{Spot}
 use Rattle.sh_slots.specs.declared.reply.Reply.{Reply}
 use Rattle.sh_slots.specs.declared.reply.Reply.TheVariants as reply
 use Rattle.sh_slots.specs.Slots.{live_at}
 use Rattle.sh_step.specs.declared.action.Action.{Action}
 use Rattle.sh_step.specs.declared.action.Action.TheVariants.{EnterGet, EnterRemove, Mark, Drop, DropHold, Finish, FillSlot, Fill, Publish, ReadClass, ReadLength, ReadWord, ReadPage, SetClass, Take, Follow, Put, PutSlot, Tie, Adopt, Leave, Arm, Ring, RingTie, TakeBell, FollowBell}
-use Rattle.sh_step.specs.declared.action.Event.{Event}
 use Rattle.sh_step.specs.declared.body.Body.{Body}
 use Rattle.sh_step.specs.Fits.{WordFits}
 use Rattle.sh_step.specs.Plans.{Plan, plan_of}
 use Rattle.sh_step.specs.Rows.{Row, row, enter_get}
-use Rattle.sh_core.specs.Words.{Words, read}
+use Rattle.sh_core.specs.Words.{read}
 use Rattle.sh_core.specs.Worlds.{World, run}
 use Rattle.sh_core.specs.Lists.{lists_of}
 use Rattle.sh_core.specs.Refines.{Refines}
 use Rattle.sh_core.specs.Within.{HasPlace, CountFits, BellsAreSmall, ValuesFit}
-use Rattle.sh_core.specs.Kept.{Kept, Stands, Hold, Reached, IsReady, HasValue, KeepsValue, word_at}
+use Rattle.sh_core.specs.Kept.{Kept, Stands, Reached, IsReady, HasValue, KeepsValue, word_at}
 use Rattle.sh_core.proofs.Conditions.{Meets, meets, and3}
 use Rattle.sh_core.proofs.PlacesWithin.{slots_few}
 use Rattle.sh_core.proofs.RunTheorem.{theorem}

@@ -1,9 +1,8 @@
 -- A step of the code is the step of the world that it stands for.
-use Rattle.std.proofs.Common.{◌≡◌, ◌≢◌, ℕ, ◌<◌, List, [], ◌∷◌, ◌++◌, length, get_or, set, sym, refl, ap, ◌∙◌, subst, Option, Some, None, slice_get}
+use Rattle.std.proofs.Common.{◌≡◌, ◌≢◌, ℕ, List, [], ◌∷◌, ◌++◌, get_or, set, sym, ap, ◌∙◌, subst, Option, Some, None, slice_get}
 use Rattle.sh_history.specs.declared.entry.Entry.{Entry}
 use Rattle.std.specs.Prelude.{replicate}
 use Rattle.sh_key.specs.Layout.{Layout, IsLayout}
-use Rattle.sh_shape.specs.declared.places.Place.{Place}
 use Rattle.sh_shape.specs.Shape.{Numbers, IsShape, Fits}
 use Rattle.sh_shape.specs.Places.{IsPlace, number, words_of, all_pages}
 use Rattle.sh_step.specs.declared.action.Event.{Event}
@@ -12,11 +11,11 @@ use Rattle.sh_step.specs.Operations.{operate}
 use Rattle.sh_step.specs.Plans.{Plan, plan_of}
 use Rattle.sh_step.specs.Rows.{Row, row}
 use Rattle.sh_core.specs.declared.outcome.Outcome.{Outcome}
-use Rattle.sh_core.specs.declared.outcome.Outcome.TheVariants.{Moved, Replied, Skipped}
-use Rattle.sh_core.specs.Words.{opening, read, write}
+use Rattle.sh_core.specs.declared.outcome.Outcome.TheVariants.{Skipped}
+use Rattle.sh_core.specs.Words.{opening, read}
 use Rattle.sh_core.specs.Worlds.{World, step, apply, run, run_from, open_world, newcomer, joined, entry_of, value_of}
 use Rattle.sh_core.specs.Outcomes.{row_of, outcome_of, done}
-use Rattle.sh_core.specs.Kept.{Kept, Stands, Hold, Reached, Steps, IsDone}
+use Rattle.sh_core.specs.Kept.{Kept, Stands, Hold, Reached}
 use Rattle.sh_core.specs.Opening.{opening_words}
 use Rattle.sh_core.proofs.OpeningWords.{opening_holds}
 use Rattle.sh_core.proofs.KeptWords.{hold_write}

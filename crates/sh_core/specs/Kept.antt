@@ -1,5 +1,5 @@
 -- The world as the code keeps it: one list of words, and what it stands for.
-use Rattle.std.specs.Prelude.{ℕ, ◌≡◌, ◌≢◌, ◌+◌, ◌-◌, ◌*◌, ◌^◌, ◌<◌, ◌≤◌, List, [], ◌∷◌, length, get_or, slice_set, Option, Some, None, Result, Ok, Err}
+use Rattle.std.specs.Prelude.{ℕ, ◌≡◌, ◌≢◌, ◌-◌, ◌*◌, ◌<◌, ◌≤◌, List, [], length, get_or, slice_set, Option, Some, Result, Ok, Err}
 use Rattle.sh_history.specs.declared.entry.Entry.{Entry}
 use Rattle.sh_key.specs.Layout.{Layout, IsLayout}
 use Rattle.sh_shape.specs.declared.places.Place.{Place}
@@ -14,7 +14,7 @@ use Rattle.sh_step.specs.Rows.{Row}
 use Rattle.sh_step.specs.Fits.{Fits as RowFits}
 use Rattle.sh_step.specs.declared.action.Event.{Event}
 use Rattle.sh_step.specs.declared.body.Body.{Body}
-use Rattle.sh_step.specs.Plans.{Plan, plan_of}
+use Rattle.sh_step.specs.Plans.{plan_of}
 use Rattle.sh_value.specs.declared.refusal.Refusal.{Refusal}
 use Rattle.sh_value.specs.declared.refusal.Refusal.TheVariants.{BadShape, Memory}
 use Rattle.sh_core.specs.declared.outcome.Outcome.{Outcome}

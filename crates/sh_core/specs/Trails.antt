@@ -1,13 +1,11 @@
 -- What a pass did, step by step: a trail stands in no world and is read by no condition.
-use Rattle.std.specs.Prelude.{ℕ, ◌+◌, ◌==◌, ◌&&◌, Bool, true, false, List, [], ◌∷◌, ◌++◌, Option, Some, None, cond, length, filter, count_by}
+use Rattle.std.specs.Prelude.{ℕ, ◌==◌, List, [], ◌∷◌, ◌++◌, Option, Some, None, cond, filter}
 use Rattle.sh_history.specs.declared.entry.Entry.{Entry}
 use Rattle.sh_history.specs.Log.{pass_of}
 use Rattle.sh_step.specs.declared.action.Action.{Action}
-use Rattle.sh_step.specs.declared.action.Action.TheVariants.{Take, Follow, Put, PutSlot, Adopt, Arm, TakeBell, FollowBell}
 use Rattle.sh_step.specs.declared.action.Event.{Event}
 use Rattle.sh_step.specs.Operations.{answer}
-use Rattle.sh_step.specs.Plans.{Plan, page_of}
-use Rattle.sh_step.specs.Rows.{Row}
+use Rattle.sh_step.specs.Plans.{Plan}
 use Rattle.sh_core.specs.Words.{read}
 use Rattle.sh_core.specs.Worlds.{World, step, open_world}
 use Rattle.sh_core.specs.Outcomes.{row_of}

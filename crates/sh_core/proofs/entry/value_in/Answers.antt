@@ -1,10 +1,9 @@
-use Rattle.std.proofs.Common.{◌≡◌, ◌∙◌, ℕ, ◌+◌, ◌-◌, ◌*◌, ◌≤◌, List, length, sym, ap, arith}
+use Rattle.std.proofs.Common.{◌≡◌, ◌∙◌, ℕ, ◌+◌, ◌-◌, ◌*◌, ap, arith}
 use Rattle.std.specs.List.{slice_range}
 use Rattle.sh_shape.specs.declared.places.Place.TheVariants.{Class, Length, Payload}
 use Rattle.sh_shape.specs.Classes.{width}
-use Rattle.sh_shape.specs.Places.{number, words_of}
-use Rattle.sh_core.specs.Worlds.{words_from}
-use Rattle.sh_core.specs.Kept.{word_at, value_in}
+use Rattle.sh_shape.specs.Places.{number}
+use Rattle.sh_core.specs.Kept.{word_at}
 use Rattle.sh_core.proofs.KeptValues.{payload_range, row_within}
 use Rattle.sh_core.proofs.entry.value_in.Goals as goal
 

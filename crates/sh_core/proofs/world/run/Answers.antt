@@ -1,12 +1,11 @@
-use Rattle.std.proofs.Common.{◌≡◌, ◌≤◌, ◌++◌, ◌∷◌, [], ◌∙◌, sym, ap, subst, List, ℕ, take, length}
-use Rattle.std.proofs.lemmas.List.{take_more, take_all}
-use Rattle.sh_history.specs.declared.entry.Entry.{Entry}
+use Rattle.std.proofs.Common.{◌≡◌, ◌∙◌, sym, ap, subst, List, take}
+use Rattle.std.proofs.lemmas.List.{take_all}
 use Rattle.sh_history.specs.History.{Legal}
 use Rattle.sh_step.specs.declared.action.Event.{Event}
 use Rattle.sh_step.specs.Plans.{plan_of}
-use Rattle.sh_shape.specs.Shape.{Numbers, IsShape}
-use Rattle.sh_core.specs.Worlds.{World, run, run_from, open_world}
-use Rattle.sh_core.specs.Kept.{Kept, Stands}
+use Rattle.sh_shape.specs.Shape.{IsShape}
+use Rattle.sh_core.specs.Worlds.{World, run, open_world}
+use Rattle.sh_core.specs.Kept.{Stands}
 use Rattle.sh_core.proofs.Steps.{run_none}
 use Rattle.sh_core.proofs.Doing.{goes_on}
 use Rattle.sh_core.proofs.RunTheorem.{theorem, legal_of}

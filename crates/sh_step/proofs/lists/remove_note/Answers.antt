@@ -1,4 +1,4 @@
-use Rattle.std.proofs.Common.{arith, ◌≡◌, ◌==◌, ◌∙◌, sym, ap, Some, None}
+use Rattle.std.proofs.Common.{arith, ◌≡◌, ◌==◌, ◌∙◌, sym, Some, None}
 use Rattle.std.specs.List.{position}
 use Rattle.sh_step.proofs.ListLaws.{without_at, without_none, on_some, position_within}
 use Rattle.sh_step.proofs.lists.remove_note.Goals as goal

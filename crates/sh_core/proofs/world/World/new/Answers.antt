@@ -1,4 +1,4 @@
-use Rattle.std.proofs.Common.{◌≡◌, ◌∙◌, ap, refl}
+use Rattle.std.proofs.Common.{◌∙◌, ap, refl}
 use Rattle.std.specs.Prelude.{ℕ, replicate}
 use Rattle.sh_shape.specs.Shape.{Fits}
 use Rattle.sh_core.specs.Worlds.{newcomer}
