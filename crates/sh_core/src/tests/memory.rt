@@ -111,7 +111,6 @@ fn remove_both(pair: &mut Pair, pass: u32, rt: &impl Abort) {
 fn a_read_refused_for_memory_changes_nothing(rt: HostRuntime) -> Result<(), Fail> {
     let pair = &mut new_pair(rt.alloc(), &rt);
     open_both(pair, &rt);
-
     for _ in 0..4 {
         let got = Entry::Got(1, 4096, value(&[5], &rt));
         both_reply(pair, 1, Action::EnterGet(4096), got, &rt);
@@ -153,7 +152,6 @@ fn a_read_refused_for_memory_changes_nothing(rt: HostRuntime) -> Result<(), Fail
 fn an_arm_refused_for_memory_changes_nothing(rt: HostRuntime) -> Result<(), Fail> {
     let pair = &mut new_pair(rt.alloc(), &rt);
     open_both(pair, &rt);
-
     remove_both(pair, 1, &rt);
     both_move(pair, &[event(1, Action::Put), event(1, Action::Tie)], &rt);
     both_move(
@@ -183,7 +181,6 @@ fn an_arm_refused_for_memory_changes_nothing(rt: HostRuntime) -> Result<(), Fail
 fn a_slot_refused_for_memory_changes_nothing(rt: HostRuntime) -> Result<(), Fail> {
     let pair = &mut new_pair(rt.alloc(), &rt);
     open_both(pair, &rt);
-
     for number in [1, 2] {
         both_move(
             pair,
