@@ -6,6 +6,7 @@ use Rattle.sh_word.specs.Kinds.{kind_of}
 use Rattle.sh_key.specs.Layout.{Layout, IsLayout}
 use Rattle.sh_shape.specs.declared.places.Place.TheVariants.{Class, State}
 use Rattle.sh_shape.specs.Classes.{slots}
+use Rattle.sh_shape.proofs.ClassLaws.{slots_few}
 use Rattle.sh_shape.specs.Places.{all_pages}
 use Rattle.sh_shape.specs.Shape.{IsShape, Fits}
 use Rattle.sh_slots.specs.declared.hand.Spot.{Spot}
@@ -53,17 +54,6 @@ names_none n e = go (n == 0) refl e where
   go : (b : Bool) → (n == 0) ≡ b → None ≡ cond b None (Some (n - 1)) → n ≡ 0
   go true is e = grind (arith, nat_tests)
   go false is e = absurd (let z : None ≡ Some (n - 1) = e in cc)
-
-slots_few : (c : ℕ) → slots c ≤ 48
-slots_few zero = omega arith
-slots_few (suc zero) = omega arith
-slots_few (suc (suc zero)) = omega arith
-slots_few (suc (suc (suc zero))) = omega arith
-slots_few (suc (suc (suc (suc zero)))) = omega arith
-slots_few (suc (suc (suc (suc (suc zero))))) = omega arith
-slots_few (suc (suc (suc (suc (suc (suc zero)))))) = omega arith
-slots_few (suc (suc (suc (suc (suc (suc (suc zero))))))) = omega arith
-slots_few (suc (suc (suc (suc (suc (suc (suc (suc n)))))))) = omega arith
 
 -- what is kept stands for the world, and all that holds of runs holds of it
 module _ (plan : Plan) (k : Kept) (w : World) (l : Lists) (stands : Stands k w) (all : All plan w l) (q : ℕ) (there : q < all_pages k.shape) where

@@ -22,7 +22,7 @@ use Rattle.sh_core.proofs.Steps.{run_snoc}
 use Rattle.sh_core.specs.Worlds.{World, step, run, open_world, words_from, value_at, value_of, entry_of, joined}
 use Rattle.sh_core.specs.Outcomes.{row_of, outcome_of, done}
 use Rattle.sh_core.specs.Kept.{Kept, Stands, Hold, Reached, IsReady, Does, Steps, IsDone, HasValue, KeepsValue, value_in, value_kept, word_at, new_entry}
-use Rattle.sh_core.proofs.PlacesWithin.{slots_few}
+use Rattle.sh_shape.proofs.ClassLaws.{slots_few}
 use Rattle.sh_core.proofs.KeptValues.{row_within}
 use Rattle.sh_core.proofs.Stepping.{stands_moves, stands_skips, stands_past, row_of_at, row_of_past, outcome_done, outcome_skipped, outcome_not_skipped, reached_on, moved}
 
@@ -35,7 +35,7 @@ value_same : (shape : Numbers) (list : List ℕ) (w : Words) (q s : ℕ) → Hol
 unfolding value_at
 value_same shape list w q s h v =
     let c : word_at shape list (Class q) ≡ w.class_at q = h.at (Class q) v.page in
-    let few = slots_few (word_at shape list (Class q) - 1) (let a = v.has_class in let b = v.is_class in omega arith) in
+    let few = slots_few (word_at shape list (Class q) - 1) in
     let low : s < 48 = let a = v.slot in omega arith in
     let l : word_at shape list (Length q s) ≡ w.length_at q s = h.at (Length q s) (v.page, low) in
     let within = row_within (word_at shape list (Class q) - 1) s (word_at shape list (Length q s)) (let a = v.has_class in let b = v.is_class in omega arith) v.slot v.length in

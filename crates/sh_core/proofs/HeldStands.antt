@@ -6,6 +6,7 @@ use Rattle.sh_core.specs.Words.{Words}
 use Rattle.sh_word.specs.Fields.{Fields, fields_of}
 use Rattle.sh_step.specs.Plans.{Plan}
 use Rattle.sh_shape.specs.Classes.{width, slots}
+use Rattle.sh_shape.proofs.ClassLaws.{slot_words_fit_page}
 use Rattle.sh_slots.specs.Slots.{spot_of}
 use Rattle.sh_step.specs.Collections.{if1}
 use Rattle.sh_core.specs.Lists.{Lists}
@@ -17,17 +18,6 @@ use Rattle.sh_core.specs.Refines.{HeldStands, ReadsWithin}
 use Rattle.sh_core.proofs.Permits.{value_one}
 use Rattle.sh_core.proofs.Conditions.{lt_of}
 use Rattle.sh_core.proofs.RunRefines.{held_stands}
-
-pub rows_fit : (c s i : ℕ) → c < 8 → s < slots c → i < width c → s * width c + i < 48
-rows_fit zero s i h a b = omega arith
-rows_fit (suc zero) s i h a b = omega arith
-rows_fit (suc (suc zero)) s i h a b = omega arith
-rows_fit (suc (suc (suc zero))) s i h a b = omega arith
-rows_fit (suc (suc (suc (suc zero)))) s i h a b = omega arith
-rows_fit (suc (suc (suc (suc (suc zero))))) s i h a b = omega arith
-rows_fit (suc (suc (suc (suc (suc (suc zero)))))) s i h a b = omega arith
-rows_fit (suc (suc (suc (suc (suc (suc (suc zero))))))) s i h a b = omega arith
-rows_fit (suc (suc (suc (suc (suc (suc (suc (suc c)))))))) s i h a b = absurd (omega arith)
 
 pub has_room : (w : Words) (x : Spot) → 0 < room w x → (0 < w.class_at x.page) × (x.slot < slots (w.class_at x.page - 1))
 has_room w x h = go (nat_lt 0 (w.class_at x.page)) (nat_lt x.slot (slots (w.class_at x.page - 1))) refl refl where
@@ -60,4 +50,4 @@ module _ (plan : Plan) (w : World) (l : Lists) (all : All plan w l) (know : AllK
       let me = v.1 n name in
       let r0 = r.0 in
       let P : ℕ → Type 0 = λ z. n.slot * width (z - 1) + i < 48 in
-      (sym ce, sym me, subst P ce (rows_fit (w.words.class_at n.page - 1) n.slot i (omega arith) r.1 (omega arith)))
+      (sym ce, sym me, subst P ce (slot_words_fit_page (w.words.class_at n.page - 1) n.slot i r.1 (omega arith)))

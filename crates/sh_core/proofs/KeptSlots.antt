@@ -11,6 +11,7 @@ use Rattle.sh_shape.specs.declared.places.Place.TheVariants.{State}
 use Rattle.sh_word.specs.Fields.{Fields, fields_of, word_of}
 use Rattle.sh_step.specs.Plans.{Plan, all_pages, Lawful}
 use Rattle.sh_shape.specs.Classes.{width, slots}
+use Rattle.sh_shape.proofs.ClassLaws.{slots_few}
 use Rattle.sh_slots.specs.Slots.{same_spot, spot_of, name_of, live_at, marked_word}
 use Rattle.sh_step.specs.Collections.{total, if1, has, without, noted}
 use Rattle.sh_step.specs.declared.body.Body.{Body}
@@ -183,17 +184,6 @@ kept_finish plan w l a p x g old at = go (n == marked_word g) (g == plan.keys.ge
         good true o = good_finish_mine plan w l a p x g old.good at e f o
         good false o = good_finish_hand plan w l a p x g old.good at e f o
 
-slots_few : (c : ℕ) → c < 8 → slots c ≤ 48
-slots_few zero h = omega arith
-slots_few (suc zero) h = omega arith
-slots_few (suc (suc zero)) h = omega arith
-slots_few (suc (suc (suc zero))) h = omega arith
-slots_few (suc (suc (suc (suc zero)))) h = omega arith
-slots_few (suc (suc (suc (suc (suc zero))))) h = omega arith
-slots_few (suc (suc (suc (suc (suc (suc zero)))))) h = omega arith
-slots_few (suc (suc (suc (suc (suc (suc (suc zero))))))) h = omega arith
-slots_few (suc (suc (suc (suc (suc (suc (suc (suc c)))))))) h = absurd (omega arith)
-
 -- a slot that is somewhere is a place of the shape
 pub place_of : (plan : Plan) (w : Words) (x : Spot) → SoundOf plan w → 0 < room w x → (x.page < all_pages plan) × (x.slot < 48)
 place_of plan w x sound h = go (nat_lt 0 (w.class_at x.page)) (nat_lt x.slot (slots (w.class_at x.page - 1))) refl refl where
@@ -205,7 +195,7 @@ place_of plan w x sound h = go (nat_lt 0 (w.class_at x.page)) (nat_lt x.slot (sl
       let k0 = k.0 in
       let a : 0 < w.class_at x.page = lt_of 0 (w.class_at x.page) e in
       let b : x.slot < slots (w.class_at x.page - 1) = lt_of x.slot (slots (w.class_at x.page - 1)) f in
-      let s = slots_few (w.class_at x.page - 1) (omega arith) in (k.1 a, omega arith) where
+      let s = slots_few (w.class_at x.page - 1) in (k.1 a, omega arith) where
         lt_of : (a b : ℕ) → nat_lt a b ≡ true → a < b
         lt_of a b h = grind (arith, nat_tests)
 

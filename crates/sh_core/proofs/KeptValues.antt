@@ -6,7 +6,7 @@ use Rattle.sh_shape.specs.declared.places.Place.TheVariants.{Payload}
 use Rattle.sh_shape.specs.Classes.{width, slots}
 use Rattle.sh_shape.specs.Shape.{Numbers}
 use Rattle.sh_shape.specs.Places.{number}
-use Rattle.sh_core.proofs.HeldStands.{rows_fit}
+use Rattle.sh_shape.proofs.ClassLaws.{slot_words_fit_page}
 use Rattle.sh_core.specs.Worlds.{words_from}
 use Rattle.sh_core.specs.Kept.{word_at}
 
@@ -36,8 +36,8 @@ width_some (suc (suc (suc (suc (suc (suc (suc (suc c)))))))) h = absurd (omega a
 
 -- the first word of a slot is one of the 48 of its page, and so are the others
 pub row_begins : (c s : ℕ) → c < 8 → s < slots c → s * width c < 48
-row_begins c s h a = let f = rows_fit c s 0 h a (width_some c h) in omega arith
+row_begins c s h a = let f = slot_words_fit_page c s 0 a (width_some c h) in omega arith
 
 pub row_within : (c s n : ℕ) → c < 8 → s < slots c → n ≤ width c → s * width c + n ≤ 48
 row_within c s zero h a b = let f = row_begins c s h a in omega arith
-row_within c s (suc n) h a b = let f = rows_fit c s n h a (omega arith) in omega arith
+row_within c s (suc n) h a b = let f = slot_words_fit_page c s n a (omega arith) in omega arith

@@ -4,6 +4,7 @@ use Rattle.std.specs.Prelude.{not}
 use Rattle.std.proofs.Math.Nat.{div-lt_iff_lt-mul}
 use Rattle.sh_word.specs.Fields.{fields_of}
 use Rattle.sh_shape.specs.Classes.{width, slots}
+use Rattle.sh_shape.proofs.ClassLaws.{slots_few, slot_words_fit_page}
 use Rattle.sh_slots.specs.declared.hand.Spot.{Spot}
 use Rattle.sh_slots.specs.declared.hand.Name.{Name}
 use Rattle.sh_slots.specs.declared.hand.Hand.{Hand}
@@ -30,19 +31,8 @@ use Rattle.sh_core.proofs.SlotGood.{room_to_enter}
 use Rattle.sh_core.proofs.RestSteps.{a_first}
 use Rattle.sh_core.proofs.StackSteps.{page_same, same_page, times_cons}
 use Rattle.sh_core.proofs.BellKinds.{ties_home, owned_at}
-use Rattle.sh_core.proofs.HeldStands.{rows_fit, has_room, reads}
+use Rattle.sh_core.proofs.HeldStands.{has_room, reads}
 use Rattle.sh_core.proofs.Conditions.{Meets, meets}
-
-pub slots_few : (c : ℕ) → c < 8 → slots c ≤ 48
-slots_few zero h = omega arith
-slots_few (suc zero) h = omega arith
-slots_few (suc (suc zero)) h = omega arith
-slots_few (suc (suc (suc zero))) h = omega arith
-slots_few (suc (suc (suc (suc zero)))) h = omega arith
-slots_few (suc (suc (suc (suc (suc zero))))) h = omega arith
-slots_few (suc (suc (suc (suc (suc (suc zero)))))) h = omega arith
-slots_few (suc (suc (suc (suc (suc (suc (suc zero))))))) h = omega arith
-slots_few (suc (suc (suc (suc (suc (suc (suc (suc c)))))))) h = absurd (omega arith)
 
 -- a list that adds up to something has an item that does
 some_part : {A : Type 0} (f : A → ℕ) (xs : List A) → 0 < total f xs → (b : ℕ) × (x : A) × (slice_get xs b ≡ Some x) × (0 < f x)
@@ -83,7 +73,7 @@ module _ (plan : Plan) (w : World) (l : Lists) (laws : Lawful plan) (all : All p
       let two : if1 (s == s) ≡ 1 = rw (page_same s) refl in
       let f = all.good.slots (spot q s) in
       let r = roomy (spot q s) (omega arith) in
-      let few = slots_few (w.words.class_at q - 1) r.2 in
+      let few = slots_few (w.words.class_at q - 1) in
       let r1 = r.1 in omega arith
 
   -- where a value is being filled in
@@ -97,7 +87,7 @@ module _ (plan : Plan) (w : World) (l : Lists) (laws : Lawful plan) (all : All p
       let here : in_hand x p ≡ 1 = subst Q (sym is) (rw (same_spot-refl x) refl) in
       let f = all.good.slots x in
       let r = roomy x (omega arith) in
-      rw fine.4 (rows_fit (w.words.class_at x.page - 1) x.slot i r.2 r.1 (omega arith))
+      rw fine.4 (slot_words_fit_page (w.words.class_at x.page - 1) x.slot i r.1 (omega arith))
 
   -- a page that stands on a bell, or on its chain, is one of the heap
   pub belled : (n q : ℕ) → 0 < times q (l.bells n) + times q (l.bell_chain n) → q < all_pages plan

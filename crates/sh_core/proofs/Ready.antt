@@ -24,7 +24,7 @@ use Rattle.sh_core.specs.Refines.{Refines}
 use Rattle.sh_core.specs.Within.{HasPlace, CountFits, BellsAreSmall, ValuesFit}
 use Rattle.sh_core.specs.Kept.{Kept, Stands, Reached, IsReady, HasValue, KeepsValue, word_at}
 use Rattle.sh_core.proofs.Conditions.{Meets, meets, and3}
-use Rattle.sh_core.proofs.PlacesWithin.{slots_few}
+use Rattle.sh_shape.proofs.ClassLaws.{slots_few}
 use Rattle.sh_core.proofs.RunTheorem.{theorem}
 
 -- a key is got
@@ -113,7 +113,7 @@ keeps : (layout : Layout) (k : Kept) (w : World) (q s : ℕ) → Stands k w → 
 keeps layout k w q s st fits there =
     let v = fits (record { page = q; slot = s }) (rw there refl) in
     let c : word_at k.shape k.words (Class q) ≡ w.words.class_at q = st.words.at (Class q) v.2 in
-    let few = slots_few (w.words.class_at q - 1) (let a = v.0 in let b = v.1 in omega arith) in
+    let few = slots_few (w.words.class_at q - 1) in
     let low : s < 48 = let a = v.3 in omega arith in
     let l : word_at k.shape k.words (Length q s) ≡ w.words.length_at q s = st.words.at (Length q s) (v.2, low) in
     record {

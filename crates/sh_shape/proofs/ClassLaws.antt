@@ -50,3 +50,15 @@ slot_words_fit_page class slot i few inside =
     let below : slot * width class + i < width class * slots class = mul-add-lt slot (width class) i (slots class) few inside in
     let fit = slots_fit_page class in
     omega (arith, mul_comm (slots class) (width class))
+
+-- a page has places for the slots of each class
+pub slots_few : (class : ℕ) → slots class ≤ 48
+slots_few zero = omega arith
+slots_few (suc zero) = omega arith
+slots_few (suc (suc zero)) = omega arith
+slots_few (suc (suc (suc zero))) = omega arith
+slots_few (suc (suc (suc (suc zero)))) = omega arith
+slots_few (suc (suc (suc (suc (suc zero))))) = omega arith
+slots_few (suc (suc (suc (suc (suc (suc zero)))))) = omega arith
+slots_few (suc (suc (suc (suc (suc (suc (suc zero))))))) = omega arith
+slots_few (suc (suc (suc (suc (suc (suc (suc (suc n)))))))) = omega arith
