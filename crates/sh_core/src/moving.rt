@@ -79,7 +79,7 @@ pub fn do_move<L: KeyLayout>(
     if may_reply(the_move) {
         make_room(log)?;
     }
-    let reply = part.act::<L>(shape, the_move, found)?;
+    let reply = part.apply::<L>(shape, the_move, found)?;
     let new = match reply {
         Some(reply) => Some(entry(shape, words, pass, step.place, reply)),
         None => None,

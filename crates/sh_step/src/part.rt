@@ -5,7 +5,7 @@ ghost use Rattle.sh_slots.specs.declared.hand.Hand.TheVariants.{Idle};
 ghost use Rattle.sh_step.specs.Collections.{has, noted, every};
 ghost use Rattle.sh_step.specs.Rows.{idle, class_of, no_cursor, all_mine};
 
-mod acts;
+mod apply;
 mod in_hand;
 mod keyed;
 mod owners;

@@ -35,7 +35,7 @@ fn a_hold_is_noted_where_the_value_is(rt: HostRuntime) -> Result<(), Fail> {
     let shape = one_shard(&rt);
     let mut part = Part::new(rt.alloc());
     let entry = Move::EnterGet(4096, NAME);
-    match part.act::<Tiny>(&shape, &entry, LIVE) {
+    match part.apply::<Tiny>(&shape, &entry, LIVE) {
         Ok(reply) => {
             assert_eq!(rt; reply, Some(Reply::Got(4096)));
             assert!(rt; part.has_hold(4096));
@@ -55,7 +55,7 @@ fn an_entry_of_an_empty_slot_leaves_again(rt: HostRuntime) -> Result<(), Fail> {
     let mut part = Part::new(rt.alloc());
     let entry = Move::EnterGet(4096, NAME);
     let reply = part
-        .act::<Tiny>(&shape, &entry, 4294967296)
+        .apply::<Tiny>(&shape, &entry, 4294967296)
         .expect(&rt, "nothing is noted");
     assert_eq!(rt; reply, Some(Reply::Gone(4096)));
     assert_eq!(rt; *part.hand(), Hand::Leaving(FIRST));

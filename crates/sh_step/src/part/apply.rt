@@ -14,7 +14,7 @@ use sh_value::Refusal;
 impl Part {
     /// Does what the move leaves in the pass's own part, by the word that its step found, and answers what is replied. A move
     /// that notes something asks for memory first: where it is refused, as `Memory`, the part stays as it is.
-    pub fn act<L: KeyLayout>(
+    pub fn apply<L: KeyLayout>(
         &mut self,
         shape: &Shape,
         the_move: &Move,

@@ -7,7 +7,7 @@ use Rattle.sh_step.specs.declared.moves.Move.TheVariants as move
 use Rattle.sh_step.specs.Plans.{Plan, plan_of}
 use Rattle.sh_step.specs.Moves.{row_of}
 use Rattle.sh_step.specs.Fits.{Fits}
-use Rattle.sh_step.proofs.part.Part.act.Goals as goal
+use Rattle.sh_step.proofs.part.Part.apply.Goals as goal
 
 left : Plan → Body → ℕ → Move → Body
 left plan p n m = (row_of plan p m).part n
