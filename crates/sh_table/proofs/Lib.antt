@@ -1,0 +1,9 @@
+pub mod Zips
+pub mod Learning
+pub mod Events
+pub mod Owners
+pub mod Facts
+pub mod Keeps
+pub mod Allowing
+pub mod SeatLaws
+pub mod NoteLaws
