@@ -43,7 +43,7 @@ impl Part {
                 self.fill_slot(*spot, value);
                 Ok(None)
             }
-            Move::Fill(spot, value, i) => {
+            Move::Fill(spot, value, i, _) => {
                 self.fill(*spot, value, *i);
                 Ok(None)
             }

@@ -5,7 +5,7 @@ ghost use Rattle.sh_step.specs.Plans.{Plan, plan_of};
 ghost use Rattle.sh_step.specs.Rows.{drop_hand, finish, put_at, tie, ring, ring_tie};
 
 use super::Part;
-use crate::limits::gen_max;
+use crate::operands::gen_max;
 use crate::lists::put_first;
 use crate::paged::owns;
 use sh_bell::{is_armed, top_of};

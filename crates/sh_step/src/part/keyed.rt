@@ -5,7 +5,7 @@ ghost use Rattle.sh_step.specs.Plans.{Plan, plan_of};
 ghost use Rattle.sh_step.specs.Rows.{enter_get, enter_remove, mark, freed, drop_key, read_class, read_length, read_word};
 
 use super::Part;
-use crate::limits::guard_max;
+use crate::operands::guard_max;
 use crate::lists::{forget_notes, forget_words, has_number, put_first, remove_number};
 use sh_key::KeyLayout;
 use sh_slots::{

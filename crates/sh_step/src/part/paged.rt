@@ -3,7 +3,7 @@ ghost use Rattle.std.specs.Prelude.{◌≡◌, ℕ, IfErr, OnOk, OnErr, ◌/◌}
 ghost use Rattle.sh_step.specs.Rows.{read_page, set_class, take_page, follow, arm, point};
 
 use super::Part;
-use crate::classes::slots_of_word;
+use crate::operands::slots_of_word;
 use crate::lists::{
     forget_page, make_room, put_first, put_in_room, put_slots, remove_note, remove_number,
 };
