@@ -68,7 +68,7 @@ empty_of : {A : Type 0} (xs : List A) → (length xs == 0) ≡ true → xs ≡ [
 empty_of [] e = refl
 empty_of (x ∷ xs) e = absurd (let some : length (x ∷ xs) ≡ 0 = eqb_true (length (x ∷ xs)) 0 e in omega arith)
 
-is_empty : {A : Type 0} (xs : List A) → xs ≡ [] → (length xs == 0) ≡ true
+pub is_empty : {A : Type 0} (xs : List A) → xs ≡ [] → (length xs == 0) ≡ true
 is_empty xs e = ap (λ ys. length ys == 0) e
 
 zero_or_of : (n : ℕ) (b : Bool) → ((n == 0) || b) ≡ true → (n ≡ 0) ⊎ (b ≡ true)
