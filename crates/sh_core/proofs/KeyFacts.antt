@@ -1,13 +1,10 @@
 -- What the log says of keys and holds, in the counts of histories, from the sums that are kept.
-use Rattle.std.proofs.Common.{◌≡◌, ℕ, ◌+◌, ◌<◌, ◌||◌, Bool, true, false, Some, slice_get, refl, arith}
-use Rattle.std.specs.Prelude.{if◌then◌else◌}
+use Rattle.std.proofs.Common.{◌≡◌, ℕ, Bool, true, false, arith}
 use Rattle.sh_history.specs.History.{is_removed}
-use Rattle.sh_slots.specs.declared.hand.Name.{Name}
 use Rattle.sh_slots.specs.Slots.{spot_of}
-use Rattle.sh_step.specs.Collections.{total, if1}
-use Rattle.sh_step.specs.declared.body.Body.{Body}
+use Rattle.sh_step.specs.Collections.{if1}
 use Rattle.sh_step.specs.Plans.{Plan}
-use Rattle.sh_core.specs.Lists.{Lists, times, state_of}
+use Rattle.sh_core.specs.Lists.{Lists, state_of}
 use Rattle.sh_core.specs.Placed.{All}
 use Rattle.sh_core.specs.Refines.{KeysAreTold, HoldsAreTold, PastIsRemoved}
 use Rattle.sh_core.specs.Stories.{removals}

@@ -27,6 +27,7 @@ pub mod ClassGood
 pub mod KeptSlots
 pub mod KeptLists
 pub mod RunAll
+pub mod ClassSlots
 pub mod RunRefines
 pub mod KnowKinds
 pub mod HeldStands

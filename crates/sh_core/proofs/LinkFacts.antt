@@ -1,15 +1,14 @@
 -- What the links of stacks, chains and bells say, from the sums that are kept.
-use Rattle.std.proofs.Common.{◌≡◌, ℕ, zero, suc, ◌+◌, ◌<◌, ◌≤◌, ◌==◌, ◌⊎◌, inl, inr, Bool, true, false, List, [], ◌∷◌, refl, sym, ap, ◌∙◌, subst, arith}
+use Rattle.std.proofs.Common.{◌≡◌, ℕ, zero, suc, ◌+◌, ◌<◌, ◌==◌, ◌⊎◌, inl, inr, Bool, true, false, List, [], ◌∷◌, refl, sym, ap, arith}
 use Rattle.std.specs.Prelude.{not}
 use Rattle.std.proofs.lemmas.Bool.Decides.{nat_tests}
-use Rattle.sh_slots.specs.declared.hand.Spot.{Spot}
 use Rattle.sh_step.specs.Collections.{total, if1}
-use Rattle.sh_step.specs.Plans.{Plan, Lawful, all_pages, home}
+use Rattle.sh_step.specs.Plans.{Plan, Lawful, home}
 use Rattle.sh_core.specs.Knows.{AllKnow}
 use Rattle.sh_core.specs.Links.{LinksOn, EachLinked}
 use Rattle.sh_core.specs.Lists.{Lists, times}
 use Rattle.sh_core.specs.Placed.{All}
-use Rattle.sh_core.specs.Stacks.{Chained, spot, link_to, tying, ties_of, ring_tying, ring_ties, bell_link}
+use Rattle.sh_core.specs.Stacks.{Chained, spot, link_to, ties_of, ring_ties, bell_link}
 use Rattle.sh_core.specs.Within.{AllWithin}
 use Rattle.sh_core.specs.Worlds.{World}
 use Rattle.sh_core.proofs.BellKinds.{ties_home}

@@ -1,9 +1,7 @@
 -- What a pass owns: one owner a shard, and what it has lies within its shard.
-use Rattle.std.proofs.Common.{◌≡◌, ◌≢◌, ℕ, ◌+◌, ◌-◌, ◌%◌, ◌<◌, ◌≤◌, ◌==◌, ◌&&◌, Bool, true, false, cond, List, [], length, refl, sym, ap, ◌∙◌, subst, arith, Option, Some, None, slice_get}
-use Rattle.std.specs.Prelude.{nat_lt}
+use Rattle.std.proofs.Common.{◌≡◌, ◌≢◌, ℕ, ◌%◌, ◌<◌, ◌≤◌, ◌==◌, Bool, true, false, refl, sym, ap, ◌∙◌, arith, Option, Some, None, slice_get}
 use Rattle.std.proofs.lemmas.Bool.Decides.{nat_tests}
 use Rattle.sh_slots.specs.declared.hand.Spot.{Spot}
-use Rattle.sh_shape.specs.Classes.{slots}
 use Rattle.sh_step.specs.Collections.{total, if1, noted}
 use Rattle.sh_step.specs.declared.body.Body.{Body}
 use Rattle.sh_step.specs.Plans.{Plan, Lawful, all_pages, home}
@@ -12,17 +10,17 @@ use Rattle.sh_core.specs.Bells.{armed_at, owns}
 use Rattle.sh_core.specs.Knows.{AllKnow}
 use Rattle.sh_core.specs.Lists.{Lists, times, mine_at, slots_under}
 use Rattle.sh_core.specs.Placed.{All}
-use Rattle.sh_core.specs.Refines.{OneOwner, LeaversHaveNothing, OwnStands, OwnPartsStand}
+use Rattle.sh_core.specs.Refines.{OneOwner, LeaversHaveNothing, OwnStands}
 use Rattle.sh_core.specs.Stacks.{spot, cursor_at, bell_cursor_at, is_at, first_is}
 use Rattle.sh_core.specs.Tallies.{room}
 use Rattle.sh_core.specs.Within.{AllWithin}
 use Rattle.sh_core.specs.Worlds.{World}
 use Rattle.sh_core.proofs.BellKinds.{owned_at}
+use Rattle.sh_core.proofs.ClassSlots.{room_under}
 use Rattle.sh_core.proofs.LinkFacts.{homed}
 use Rattle.sh_core.proofs.ListCounts.{once_only, no_spots, no_numbers, no_notes, none_noted, noted_once, times_noted, first_few, first_one, first_times}
 use Rattle.sh_core.proofs.PlacesWithin.{noted_at}
 use Rattle.sh_core.proofs.RestSteps.{alone_armed}
-use Rattle.sh_core.proofs.RunRefines.{room_under}
 use Rattle.sh_core.proofs.SlotGood.{room_few}
 use Rattle.sh_core.proofs.StackSteps.{page_same}
 use Rattle.sh_core.proofs.Totals.{total_at, total_two, some_part}

@@ -1,13 +1,12 @@
 -- The theorem: what is kept along a run, and each clause of it.
-use Rattle.std.proofs.Common.{◌||◌, ◌≡◌, ℕ, zero, suc, ◌<◌, ◌≤◌, Bool, true, false, List, [], ◌∷◌, refl, subst, arith, Some, None}
+use Rattle.std.proofs.Common.{◌||◌, ◌≡◌, ℕ, zero, suc, ◌<◌, ◌≤◌, List, [], ◌∷◌, refl, subst, arith, Some, None}
 use Rattle.sh_slots.specs.declared.hand.Hand.{Hand}
 use Rattle.sh_slots.specs.declared.hand.Hand.TheVariants.{Filling}
 use Rattle.sh_history.specs.History.{Legal}
 use Rattle.sh_step.specs.Plans.{Plan, Lawful, keys_of}
 use Rattle.sh_step.specs.Collections.{total, if1, noted}
 use Rattle.sh_step.specs.declared.body.Body.{Body}
-use Rattle.sh_core.specs.Lists.{Lists, times, mine_at}
-use Rattle.sh_core.specs.Stacks.{cursor_at}
+use Rattle.sh_core.specs.Lists.{Lists}
 use Rattle.sh_core.specs.Placed.{All}
 use Rattle.sh_step.specs.declared.action.Event.{Event}
 use Rattle.sh_core.specs.Worlds.{World, step, run, run_from, open_world}
@@ -25,12 +24,10 @@ use Rattle.sh_key.specs.Layout.{Layout, IsLayout}
 use Rattle.sh_shape.specs.Shape.{Numbers, IsShape, Fits}
 use Rattle.sh_slots.specs.Slots.{name_of}
 use Rattle.sh_step.specs.Plans.{plan_of, all_pages}
-use Rattle.sh_step.specs.Rows.{own}
 use Rattle.sh_core.specs.Refines.{ClassesAreKnown, FillsAreKeys, Refines, CountIsFew}
 use Rattle.sh_core.specs.Within.{AllWithin, ValuesFit}
 use Rattle.sh_core.proofs.BellWords.{bells_are_small}
 use Rattle.sh_core.proofs.RowsFit.{stores_words, issues_keys}
-use Rattle.sh_core.specs.Stacks.{cursor_at}
 use Rattle.sh_core.specs.Tallies.{visits}
 use Rattle.sh_core.proofs.LayoutLaws.{plan_lawful}
 use Rattle.sh_core.proofs.HeldStands.{has_room, held as held_keys, reads}
