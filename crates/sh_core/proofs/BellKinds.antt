@@ -13,7 +13,8 @@ use Rattle.sh_core.specs.Lists.{Lists, times, bells_taken}
 use Rattle.sh_core.specs.Stacks.{spot, top, link_to, first_is, tying, ties_of, cursor_at, ring_tying, ring_ties, is_at, bell_cursor_at, bell_link, bell_head}
 use Rattle.sh_core.specs.Bells.{rings, armed_at, owns}
 use Rattle.sh_core.specs.Placed.{RestOf}
-use Rattle.sh_step.specs.Rows.{hand, own, bell_from}
+use Rattle.sh_stack.specs.Stack.{top_item, link_item}
+use Rattle.sh_step.specs.Rows.{hand, own}
 use Rattle.sh_core.proofs.PageNumbers.{over_local, over_next, over_none, over_some}
 use Rattle.sh_core.proofs.Totals.{total_same, total_set, total_at, total_without}
 use Rattle.sh_core.proofs.StackSteps.{put_same, put_other, same_page, page_same, eq_sym, chains_same, chains_push, chains_tie, chains_take, chains_follow, chain_link, owes, times_cons}
@@ -156,13 +157,13 @@ module _ (plan : Plan) (w : Words) (ps : List Body) (l : Lists) (a : ℕ) (p : B
     links g i e false f = rw (put_other w.page_link_at q i n f) refl
 
 -- TakeBell: the bell's pages become its chain
-is_first : (xs : List ℕ) (q : ℕ) → is_at (bell_from 1 (top xs)) q ≡ first_is xs q
+is_first : (xs : List ℕ) (q : ℕ) → is_at (top_item (top xs)) q ≡ first_is xs q
 is_first [] q = refl
 is_first (s ∷ xs) q =
     let e : nat_lt (s + 1) 1 ≡ false = grind (arith, nat_tests) in
     let d : s + 1 - 1 ≡ s = omega arith in rw (e, d) refl
 
-is_linked : (xs : List ℕ) (q : ℕ) → is_at (bell_from 2 (link_to xs)) q ≡ first_is xs q
+is_linked : (xs : List ℕ) (q : ℕ) → is_at (link_item (link_to xs)) q ≡ first_is xs q
 is_linked [] q = refl
 is_linked (s ∷ xs) q =
     let e : nat_lt (s + 2) 2 ≡ false = grind (arith, nat_tests) in
@@ -174,7 +175,7 @@ owned_at n m None x e = absurd (let z : None ≡ Some n = e in cc)
 
 module _ (plan : Plan) (w : Words) (ps : List Body) (l : Lists) (a : ℕ) (p : Body) (n : ℕ) (old : RestOf plan w ps l) (at : slice_get ps a ≡ Some p) (mine : p.owned ≡ Some n) (no : p.bell_cursor ≡ None) where
   abbrev after3 : Body
-  after3 = record p { bell_cursor = bell_from 1 (bell_head plan w.bell_at n) }
+  after3 = record p { bell_cursor = top_item (bell_head plan w.bell_at n) }
 
   was : (k q : ℕ) → bell_cursor_at k q p ≡ 0
   was k q = owned_at n k p.owned (is_at p.bell_cursor q) mine ∙ rw no (go (n == k)) where
@@ -183,7 +184,7 @@ module _ (plan : Plan) (w : Words) (ps : List Body) (l : Lists) (a : ℕ) (p : B
     go false = refl
 
   now : (k q : ℕ) → bell_cursor_at k q after3 ≡ cond (n == k) (first_is (l.bells n) q) 0
-  now k q = owned_at n k p.owned (is_at (bell_from 1 (bell_head plan w.bell_at n)) q) mine ∙ rw (old.bells.tops n) (ap (λ (m : ℕ). cond (n == k) m 0) (is_first (l.bells n) q))
+  now k q = owned_at n k p.owned (is_at (top_item (bell_head plan w.bell_at n)) q) mine ∙ rw (old.bells.tops n) (ap (λ (m : ℕ). cond (n == k) m 0) (is_first (l.bells n) q))
 
   no_chain : l.bell_chain n ≡ []
   no_chain = no_first (l.bell_chain n) (λ q. sym (old.bells.cursors n q) ∙ alone_bell plan _ _ _ _ _ _ ps l a p old at n q mine ∙ was n q)
@@ -240,7 +241,7 @@ times_off q k xs h = total_without (λ y. if1 (y == k)) (λ x. x == q) (if1 (q =
 
 module _ (plan : Plan) (w : Words) (ps : List Body) (l : Lists) (a : ℕ) (p : Body) (n q : ℕ) (old : RestOf plan w ps l) (at : slice_get ps a ≡ Some p) (mine : p.owned ≡ Some n) (is : p.bell_cursor ≡ Some q) (found : (w.page_link_at q == 0) ≡ false) where
   abbrev after4 : Body
-  after4 = record p { bell_cursor = bell_from 2 (over_heap plan (home plan q) 2 (w.page_link_at q)); armed = without (λ x. x == q) p.armed }
+  after4 = record p { bell_cursor = link_item (over_heap plan (home plan q) 2 (w.page_link_at q)); armed = without (λ x. x == q) p.armed }
 
   abbrev rest : List ℕ
   rest = drop 1 (l.bell_chain n)
@@ -318,7 +319,7 @@ module _ (plan : Plan) (w : Words) (ps : List Body) (l : Lists) (a : ℕ) (p : B
       let f : bell_link plan w.page_link_at n q ≡ over_heap plan n 2 (w.page_link_at q) = rw homes refl in ap (λ (k : ℕ). over_heap plan k 2 (w.page_link_at q)) home_is ∙ sym f ∙ e
 
   now4 : (k i : ℕ) → bell_cursor_at k i after4 ≡ cond (n == k) (first_is rest i) 0
-  now4 k i = owned_at n k p.owned (is_at (bell_from 2 (over_heap plan (home plan q) 2 (w.page_link_at q))) i) mine ∙ rw link_is4 (ap (λ (m : ℕ). cond (n == k) m 0) (is_linked rest i))
+  now4 k i = owned_at n k p.owned (is_at (link_item (over_heap plan (home plan q) 2 (w.page_link_at q))) i) mine ∙ rw link_is4 (ap (λ (m : ℕ). cond (n == k) m 0) (is_linked rest i))
 
   pub follow_bell_rest : RestOf plan (write w (PageLink q) 0) (set ps a after4) (record l { bell_chain = put l.bell_chain n rest })
   follow_bell_rest = record {

@@ -20,6 +20,7 @@ use Rattle.sh_step.specs.Rows.{class_of, all_mine}
 use Rattle.sh_core.specs.Worlds.{World, value_at, words_from}
 use Rattle.sh_core.specs.Tallies.{room, queued, SlotsFine}
 use Rattle.sh_core.specs.Good.{Good, FillFine}
+use Rattle.sh_step.proofs.Tests.{lt_of}
 use Rattle.sh_core.proofs.Totals.{total_set, total_at, total_without, total_append}
 use Rattle.sh_core.proofs.StateWords.{put2_same, put2_other}
 use Rattle.sh_core.proofs.Slots.{tally_set, same_spot-refl, same_spot-true}
@@ -48,9 +49,7 @@ pub room_mine : (w : Words) (p : Body) (q n : ℕ) → w.class_at q ≡ n → ((
 room_mine w p q n is h s = rw is (go (nat_lt 0 n) (nat_lt s (slots (n - 1))) refl refl) where
   some : (b : Bool) → (n == 0) ≡ b → nat_lt 0 n ≡ true → nat_lt s (slots (n - 1)) ≡ true → (b || all_mine p q n) ≡ true → 1 ≤ mine_at (spot q s) p
   some true e a b h = absurd (let i = same_page n 0 e in let z : 0 < n = grind (arith, nat_tests) in omega arith)
-  some false e a b h = has_some (spot q s) p.mine (every_spots (λ x. has (same_spot x) p.mine) q 0 (slots (n - 1)) h s (omega arith) (let z : s < slots (n - 1) = lt_of s (slots (n - 1)) b in omega arith)) where
-    lt_of : (a b : ℕ) → nat_lt a b ≡ true → a < b
-    lt_of a b h = grind (arith, nat_tests)
+  some false e a b h = has_some (spot q s) p.mine (every_spots (λ x. has (same_spot x) p.mine) q 0 (slots (n - 1)) h s (omega arith) (let z : s < slots (n - 1) = lt_of s (slots (n - 1)) b in omega arith))
 
   go : (a b : Bool) → nat_lt 0 n ≡ a → nat_lt s (slots (n - 1)) ≡ b → cond (a && b) 1 0 ≤ mine_at (spot q s) p
   go true true a b = some (n == 0) refl a b h

@@ -22,7 +22,9 @@ use Rattle.sh_core.proofs.Totals.{total_set, total_without}
 use Rattle.sh_core.proofs.Slots.{same_spot-true}
 use Rattle.sh_core.proofs.OpenGood.{none_new}
 use Rattle.sh_core.proofs.StackSteps.{same_page}
-use Rattle.sh_core.proofs.Conditions.{Meets, meets, lt_of}
+use Rattle.sh_step.specs.Conditions.{Meets}
+use Rattle.sh_step.proofs.ConditionLaws.{meets}
+use Rattle.sh_step.proofs.Tests.{lt_of}
 
 -- every key that names a slot and is held is held in its present generation, so these are the holds on the slot's key
 abbrev pub FewHolds : Plan → World → Type 0

@@ -20,7 +20,8 @@ use Rattle.sh_core.specs.Placed.{HomedPart, RestOf, All}
 use Rattle.std.proofs.lemmas.List.{set-set}
 use Rattle.sh_core.specs.Words.{read}
 use Rattle.sh_shape.specs.declared.places.Place.{Place}
-use Rattle.sh_step.specs.Rows.{hand, own, no_cursor, all_mine, point, unpoint, bell_from, read_class, read_length, read_word, read_page, set_class, take_page, follow, put_at, tie, adopt, leave, arm, ring, ring_tie, take_bell, follow_bell}
+use Rattle.sh_stack.specs.Stack.{top_item, link_item}
+use Rattle.sh_step.specs.Rows.{hand, own, no_cursor, all_mine, point, unpoint, read_class, read_length, read_word, read_page, set_class, take_page, follow, put_at, tie, adopt, leave, arm, ring, ring_tie, take_bell, follow_bell}
 use Rattle.sh_core.specs.Worlds.{World, apply}
 use Rattle.sh_core.specs.Tallies.{due, queued}
 use Rattle.sh_core.specs.Good.{FillFine}
@@ -249,7 +250,7 @@ module _ (plan : Plan) (w : World) (l : Lists) (a : ℕ) (p : Body) (old : All p
   pub kept_take_bell : (n : ℕ) → p.owned ≡ Some n → p.bell_cursor ≡ None → All plan (apply w a (take_bell plan h n)) (bells_taken l n)
   unfolding apply
   kept_take_bell n mine free = record {
-    good = good_quiet plan w l (bells_taken l n) a h (record h { bell_cursor = bell_from 1 (bell_head plan w.words.bell_at n) }) w.words.head_at w.words.page_link_at w.words.link_at w.words.owner_at (put w.words.bell_at n 0) old.good at (λ y st. refl) (λ y. refl) refl tt;
+    good = good_quiet plan w l (bells_taken l n) a h (record h { bell_cursor = top_item (bell_head plan w.words.bell_at n) }) w.words.head_at w.words.page_link_at w.words.link_at w.words.owner_at (put w.words.bell_at n 0) old.good at (λ y st. refl) (λ y. refl) refl tt;
     rest = take_bell_rest plan w.words w.parts l a h n old.rest at mine free;
     sound = old.sound;
   }
@@ -257,10 +258,10 @@ module _ (plan : Plan) (w : World) (l : Lists) (a : ℕ) (p : Body) (old : All p
   pub kept_follow_bell : (n q : ℕ) → p.owned ≡ Some n → p.bell_cursor ≡ Some q → All plan (apply w a (follow_bell plan h q)) (cond (w.words.page_link_at q == 0) l (record l { bell_chain = put l.bell_chain n (drop 1 (l.bell_chain n)) }))
   unfolding apply
   kept_follow_bell n q mine is = go (w.words.page_link_at q == 0) refl where
-    go : (b : Bool) → (w.words.page_link_at q == 0) ≡ b → All plan (with w (write w.words (PageLink q) 0) a (cond b h (record h { bell_cursor = bell_from 2 (over_heap plan (home plan q) 2 (w.words.page_link_at q)); armed = without (λ x. x == q) p.armed }))) (cond b l (record l { bell_chain = put l.bell_chain n (drop 1 (l.bell_chain n)) }))
+    go : (b : Bool) → (w.words.page_link_at q == 0) ≡ b → All plan (with w (write w.words (PageLink q) 0) a (cond b h (record h { bell_cursor = link_item (over_heap plan (home plan q) 2 (w.words.page_link_at q)); armed = without (λ x. x == q) p.armed }))) (cond b l (record l { bell_chain = put l.bell_chain n (drop 1 (l.bell_chain n)) }))
     go true e = kept_load plan w l a h h (PageLink q) 0 old at (same_page (w.words.page_link_at q) 0 e) (λ y st. refl) refl tt (plain h refl homed)
     go false e = record {
-      good = good_quiet plan w l (record l { bell_chain = put l.bell_chain n (drop 1 (l.bell_chain n)) }) a h (record h { bell_cursor = bell_from 2 (over_heap plan (home plan q) 2 (w.words.page_link_at q)); armed = without (λ x. x == q) p.armed }) w.words.head_at (put w.words.page_link_at q 0) w.words.link_at w.words.owner_at w.words.bell_at old.good at (λ y st. refl) (λ y. refl) refl tt;
+      good = good_quiet plan w l (record l { bell_chain = put l.bell_chain n (drop 1 (l.bell_chain n)) }) a h (record h { bell_cursor = link_item (over_heap plan (home plan q) 2 (w.words.page_link_at q)); armed = without (λ x. x == q) p.armed }) w.words.head_at (put w.words.page_link_at q 0) w.words.link_at w.words.owner_at w.words.bell_at old.good at (λ y st. refl) (λ y. refl) refl tt;
       rest = follow_bell_rest plan w.words w.parts l a h n q old.rest at mine is e;
       sound = old.sound;
     }

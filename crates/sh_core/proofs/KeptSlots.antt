@@ -25,6 +25,7 @@ use Rattle.sh_step.specs.Rows.{Row, hand, own, freed, class_of, enter_get, enter
 use Rattle.sh_core.specs.Worlds.{World, apply}
 use Rattle.sh_core.specs.Tallies.{held, room, at_spot}
 use Rattle.sh_core.specs.Good.{Good}
+use Rattle.sh_step.proofs.Tests.{lt_of}
 use Rattle.sh_core.proofs.Totals.{total_at, total_without}
 use Rattle.sh_core.proofs.StateWords.{fields_of-entered}
 use Rattle.sh_word.proofs.Words.{fields_of-sub, fields_of-or_mark, fields_of-or_present, fields_of-word_of}
@@ -195,9 +196,7 @@ place_of plan w x sound h = go (nat_lt 0 (w.class_at x.page)) (nat_lt x.slot (sl
       let k0 = k.0 in
       let a : 0 < w.class_at x.page = lt_of 0 (w.class_at x.page) e in
       let b : x.slot < slots (w.class_at x.page - 1) = lt_of x.slot (slots (w.class_at x.page - 1)) f in
-      let s = slots_few (w.class_at x.page - 1) in (k.1 a, omega arith) where
-        lt_of : (a b : ℕ) → nat_lt a b ≡ true → a < b
-        lt_of a b h = grind (arith, nat_tests)
+      let s = slots_few (w.class_at x.page - 1) in (k.1 a, omega arith)
 
 pub kept_publish : (plan : Plan) (w : World) (l : Lists) (a : ℕ) (p : Body) (x : Spot) (v : List ℕ) (i : ℕ) → Lawful plan → All plan w l → slice_get w.parts a ≡ Some (hand p (Filling x v i)) → length v ≤ i → All plan (apply w a (publish plan (hand p (Filling x v i)) x v)) l
 kept_publish plan w l a p x v i laws old at all =

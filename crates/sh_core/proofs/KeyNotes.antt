@@ -28,7 +28,8 @@ use Rattle.sh_core.proofs.Permits.{value_one}
 use Rattle.sh_core.proofs.StackSteps.{same_page, page_same, times_cons}
 use Rattle.sh_core.proofs.RunRefines.{held_stands}
 use Rattle.sh_core.proofs.HeldStands.{reads}
-use Rattle.sh_core.proofs.Conditions.{Meets, meets}
+use Rattle.sh_step.specs.Conditions.{Meets}
+use Rattle.sh_step.proofs.ConditionLaws.{meets}
 
 -- a key, and a word noted of its value
 abbrev Note : Type 0

@@ -10,7 +10,7 @@ use Rattle.sh_shape.specs.declared.places.Place.TheVariants.{Class, State, Lengt
 use Rattle.sh_word.specs.Fields.{fields_of}
 use Rattle.sh_step.specs.Plans.{Plan, all_pages, home}
 use Rattle.sh_shape.specs.Classes.{width, slots}
-use Rattle.sh_slots.specs.Slots.{same_spot, spots, live_at, spot_of, marked_word}
+use Rattle.sh_slots.specs.Slots.{same_spot, spots, live_at, has_room, spot_of, after_drop, is_reusable_after}
 use Rattle.sh_step.specs.Collections.{if1, has, without, noted, off}
 use Rattle.sh_step.specs.declared.body.Body.{Body}
 use Rattle.sh_core.specs.Lists.{Lists, times, mine_at}
@@ -22,7 +22,8 @@ use Rattle.sh_step.specs.declared.action.Action.{Action}
 use Rattle.sh_step.specs.declared.action.Action.TheVariants.{EnterGet, EnterRemove, Mark, Drop, DropHold, Finish, FillSlot, Fill, Publish, ReadClass, ReadLength, ReadWord, ReadPage, SetClass, Take, Follow, Put, PutSlot, Tie, Adopt, Leave, Arm, Ring, RingTie, TakeBell, FollowBell}
 use Rattle.sh_core.specs.Words.{read}
 use Rattle.sh_step.specs.Operations.{operate}
-use Rattle.sh_step.specs.Rows.{Row, row, hand, freed, point, unpoint, bell_from, idle, own, named, when, class_of, no_cursor, all_mine, mark, drop_hand, drop_key, enter_get, enter_remove, finish, fill_slot, fill, publish, read_class, read_length, read_word, read_page, set_class, take_page, follow, put_at, tie, adopt, leave, arm, ring, ring_tie, take_bell, follow_bell}
+use Rattle.sh_stack.specs.Stack.{link_item}
+use Rattle.sh_step.specs.Rows.{Row, row, hand, freed, point, unpoint, own, all_mine, payload_word, fill_slot, read_class, read_length, read_word, read_page, set_class}
 use Rattle.sh_core.specs.Worlds.{World, apply, step}
 use Rattle.sh_core.specs.Knows.{KnowsPart, AllKnow}
 use Rattle.sh_core.proofs.Totals.{total_at, total_without, get_set}
@@ -33,7 +34,8 @@ use Rattle.sh_core.proofs.StackSteps.{put_same, put_other, same_page, page_same,
 use Rattle.sh_core.proofs.ClassGood.{room_mine, empty_page}
 use Rattle.sh_core.proofs.KeptLists.{write_same}
 use Rattle.sh_step.specs.Plans.{page_of, slot_of}
-use Rattle.sh_core.proofs.Conditions.{paged_move, slotted_move, when_move, some_move, no_move, and2, and4, and5, lt_of}
+use Rattle.sh_step.specs.Conditions.{Meets}
+use Rattle.sh_step.proofs.ConditionLaws.{meets, is_own, zero_or}
 use Rattle.sh_core.proofs.RunRefines.{held_stands}
 
 -- the three that hold what is known
@@ -85,21 +87,12 @@ module _ (plan : Plan) (w : World) (l : Lists) (a : ℕ) (p : Body) (all : All p
   there : (b : ℕ) (u : Body) (k : ℕ) (n : Name) → slice_get w.parts b ≡ Some u → 0 < times k u.holds → plan.keys.unpack k ≡ Some n → (fields_of (w.words.state_at n.page n.slot)).present ≡ true
   there b u k n h s e = (held_stands plan w l all b u k n h s e).0
 
-  by_when : (b : Bool) (n m : Row) → when b n ≡ Some m → (b ≡ true → Owes plan w a p n) → Owes plan w a p m
-  by_when b n m h f = let c = when_move b n m h in let P : Row → Type 0 = λ u. Owes plan w a p u in subst P c.1 (f c.0)
+  -- a row that is this one
+  as_row : (m r : Row) → m ≡ r → Owes plan w a p r → Owes plan w a p m
+  as_row m r e h = let P : Row → Type 0 = λ u. Owes plan w a p u in subst P (sym e) h
 
-  by_some : (n m : Row) → Some n ≡ Some m → Owes plan w a p n → Owes plan w a p m
-  by_some n m h f = let P : Row → Type 0 = λ u. Owes plan w a p u in subst P (some_move n m h) f
-
-  placed_move : (k : ℕ) (f : Name → Option Row) (m : Row) → named plan k f ≡ Some m → (x : Name) × (plan.keys.unpack k ≡ Some x) × (f x ≡ Some m) × (x.page < all_pages plan) × (x.slot < 48)
-  placed_move k f m h = go (plan.keys.unpack k) refl h where
-    go : (o : Option Name) → plan.keys.unpack k ≡ o → (elim o as (λ _. Option Row) [ Some x ↦ cond (nat_lt x.page (all_pages plan) && nat_lt x.slot 48) (f x) None | None ↦ None ]) ≡ Some m → (x : Name) × (plan.keys.unpack k ≡ Some x) × (f x ≡ Some m) × (x.page < all_pages plan) × (x.slot < 48)
-    go (Some x) e h = inside (nat_lt x.page (all_pages plan)) (nat_lt x.slot 48) refl refl h where
-      inside : (b c : Bool) → nat_lt x.page (all_pages plan) ≡ b → nat_lt x.slot 48 ≡ c → cond (b && c) (f x) None ≡ Some m → (x : Name) × (plan.keys.unpack k ≡ Some x) × (f x ≡ Some m) × (x.page < all_pages plan) × (x.slot < 48)
-      inside true true i j h = (x, e, h, lt_of x.page (all_pages plan) i, lt_of x.slot 48 j)
-      inside true false i j h = no_move m h
-      inside false c i j h = no_move m h
-    go None e h = no_move m h
+  quiet : (m r : Row) → m ≡ r → (let W : Words = write w.words r.place (operate r.operation (read w.words r.place)) in (W.class_at ≡ w.words.class_at) × (W.length_at ≡ w.words.length_at)) → Three p (r.part (read w.words r.place)) → Owes plan w a p m
+  quiet m r e same t = as_row m r e (owes_quiet r same t)
 
   -- one more hold
   gets : (k : ℕ) (x : Name) → plan.keys.unpack k ≡ Some x → x.page < all_pages plan → x.slot < 48 → (W : Words) → W.class_at ≡ w.words.class_at → W.length_at ≡ w.words.length_at → KnowsPart plan W (record p { holds = k ∷ p.holds })
@@ -232,124 +225,63 @@ module _ (plan : Plan) (w : World) (l : Lists) (a : ℕ) (p : Body) (all : All p
   know_cond W true u v x y = x
   know_cond W false u v x y = y
 
-  -- the moves that begin with a hand
-  hand_marks : (h : Hand) (m : Row) → (elim h as (λ _. Option Row) [ Removing k ↦ named plan k (λ x. Some (mark p k x)) | _ ↦ None ]) ≡ Some m → Owes plan w a p m
-  hand_marks (Removing k) m e = let n = placed_move k (λ x. Some (mark p k x)) m e in by_some (mark p k n.0) m n.2 (owes_quiet (mark p k n.0) (refl, refl) (refl, refl, refl))
-  hand_marks _ m e = no_move m e
-
-  hand_drops : (h : Hand) (m : Row) → (elim h as (λ _. Option Row) [ Leaving x ↦ Some (drop_hand p x) | _ ↦ None ]) ≡ Some m → Owes plan w a p m
-  hand_drops (Leaving x) m e = by_some (drop_hand p x) m e (owes_quiet (drop_hand p x) (refl, refl) (refl, refl, refl))
-  hand_drops _ m e = no_move m e
-
-  hand_finishes : (h : Hand) (m : Row) → (elim h as (λ _. Option Row) [ Finishing x g ↦ Some (finish plan p x g) | _ ↦ None ]) ≡ Some m → Owes plan w a p m
-  hand_finishes (Finishing x g) m e = by_some (finish plan p x g) m e (owes_quiet (finish plan p x g) (refl, refl)
-      (three_cond p ((w.words.state_at x.page x.slot == marked_word g) && not (g == plan.keys.gen_max)) (cond (own plan p x.page) (hand (record p { mine = x ∷ p.mine }) Idle) (hand p (ToPut x))) (hand p Idle)
-      (three_cond p (own plan p x.page) (hand (record p { mine = x ∷ p.mine }) Idle) (hand p (ToPut x)) (refl, refl, refl) (refl, refl, refl)) (refl, refl, refl)))
-  hand_finishes _ m e = no_move m e
-
-  hand_fills : (h : Hand) (m : Row) → (elim h as (λ _. Option Row) [ Filling x v n ↦ when (nat_lt n (length v)) (fill p x v n) | _ ↦ None ]) ≡ Some m → Owes plan w a p m
-  hand_fills (Filling x v n) m e = by_when (nat_lt n (length v)) (fill p x v n) m e (λ _. owes_quiet (fill p x v n) (refl, refl) (refl, refl, refl))
-  hand_fills _ m e = no_move m e
-
-  hand_publishes : (h : Hand) (m : Row) → (elim h as (λ _. Option Row) [ Filling x v n ↦ when (nat_le (length v) n) (publish plan p x v) | _ ↦ None ]) ≡ Some m → Owes plan w a p m
-  hand_publishes (Filling x v n) m e = by_when (nat_le (length v) n) (publish plan p x v) m e (λ _. owes_quiet (publish plan p x v) (refl, refl) (refl, refl, refl))
-  hand_publishes _ m e = no_move m e
-
-  hand_puts : (h : Hand) (m : Row) → (elim h as (λ _. Option Row) [ ToPut x ↦ Some (put_at p x) | _ ↦ None ]) ≡ Some m → Owes plan w a p m
-  hand_puts (ToPut x) m e = by_some (put_at p x) m e (owes_quiet (put_at p x) (refl, refl) (refl, refl, refl))
-  hand_puts _ m e = no_move m e
-
-  hand_ties : (h : Hand) (m : Row) → (elim h as (λ _. Option Row) [ Tying x n r ↦ Some (tie p x n r) | _ ↦ None ]) ≡ Some m → Owes plan w a p m
-  hand_ties (Tying x n r) m e = by_some (tie p x n r) m e (owes_quiet (tie p x n r) (refl, refl) (refl, refl, refl))
-  hand_ties _ m e = no_move m e
-
-  hand_rings : (h : Hand) (m : Row) → (elim h as (λ _. Option Row) [ Ringing q ↦ Some (ring plan p q) | _ ↦ None ]) ≡ Some m → Owes plan w a p m
-  hand_rings (Ringing q) m e = by_some (ring plan p q) m e (owes_quiet (ring plan p q) (refl, refl) (refl, refl, refl))
-  hand_rings _ m e = no_move m e
-
-  hand_ring_ties : (h : Hand) (m : Row) → (elim h as (λ _. Option Row) [ RingTying q n ↦ Some (ring_tie p q n) | _ ↦ None ]) ≡ Some m → Owes plan w a p m
-  hand_ring_ties (RingTying q n) m e = by_some (ring_tie p q n) m e (owes_quiet (ring_tie p q n) (refl, refl) (refl, refl, refl))
-  hand_ring_ties _ m e = no_move m e
-
   -- one kind after the other
   owes : (x : Action) (m : Row) → row plan p x ≡ Some m → Owes plan w a p m
-  unfolding row
-  owes (EnterGet k) m e =
-      let n = placed_move k (λ x. when (idle p && nat_lt (length p.holds) 16) (enter_get plan p k x)) m e in
-      by_when (idle p && nat_lt (length p.holds) 16) (enter_get plan p k n.0) m n.2 (λ _. record {
-        words = same_words (write w.words (State n.0.page n.0.slot) (w.words.state_at n.0.page n.0.slot + 1)) refl refl;
-        part = know_cond (write w.words (State n.0.page n.0.slot) (w.words.state_at n.0.page n.0.slot + 1)) (live_at n.0.generation (w.words.state_at n.0.page n.0.slot) && nat_lt (fields_of (w.words.state_at n.0.page n.0.slot)).count plan.keys.guard_max) (record p { holds = k ∷ p.holds }) (hand p (Leaving (spot_of n.0)))
-            (gets k n.0 n.1 n.3 n.4 (write w.words (State n.0.page n.0.slot) (w.words.state_at n.0.page n.0.slot + 1)) refl refl)
-            (three_knows (write w.words (State n.0.page n.0.slot) (w.words.state_at n.0.page n.0.slot + 1)) (hand p (Leaving (spot_of n.0))) (same_words (write w.words (State n.0.page n.0.slot) (w.words.state_at n.0.page n.0.slot + 1)) refl refl) (refl, refl, refl));
+  unfolding Meets
+  owes (EnterGet k) m e = let h = meets plan p (EnterGet k) m e in
+      let x : Name = h.0 in
+      let n : ℕ = w.words.state_at x.page x.slot in
+      let W : Words = write w.words (State x.page x.slot) (n + 1) in
+      as_row m _ h.4 (record {
+        words = same_words W refl refl;
+        part = know_cond W (live_at x.generation n && has_room plan.keys.guard_max n) (record p { holds = k ∷ p.holds }) (hand p (Leaving (spot_of x)))
+            (gets k x h.1.unpacks h.1.page h.1.slot W refl refl)
+            (three_knows W (hand p (Leaving (spot_of x))) (same_words W refl refl) (refl, refl, refl));
       })
-  owes (EnterRemove k) m e =
-      let n = placed_move k (λ x. when (idle p) (enter_remove plan p k x)) m e in
-      by_when (idle p) (enter_remove plan p k n.0) m n.2 (λ _. owes_quiet (enter_remove plan p k n.0) (refl, refl) (refl, refl, refl))
-  owes Mark m e = hand_marks p.hand m e
-  owes Drop m e = hand_drops p.hand m e
-  owes (DropHold k) m e =
-      let n = placed_move k (λ x. when (idle p && has (λ j. j == k) p.holds) (drop_key p k x)) m e in
-      by_when (idle p && has (λ j. j == k) p.holds) (drop_key p k n.0) m n.2 (λ c. let d = and2 (idle p) (has (λ j. j == k) p.holds) c in record {
-        words = same_words (write w.words (State n.0.page n.0.slot) (w.words.state_at n.0.page n.0.slot - 1)) refl refl;
-        part = drops k d.1 (Rattle.sh_slots.specs.Slots.after_drop (spot_of n.0) (w.words.state_at n.0.page n.0.slot)) (write w.words (State n.0.page n.0.slot) (w.words.state_at n.0.page n.0.slot - 1)) refl refl;
-      })
-  owes Finish m e = hand_finishes p.hand m e
-  owes (FillSlot y v) m e = fill_slots (slot_of plan y) (slotted_move plan y (λ x. when (idle p && own plan p x.page && has (same_spot x) p.mine && nat_lt 0 (class_of p x.page) && nat_le (length v) (width (class_of p x.page - 1))) (fill_slot p x v)) m e).2 where
-    fill_slots : (x : Spot) → when (idle p && own plan p x.page && has (same_spot x) p.mine && nat_lt 0 (class_of p x.page) && nat_le (length v) (width (class_of p x.page - 1))) (fill_slot p x v) ≡ Some m → Owes plan w a p m
-    fill_slots x e = by_when (idle p && own plan p x.page && has (same_spot x) p.mine && nat_lt 0 (class_of p x.page) && nat_le (length v) (width (class_of p x.page - 1))) (fill_slot p x v) m e
-        (λ c. owes_fill_slot x v (and5 (idle p) (own plan p x.page) (has (same_spot x) p.mine) (nat_lt 0 (class_of p x.page)) (nat_le (length v) (width (class_of p x.page - 1))) c).2)
-  owes Fill m e = hand_fills p.hand m e
-  owes Publish m e = hand_publishes p.hand m e
-  owes (ReadClass k) m e =
-      let n = placed_move k (λ x. when (idle p && has (λ j. j == k) p.holds) (read_class p k x)) m e in
-      by_when (idle p && has (λ j. j == k) p.holds) (read_class p k n.0) m n.2 (λ c. owes_read (read_class p k n.0) refl (notes_class k n.0 n.1 (and2 (idle p) (has (λ j. j == k) p.holds) c).1))
-  owes (ReadLength k) m e =
-      let n = placed_move k (λ x. when (idle p && has (λ j. j == k) p.holds) (read_length p k x)) m e in
-      by_when (idle p && has (λ j. j == k) p.holds) (read_length p k n.0) m n.2 (λ c. owes_read (read_length p k n.0) refl (notes_length k n.0 n.1 (and2 (idle p) (has (λ j. j == k) p.holds) c).1))
-  owes (ReadWord k i) m e =
-      let n = placed_move k (λ x. elim (noted k p.widths) [ Some c ↦ elim (noted k p.lengths) [ Some n ↦ when (idle p && has (λ j. j == k) p.holds && nat_lt i n) (read_word p k x c i) | None ↦ None ] | None ↦ None ]) m e in
-      go n.0 (noted k p.widths) (noted k p.lengths) n.2 where
-        go : (x : Name) (o r : Option ℕ) → (elim o as (λ _. Option Row) [ Some c ↦ elim r as (λ _. Option Row) [ Some n ↦ when (idle p && has (λ j. j == k) p.holds && nat_lt i n) (read_word p k x c i) | None ↦ None ] | None ↦ None ]) ≡ Some m → Owes plan w a p m
-        go x (Some c) (Some n) f = by_when (idle p && has (λ j. j == k) p.holds && nat_lt i n) (read_word p k x c i) m f (λ _. owes_read (read_word p k x c i) refl (three_knows w.words (record p { contents = (k, i, w.words.payload_at x.page (x.slot * width (c - 1) + i)) ∷ p.contents }) kept_all (refl, refl, refl)))
-        go x (Some c) None f = no_move m f
-        go x None r f = no_move m f
-  owes (ReadPage y) m e = let q : ℕ = page_of plan y in by_when (idle p && own plan p q) (read_page p q) m (paged_move plan y (λ q. when (idle p && own plan p q) (read_page p q)) m e).1 (λ _. owes_read (read_page p q) refl (three_knows w.words (record p { classes = (q, w.words.class_at q) ∷ p.classes }) kept_all (refl, refl, refl)))
-  owes (SetClass y c) m e =
-      let n = paged_move plan y (λ q. elim (noted q p.classes) as (λ _. Option Row) [ Some n ↦ when (idle p && own plan p q && ((n == 0) || all_mine p q n) && nat_lt c 8) (set_class p q c) | None ↦ None ]) m e in
-      go (page_of plan y) (noted (page_of plan y) p.classes) refl n.1 where
-        go : (q : ℕ) (o : Option ℕ) → noted q p.classes ≡ o → (elim o as (λ _. Option Row) [ Some n ↦ when (idle p && own plan p q && ((n == 0) || all_mine p q n) && nat_lt c 8) (set_class p q c) | None ↦ None ]) ≡ Some m → Owes plan w a p m
-        go q (Some n) is f = by_when (idle p && own plan p q && ((n == 0) || all_mine p q n) && nat_lt c 8) (set_class p q c) m f (λ t. let d = and4 (idle p) (own plan p q) ((n == 0) || all_mine p q n) (nat_lt c 8) t in owes_set_class q n c d.1 is d.2)
-        go q None is f = no_move m f
-  owes (Take y) m e = let q : ℕ = page_of plan y in by_when (idle p && own plan p q && nat_lt 0 (class_of p q) && no_cursor p q) (take_page p q) m (paged_move plan y (λ q. when (idle p && own plan p q && nat_lt 0 (class_of p q) && no_cursor p q) (take_page p q)) m e).1 (λ _. owes_quiet (take_page p q) (refl, refl) (refl, refl, refl))
-  owes (Follow y) m e =
-      let n = paged_move plan y (λ q. elim (noted q p.cursors) as (λ _. Option Row) [ Some s ↦ when (idle p && own plan p q) (follow p q s) | None ↦ None ]) m e in
-      go (page_of plan y) (noted (page_of plan y) p.cursors) n.1 where
-        go : (q : ℕ) (o : Option ℕ) → (elim o as (λ _. Option Row) [ Some s ↦ when (idle p && own plan p q) (follow p q s) | None ↦ None ]) ≡ Some m → Owes plan w a p m
-        go q (Some s) f = by_when (idle p && own plan p q) (follow p q s) m f (λ _. owes_quiet (follow p q s) (refl, refl) (three_cond p (w.words.link_at q s == 0) p (record p { cursors = point 2 q (w.words.link_at q s) (unpoint q p.cursors); mine = spot q s ∷ p.mine }) (refl, refl, refl) (refl, refl, refl)))
-        go q None f = no_move m f
-  owes Put m e = hand_puts p.hand m e
-  owes (PutSlot y) m e = let x : Spot = slot_of plan y in by_when (idle p && own plan p x.page && has (same_spot x) p.mine) (put_at (record p { mine = without (same_spot x) p.mine }) x) m (slotted_move plan y (λ x. when (idle p && own plan p x.page && has (same_spot x) p.mine) (put_at (record p { mine = without (same_spot x) p.mine }) x)) m e).2 (λ _. owes_quiet (put_at (record p { mine = without (same_spot x) p.mine }) x) (refl, refl) (refl, refl, refl))
-  owes Tie m e = hand_ties p.hand m e
-  owes (Adopt n) m e = go p.owned e where
-    go : (o : Option ℕ) → (elim o as (λ _. Option Row) [ None ↦ when (idle p && nat_lt n plan.shards) (adopt p n) | _ ↦ None ]) ≡ Some m → Owes plan w a p m
-    go None f = by_when (idle p && nat_lt n plan.shards) (adopt p n) m f (λ _. owes_quiet (adopt p n) (refl, refl)
-        (three_cond p (w.words.owner_at n == 0) (record p { owned = Some n; classes = []; mine = []; cursors = []; armed = []; bell_cursor = None }) p (refl, refl, refl) (refl, refl, refl)))
-    go (Some k) f = no_move m f
-  owes Leave m e = go p.owned e where
-    go : (o : Option ℕ) → (elim o as (λ _. Option Row) [ Some n ↦ when (idle p && (length p.mine == 0) && (length p.cursors == 0) && (length p.armed == 0) && (elim (p.bell_cursor) as (λ _. Bool) [ None ↦ true | _ ↦ false ])) (leave p n) | None ↦ None ]) ≡ Some m → Owes plan w a p m
-    go (Some n) f = by_when (idle p && (length p.mine == 0) && (length p.cursors == 0) && (length p.armed == 0) && (elim (p.bell_cursor) as (λ _. Bool) [ None ↦ true | _ ↦ false ])) (leave p n) m f (λ _. owes_quiet (leave p n) (refl, refl) (refl, refl, refl))
-    go None f = no_move m f
-  owes (Arm y) m e = let q : ℕ = page_of plan y in by_when (idle p && own plan p q && nat_lt 0 (class_of p q) && no_cursor p q && not (has (λ x. x == q) p.armed)) (arm p q) m (paged_move plan y (λ q. when (idle p && own plan p q && nat_lt 0 (class_of p q) && no_cursor p q && not (has (λ x. x == q) p.armed)) (arm p q)) m e).1 (λ _. owes_quiet (arm p q) (refl, refl) (refl, refl, refl))
-  owes Ring m e = hand_rings p.hand m e
-  owes RingTie m e = hand_ring_ties p.hand m e
-  owes TakeBell m e = go p.owned e where
-    go : (o : Option ℕ) → (elim o as (λ _. Option Row) [ Some n ↦ when (idle p && (elim (p.bell_cursor) as (λ _. Bool) [ None ↦ true | _ ↦ false ])) (take_bell plan p n) | None ↦ None ]) ≡ Some m → Owes plan w a p m
-    go (Some n) f = by_when (idle p && (elim (p.bell_cursor) as (λ _. Bool) [ None ↦ true | _ ↦ false ])) (take_bell plan p n) m f (λ _. owes_quiet (take_bell plan p n) (refl, refl) (refl, refl, refl))
-    go None f = no_move m f
-  owes FollowBell m e = go p.bell_cursor e where
-    go : (o : Option ℕ) → (elim o as (λ _. Option Row) [ Some q ↦ when (idle p) (follow_bell plan p q) | None ↦ None ]) ≡ Some m → Owes plan w a p m
-    go (Some q) f = by_when (idle p) (follow_bell plan p q) m f (λ _. owes_quiet (follow_bell plan p q) (refl, refl) (three_cond p (w.words.page_link_at q == 0) p (record p { bell_cursor = bell_from 2 (over_heap plan (home plan q) 2 (w.words.page_link_at q)); armed = without (λ x. x == q) p.armed }) (refl, refl, refl) (refl, refl, refl)))
-    go None f = no_move m f
+  owes (EnterRemove k) m e = let h = meets plan p (EnterRemove k) m e in quiet m _ h.3 (refl, refl) (refl, refl, refl)
+  owes Mark m e = let h = meets plan p Mark m e in quiet m _ h.4 (refl, refl) (refl, refl, refl)
+  owes Drop m e = let h = meets plan p Drop m e in quiet m _ h.2 (refl, refl) (refl, refl, refl)
+  owes (DropHold k) m e = let h = meets plan p (DropHold k) m e in
+      let x : Name = h.0 in
+      let n : ℕ = w.words.state_at x.page x.slot in
+      let W : Words = write w.words (State x.page x.slot) (n - 1) in
+      as_row m _ h.4 (record { words = same_words W refl refl; part = drops k h.3 (after_drop (spot_of x) n) W refl refl })
+  owes Finish m e = let h = meets plan p Finish m e in
+      let x : Spot = h.0 in
+      let g : ℕ = h.1 in
+      quiet m _ h.3 (refl, refl)
+      (three_cond p (is_reusable_after g plan.keys.gen_max (w.words.state_at x.page x.slot)) (cond (own plan p x.page) (hand (record p { mine = x ∷ p.mine }) Idle) (hand p (ToPut x))) (hand p Idle)
+      (three_cond p (own plan p x.page) (hand (record p { mine = x ∷ p.mine }) Idle) (hand p (ToPut x)) (refl, refl, refl) (refl, refl, refl)) (refl, refl, refl))
+  owes (FillSlot y v) m e = let h = meets plan p (FillSlot y v) m e in as_row m _ h.7 (owes_fill_slot (slot_of plan y) v h.4)
+  owes Fill m e = let h = meets plan p Fill m e in quiet m _ h.5 (refl, refl) (refl, refl, refl)
+  owes Publish m e = let h = meets plan p Publish m e in quiet m _ h.5 (refl, refl) (refl, refl, refl)
+  owes (ReadClass k) m e = let h = meets plan p (ReadClass k) m e in as_row m _ h.4 (owes_read (read_class p k h.0) refl (notes_class k h.0 h.1.unpacks h.3))
+  owes (ReadLength k) m e = let h = meets plan p (ReadLength k) m e in as_row m _ h.4 (owes_read (read_length p k h.0) refl (notes_length k h.0 h.1.unpacks h.3))
+  owes (ReadWord k i) m e = let h = meets plan p (ReadWord k i) m e in
+      as_row m _ h.9 (owes_read (read_word p k h.0 h.1 i) refl (three_knows w.words (record p { contents = (k, i, w.words.payload_at h.0.page (payload_word h.0.slot h.1 i)) ∷ p.contents }) kept_all (refl, refl, refl)))
+  owes (ReadPage y) m e = let h = meets plan p (ReadPage y) m e in
+      let q : ℕ = page_of plan y in
+      as_row m _ h.3 (owes_read (read_page p q) refl (three_knows w.words (record p { classes = (q, w.words.class_at q) ∷ p.classes }) kept_all (refl, refl, refl)))
+  owes (SetClass y c) m e = let h = meets plan p (SetClass y c) m e in
+      let q : ℕ = page_of plan y in
+      as_row m _ h.7 (owes_set_class q h.0 c (is_own plan p q h.4) h.2 (zero_or h.0 (all_mine p q h.0) h.5))
+  owes (Take y) m e = let h = meets plan p (Take y) m e in quiet m _ h.5 (refl, refl) (refl, refl, refl)
+  owes (Follow y) m e = let h = meets plan p (Follow y) m e in
+      let q : ℕ = page_of plan y in
+      quiet m _ h.5 (refl, refl) (three_cond p (w.words.link_at q h.0 == 0) p (record p { cursors = point 2 q (w.words.link_at q h.0) (unpoint q p.cursors); mine = spot q h.0 ∷ p.mine }) (refl, refl, refl) (refl, refl, refl))
+  owes Put m e = let h = meets plan p Put m e in quiet m _ h.2 (refl, refl) (refl, refl, refl)
+  owes (PutSlot y) m e = let h = meets plan p (PutSlot y) m e in quiet m _ h.5 (refl, refl) (refl, refl, refl)
+  owes Tie m e = let h = meets plan p Tie m e in quiet m _ h.4 (refl, refl) (refl, refl, refl)
+  owes (Adopt n) m e = let h = meets plan p (Adopt n) m e in
+      quiet m _ h.3 (refl, refl) (three_cond p (w.words.owner_at n == 0) (record p { owned = Some n; classes = []; mine = []; cursors = []; armed = []; bell_cursor = None }) p (refl, refl, refl) (refl, refl, refl))
+  owes Leave m e = let h = meets plan p Leave m e in quiet m _ h.7 (refl, refl) (refl, refl, refl)
+  owes (Arm y) m e = let h = meets plan p (Arm y) m e in quiet m _ h.6 (refl, refl) (refl, refl, refl)
+  owes Ring m e = let h = meets plan p Ring m e in quiet m _ h.2 (refl, refl) (refl, refl, refl)
+  owes RingTie m e = let h = meets plan p RingTie m e in quiet m _ h.3 (refl, refl) (refl, refl, refl)
+  owes TakeBell m e = let h = meets plan p TakeBell m e in quiet m _ h.4 (refl, refl) (refl, refl, refl)
+  owes FollowBell m e = let h = meets plan p FollowBell m e in
+      let q : ℕ = h.0 in
+      quiet m _ h.3 (refl, refl) (three_cond p (w.words.page_link_at q == 0) p (record p { bell_cursor = link_item (over_heap plan (home plan q) 2 (w.words.page_link_at q)); armed = without (λ x. x == q) p.armed }) (refl, refl, refl) (refl, refl, refl))
 
 pub know_step : (plan : Plan) (w : World) (l : Lists) (e : Event) → All plan w l → AllKnow plan w → AllKnow plan (step plan w e)
 unfolding step

@@ -9,7 +9,6 @@ pub mod Logs
 pub mod MarkStep
 pub mod StackSteps
 pub mod PageNumbers
-pub mod Conditions
 pub mod Steps
 pub mod StaysWithin
 pub mod GoodStep

@@ -5,7 +5,8 @@ use Rattle.sh_word.specs.Fields.{fields_of}
 use Rattle.sh_step.specs.Plans.{Plan, Lawful}
 use Rattle.sh_step.specs.Collections.{total}
 use Rattle.sh_step.specs.declared.body.Body.{Body}
-use Rattle.sh_core.specs.Worlds.{open_world, newcomer}
+use Rattle.sh_core.specs.Worlds.{open_world}
+use Rattle.sh_step.specs.Parts.{newcomer}
 use Rattle.sh_core.specs.Lists.{no_lists, mine_at, in_hand, times}
 use Rattle.sh_core.specs.Tallies.{held, visits, lost}
 use Rattle.sh_core.specs.Stories.{values}

@@ -1,5 +1,5 @@
 -- An operation whose count fits has room.
-use Rattle.std.proofs.Common.{◌≡◌, ℕ, ◌+◌, ◌^◌, ◌<◌, sym, subst, arith}
+use Rattle.std.proofs.Common.{◌≡◌, ℕ, ◌+◌, ◌^◌, ◌<◌, ◌≤◌, sym, subst, arith}
 use Rattle.sh_word.specs.Fields.{fields_of}
 use Rattle.sh_step.specs.declared.operation.Operation.{Operation}
 use Rattle.sh_step.specs.declared.operation.Operation.TheVariants.{FetchAdd, FetchSub, FetchOr, Swap, Store, CompareExchange, Load}
@@ -11,9 +11,13 @@ add_fits : (n m : ℕ) → n < 2 ^ 64 → (fields_of n).count + m < 2 ^ 30 → n
 unfolding fields_of
 add_fits n m h f = omega arith
 
+sub_fits : (n m : ℕ) → m ≤ (fields_of n).count → m ≤ n
+unfolding fields_of
+sub_fits n m f = omega arith
+
 fits_room : (o : Operation) (n : ℕ) → n < 2 ^ 64 → CountFits o n → HasRoom o n
 fits_room (FetchAdd m) n h f = add_fits n m h f
-fits_room (FetchSub m) n h f = tt
+fits_room (FetchSub m) n h f = sub_fits n m f
 fits_room (FetchOr m) n h f = tt
 fits_room (Swap m) n h f = tt
 fits_room (Store m) n h f = tt

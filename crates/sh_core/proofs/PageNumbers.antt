@@ -1,9 +1,9 @@
 -- Pages over the whole heap and in their shards.
-use Rattle.std.proofs.Common.{◌≡◌, ℕ, ◌+◌, ◌-◌, ◌*◌, ◌%◌, ◌<◌, ◌≤◌, ◌==◌, Bool, true, false, cond, refl, arith}
-use Rattle.std.proofs.lemmas.Nat.{mul-le, div-add-mod'}
+use Rattle.std.proofs.Common.{◌≡◌, ℕ, ◌+◌, ◌-◌, ◌%◌, ◌<◌, ◌==◌, Bool, true, false, cond, refl, arith}
+use Rattle.std.proofs.lemmas.Nat.{div-add-mod'}
 use Rattle.std.specs.Prelude.{nat_lt}
 use Rattle.std.proofs.lemmas.Bool.Decides.{nat_tests}
-use Rattle.sh_step.specs.Plans.{Plan, page_number, all_pages, home, local, over_heap}
+use Rattle.sh_step.specs.Plans.{Plan, page_number, home, local, over_heap}
 
 -- a page in its shard, over the whole heap again
 pub over_local : (plan : Plan) (q : ℕ) → over_heap plan (home plan q) 1 (local plan q + 1) ≡ q + 1
@@ -34,9 +34,3 @@ over_some plan n m some = go (nat_lt m 2) where
   go : (b : Bool) → (cond b m (page_number plan n (m - 2) + 2) == 0) ≡ false
   go true = some
   go false = grind (arith, nat_tests)
-
-pub page_number_lt : (plan : Plan) (n p : ℕ) → n < plan.shards → p < plan.pages → page_number plan n p < all_pages plan
-unfolding page_number
-page_number_lt plan n p a b =
-    let h : (n + 1) * plan.pages ≤ plan.shards * plan.pages = mul-le (n + 1) plan.pages plan.shards plan.pages (omega arith) (omega arith) in
-    omega arith

@@ -32,7 +32,9 @@ use Rattle.sh_core.proofs.RestSteps.{a_first}
 use Rattle.sh_core.proofs.StackSteps.{page_same, same_page, times_cons}
 use Rattle.sh_core.proofs.BellKinds.{ties_home, owned_at}
 use Rattle.sh_core.proofs.HeldStands.{has_room, reads}
-use Rattle.sh_core.proofs.Conditions.{Meets, meets}
+use Rattle.sh_step.specs.Conditions.{Meets, its_page}
+use Rattle.sh_step.proofs.ConditionLaws.{meets}
+use Rattle.sh_step.proofs.PageLaws.{page_within}
 
 -- a list that adds up to something has an item that does
 some_part : {A : Type 0} (f : A → ℕ) (xs : List A) → 0 < total f xs → (b : ℕ) × (x : A) × (slice_get xs b ≡ Some x) × (0 < f x)
@@ -138,23 +140,23 @@ module _ (plan : Plan) (w : World) (l : Lists) (laws : Lawful plan) (all : All p
   steps_within a p Drop m at e = let h = meets plan p Drop m e in placed a p at Drop _ m h.2 (handed a p (Leaving h.0) at h.1)
   steps_within a p (DropHold k) m at e = let h = meets plan p (DropHold k) m e in placed a p at (DropHold k) _ m h.4 (h.1.page, h.1.slot)
   steps_within a p Finish m at e = let h = meets plan p Finish m e in placed a p at Finish _ m h.3 (handed a p (Finishing h.0 h.1) at h.2).0
-  steps_within a p (FillSlot y v) m at e = let h = meets plan p (FillSlot y v) m e in placed a p at (FillSlot y v) _ m h.7 (h.0, h.1)
+  steps_within a p (FillSlot y v) m at e = let h = meets plan p (FillSlot y v) m e in placed a p at (FillSlot y v) _ m h.7 (page_within plan (its_page y) h.0, h.1)
   steps_within a p Fill m at e = let h = meets plan p Fill m e in placed a p at Fill _ m h.5 ((handed a p (Filling h.0 h.1 h.2) at h.3).0, filling a p h.0 h.1 h.2 at h.3 h.4)
   steps_within a p Publish m at e = let h = meets plan p Publish m e in placed a p at Publish _ m h.5 (handed a p (Filling h.0 h.1 h.2) at h.3)
   steps_within a p (ReadClass k) m at e = let h = meets plan p (ReadClass k) m e in placed a p at (ReadClass k) _ m h.4 h.1.page
   steps_within a p (ReadLength k) m at e = let h = meets plan p (ReadLength k) m e in placed a p at (ReadLength k) _ m h.4 (h.1.page, h.1.slot)
   steps_within a p (ReadWord k i) m at e = let h = meets plan p (ReadWord k i) m e in
       let r = reads plan w l all know a p k h.0 h.1 h.2 i at h.3.unpacks h.4 h.5 h.8 in placed a p at (ReadWord k i) _ m h.9 (h.3.page, r.2)
-  steps_within a p (ReadPage y) m at e = let h = meets plan p (ReadPage y) m e in placed a p at (ReadPage y) _ m h.3 h.0
-  steps_within a p (SetClass y c) m at e = let h = meets plan p (SetClass y c) m e in placed a p at (SetClass y c) _ m h.7 h.1
-  steps_within a p (Take y) m at e = let h = meets plan p (Take y) m e in placed a p at (Take y) _ m h.5 h.0
-  steps_within a p (Follow y) m at e = let h = meets plan p (Follow y) m e in placed a p at (Follow y) _ m h.5 (h.1, pointed a p (page_of plan y) h.0 at h.2)
+  steps_within a p (ReadPage y) m at e = let h = meets plan p (ReadPage y) m e in placed a p at (ReadPage y) _ m h.3 (page_within plan y h.0)
+  steps_within a p (SetClass y c) m at e = let h = meets plan p (SetClass y c) m e in placed a p at (SetClass y c) _ m h.7 (page_within plan y h.1)
+  steps_within a p (Take y) m at e = let h = meets plan p (Take y) m e in placed a p at (Take y) _ m h.5 (page_within plan y h.0)
+  steps_within a p (Follow y) m at e = let h = meets plan p (Follow y) m e in placed a p at (Follow y) _ m h.5 (page_within plan y h.1, pointed a p (page_of plan y) h.0 at h.2)
   steps_within a p Put m at e = let h = meets plan p Put m e in placed a p at Put _ m h.2 (handed a p (ToPut h.0) at h.1).0
-  steps_within a p (PutSlot y) m at e = let h = meets plan p (PutSlot y) m e in placed a p at (PutSlot y) _ m h.5 h.0
+  steps_within a p (PutSlot y) m at e = let h = meets plan p (PutSlot y) m e in placed a p at (PutSlot y) _ m h.5 (page_within plan (its_page y) h.0)
   steps_within a p Tie m at e = let h = meets plan p Tie m e in placed a p at Tie _ m h.4 (handed a p (Tying h.0 h.1 h.2) at h.3)
   steps_within a p (Adopt n) m at e = let h = meets plan p (Adopt n) m e in placed a p at (Adopt n) _ m h.3 h.2
   steps_within a p Leave m at e = let h = meets plan p Leave m e in placed a p at Leave _ m h.7 ((within a p at).owned h.0 h.1)
-  steps_within a p (Arm y) m at e = let h = meets plan p (Arm y) m e in placed a p at (Arm y) _ m h.6 h.0
+  steps_within a p (Arm y) m at e = let h = meets plan p (Arm y) m e in placed a p at (Arm y) _ m h.6 (page_within plan y h.0)
   steps_within a p Ring m at e = let h = meets plan p Ring m e in placed a p at Ring _ m h.2 (home_lt h.0 (handed a p (Ringing h.0) at h.1))
   steps_within a p RingTie m at e = let h = meets plan p RingTie m e in placed a p at RingTie _ m h.3 (handed a p (RingTying h.0 h.1) at h.2)
   steps_within a p TakeBell m at e = let h = meets plan p TakeBell m e in placed a p at TakeBell _ m h.4 ((within a p at).owned h.0 h.1)

@@ -23,7 +23,9 @@ use Rattle.sh_core.specs.Lists.{lists_of}
 use Rattle.sh_core.specs.Refines.{Refines}
 use Rattle.sh_core.specs.Within.{HasPlace, CountFits, BellsAreSmall, ValuesFit}
 use Rattle.sh_core.specs.Kept.{Kept, Stands, Reached, IsReady, HasValue, KeepsValue, word_at}
-use Rattle.sh_core.proofs.Conditions.{Meets, meets, and3}
+use Rattle.sh_step.specs.Conditions.{Meets}
+use Rattle.sh_step.proofs.ConditionLaws.{meets}
+use Rattle.sh_step.proofs.Tests.{and3}
 use Rattle.sh_shape.proofs.ClassLaws.{slots_few}
 use Rattle.sh_core.proofs.RunTheorem.{theorem}
 

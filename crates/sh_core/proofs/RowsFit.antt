@@ -21,7 +21,8 @@ use Rattle.sh_core.specs.Words.{read}
 use Rattle.sh_core.specs.Worlds.{World}
 use Rattle.sh_core.specs.Refines.{FillsAreKeys}
 use Rattle.sh_core.specs.Within.{AllWithin, HandWithin, StoresWords, IssuesKeys}
-use Rattle.sh_core.proofs.Conditions.{Meets, meets}
+use Rattle.sh_step.specs.Conditions.{Meets}
+use Rattle.sh_step.proofs.ConditionLaws.{meets}
 
 -- a key is issued
 abbrev issues : Option Reply → Bool

@@ -23,7 +23,9 @@ use Rattle.sh_core.specs.Within.{Within, HandWithin, SpotWithin, AllWithin}
 use Rattle.sh_core.proofs.Totals.{get_set}
 use Rattle.sh_core.proofs.OpenGood.{part_new}
 use Rattle.sh_core.proofs.StackSteps.{same_page, times_cons, times_none}
-use Rattle.sh_core.proofs.Conditions.{Meets, meets}
+use Rattle.sh_step.specs.Conditions.{Meets, its_page}
+use Rattle.sh_step.proofs.ConditionLaws.{meets}
+use Rattle.sh_step.proofs.PageLaws.{page_within}
 
 times_less : (q k : ℕ) (xs : List ℕ) → times k (without (λ x. x == q) xs) ≤ times k xs
 unfolding total without
@@ -78,7 +80,7 @@ module _ (plan : Plan) (p : Body) (old : Within plan p) where
       quiet m _ h.3 (λ n f. by_cond ((n == marked_word g) && not (g == plan.keys.gen_max)) (cond (own plan p x.page) (in_hand (record p { mine = x ∷ p.mine }) Idle) (in_hand p (ToPut x))) (in_hand p Idle)
       (by_cond (own plan p x.page) (in_hand (record p { mine = x ∷ p.mine }) Idle) (in_hand p (ToPut x)) (stays (in_hand (record p { mine = x ∷ p.mine }) Idle) tt refl (λ q. omega arith)) (stays (in_hand p (ToPut x)) w refl (λ q. omega arith)))
       (stays (in_hand p Idle) tt refl (λ q. omega arith)))
-  within_row (FillSlot y v) m e = let h = meets plan p (FillSlot y v) m e in quiet m _ h.7 (λ n f. record { hand = (h.0, h.1); owned = old.owned; armed = old.armed })
+  within_row (FillSlot y v) m e = let h = meets plan p (FillSlot y v) m e in quiet m _ h.7 (λ n f. record { hand = (page_within plan (its_page y) h.0, h.1); owned = old.owned; armed = old.armed })
   within_row Fill m e = let h = meets plan p Fill m e in quiet m _ h.5 (λ n f. record { hand = handed (Filling h.0 h.1 h.2) h.3; owned = old.owned; armed = old.armed })
   within_row Publish m e = let h = meets plan p Publish m e in quiet m _ h.5 (λ n f. record { hand = tt; owned = old.owned; armed = old.armed })
   within_row (ReadClass k) m e = let h = meets plan p (ReadClass k) m e in quiet m _ h.4 (λ n f. record { hand = old.hand; owned = old.owned; armed = old.armed })
@@ -94,7 +96,7 @@ module _ (plan : Plan) (p : Body) (old : Within plan p) where
   within_row (Follow y) m e = let h = meets plan p (Follow y) m e in
       quiet m _ h.5 (λ n f. by_cond (n == 0) p _ old (record { hand = old.hand; owned = old.owned; armed = old.armed }))
   within_row Put m e = let h = meets plan p Put m e in quiet m _ h.2 (λ n f. record { hand = handed (ToPut h.0) h.1; owned = old.owned; armed = old.armed })
-  within_row (PutSlot y) m e = let h = meets plan p (PutSlot y) m e in quiet m _ h.5 (λ n f. record { hand = (h.0, h.1); owned = old.owned; armed = old.armed })
+  within_row (PutSlot y) m e = let h = meets plan p (PutSlot y) m e in quiet m _ h.5 (λ n f. record { hand = (page_within plan (its_page y) h.0, h.1); owned = old.owned; armed = old.armed })
   within_row Tie m e = let h = meets plan p Tie m e in quiet m _ h.4 (λ n f. go h.0 h.2 (handed (Tying h.0 h.1 h.2) h.3).0) where
     go : (x : Spot) (b : Bool) → x.page < all_pages plan → Within plan (in_hand p (cond b (Ringing x.page) Idle))
     go x true w = record { hand = w; owned = old.owned; armed = old.armed }
@@ -109,7 +111,7 @@ module _ (plan : Plan) (p : Body) (old : Within plan p) where
         none q = times_none q
   within_row Leave m e = let h = meets plan p Leave m e in quiet m _ h.7 (λ n f. record { hand = old.hand; owned = λ j is. absurd (let z : None ≡ Some j = is in cc); armed = old.armed })
   within_row (Arm y) m e = let h = meets plan p (Arm y) m e in
-      quiet m _ h.6 (λ n f. record { hand = old.hand; owned = old.owned; armed = λ k some. go (page_of plan y) k h.0 (page_of plan y == k) refl (let t = times_cons k (page_of plan y) p.armed in let z : 0 < times k (page_of plan y ∷ p.armed) = some in omega arith) }) where
+      quiet m _ h.6 (λ n f. record { hand = old.hand; owned = old.owned; armed = λ k some. go (page_of plan y) k (page_within plan y h.0) (page_of plan y == k) refl (let t = times_cons k (page_of plan y) p.armed in let z : 0 < times k (page_of plan y ∷ p.armed) = some in omega arith) }) where
         go : (q k : ℕ) → q < all_pages plan → (b : Bool) → (q == k) ≡ b → 0 < if1 (q == k) + times k p.armed → k < all_pages plan
         go q k small true e some = let i = same_page q k e in omega arith
         go q k small false e some = old.armed k (let z : if1 (q == k) ≡ 0 = rw e refl in omega arith)

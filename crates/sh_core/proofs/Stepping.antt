@@ -13,7 +13,8 @@ use Rattle.sh_step.specs.Rows.{Row, row}
 use Rattle.sh_core.specs.declared.outcome.Outcome.{Outcome}
 use Rattle.sh_core.specs.declared.outcome.Outcome.TheVariants.{Skipped}
 use Rattle.sh_core.specs.Words.{opening, read}
-use Rattle.sh_core.specs.Worlds.{World, step, apply, run, run_from, open_world, newcomer, joined, entry_of, value_of}
+use Rattle.sh_core.specs.Worlds.{World, step, apply, run, run_from, open_world, joined, entry_of, value_of}
+use Rattle.sh_step.specs.Parts.{newcomer}
 use Rattle.sh_core.specs.Outcomes.{row_of, outcome_of, done}
 use Rattle.sh_core.specs.Kept.{Kept, Stands, Hold, Reached}
 use Rattle.sh_core.specs.Opening.{opening_words}

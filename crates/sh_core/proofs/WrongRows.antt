@@ -10,13 +10,14 @@ use Rattle.sh_step.specs.declared.action.Event.{Event}
 use Rattle.sh_step.specs.declared.body.Body.{Body}
 use Rattle.sh_step.specs.Plans.{Plan, plan_of, keys_of}
 use Rattle.sh_step.specs.Rows.{row}
-use Rattle.sh_core.specs.Worlds.{World, step, run_from, run, open_world, newcomer}
+use Rattle.sh_core.specs.Worlds.{World, step, run_from, run, open_world}
+use Rattle.sh_step.specs.Parts.{newcomer}
 use Rattle.sh_core.specs.Lists.{Lists, list_step, lists_from, lists_of, no_lists, state_of, times}
 use Rattle.sh_core.specs.Stacks.{spot}
 use Rattle.sh_core.specs.Refines.{Always, OneKind, HeldStands, Armed, LeftEmpty, Linked}
 use Rattle.sh_core.specs.Variants.{Table, step_by, run_from_by, run_by, list_step_by, lists_from_by, lists_by, AlwaysBy}
 use Rattle.sh_core.specs.WrongRows.{keeps_generation, ignores_count, wraps_generation, ties_first, ends_at_unwritten, leaves_link, never_rings, leaves_slots, forgets_last_slot}
-use Rattle.sh_core.proofs.Conditions.{no_bool}
+use Rattle.sh_step.proofs.Tests.{no_bool}
 use Rattle.sh_core.proofs.Worked.{small, ev, at, page, everything}
 
 -- ---- over the right table it is the run

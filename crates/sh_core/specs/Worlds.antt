@@ -2,13 +2,13 @@
 use Rattle.std.specs.Prelude.{ℕ, zero, suc, ◌+◌, ◌-◌, ◌*◌, List, [], ◌∷◌, ◌++◌, Option, Some, None, slice_get, slice_set, replicate}
 use Rattle.sh_history.specs.declared.entry.Entry.{Entry}
 use Rattle.sh_step.specs.declared.action.Event.{Event}
-use Rattle.sh_slots.specs.declared.hand.Hand.TheVariants.{Idle}
 use Rattle.sh_core.specs.Words.{Words, read, write, opening}
 use Rattle.sh_shape.specs.declared.places.Place.{Place}
 use Rattle.sh_shape.specs.declared.places.Place.TheVariants.{State}
 use Rattle.sh_step.specs.Plans.{Plan}
 use Rattle.sh_shape.specs.Classes.{width}
 use Rattle.sh_step.specs.declared.body.Body.{Body}
+use Rattle.sh_step.specs.Parts.{newcomer}
 use Rattle.sh_step.specs.Rows.{Row, row}
 use Rattle.sh_step.specs.Operations.{operate}
 use Rattle.sh_slots.specs.declared.reply.Reply.{Reply}
@@ -62,21 +62,6 @@ step plan w e = elim (slice_get w.parts e.pass) [
   | Some p ↦ elim (row plan p e.action) [ Some m ↦ apply w e.pass m | None ↦ w ]
   | None ↦ w
 ]
-
-abbrev pub newcomer : Body
-newcomer = record {
-  holds = [];
-  owned = None;
-  classes = [];
-  mine = [];
-  cursors = [];
-  armed = [];
-  bell_cursor = None;
-  hand = Idle;
-  widths = [];
-  lengths = [];
-  contents = [];
-}
 
 abbrev pub open_world : Plan → World
 open_world plan = record { words = opening; parts = replicate plan.passes newcomer; log = [] }

@@ -12,7 +12,7 @@ use crate::entry::{entry, word_at};
 use sh_history::Entry;
 use sh_key::KeyLayout;
 use sh_shape::Shape;
-use sh_step::{Move, Part};
+use sh_step::{Move, Part, steps_look_at_no_part};
 use sh_value::Refusal;
 
 // Whether the move may decide a reply.
@@ -74,7 +74,8 @@ pub fn do_move<L: KeyLayout>(
     ensures log { OnErr result (log.new.items ≡ log.old.items) }
     ensures memory { IfErr result (λ refusal. refusal ≡ Refusal.Memory) }
 {
-    let step = the_move.step::<L>(shape, part);
+    steps_look_at_no_part();
+    let step = the_move.step::<L>(shape);
     let found = word_at(shape, words, step.place);
     if may_reply(the_move) {
         make_room(log)?;

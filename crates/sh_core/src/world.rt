@@ -3,7 +3,8 @@ ghost use Rattle.std.specs.Prelude.{◌≡◌, IfOk, IfErr, OnOk, OnErr, [], len
 ghost use Rattle.sh_shape.specs.Shape.{Fits};
 ghost use Rattle.sh_step.specs.Plans.{plan_of};
 ghost use Rattle.sh_history.specs.History.{Legal};
-ghost use Rattle.sh_core.specs.Worlds.{open_world, newcomer, run};
+ghost use Rattle.sh_core.specs.Worlds.{open_world, run};
+ghost use Rattle.sh_step.specs.Parts.{newcomer};
 ghost use Rattle.sh_core.specs.Lists.{lists_of};
 ghost use Rattle.sh_core.specs.Refines.{Refines};
 ghost use Rattle.sh_core.specs.Kept.{Stands, Reached, Opens, Runs, Steps, IsDone};

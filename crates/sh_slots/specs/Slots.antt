@@ -40,9 +40,13 @@ reusable_word g = word_of (record { generation = g + 1; marked = false; present 
 abbrev pub retired_word : ℕ → ℕ
 retired_word g = word_of (record { generation = g; marked = true; present = false; count = 0 })
 
+-- where a key may have so many holds, the word found has room for one more
+abbrev pub has_room : (guard_max found : ℕ) → Bool
+has_room guard_max n = nat_lt (fields_of n).count guard_max
+
 -- what a get of a key of this generation is answered, by the word that it found as it entered
 abbrev pub answer_to_get : (g guard_max found : ℕ) → GetAnswer
-answer_to_get g guard_max n = cond (live_at g n) (cond (nat_lt (fields_of n).count guard_max) Got Crowded) Gone
+answer_to_get g guard_max n = cond (live_at g n) (cond (has_room guard_max n) Got Crowded) Gone
 
 -- what a removal of a key of this name has in hand, by the word that it found as it entered
 abbrev pub after_enter_remove : ℕ → Name → ℕ → Hand

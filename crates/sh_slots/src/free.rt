@@ -1,5 +1,5 @@
 //! How a value leaves its slot: the first mark removes it, and the last pass on the slot ends its generation.
-ghost use Rattle.std.specs.Prelude.{◌≡◌, ◌+◌, ◌^◌, ◌<◌, ◌≤◌};
+ghost use Rattle.std.specs.Prelude.{◌≡◌, ◌+◌, ◌^◌, ◌<◌, ◌≢◌};
 ghost use Rattle.sh_slots.specs.Slots.{is_first_mark, after_drop, marked_word, reusable_word, retired_word, finished_word, is_reusable_after};
 
 use crate::{Hand, Spot};
@@ -49,7 +49,7 @@ pub fn retired_word(generation: u32) -> u64
 
 /// The state word that the end of a generation, of which `gen_max` is the last, puts in place of the marked word.
 pub fn finished_word(generation: u32, gen_max: u32) -> u64
-    requires { generation ≤ gen_max }
+    requires { generation ≢ gen_max → generation + 1 < 2 ^ 32 }
     ensures { result ≡ finished_word generation gen_max }
 {
     if generation == gen_max {

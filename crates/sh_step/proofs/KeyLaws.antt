@@ -6,11 +6,7 @@ use Rattle.sh_key.specs.declared.parts.Parts.{Parts}
 use Rattle.sh_key.specs.Layout.{Layout, IsInRange, unpacked}
 use Rattle.sh_key.proofs.Packing.{unpacked_is}
 use Rattle.sh_slots.specs.declared.hand.Name.{Name}
-use Rattle.sh_step.specs.Plans.{name_in, keys_of}
-
--- the parts of the key of a name, where each shard has so many pages
-abbrev pub parts_of : (pages : ℕ) → Name → Parts
-parts_of pages n = record { generation = n.generation; shard = n.page / pages; page = n.page % pages; slot = n.slot }
+use Rattle.sh_step.specs.Plans.{name_in, keys_of, parts_of}
 
 -- what parts name within the heap are the parts of that name
 named_parts : (shards pages : ℕ) (p : Parts) (n : Name) → name_in shards pages p ≡ Some n → p ≡ parts_of pages n

@@ -5,3 +5,6 @@ pub mod WordLaws
 pub mod PageLaws
 pub mod HoldLaws
 pub mod KeyLaws
+pub mod Tests
+pub mod ConditionLaws
+pub mod StepLaws

@@ -5,3 +5,6 @@ pub mod Operations
 pub mod Rows
 pub mod Moves
 pub mod Fits
+pub mod Parts
+pub mod Conditions
+pub mod Footsteps

@@ -14,8 +14,10 @@ use Rattle.sh_step.specs.declared.step.Step.{Step}
 use Rattle.sh_step.specs.declared.moves.Move.{Move}
 use Rattle.sh_step.specs.declared.moves.Move.TheVariants as move
 use Rattle.sh_step.specs.Collections.{without}
+use Rattle.sh_step.specs.declared.operation.Operation.TheVariants.{Store}
+use Rattle.sh_step.specs.Parts.{newcomer}
 use Rattle.sh_step.specs.Plans.{Plan, all_pages, page_of, slot_of}
-use Rattle.sh_step.specs.Rows.{Row, row, enter_get, enter_remove, mark, drop_hand, drop_key, finish, fill_slot, fill, publish, read_class, read_length, read_word, read_page, set_class, take_page, follow, put_at, tie, adopt, leave, arm, ring, ring_tie, take_bell, follow_bell}
+use Rattle.sh_step.specs.Rows.{Row, row, enter_get, enter_remove, mark, drop_hand, drop_key, finish, fill_slot, fill_in, publish, read_class, read_length, read_word, read_page, set_class, take_page, follow, put_at, tie, adopt, leave, arm, ring, ring_tie, take_bell, follow_bell}
 
 -- the row of a move
 abbrev pub row_of : Plan → Body → Move → Row
@@ -26,7 +28,7 @@ row_of plan p (move.Drop x) = drop_hand p x
 row_of plan p (move.DropHold k x) = drop_key p k x
 row_of plan p (move.Finish x g) = finish plan p x g
 row_of plan p (move.FillSlot x v) = fill_slot p x v
-row_of plan p (move.Fill x v n) = fill p x v n
+row_of plan p (move.Fill x v n c) = fill_in p x v n c
 row_of plan p (move.Publish x v) = publish plan p x v
 row_of plan p (move.ReadClass k x) = read_class p k x
 row_of plan p (move.ReadLength k x) = read_length p k x
@@ -67,6 +69,22 @@ slot_named plan x = cond (nat_lt x.shard plan.shards && nat_lt x.page plan.pages
 -- the place and the operation of a row
 abbrev pub step_of : Row → Step
 step_of r = record { place = r.place; operation = r.operation }
+
+-- The step of a move, which looks at no part: it is that of its row by whatever part, here by that of a pass which did nothing yet
+abbrev pub step_at : Plan → Move → Step
+step_at plan m = step_of (row_of plan newcomer m)
+
+-- it is
+abbrev pub StepsLookAtNoPart : Type 0
+StepsLookAtNoPart = (plan : Plan) (p : Body) (m : Move) → step_of (row_of plan p m) ≡ step_at plan m
+
+-- neither what is left of the part nor what is replied depends on the word found
+abbrev pub IsBlind : Row → Type 0
+IsBlind r = (n m : ℕ) → (r.part n ≡ r.part m) × (r.reply n ≡ r.reply m)
+
+-- the row of each move that stores, and so answers no word, is such
+abbrev pub StoresAreBlind : Type 0
+StoresAreBlind = (plan : Plan) (p : Body) (m : Move) (new : ℕ) → (row_of plan p m).operation ≡ Store new → IsBlind (row_of plan p m)
 
 abbrev pub is_enabled : Plan → Body → Action → Bool
 is_enabled plan p a = is_some (row plan p a)

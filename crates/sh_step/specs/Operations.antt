@@ -1,5 +1,5 @@
 -- What an operation leaves of the word that it finds, and what it answers.
-use Rattle.std.specs.Prelude.{ℕ, ◌+◌, ◌-◌, ◌^◌, ◌<◌, ◌==◌, cond, bit_or, Option, Some, None}
+use Rattle.std.specs.Prelude.{ℕ, ◌+◌, ◌-◌, ◌%◌, ◌^◌, ◌<◌, ◌≤◌, ◌==◌, cond, bit_or, Option, Some, None}
 use Rattle.sh_step.specs.declared.operation.Operation.{Operation}
 use Rattle.sh_step.specs.declared.operation.Operation.TheVariants.{FetchAdd, FetchSub, FetchOr, Swap, Store, CompareExchange, Load}
 
@@ -19,10 +19,21 @@ StoresWord (Swap m) = m < 2 ^ 64
 StoresWord (CompareExchange old new) = new < 2 ^ 64
 StoresWord _ = Unit {0}
 
--- an addition has room
+-- the word found has room: an addition stays a word, and a subtraction does not go below 0
 abbrev pub HasRoom : Operation → ℕ → Type 0
 HasRoom (FetchAdd m) n = n + m < 2 ^ 64
+HasRoom (FetchSub m) n = m ≤ n
 HasRoom _ n = Unit {0}
+
+-- what a machine leaves, whose words of 64 bits wrap around
+abbrev pub wrapped : Operation → ℕ → ℕ
+wrapped (FetchAdd m) n = (n + m) % 2 ^ 64
+wrapped (FetchSub m) n = (n + (2 ^ 64 - m)) % 2 ^ 64
+wrapped (FetchOr m) n = bit_or n m
+wrapped (Swap m) n = m
+wrapped (Store m) n = m
+wrapped (CompareExchange old new) n = cond (n == old) new n
+wrapped Load n = n
 
 -- what it answers: the word that it found, but for a store
 abbrev pub answer : Operation → ℕ → Option ℕ

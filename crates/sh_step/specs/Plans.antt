@@ -1,8 +1,9 @@
 -- What is fixed as a heap opens: how many shards, pages and passes there are, and how keys are packed.
-use Rattle.std.specs.Prelude.{ℕ, ◌≡◌, ◌+◌, ◌-◌, ◌*◌, ◌/◌, ◌%◌, ◌^◌, ◌<◌, ◌≤◌, nat_lt, cond, ◌&&◌, Option, Some, None}
+use Rattle.std.specs.Prelude.{ℕ, ◌≡◌, ◌+◌, ◌-◌, ◌*◌, ◌^◌, ◌<◌, ◌≤◌, nat_lt, cond, ◌&&◌, Option, Some, None}
 use Rattle.sh_key.specs.declared.parts.Parts.{Parts}
 use Rattle.sh_key.specs.Layout.{Layout, packed, unpacked}
 use Rattle.sh_shape.specs.Shape.{Numbers, segment_pages}
+use Rattle.sh_bell.specs.Bell.{home_of, local_of}
 use Rattle.sh_slots.specs.declared.hand.Spot.{Spot}
 use Rattle.sh_slots.specs.declared.hand.Name.{Name}
 use Rattle.sh_step.specs.declared.action.PageName.{PageName}
@@ -26,10 +27,14 @@ pub record Plan : Type 0 where
 abbrev pub name_in : (shards pages : ℕ) → Parts → Option Name
 name_in shards pages p = cond (nat_lt p.shard shards && nat_lt p.page pages) (Some (record { page = p.shard * pages + p.page; slot = p.slot; generation = p.generation })) None
 
+-- the parts of the key of a name, where each shard has so many pages
+abbrev pub parts_of : (pages : ℕ) → Name → Parts
+parts_of pages n = record { generation = n.generation; shard = home_of pages n.page; page = local_of pages n.page; slot = n.slot }
+
 -- the keys of a layout, which name pages by their numbers over the whole heap
 unfoldable pub keys_of : Layout → (shards pages : ℕ) → Keys
 keys_of layout shards pages = record {
-  pack = λ n. packed layout (record { generation = n.generation; shard = n.page / pages; page = n.page % pages; slot = n.slot });
+  pack = λ n. packed layout (parts_of pages n);
   unpack = λ k. elim (unpacked layout k) [ Some p ↦ name_in shards pages p | None ↦ None ];
   gen_max = layout.gen_max;
   guard_max = layout.guard_max;
@@ -44,7 +49,7 @@ abbrev pub all_pages : Plan → ℕ
 all_pages plan = plan.shards * plan.pages
 
 unfoldable pub home : Plan → ℕ → ℕ
-home plan q = q / plan.pages
+home plan q = home_of plan.pages q
 
 -- the number of a named page over the whole heap, and the slot of that name
 unfoldable pub page_number : Plan → ℕ → ℕ → ℕ
@@ -52,7 +57,7 @@ page_number plan n p = n * plan.pages + p
 
 -- the number of a page in its shard
 unfoldable pub local : Plan → ℕ → ℕ
-local plan q = q % plan.pages
+local plan q = local_of plan.pages q
 
 -- Words name pages of a shard by their numbers there. A word that names page p of shard n as p + k, and none below k: the same with the page's number over the whole heap
 unfoldable pub over_heap : Plan → (n k word : ℕ) → ℕ

@@ -1,5 +1,5 @@
 -- The table of actions: what each asks of the pass's own part, the operation on one word, and what it leaves.
-use Rattle.std.specs.Prelude.{ℕ, ◌+◌, ◌-◌, ◌*◌, ◌/◌, ◌%◌, ◌^◌, ◌==◌, nat_lt, nat_le, Bool, true, false, cond, not, ◌&&◌, ◌||◌, List, [], ◌∷◌, ◌++◌, Option, Some, None, slice_index, length}
+use Rattle.std.specs.Prelude.{ℕ, ◌+◌, ◌-◌, ◌*◌, ◌^◌, ◌==◌, nat_lt, nat_le, Bool, true, false, cond, not, ◌&&◌, ◌||◌, List, [], ◌∷◌, ◌++◌, Option, Some, None, slice_index, length}
 use Rattle.sh_word.specs.Fields.{fields_of}
 use Rattle.sh_slots.specs.declared.hand.Hand.{Hand}
 use Rattle.sh_slots.specs.declared.hand.Hand.TheVariants.{Idle, Removing, Leaving, Finishing, ToPut, Tying, Ringing, RingTying, Filling}
@@ -16,7 +16,9 @@ use Rattle.sh_shape.specs.declared.places.Place.{Place}
 use Rattle.sh_shape.specs.declared.places.Place.TheVariants.{Class, Head, PageLink, State, Link, Length, Payload, Owner, Bell}
 use Rattle.sh_step.specs.Plans.{Plan, all_pages, home, local, over_heap, page_of, slot_of}
 use Rattle.sh_shape.specs.Classes.{width, slots}
-use Rattle.sh_slots.specs.Slots.{same_spot, spots, spot_of, name_of, live_at, after_drop, marked_word, reusable_word, retired_word}
+use Rattle.sh_slots.specs.Slots.{same_spot, spots, spot_of, live_at, has_room, after_enter_remove, after_drop, marked_word, finished_word, is_reusable_after, published_name}
+use Rattle.sh_stack.specs.Stack.{top_word, top_item, link_over, link_item}
+use Rattle.sh_bell.specs.Bell.{is_armed, top_of, head_word}
 use Rattle.sh_step.specs.Collections.{without, has, noted, off, every}
 use Rattle.sh_step.specs.declared.operation.Operation.{Operation}
 use Rattle.sh_step.specs.declared.operation.Operation.TheVariants.{FetchAdd, FetchSub, FetchOr, Swap, Store, CompareExchange, Load}
@@ -64,15 +66,15 @@ abbrev pub enter_get : Plan → Body → ℕ → Name → Row
 enter_get plan p k x = record {
   place = State x.page x.slot;
   operation = FetchAdd 1;
-  part = λ n. cond (live_at x.generation n && nat_lt (fields_of n).count plan.keys.guard_max) (record p { holds = k ∷ p.holds }) (hand p (Leaving (spot_of x)));
-  reply = λ n. Some (cond (live_at x.generation n) (cond (nat_lt (fields_of n).count plan.keys.guard_max) (reply.Got k) (reply.Crowded k)) (reply.Gone k));
+  part = λ n. cond (live_at x.generation n && has_room plan.keys.guard_max n) (record p { holds = k ∷ p.holds }) (hand p (Leaving (spot_of x)));
+  reply = λ n. Some (cond (live_at x.generation n) (cond (has_room plan.keys.guard_max n) (reply.Got k) (reply.Crowded k)) (reply.Gone k));
 }
 
 abbrev pub enter_remove : Plan → Body → ℕ → Name → Row
 enter_remove plan p k x = record {
   place = State x.page x.slot;
   operation = FetchAdd 1;
-  part = λ n. hand p (cond (live_at x.generation n) (Removing k) (Leaving (spot_of x)));
+  part = λ n. hand p (after_enter_remove k x n);
   reply = λ n. cond (live_at x.generation n) None (Some (reply.Gone k));
 }
 
@@ -112,8 +114,8 @@ drop_key p k x = record {
 abbrev pub finish : Plan → Body → Spot → ℕ → Row
 finish plan p x g = record {
   place = State x.page x.slot;
-  operation = CompareExchange (marked_word g) (cond (g == plan.keys.gen_max) (retired_word g) (reusable_word g));
-  part = λ n. cond ((n == marked_word g) && not (g == plan.keys.gen_max)) (cond (own plan p x.page) (hand (record p { mine = x ∷ p.mine }) Idle) (hand p (ToPut x))) (hand p Idle);
+  operation = CompareExchange (marked_word g) (finished_word g plan.keys.gen_max);
+  part = λ n. cond (is_reusable_after g plan.keys.gen_max n) (cond (own plan p x.page) (hand (record p { mine = x ∷ p.mine }) Idle) (hand p (ToPut x))) (hand p Idle);
   reply = silent;
 }
 
@@ -125,20 +127,28 @@ fill_slot p x v = record {
   reply = silent;
 }
 
-abbrev pub fill : Body → Spot → List ℕ → ℕ → Row
-fill p x v i = record {
-  place = Payload x.page (x.slot * width (class_of p x.page - 1) + i);
+-- the payload word of this number, from 0, of a slot of a page of this class word
+abbrev pub payload_word : (slot class_word i : ℕ) → ℕ
+payload_word slot class_word i = slot * width (class_word - 1) + i
+
+-- a word of the value, in a page of this class word
+abbrev pub fill_in : Body → Spot → List ℕ → (i class_word : ℕ) → Row
+fill_in p x v i class_word = record {
+  place = Payload x.page (payload_word x.slot class_word i);
   operation = Store (slice_index v i);
   part = λ n. hand p (Filling x v (i + 1));
   reply = silent;
 }
+
+abbrev pub fill : Body → Spot → List ℕ → ℕ → Row
+fill p x v i = fill_in p x v i (class_of p x.page)
 
 abbrev pub publish : Plan → Body → Spot → List ℕ → Row
 publish plan p x v = record {
   place = State x.page x.slot;
   operation = FetchOr (2 ^ 30);
   part = λ n. hand p Idle;
-  reply = λ n. Some (reply.Insert (plan.keys.pack (name_of x (fields_of n).generation)) v);
+  reply = λ n. Some (reply.Insert (plan.keys.pack (published_name x n)) v);
 }
 
 -- Read of a key: the class, the length, then the payload words that these two allow
@@ -160,7 +170,7 @@ read_length p k x = record {
 
 abbrev pub read_word : Body → ℕ → Name → ℕ → ℕ → Row
 read_word p k x c i = record {
-  place = Payload x.page (x.slot * width (c - 1) + i);
+  place = Payload x.page (payload_word x.slot c i);
   operation = Load;
   part = λ n. record p { contents = (k, i, n) ∷ p.contents };
   reply = silent;
@@ -190,7 +200,7 @@ abbrev pub take_page : Body → ℕ → Row
 take_page p q = record {
   place = Head q;
   operation = Swap 0;
-  part = λ n. record p { cursors = point 1 q (n / 2) p.cursors; armed = cond (n % 2 == 1) (without (λ x. x == q) p.armed) p.armed };
+  part = λ n. record p { cursors = point 1 q (top_of n) p.cursors; armed = cond (is_armed n) (without (λ x. x == q) p.armed) p.armed };
   reply = silent;
 }
 
@@ -205,8 +215,8 @@ follow p q s = record {
 abbrev pub put_at : Body → Spot → Row
 put_at p x = record {
   place = Head x.page;
-  operation = Swap ((x.slot + 1) * 2);
-  part = λ n. hand p (Tying x (n / 2 + 1) (n % 2 == 1));
+  operation = Swap (head_word (top_word x.slot));
+  part = λ n. hand p (Tying x (link_over (top_of n)) (is_armed n));
   reply = silent;
 }
 
@@ -238,15 +248,15 @@ abbrev pub arm : Body → ℕ → Row
 arm p q = record {
   place = Head q;
   operation = Swap 1;
-  part = λ n. record p { cursors = point 1 q (n / 2) p.cursors; armed = q ∷ p.armed };
+  part = λ n. record p { cursors = point 1 q (top_of n) p.cursors; armed = q ∷ p.armed };
   reply = silent;
 }
 
 abbrev pub ring : Plan → Body → ℕ → Row
 ring plan p q = record {
   place = Bell (home plan q);
-  operation = Swap (local plan q + 1);
-  part = λ n. hand p (RingTying q (n + 1));
+  operation = Swap (top_word (local plan q));
+  part = λ n. hand p (RingTying q (link_over n));
   reply = silent;
 }
 
@@ -258,14 +268,11 @@ ring_tie p q l = record {
   reply = silent;
 }
 
-abbrev pub bell_from : ℕ → ℕ → Option ℕ
-bell_from k n = cond (nat_lt n k) None (Some (n - k))
-
 abbrev pub take_bell : Plan → Body → ℕ → Row
 take_bell plan p n = record {
   place = Bell n;
   operation = Swap 0;
-  part = λ m. record p { bell_cursor = bell_from 1 (over_heap plan n 1 m) };
+  part = λ m. record p { bell_cursor = top_item (over_heap plan n 1 m) };
   reply = silent;
 }
 
@@ -273,7 +280,7 @@ abbrev pub follow_bell : Plan → Body → ℕ → Row
 follow_bell plan p q = record {
   place = PageLink q;
   operation = Swap 0;
-  part = λ m. cond (m == 0) p (record p { bell_cursor = bell_from 2 (over_heap plan (home plan q) 2 m); armed = without (λ x. x == q) p.armed });
+  part = λ m. cond (m == 0) p (record p { bell_cursor = link_item (over_heap plan (home plan q) 2 m); armed = without (λ x. x == q) p.armed });
   reply = silent;
 }
 

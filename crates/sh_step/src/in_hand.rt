@@ -78,7 +78,7 @@ pub fn fill(part: &Part) -> Option<Move>
 {
     match part.hand() {
         Hand::Filling(spot, value, done) => (*done < value.words().len() as u64).then_some(
-            Move::Fill(*spot, value.copy(), *done),
+            Move::Fill(*spot, value.copy(), *done, part.class_word(spot.page)),
         ),
         _ => None,
     }

@@ -6,14 +6,15 @@
 
 pub mod action;
 pub mod body;
-mod classes;
+pub mod footstep;
 mod in_hand;
 mod keyed;
 pub mod kind;
-mod limits;
+pub mod laws;
 mod lists;
 pub mod moves;
 pub mod names;
+pub mod operands;
 pub mod operation;
 mod owners;
 mod paged;
@@ -26,7 +27,9 @@ mod tests;
 
 pub use action::{Action, Event, PageName, SlotName};
 pub use body::Body;
+pub use footstep::Footstep;
 pub use kind::Kind;
+pub use laws::{conditions_have_rows, steps_look_at_no_part};
 pub use moves::{Move, enabled};
 pub use operation::Operation;
 pub use part::Part;

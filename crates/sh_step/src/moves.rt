@@ -27,8 +27,8 @@ pub enum Move {
     Finish(Spot, u32),
     /// Stores the length of the value, as it begins to fill the slot.
     FillSlot(Spot, Value),
-    /// Stores the value's word of this number, from 0.
-    Fill(Spot, Value, u64),
+    /// Stores the value's word of this number, from 0, in a page of this class word.
+    Fill(Spot, Value, u64, u64),
     /// Makes the filled slot present.
     Publish(Spot, Value),
     /// Reads the class of the key's page.

@@ -1,10 +1,12 @@
 //! What keys and names of pages and slots name.
 ghost use Rattle.std.specs.Prelude.{◌≡◌, ◌+◌, ◌*◌, ◌<◌, nat_lt, ◌&&◌};
-ghost use Rattle.sh_step.specs.Plans.{plan_of};
-ghost use Rattle.sh_shape.specs.Places.{pages_of};
+ghost use Rattle.sh_key.specs.Layout.{IsInRange};
+ghost use Rattle.sh_step.specs.Plans.{plan_of, parts_of};
+ghost use Rattle.sh_shape.specs.Places.{all_pages, pages_of};
 ghost use Rattle.sh_step.specs.Moves.{has_place, place_named, page_named, slot_named};
 
 use crate::{PageName, SlotName};
+use sh_bell::{home_of, local_of};
 use sh_key::{KeyLayout, Parts};
 use sh_shape::Shape;
 use sh_slots::{Name, Spot};
@@ -77,4 +79,21 @@ pub fn slot_of_name<L: KeyLayout>(shape: &Shape, name: SlotName) -> Option<Spot>
     } else {
         None
     }
+}
+
+/// The key of a name: the layout has one for it.
+#[tactic(auto, unfolding(crate::specs::Plans::keys_of))]
+pub fn key_of_name<L: KeyLayout>(shape: &Shape, name: Name) -> u64
+    requires page { name.page < all_pages shape.now }
+    requires slot { name.slot < 48 }
+    requires range { IsInRange L.layout (parts_of (pages_of shape.now) name) }
+    ensures { result ≡ (plan_of L.layout shape.now).keys.pack name }
+{
+    let pages = u64::from(shape.pages());
+    L::pack(Parts {
+        generation: name.generation,
+        shard: home_of(pages, name.page) as u32,
+        page: local_of(pages, name.page) as u32,
+        slot: name.slot as u32,
+    })
 }

@@ -1,6 +1,6 @@
 //! Operations on one word.
 ghost use Rattle.std.specs.Prelude.{◌≡◌};
-ghost use Rattle.sh_step.specs.Operations.{operate, HasRoom};
+ghost use Rattle.sh_step.specs.Operations.{operate, wrapped, HasRoom};
 
 /// What a step does with the one word that it touches.
 #[derive(Clone, Copy, Debug, PartialEq, Eq)]
@@ -22,14 +22,15 @@ pub enum Operation {
 }
 
 impl Operation {
-    /// The word that it leaves, by the word that it found. An addition has room.
+    /// The word that it leaves, by the word that it found, which has room for it: it is what a machine leaves, whose words wrap around.
     pub fn after(&self, found: u64) -> u64
         requires { HasRoom self.now found }
-        ensures { result ≡ operate self.now found }
+        ensures is { result ≡ operate self.now found }
+        ensures wraps { result ≡ wrapped self.now found }
     {
         match self {
             Operation::FetchAdd(more) => found + *more,
-            Operation::FetchSub(less) => found.saturating_sub(*less),
+            Operation::FetchSub(less) => found - *less,
             Operation::FetchOr(bits) => found | *bits,
             Operation::Swap(word) | Operation::Store(word) => *word,
             Operation::CompareExchange(old, new) => { if found == *old { *new } else { found } }

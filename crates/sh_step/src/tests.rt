@@ -55,10 +55,10 @@ fn moves_have_steps(rt: HostRuntime) -> Result<(), Fail> {
     assert!(rt; Move::of::<Tiny>(&shape, &part, &Action::Adopt(0)).is_some());
     assert!(rt; Move::of::<Tiny>(&shape, &part, &Action::Adopt(1)).is_none());
     let spot = Spot { page: 0, slot: 2 };
-    let put = Move::Put(spot).step::<Tiny>(&shape, &part);
+    let put = Move::Put(spot).step::<Tiny>(&shape);
     assert_eq!(rt; put.place, Place::Head(0));
     assert_eq!(rt; put.operation, Operation::Swap(6));
-    let followed = Move::Follow(0, 2).step::<Tiny>(&shape, &part);
+    let followed = Move::Follow(0, 2).step::<Tiny>(&shape);
     assert_eq!(rt; followed.place, Place::Link(0, 2));
     assert_eq!(rt; followed.operation, Operation::Swap(0));
     Ok(())
@@ -71,13 +71,13 @@ fn generations_end_in_one_exchange(rt: HostRuntime) -> Result<(), Fail> {
     let shape = one_shard(&rt);
     let part = Part::new(rt.alloc());
     let spot = Spot { page: 0, slot: 2 };
-    let ended = Move::Finish(spot, 1).step::<Tiny>(&shape, &part);
+    let ended = Move::Finish(spot, 1).step::<Tiny>(&shape);
     assert_eq!(rt; ended.place, Place::State(0, 2));
     assert_eq!(rt;
         ended.operation,
         Operation::CompareExchange(7516192768, 8589934592)
     );
-    let used_up = Move::Finish(spot, 3).step::<Tiny>(&shape, &part);
+    let used_up = Move::Finish(spot, 3).step::<Tiny>(&shape);
     assert_eq!(rt;
         used_up.operation,
         Operation::CompareExchange(16106127360, 15032385536)

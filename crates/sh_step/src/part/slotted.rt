@@ -1,7 +1,6 @@
 //! What actions on slots leave in a pass's own part.
-ghost use Rattle.std.specs.Prelude.{◌≡◌, ◌+◌, ◌/◌, ◌%◌, ◌^◌, ◌<◌, ℕ, Some};
-ghost use Rattle.sh_key.specs.Layout.{IsInRange};
-ghost use Rattle.sh_shape.specs.Places.{all_pages, pages_of};
+ghost use Rattle.std.specs.Prelude.{◌≡◌, ◌+◌, ◌^◌, ◌<◌, ℕ, Some};
+ghost use Rattle.sh_shape.specs.Places.{all_pages};
 ghost use Rattle.sh_slots.specs.Slots.{same_spot, published_name};
 ghost use Rattle.sh_step.specs.Plans.{plan_of};
 ghost use Rattle.sh_step.specs.Collections.{without};
@@ -9,28 +8,11 @@ ghost use Rattle.sh_step.specs.Rows.{fill_slot, fill, publish, put_at};
 
 use super::Part;
 use crate::lists::remove_spot;
-use sh_bell::{home_of, local_of};
-use sh_key::{KeyLayout, Parts};
+use crate::operands::key_of_name;
+use sh_key::KeyLayout;
 use sh_shape::Shape;
-use sh_slots::{Hand, Name, Reply, Spot, published_name};
+use sh_slots::{Hand, Reply, Spot, published_name};
 use sh_value::Value;
-
-// The key of a name that the layout has a key for.
-#[tactic(auto, unfolding(crate::specs::Plans::keys_of))]
-fn key_of<L: KeyLayout>(shape: &Shape, name: Name) -> u64
-    requires page { name.page < all_pages shape.now }
-    requires slot { name.slot < 48 }
-    requires range { IsInRange L.layout (record { generation = name.generation; shard = name.page / pages_of shape.now; page = name.page % pages_of shape.now; slot = name.slot }) }
-    ensures { result ≡ (plan_of L.layout shape.now).keys.pack name }
-{
-    let pages = u64::from(shape.pages());
-    L::pack(Parts {
-        generation: name.generation,
-        shard: home_of(pages, name.page) as u32,
-        page: local_of(pages, name.page) as u32,
-        slot: name.slot as u32,
-    })
-}
 
 impl Part {
     // The begin of a filling.
@@ -66,7 +48,7 @@ impl Part {
         ensures part { self.new ≡ (publish (plan_of L.layout shape.now) self.old spot value.now).part found }
     {
         self.hand = Hand::Idle;
-        let key = key_of::<L>(shape, published_name(spot, found));
+        let key = key_of_name::<L>(shape, published_name(spot, found));
         Some(Reply::Insert(key, value.copy()))
     }
 

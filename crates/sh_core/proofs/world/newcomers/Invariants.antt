@@ -1,6 +1,6 @@
 use Rattle.std.proofs.Common.{◌≡◌}
 use Rattle.std.specs.Prelude.{replicate}
-use Rattle.sh_core.specs.Worlds.{newcomer}
+use Rattle.sh_step.specs.Parts.{newcomer}
 use Rattle.sh_core.proofs.world.newcomers.Given as goal
 
 abbrev pub invariant-loop : goal.invariant-loop

@@ -1,7 +1,7 @@
 use Rattle.std.proofs.Common.{◌∙◌, ap, refl}
 use Rattle.std.specs.Prelude.{ℕ, replicate}
 use Rattle.sh_shape.specs.Shape.{Fits}
-use Rattle.sh_core.specs.Worlds.{newcomer}
+use Rattle.sh_step.specs.Parts.{newcomer}
 use Rattle.sh_core.proofs.Stepping.{stands_open, reached_open}
 use Rattle.sh_core.proofs.world.World.new.Goals as goal
 

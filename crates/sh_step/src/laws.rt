@@ -1,0 +1,16 @@
+//! The laws of the table of actions.
+ghost use Rattle.sh_step.specs.Conditions.{RowsMeet, WhoMeetsHasRow};
+ghost use Rattle.sh_step.specs.Moves.{StepsLookAtNoPart, StoresAreBlind};
+
+/// An action has a row of the table exactly where its condition holds, and then the row that the condition names.
+pub fn conditions_have_rows()
+    ensures only { RowsMeet }
+    ensures each { WhoMeetsHasRow }
+{}
+
+/// What a step is done on, and what it does there, depends on the move alone. What a store leaves of the part, and what is replied, does
+/// not depend on the word found, which a store does not answer.
+pub fn steps_look_at_no_part()
+    ensures steps { StepsLookAtNoPart }
+    ensures stores { StoresAreBlind }
+{}

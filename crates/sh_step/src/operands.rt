@@ -1,0 +1,102 @@
+//! What steps are done with: words and numbers, by shape and layout and what a move names, and by no part.
+ghost use Rattle.std.specs.Prelude.{◌≡◌, ◌-◌, ◌^◌, ◌<◌, ◌≤◌, ℕ, slice_index};
+ghost use Rattle.sh_shape.specs.Classes.{width, slots};
+ghost use Rattle.sh_stack.specs.Stack.{top_word};
+ghost use Rattle.sh_bell.specs.Bell.{head_word};
+ghost use Rattle.sh_step.specs.Plans.{keys_of, plan_of, home, local};
+ghost use Rattle.sh_step.specs.Rows.{payload_word};
+
+use sh_bell::{head_word, home_of, local_of};
+use sh_key::KeyLayout;
+use sh_shape::{Place, Shape, classes};
+use sh_stack::top_word;
+use sh_value::Value;
+
+pub use crate::names::{key_of_name, page_of_name, place_of_key, slot_of_name};
+
+// How many classes there are.
+const CLASSES: u64 = 8;
+
+/// How many words a slot has of a page of this class word; of a number that is no class word 0.
+pub fn width_of_word(class_word: u64) -> u64
+    ensures is { result ≡ width (class_word - 1) }
+    ensures few { result ≤ 16 }
+{
+    let class = class_word.saturating_sub(1);
+    if class < CLASSES {
+        u64::from(classes::width(class as u32))
+    } else {
+        0
+    }
+}
+
+/// How many slots a page of this class word has; of a number that is no class word 0.
+pub fn slots_of_word(class_word: u64) -> u64
+    ensures is { result ≡ slots (class_word - 1) }
+    ensures few { result ≤ 48 }
+{
+    let class = class_word.saturating_sub(1);
+    if class < CLASSES {
+        u64::from(classes::slots(class as u32))
+    } else {
+        0
+    }
+}
+
+/// The payload word of this number, from 0, of a slot of a page of this class word. The page has it.
+pub fn payload_word(slot: u64, class_word: u64, i: u64) -> u64
+    requires { payload_word slot class_word i < 48 }
+    ensures { result ≡ payload_word slot class_word i }
+{
+    slot * width_of_word(class_word) + i
+}
+
+/// The value's word of this number, from 0.
+pub fn word_of_value(value: &Value, i: u64) -> u64
+    ensures { result ≡ slice_index value.now i }
+{
+    match value.words().get(i as usize) {
+        Some(word) => *word,
+        None => 0,
+    }
+}
+
+/// The word that puts the slot on its page's stack.
+pub fn put_word(slot: u64) -> u64
+    requires { head_word (top_word slot) < 2 ^ 64 }
+    ensures { result ≡ head_word (top_word slot) }
+{
+    head_word(top_word(slot))
+}
+
+/// The bell of the page's shard.
+#[tactic(auto, unfolding(crate::specs::Plans::home))]
+pub fn bell_of<L: KeyLayout>(shape: &Shape, page: u64) -> Place
+    ensures { result ≡ Place.Bell (home (plan_of L.layout shape.now) page) }
+{
+    Place::Bell(home_of(u64::from(shape.pages()), page))
+}
+
+/// The word that puts the page on its shard's bell.
+#[tactic(auto, unfolding(crate::specs::Plans::local))]
+pub fn bell_word<L: KeyLayout>(shape: &Shape, page: u64) -> u64
+    ensures { result ≡ top_word (local (plan_of L.layout shape.now) page) }
+{
+    top_word(local_of(u64::from(shape.pages()), page))
+}
+
+/// The last generation of a slot.
+#[tactic(auto, unfolding(crate::specs::Plans::keys_of))]
+pub fn gen_max<L: KeyLayout>() -> u32
+    ensures { (shards pages : ℕ) → result ≡ (keys_of L.layout shards pages).gen_max }
+{
+    L::GEN_MAX
+}
+
+/// How many holds a key may have.
+#[tactic(auto, unfolding(crate::specs::Plans::keys_of))]
+pub fn guard_max<L: KeyLayout>() -> u32
+    ensures { (shards pages : ℕ) → result ≡ (keys_of L.layout shards pages).guard_max }
+{
+    L::GUARD_MAX
+}
