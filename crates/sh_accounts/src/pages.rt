@@ -26,7 +26,7 @@ fn class_of(word: u64) -> Option<u32>
 // The class of a page, if it has one.
 fn class_at<L: KeyLayout>(world: &World<L>, shard: u32, page: u32) -> Option<u32>
     requires { HasPage world.now.shape shard page }
-    ensures is { let word = class_word world.now (page_number world.now.shape shard page) in word ≤ class_count → result ≡ class_named word }
+    ensures is { result ≡ class_named (class_word world.now (page_number world.now.shape shard page)) }
     ensures known { IfSome result (λ class. class < class_count) }
 {
     let number = world.shape().class_at(shard, page);

@@ -37,6 +37,11 @@ pub mod KeptValues
 pub mod RowsFit
 pub mod FewHolds
 pub mod KeyNotes
+pub mod LinkFacts
+pub mod KeyFacts
+pub mod ListCounts
+pub mod OwnerFacts
+pub mod LastGenerations
 pub mod RunTheorem
 pub mod Ready
 pub mod Operating
