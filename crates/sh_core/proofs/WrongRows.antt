@@ -13,9 +13,9 @@ use Rattle.sh_step.specs.Rows.{row}
 use Rattle.sh_core.specs.Worlds.{World, step, run_from, run, open_world, newcomer}
 use Rattle.sh_core.specs.Lists.{Lists, list_step, lists_from, lists_of, no_lists, state_of, times}
 use Rattle.sh_core.specs.Stacks.{spot}
-use Rattle.sh_core.specs.Refines.{Always, OneKind, HeldStands, NotesAreTrue, Counted, GenerationsEnd, Finished, Armed, LeftEmpty, Linked, OwnPartsStand}
+use Rattle.sh_core.specs.Refines.{Always, OneKind, HeldStands, NotesAreTrue, Counted, GenerationsEnd, Finished, Armed, LeftEmpty, Linked, OwnPartsStand, ClassesAreKnown}
 use Rattle.sh_core.specs.Variants.{Table, step_by, run_from_by, run_by, list_step_by, lists_from_by, lists_by, AlwaysBy}
-use Rattle.sh_core.specs.WrongRows.{crowds_at_once, both_remove, marks_and_stays, drops_and_forgets, knows_after_hold, keeps_generation, ignores_count, wraps_generation, never_retires, ties_first, ends_at_unwritten, leaves_link, follows_twice, never_rings, leaves_slots, leaves_bell, forgets_last_slot}
+use Rattle.sh_core.specs.WrongRows.{crowds_at_once, both_remove, marks_and_stays, drops_and_forgets, knows_after_hold, keeps_generation, ignores_count, wraps_generation, never_retires, ties_first, ends_at_unwritten, leaves_link, follows_twice, never_rings, leaves_slots, leaves_bell, forgets_last_slot, gives_any_class}
 use Rattle.sh_core.proofs.Conditions.{no_bool}
 use Rattle.sh_core.proofs.Worked.{small, ev, at, page, everything}
 
@@ -57,7 +57,7 @@ abbrev put_back : ℕ → ℕ → List Event
 put_back a k = removed a k ++ ev a Put ∷ ev a Tie ∷ []
 
 wrongly : ℕ
-unfolding everything step_by run_from_by list_step_by lists_from_by crowds_at_once both_remove marks_and_stays drops_and_forgets knows_after_hold keeps_generation ignores_count wraps_generation never_retires ties_first ends_at_unwritten leaves_link follows_twice never_rings leaves_slots leaves_bell forgets_last_slot
+unfolding everything step_by run_from_by list_step_by lists_from_by crowds_at_once both_remove marks_and_stays drops_and_forgets knows_after_hold keeps_generation ignores_count wraps_generation never_retires ties_first ends_at_unwritten leaves_link follows_twice never_rings leaves_slots leaves_bell forgets_last_slot gives_any_class
 wrongly = 0
 
 -- a key is issued twice where the end of a generation leaves it
@@ -220,3 +220,8 @@ gone = record newcomer { classes = (0, 8) ∷ (0, 0) ∷ []; armed = 0 ∷ []; b
 pub left_bell_is_nobodys : ¬ AlwaysBy leaves_bell (λ plan w l. OwnPartsStand plan w)
 unfolding wrongly
 left_bell_is_nobodys = refuted leaves_bell (λ plan w l. OwnPartsStand plan w) 2 (omega arith) (omega arith) ringing (λ h. let z : false ≡ true = ((h 0 gone refl).bell 0 refl).0 in no_bool z)
+
+-- a page of a ninth class
+pub ninth_class_is_none : ¬ AlwaysBy gives_any_class (λ plan w l. ClassesAreKnown plan w)
+unfolding wrongly
+ninth_class_is_none = refuted gives_any_class (λ plan w l. ClassesAreKnown plan w) 1 (omega arith) (omega arith) (ev 0 (Adopt 0) ∷ ev 0 (ReadPage (page 0 0)) ∷ ev 0 (SetClass (page 0 0) 8) ∷ []) (λ h. let z : 9 ≤ 8 = (h 0).0 in absurd (omega arith))

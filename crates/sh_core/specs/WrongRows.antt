@@ -13,7 +13,7 @@ use Rattle.sh_step.specs.declared.operation.Operation.{Operation}
 use Rattle.sh_step.specs.declared.operation.Operation.TheVariants.{Swap, Store, CompareExchange, Load}
 use Rattle.sh_step.specs.Collections.{has, noted, every, without}
 use Rattle.sh_step.specs.Plans.{Plan}
-use Rattle.sh_step.specs.Rows.{Row, row, when, silent, hand, idle, own, named, paged, point, unpoint, enter_get, mark, drop_hand, drop_key, set_class, follow, leave}
+use Rattle.sh_step.specs.Rows.{Row, row, when, silent, hand, idle, own, named, paged, point, unpoint, enter_get, mark, drop_hand, drop_key, set_class, follow, leave, all_mine}
 use Rattle.sh_word.specs.Fields.{word_of}
 use Rattle.sh_core.specs.Variants.{Table}
 
@@ -165,3 +165,8 @@ most_mine p q n = every (λ x. has (same_spot x) p.mine) (spots q 0 (slots (n - 
 unfoldable pub forgets_last_slot : Table
 forgets_last_slot plan p (SetClass y c) = paged plan y (λ q. elim (noted q p.classes) [ Some n ↦ when (idle p && own plan p q && ((n == 0) || most_mine p q n) && nat_lt c 8) (set_class p q c) | None ↦ None ])
 forgets_last_slot plan p x = row plan p x
+
+-- any number is a class
+unfoldable pub gives_any_class : Table
+gives_any_class plan p (SetClass y c) = paged plan y (λ q. elim (noted q p.classes) [ Some n ↦ when (idle p && own plan p q && ((n == 0) || all_mine p q n)) (set_class p q c) | None ↦ None ])
+gives_any_class plan p x = row plan p x

@@ -1,8 +1,8 @@
 //! What the theorem refuses.
 ghost use Rattle.sh_history.specs.History.{Legal};
 ghost use Rattle.sh_core.specs.Variants.{AlwaysBy};
-ghost use Rattle.sh_core.specs.Refines.{OneKind, HeldStands, NotesAreTrue, Counted, GenerationsEnd, Finished, Armed, LeftEmpty, Linked, OwnPartsStand};
-ghost use Rattle.sh_core.specs.WrongRows.{crowds_at_once, both_remove, marks_and_stays, drops_and_forgets, knows_after_hold, keeps_generation, ignores_count, wraps_generation, never_retires, ties_first, ends_at_unwritten, leaves_link, follows_twice, never_rings, leaves_slots, leaves_bell, forgets_last_slot};
+ghost use Rattle.sh_core.specs.Refines.{OneKind, HeldStands, NotesAreTrue, Counted, GenerationsEnd, Finished, Armed, LeftEmpty, Linked, OwnPartsStand, ClassesAreKnown};
+ghost use Rattle.sh_core.specs.WrongRows.{crowds_at_once, both_remove, marks_and_stays, drops_and_forgets, knows_after_hold, keeps_generation, ignores_count, wraps_generation, never_retires, ties_first, ends_at_unwritten, leaves_link, follows_twice, never_rings, leaves_slots, leaves_bell, forgets_last_slot, gives_any_class};
 
 /// The theorem is not one that any table of actions has: of each of these tables, which are the right one but for an
 /// action or two, some list of events breaks a clause.
@@ -31,4 +31,5 @@ pub fn refutes_wrong_tables()
     ensures leaves_slots { ¬ AlwaysBy leaves_slots (λ plan w l. LeftEmpty plan w) }
     ensures leaves_bell { ¬ AlwaysBy leaves_bell (λ plan w l. OwnPartsStand plan w) }
     ensures forgets_last_slot { ¬ AlwaysBy forgets_last_slot (λ plan w l. OneKind w l) }
+    ensures gives_any_class { ¬ AlwaysBy gives_any_class (λ plan w l. ClassesAreKnown plan w) }
 {}
