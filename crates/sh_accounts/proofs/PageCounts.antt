@@ -19,6 +19,7 @@ use Rattle.sh_core.specs.Kept.{Kept, Stands, Reached}
 use Rattle.sh_core.specs.Lists.{Lists, accounts, among, class_named, lists_of, mine_at, in_hand, slots_under, state_of, times}
 use Rattle.sh_core.specs.Refines.{Always, KindsAddUp, ClassesAreKnown, kind_count}
 use Rattle.sh_core.specs.Worlds.{World, run}
+use Rattle.sh_core.proofs.ClassSlots.{under_class}
 use Rattle.sh_accounts.specs.declared.kinds.SlotKind.{SlotKind}
 use Rattle.sh_accounts.specs.declared.kinds.SlotKind.TheVariants.{Live, Marked, Retired, Mine, Hand, Queued}
 use Rattle.sh_accounts.specs.Kinds.{is, kind_by}
@@ -34,7 +35,7 @@ among_same q f g n h = go 0 n (λ t a b. h t (omega arith)) where
   go s (suc n) h = let here = h s (omega arith) (omega arith) in let rest = go (s + 1) n (λ t a b. h t (omega arith) (omega arith)) in omega arith
 
 under_some : (n c : ℕ) → n ≡ c + 1 → slots_under n ≡ slots c
-under_some n c e = let z : (n == 0) ≡ false = grind (arith, nat_tests) in let d : n - 1 ≡ c = omega arith in rw (z, d) refl
+under_some n c e = ap slots_under e ∙ under_class c
 
 named_some : (n c : ℕ) → n ≡ c + 1 → class_named n ≡ Some c
 named_some n c e = let z : (n == 0) ≡ false = grind (arith, nat_tests) in let d : n - 1 ≡ c = omega arith in rw (z, d) refl

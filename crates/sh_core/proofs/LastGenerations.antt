@@ -27,7 +27,8 @@ use Rattle.sh_core.specs.Lists.{Lists}
 use Rattle.sh_core.specs.Placed.{All}
 use Rattle.sh_core.specs.Refines.{RetiredIsLast, EntriesAreOurs}
 use Rattle.sh_core.specs.Within.{CountFits, CountsFit}
-use Rattle.sh_core.proofs.Conditions.{Meets, meets}
+use Rattle.sh_step.specs.Conditions.{Meets}
+use Rattle.sh_step.proofs.ConditionLaws.{meets}
 use Rattle.std.proofs.lemmas.Option.{slice_get_within}
 use Rattle.sh_core.proofs.MarkStep.{is_current}
 use Rattle.sh_core.proofs.StateWords.{put2_same, put2_other}

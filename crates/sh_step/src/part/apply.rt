@@ -1,7 +1,8 @@
 //! What a move does to a pass's own part.
-ghost use Rattle.std.specs.Prelude.{◌≡◌, IfOk, IfErr, OnOk, OnErr};
+ghost use Rattle.std.specs.Prelude.{◌≡◌, IsOk, IfOk, IfErr, OnOk, OnErr};
 ghost use Rattle.sh_step.specs.Plans.{plan_of};
 ghost use Rattle.sh_step.specs.Moves.{row_of};
+ghost use Rattle.sh_step.specs.Parts.{ListGrows, AddsToNoList};
 ghost use Rattle.sh_step.specs.Fits.{Fits};
 
 use super::Part;
@@ -13,7 +14,8 @@ use sh_value::Refusal;
 
 impl Part {
     /// Does what the move leaves in the pass's own part, by the word that its step found, and answers what is replied. A move
-    /// that notes something asks for memory first: where it is refused, as `Memory`, the part stays as it is.
+    /// that makes a list of the part longer asks for memory first: where it is refused, as `Memory`, the part stays as it is. No other
+    /// move is refused.
     pub fn apply<L: KeyLayout>(
         &mut self,
         shape: &Shape,
@@ -24,6 +26,8 @@ impl Part {
         ensures reply { IfOk result (λ reply. reply ≡ (row_of (plan_of L.layout shape.now) self.old the_move.now).reply found) }
         ensures part { OnOk result (self.new ≡ (row_of (plan_of L.layout shape.now) self.old the_move.now).part found) }
         ensures err { OnErr result (self.new ≡ self.old) }
+        ensures grows { OnErr result (ListGrows self.old ((row_of (plan_of L.layout shape.now) self.old the_move.now).part found)) }
+        ensures room { AddsToNoList the_move.now → IsOk result }
         ensures memory { IfErr result (λ refusal. refusal ≡ Refusal.Memory) }
     {
         match the_move {

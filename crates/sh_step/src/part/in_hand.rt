@@ -2,6 +2,7 @@
 ghost use Rattle.std.specs.Prelude.{◌≡◌, ◌+◌, ◌≤◌, ℕ, IfErr, OnOk, OnErr};
 ghost use Rattle.sh_shape.specs.Places.{all_pages};
 ghost use Rattle.sh_step.specs.Plans.{Plan, plan_of};
+ghost use Rattle.sh_step.specs.Parts.{ListGrows};
 ghost use Rattle.sh_step.specs.Rows.{drop_hand, finish, put_at, tie, ring, ring_tie};
 
 use super::Part;
@@ -33,6 +34,7 @@ impl Part {
     ) -> Result<(), Refusal>
         ensures part { OnOk result (self.new ≡ (finish (plan_of L.layout shape.now) self.old spot generation).part found) }
         ensures err { OnErr result (self.new ≡ self.old) }
+        ensures grows { OnErr result (ListGrows self.old ((finish (plan_of L.layout shape.now) self.old spot generation).part found)) }
         ensures memory { IfErr result (λ refusal. refusal ≡ Refusal.Memory) }
     {
         if !is_reusable_after(generation, gen_max::<L>(), found) {

@@ -2,6 +2,7 @@
 ghost use Rattle.std.specs.Prelude.{◌≡◌, ℕ, IfOk, IfErr, OnOk, OnErr};
 ghost use Rattle.sh_shape.specs.Shape.{Numbers};
 ghost use Rattle.sh_step.specs.Plans.{Plan, plan_of};
+ghost use Rattle.sh_step.specs.Parts.{ListGrows};
 ghost use Rattle.sh_step.specs.Rows.{enter_get, enter_remove, mark, freed, drop_key, read_class, read_length, read_word};
 
 use super::Part;
@@ -24,6 +25,7 @@ impl Part {
         ensures reply { (n : Numbers) → IfOk result (λ reply. reply ≡ (enter_get (plan_of L.layout n) self.old key name).reply found) }
         ensures part { (n : Numbers) → OnOk result (self.new ≡ (enter_get (plan_of L.layout n) self.old key name).part found) }
         ensures err { OnErr result (self.new ≡ self.old) }
+        ensures grows { (n : Numbers) → OnErr result (ListGrows self.old ((enter_get (plan_of L.layout n) self.old key name).part found)) }
         ensures memory { IfErr result (λ refusal. refusal ≡ Refusal.Memory) }
     {
         match answer_to_get(name.generation, guard_max::<L>(), found) {
@@ -93,6 +95,7 @@ impl Part {
     pub(super) fn read_class(&mut self, key: u64, name: Name, found: u64) -> Result<(), Refusal>
         ensures part { OnOk result (self.new ≡ (read_class self.old key name).part found) }
         ensures err { OnErr result (self.new ≡ self.old) }
+        ensures grows { OnErr result (ListGrows self.old ((read_class self.old key name).part found)) }
         ensures memory { IfErr result (λ refusal. refusal ≡ Refusal.Memory) }
     {
         put_first(&mut self.widths, (key, found))
@@ -102,6 +105,7 @@ impl Part {
     pub(super) fn read_length(&mut self, key: u64, name: Name, found: u64) -> Result<(), Refusal>
         ensures part { OnOk result (self.new ≡ (read_length self.old key name).part found) }
         ensures err { OnErr result (self.new ≡ self.old) }
+        ensures grows { OnErr result (ListGrows self.old ((read_length self.old key name).part found)) }
         ensures memory { IfErr result (λ refusal. refusal ≡ Refusal.Memory) }
     {
         put_first(&mut self.lengths, (key, found))
@@ -111,6 +115,7 @@ impl Part {
     pub(super) fn read_word(&mut self, key: u64, i: u64, found: u64) -> Result<(), Refusal>
         ensures part { (name : Name) (class_word : ℕ) → OnOk result (self.new ≡ (read_word self.old key name class_word i).part found) }
         ensures err { OnErr result (self.new ≡ self.old) }
+        ensures grows { (name : Name) (class_word : ℕ) → OnErr result (ListGrows self.old ((read_word self.old key name class_word i).part found)) }
         ensures memory { IfErr result (λ refusal. refusal ≡ Refusal.Memory) }
     {
         put_first(&mut self.contents, (key, i, found))

@@ -1,5 +1,7 @@
 //! What actions on pages leave in a pass's own part.
-ghost use Rattle.std.specs.Prelude.{◌≡◌, ℕ, IfErr, OnOk, OnErr, ◌/◌};
+ghost use Rattle.std.specs.Prelude.{◌≡◌, ◌<◌, ℕ, length, IfErr, OnOk, OnErr};
+ghost use Rattle.sh_bell.specs.Bell.{top_of};
+ghost use Rattle.sh_step.specs.Parts.{ListGrows};
 ghost use Rattle.sh_step.specs.Rows.{read_page, set_class, take_page, follow, arm, point};
 
 use super::Part;
@@ -15,8 +17,9 @@ use std::collections::VecDeque;
 
 // Notes the slot that a page's head word names, if it names one, as the one to follow next.
 fn point_to_top(cursors: &mut VecDeque<(u64, u64)>, page: u64, head: u64) -> Result<(), Refusal>
-    ensures ok { OnOk result (cursors.new.items ≡ point 1 page (head / 2) cursors.old.items) }
+    ensures ok { OnOk result (cursors.new.items ≡ point 1 page (top_of head) cursors.old.items) }
     ensures err { OnErr result (cursors.new.items ≡ cursors.old.items) }
+    ensures grows { OnErr result (length cursors.old.items < length (point 1 page (top_of head) cursors.old.items)) }
     ensures memory { IfErr result (λ refusal. refusal ≡ Refusal.Memory) }
 {
     match top_item(top_of(head)) {
@@ -30,6 +33,7 @@ impl Part {
     pub(super) fn read_page(&mut self, page: u64, found: u64) -> Result<(), Refusal>
         ensures part { OnOk result (self.new ≡ (read_page self.old page).part found) }
         ensures err { OnErr result (self.new ≡ self.old) }
+        ensures grows { OnErr result (ListGrows self.old ((read_page self.old page).part found)) }
         ensures memory { IfErr result (λ refusal. refusal ≡ Refusal.Memory) }
     {
         put_first(&mut self.classes, (page, found))
@@ -39,6 +43,7 @@ impl Part {
     pub(super) fn set_class(&mut self, page: u64, class: u32) -> Result<(), Refusal>
         ensures part { (found : ℕ) → OnOk result (self.new ≡ (set_class self.old page class).part found) }
         ensures err { OnErr result (self.new ≡ self.old) }
+        ensures grows { (found : ℕ) → OnErr result (ListGrows self.old ((set_class self.old page class).part found)) }
         ensures memory { IfErr result (λ refusal. refusal ≡ Refusal.Memory) }
     {
         let word = u64::from(class) + 1;
@@ -54,6 +59,7 @@ impl Part {
     pub(super) fn take(&mut self, page: u64, found: u64) -> Result<(), Refusal>
         ensures part { OnOk result (self.new ≡ (take_page self.old page).part found) }
         ensures err { OnErr result (self.new ≡ self.old) }
+        ensures grows { OnErr result (ListGrows self.old ((take_page self.old page).part found)) }
         ensures memory { IfErr result (λ refusal. refusal ≡ Refusal.Memory) }
     {
         point_to_top(&mut self.cursors, page, found)?;
@@ -67,6 +73,7 @@ impl Part {
     pub(super) fn follow(&mut self, page: u64, slot: u64, found: u64) -> Result<(), Refusal>
         ensures part { OnOk result (self.new ≡ (follow self.old page slot).part found) }
         ensures err { OnErr result (self.new ≡ self.old) }
+        ensures grows { OnErr result (ListGrows self.old ((follow self.old page slot).part found)) }
         ensures memory { IfErr result (λ refusal. refusal ≡ Refusal.Memory) }
     {
         match Link::of(found) {
@@ -89,6 +96,7 @@ impl Part {
     pub(super) fn arm(&mut self, page: u64, found: u64) -> Result<(), Refusal>
         ensures part { OnOk result (self.new ≡ (arm self.old page).part found) }
         ensures err { OnErr result (self.new ≡ self.old) }
+        ensures grows { OnErr result (ListGrows self.old ((arm self.old page).part found)) }
         ensures memory { IfErr result (λ refusal. refusal ≡ Refusal.Memory) }
     {
         make_room(&mut self.armed, 1)?;

@@ -1,6 +1,5 @@
-use Rattle.std.proofs.Common.{◌≡◌, ◌∙◌, ap, get_or, subst, ℕ, arith, Option, ◌≤◌}
+use Rattle.std.proofs.Common.{◌≡◌, ◌∙◌, ap, get_or, ℕ, arith}
 use Rattle.sh_shape.specs.declared.places.Place.TheVariants.{Class}
-use Rattle.sh_shape.specs.Classes.{class_count}
 use Rattle.sh_shape.specs.Places.{number, page_number}
 use Rattle.sh_shape.specs.Shape.{Numbers}
 use Rattle.sh_shape.proofs.PlaceLaws.{page_is_below}
