@@ -12,9 +12,11 @@ mod opening;
 pub mod outcome;
 #[cfg(test)]
 mod tests;
+pub mod trails;
 pub mod world;
 
 pub use accounts::Accounts;
 pub use claims::refines_map;
 pub use outcome::Outcome;
+pub use trails::trails_grow;
 pub use world::{World, run};
