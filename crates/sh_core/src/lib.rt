@@ -7,16 +7,16 @@
 pub mod accounts;
 pub mod claims;
 mod entry;
+pub mod laws;
 mod moving;
 mod opening;
 pub mod outcome;
 #[cfg(test)]
 mod tests;
-pub mod trails;
 pub mod world;
 
 pub use accounts::Accounts;
 pub use claims::refines_map;
+pub use laws::{plans_have_the_places_of_shapes, trails_grow};
 pub use outcome::Outcome;
-pub use trails::trails_grow;
 pub use world::{World, run};
