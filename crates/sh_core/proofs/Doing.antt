@@ -18,13 +18,13 @@ use Rattle.sh_core.specs.declared.outcome.Outcome.{Outcome}
 use Rattle.sh_core.specs.declared.outcome.Outcome.TheVariants.{Skipped}
 use Rattle.sh_core.specs.Words.{Words, read}
 use Rattle.std.proofs.lemmas.List.{take_more}
-use Rattle.sh_core.proofs.Steps.{run_snoc}
+use Rattle.sh_core.proofs.Steps.{run_snoc, row_of_at}
 use Rattle.sh_core.specs.Worlds.{World, step, run, open_world, words_from, value_at, value_of, entry_of, joined}
 use Rattle.sh_core.specs.Outcomes.{row_of, outcome_of, done}
-use Rattle.sh_core.specs.Kept.{Kept, Stands, Hold, Reached, IsReady, Does, Steps, IsDone, HasValue, KeepsValue, value_in, value_kept, word_at, new_entry}
+use Rattle.sh_core.specs.Kept.{Kept, Stands, Hold, Reached, IsReady, Does, Steps, IsDone, AsksMemory, NeedsMemory, HasValue, KeepsValue, value_in, value_kept, word_at, new_entry}
 use Rattle.sh_shape.proofs.ClassLaws.{slots_few}
 use Rattle.sh_core.proofs.KeptValues.{row_within}
-use Rattle.sh_core.proofs.Stepping.{stands_moves, stands_skips, stands_past, row_of_at, row_of_past, outcome_done, outcome_skipped, outcome_not_skipped, reached_on, moved}
+use Rattle.sh_core.proofs.Stepping.{stands_moves, stands_skips, stands_past, row_of_past, outcome_done, outcome_skipped, outcome_not_skipped, reached_on, moved}
 
 words_same : (f g : ℕ → ℕ) (i n : ℕ) → ((j : ℕ) → i ≤ j → j < i + n → f j ≡ g j) → words_from f i n ≡ words_from g i n
 words_same f g i zero h = refl
@@ -157,6 +157,11 @@ module _ (layout : Layout) (k : Kept) (e : Event) (p : Body) (r : Row) (reached 
     go : (s : Result Outcome Refusal) → OnErr s (IsDone layout k e)
     go (Ok came) = tt
     go (Err x) = is_done layout k after e p r Skipped reached at is ready
+
+-- where its memory is refused, the event asked for some
+pub needs_after : (layout : Layout) (k : Kept) (e : Event) (p : Body) (r : Row) → slice_get k.parts e.pass ≡ Some p → row (plan_of layout k.shape) p e.action ≡ Some r → (res : Result Outcome Refusal) → OnErr res (AsksMemory r p (word_at k.shape k.words r.place)) → OnErr res (NeedsMemory layout k e)
+needs_after layout k e p r at is (Ok came) h = tt
+needs_after layout k e p r at is (Err x) h = (p, r, at, is, h)
 
 -- one more event of a list
 pub goes_on : (plan : Numbers → Plan) (k k' : Kept) (es : List Event) (i : ℕ) (e : Event) {shape : Numbers} → k.shape ≡ shape → i < length es → e ≡ get_or es i e → ((w : World) → Stands k w → Stands k' (step (plan k.shape) w e))

@@ -21,7 +21,7 @@ use Rattle.sh_core.specs.Words.{read}
 use Rattle.sh_core.specs.Worlds.{World, run}
 use Rattle.sh_core.specs.Lists.{lists_of}
 use Rattle.sh_core.specs.Refines.{Refines}
-use Rattle.sh_core.specs.Within.{HasPlace, CountFits, BellsAreSmall, ValuesFit}
+use Rattle.sh_core.specs.Within.{PlansHaveShapesPlaces, CountFits, BellsAreSmall, ValuesFit}
 use Rattle.sh_core.specs.Kept.{Kept, Stands, Reached, IsReady, HasValue, KeepsValue, word_at}
 use Rattle.sh_step.specs.Conditions.{Meets}
 use Rattle.sh_step.proofs.ConditionLaws.{meets}
@@ -94,7 +94,7 @@ module _ (plan : Plan) (p : Body) where
   gets FollowBell m j n e g = let h = meets plan p FollowBell m e in no_get _ m j n h.3 refl g
 
 -- a place of the plan is one of the shape
-pub is_place : (layout : Layout) (shape : Numbers) (q : Place) → HasPlace (plan_of layout shape) q → IsPlace shape q
+pub is_place : PlansHaveShapesPlaces
 is_place layout shape (Class q) h = h
 is_place layout shape (Head q) h = h
 is_place layout shape (PageLink q) h = h

@@ -55,10 +55,6 @@ stands_past plan k w e s at =
     let Q : World → Type 0 = λ u. Stands k u in subst Q (sym (step_past plan w e here)) s
 
 -- what comes of it
-pub row_of_at : (plan : Plan) (w : World) (e : Event) (p : Body) → slice_get w.parts e.pass ≡ Some p → row_of plan w e ≡ row plan p e.action
-unfolding row_of
-row_of_at plan w e p at = ap (λ (o : Option Body). elim o as (λ _. Option Row) [ Some p ↦ row plan p e.action | None ↦ None ]) at
-
 pub row_of_past : (plan : Plan) (w : World) (e : Event) → slice_get w.parts e.pass ≡ None → row_of plan w e ≡ None
 unfolding row_of
 row_of_past plan w e at = ap (λ (o : Option Body). elim o as (λ _. Option Row) [ Some p ↦ row plan p e.action | None ↦ None ]) at

@@ -1,5 +1,5 @@
 -- The world as the code keeps it: one list of words, and what it stands for.
-use Rattle.std.specs.Prelude.{ℕ, ◌≡◌, ◌≢◌, ◌-◌, ◌*◌, ◌<◌, ◌≤◌, List, [], length, get_or, slice_set, Option, Some, Result, Ok, Err}
+use Rattle.std.specs.Prelude.{ℕ, ◌≡◌, ◌≢◌, ◌-◌, ◌*◌, ◌<◌, ◌≤◌, List, [], ◌⊎◌, length, get_or, slice_get, slice_set, Option, Some, IsSome, Result, Ok, Err}
 use Rattle.sh_history.specs.declared.entry.Entry.{Entry}
 use Rattle.sh_key.specs.Layout.{Layout, IsLayout}
 use Rattle.sh_shape.specs.declared.places.Place.{Place}
@@ -10,7 +10,8 @@ use Rattle.sh_shape.specs.Places.{IsPlace, number, words_of, all_pages}
 use Rattle.sh_slots.specs.declared.hand.Spot.{Spot}
 use Rattle.sh_slots.specs.declared.reply.Reply.TheVariants.{Got}
 use Rattle.sh_step.specs.Operations.{operate}
-use Rattle.sh_step.specs.Rows.{Row}
+use Rattle.sh_step.specs.Parts.{ListGrows}
+use Rattle.sh_step.specs.Rows.{Row, row}
 use Rattle.sh_step.specs.Fits.{Fits as RowFits}
 use Rattle.sh_step.specs.declared.action.Event.{Event}
 use Rattle.sh_step.specs.declared.body.Body.{Body}
@@ -66,6 +67,14 @@ pub record IsReady (layout : Layout) (shape : Numbers) (list : List ℕ) (r : Ro
   pub row : RowFits shape (plan_of layout shape) r (word_at shape list r.place)
   pub counts : CountFits r.operation (word_at shape list r.place)
   pub gets : (k : ℕ) → r.reply (word_at shape list r.place) ≡ Some (Got k) → KeepsValue shape list r.place
+
+-- the row asks for memory where it finds the word n: it replies, so that an entry joins the log, or a list of the part grows
+abbrev pub AsksMemory : Row → Body → ℕ → Type 0
+AsksMemory r p n = IsSome (r.reply n) ⊎ ListGrows p (r.part n)
+
+-- the event has such a row
+abbrev pub NeedsMemory : Layout → Kept → Event → Type 0
+NeedsMemory layout k e = (p : Body) × (r : Row) × (slice_get k.parts e.pass ≡ Some p) × (row (plan_of layout k.shape) p e.action ≡ Some r) × AsksMemory r p (word_at k.shape k.words r.place)
 
 -- what joins the log where a pass does the row
 abbrev pub new_entry : Numbers → List ℕ → ℕ → Row → Option Entry

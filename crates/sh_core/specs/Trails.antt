@@ -1,13 +1,16 @@
 -- What a pass did, step by step: a trail stands in no world and is read by no condition. What is counted over it is in sh_step's Footsteps.
-use Rattle.std.specs.Prelude.{ℕ, ◌==◌, List, [], ◌∷◌, ◌++◌, Option, Some, None, cond, filter}
+use Rattle.std.specs.Prelude.{ℕ, ◌≡◌, ◌≢◌, ◌==◌, List, [], ◌∷◌, ◌++◌, Option, Some, None, cond, filter, slice_get}
 use Rattle.sh_history.specs.declared.entry.Entry.{Entry}
 use Rattle.sh_history.specs.Log.{pass_of}
+use Rattle.sh_step.specs.declared.action.Action.{Action}
 use Rattle.sh_step.specs.declared.action.Event.{Event}
+use Rattle.sh_step.specs.declared.body.Body.{Body}
 use Rattle.sh_step.specs.declared.footstep.Footstep.{Footstep}
 use Rattle.sh_step.specs.Footsteps.{footstep_of}
 use Rattle.sh_step.specs.Plans.{Plan}
+use Rattle.sh_step.specs.Rows.{Row, row}
 use Rattle.sh_core.specs.Words.{read}
-use Rattle.sh_core.specs.Worlds.{World, step, open_world}
+use Rattle.sh_core.specs.Worlds.{World, step, run, open_world}
 use Rattle.sh_core.specs.Outcomes.{row_of}
 
 -- what the event adds to the trail of pass a
@@ -28,3 +31,16 @@ trail_of plan es a = trail_from plan (open_world plan) a [] es
 -- the log of pass a: its entries in the log of the world, in order
 abbrev pub log_of : ℕ → World → List Entry
 log_of a w = filter (λ e. pass_of e == a) w.log
+
+-- One event more that is done by pass a, whose part is p, by this row: the trail of a has one step more, with the word that is found
+abbrev pub TrailGrows : Type 0
+TrailGrows = (plan : Plan) (es : List Event) (a : ℕ) (x : Action) (p : Body) (r : Row) → slice_get (run plan es).parts a ≡ Some p → row plan p x ≡ Some r
+    → trail_of plan (es ++ record { pass = a; action = x } ∷ []) a ≡ trail_of plan es a ++ footstep_of x r (read (run plan es).words r.place) ∷ []
+
+-- an event leaves the trails of the other passes
+abbrev pub OthersTrailsStay : Type 0
+OthersTrailsStay = (plan : Plan) (es : List Event) (e : Event) (a : ℕ) → e.pass ≢ a → trail_of plan (es ++ e ∷ []) a ≡ trail_of plan es a
+
+-- and an event that is skipped leaves all of them
+abbrev pub SkipsLeaveTrails : Type 0
+SkipsLeaveTrails = (plan : Plan) (es : List Event) (e : Event) (a : ℕ) → row_of plan (run plan es) e ≡ None → trail_of plan (es ++ e ∷ []) a ≡ trail_of plan es a

@@ -1,5 +1,8 @@
 -- What a part names lies within the heap.
 use Rattle.std.specs.Prelude.{◌||◌, ◌-◌, true, ℕ, ◌≡◌, ◌+◌, ◌^◌, ◌<◌, ◌≤◌, List, Some, slice_get}
+use Rattle.sh_key.specs.Layout.{Layout}
+use Rattle.sh_shape.specs.Shape.{Numbers}
+use Rattle.sh_shape.specs.Places.{IsPlace}
 use Rattle.sh_shape.specs.declared.places.Place.{Place}
 use Rattle.sh_shape.specs.declared.places.Place.TheVariants.{Class, Head, PageLink, State, Link, Length, Payload, Owner, Bell}
 use Rattle.sh_slots.specs.declared.hand.Hand.{Hand}
@@ -7,7 +10,7 @@ use Rattle.sh_slots.specs.declared.hand.Hand.TheVariants.{Leaving, Finishing, To
 use Rattle.sh_slots.specs.declared.hand.Spot.{Spot}
 use Rattle.sh_step.specs.declared.action.Action.{Action}
 use Rattle.sh_step.specs.declared.body.Body.{Body}
-use Rattle.sh_step.specs.Plans.{Plan, all_pages}
+use Rattle.sh_step.specs.Plans.{Plan, plan_of, all_pages}
 use Rattle.sh_step.specs.Rows.{Row, row}
 use Rattle.sh_shape.specs.Classes.{width, slots}
 use Rattle.sh_word.specs.Fields.{fields_of}
@@ -53,6 +56,10 @@ HasPlace plan (Length q s) = (q < all_pages plan) × (s < 48)
 HasPlace plan (Payload q i) = (q < all_pages plan) × (i < 48)
 HasPlace plan (Owner n) = n < plan.shards
 HasPlace plan (Bell n) = n < plan.shards
+
+-- the plan of a heap has places of its shape alone
+abbrev pub PlansHaveShapesPlaces : Type 0
+PlansHaveShapesPlaces = (layout : Layout) (shape : Numbers) (q : Place) → HasPlace (plan_of layout shape) q → IsPlace shape q
 
 -- each action whose condition holds steps on a place of the heap
 abbrev pub StepsWithin : Plan → World → Type 0

@@ -1,27 +1,28 @@
 //! Doing one move on what is kept.
-ghost use Rattle.std.specs.Prelude.{ℕ, ◌≡◌, ◌<◌, false, None, IsSome, IfOk, IfErr, OnOk, OnErr, vec_len, vec_capacity};
+ghost use Rattle.std.specs.Prelude.{◌≡◌, ◌<◌, is_some, IsSome, IfOk, IfErr, OnOk, OnErr, vec_len, vec_capacity};
 ghost use Rattle.sh_step.specs.declared.body.Body.{Body};
 ghost use Rattle.sh_step.specs.Plans.{Plan, plan_of};
 ghost use Rattle.sh_step.specs.Moves.{row_of};
 ghost use Rattle.sh_core.specs.Worlds.{joined};
 ghost use Rattle.sh_core.specs.Outcomes.{done};
-ghost use Rattle.sh_core.specs.Kept.{IsReady, Does};
+ghost use Rattle.sh_core.specs.Kept.{IsReady, Does, AsksMemory, word_at};
 
 use crate::Outcome;
 use crate::entry::{entry, word_at};
 use sh_history::Entry;
 use sh_key::KeyLayout;
 use sh_shape::Shape;
+use sh_slots::is_live_at;
 use sh_step::{Move, Part, steps_look_at_no_part};
 use sh_value::Refusal;
 
-// Whether the move may decide a reply.
-fn may_reply(the_move: &Move) -> bool
-    ensures { result ≡ false → (plan : Plan) (p : Body) (n : ℕ) → (row_of plan p the_move.now).reply n ≡ None }
+// Whether the move decides a reply, by the word that it found.
+fn has_reply(the_move: &Move, found: u64) -> bool
+    ensures { (plan : Plan) (p : Body) → result ≡ is_some ((row_of plan p the_move.now).reply found) }
 {
     match the_move {
+        Move::EnterRemove(_, name) => !is_live_at(name.generation, found),
         Move::EnterGet(_, _)
-        | Move::EnterRemove(_, _)
         | Move::Mark(_, _)
         | Move::DropHold(_, _)
         | Move::Publish(_, _) => true,
@@ -57,7 +58,7 @@ fn join(log: &mut Vec<Entry>, new: Option<Entry>) -> Outcome
 }
 
 /// Does the move of a pass on the words, its own part and the log. Refused as `Memory` where memory for an entry, or for
-/// what the part notes, is refused: then nothing changed.
+/// what the part notes, is refused: then nothing changed. A move that adds neither is not refused.
 pub fn do_move<L: KeyLayout>(
     shape: &Shape,
     words: &mut Vec<u64>,
@@ -72,12 +73,14 @@ pub fn do_move<L: KeyLayout>(
     ensures words { OnErr result (words.new.items ≡ words.old.items) }
     ensures part { OnErr result (part.new ≡ part.old) }
     ensures log { OnErr result (log.new.items ≡ log.old.items) }
+    ensures asks { OnErr result (AsksMemory (row_of (plan_of L.layout shape.now) part.old the_move.now) part.old
+        (word_at shape.now words.old.items (row_of (plan_of L.layout shape.now) part.old the_move.now).place)) }
     ensures memory { IfErr result (λ refusal. refusal ≡ Refusal.Memory) }
 {
     steps_look_at_no_part();
     let step = the_move.step::<L>(shape);
     let found = word_at(shape, words, step.place);
-    if may_reply(the_move) {
+    if has_reply(the_move, found) {
         make_room(log)?;
     }
     let reply = part.apply::<L>(shape, the_move, found)?;

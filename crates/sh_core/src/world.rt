@@ -7,7 +7,7 @@ ghost use Rattle.sh_core.specs.Worlds.{open_world, run};
 ghost use Rattle.sh_step.specs.Parts.{newcomer};
 ghost use Rattle.sh_core.specs.Lists.{lists_of};
 ghost use Rattle.sh_core.specs.Refines.{Refines};
-ghost use Rattle.sh_core.specs.Kept.{Stands, Reached, Opens, Runs, Steps, IsDone};
+ghost use Rattle.sh_core.specs.Kept.{Stands, Reached, Opens, Runs, Steps, IsDone, NeedsMemory};
 
 use crate::Outcome;
 use crate::moving::do_move;
@@ -112,12 +112,13 @@ impl<L: KeyLayout> World<L> {
     }
 
     /// Does one event: by the row of its action, where there is such a pass and the action's condition holds of its own
-    /// part, and else nothing, which is `Skipped`. Only a step that is not skipped may be refused, as `Memory`, and then
-    /// nothing changed.
+    /// part, and else nothing, which is `Skipped`. Only a step that is not skipped, and by which an entry joins the log or a list of the
+    /// pass's own part grows, may be refused, as `Memory`, and then nothing changed.
     pub fn step(&mut self, event: &Event) -> Result<Outcome, Refusal>
         ensures ok { IfOk result (λ outcome. Steps L.layout self.old event.now outcome self.new) }
         ensures err { OnErr result (self.new ≡ self.old) }
         ensures done { OnErr result (IsDone L.layout self.old event.now) }
+        ensures needs { OnErr result (NeedsMemory L.layout self.old event.now) }
         ensures memory { IfErr result (λ refusal. refusal ≡ Refusal.Memory) }
     {
         let pass = event.pass as usize;

@@ -6,7 +6,7 @@ use Rattle.std.proofs.lemmas.List.Quantifiers.{position-Some}
 use Rattle.std.proofs.Math.Nat.{mul_comm}
 use Rattle.std.proofs.lemmas.Nat.{mul-add-lt}
 use Rattle.std.proofs.lemmas.List.Sums.{fails_before_first}
-use Rattle.sh_shape.specs.Classes.{widths, class_of, IsClassOf, SlotsFitPage, SlotWordsFitPage, width, slots}
+use Rattle.sh_shape.specs.Classes.{widths, class_of, IsClassOf, SlotsFitPage, SlotWordsFitPage, WidthsAreFew, width, slots}
 
 pub class_of_is : (len class : ℕ) → class_of len ≡ Some class → IsClassOf len class
 class_of_is len class is =
@@ -62,3 +62,14 @@ slots_few (suc (suc (suc (suc (suc zero))))) = omega arith
 slots_few (suc (suc (suc (suc (suc (suc zero)))))) = omega arith
 slots_few (suc (suc (suc (suc (suc (suc (suc zero))))))) = omega arith
 slots_few (suc (suc (suc (suc (suc (suc (suc (suc n)))))))) = omega arith
+
+pub widths_few : WidthsAreFew
+widths_few zero = omega arith
+widths_few (suc zero) = omega arith
+widths_few (suc (suc zero)) = omega arith
+widths_few (suc (suc (suc zero))) = omega arith
+widths_few (suc (suc (suc (suc zero)))) = omega arith
+widths_few (suc (suc (suc (suc (suc zero))))) = omega arith
+widths_few (suc (suc (suc (suc (suc (suc zero)))))) = omega arith
+widths_few (suc (suc (suc (suc (suc (suc (suc zero))))))) = omega arith
+widths_few (suc (suc (suc (suc (suc (suc (suc (suc n)))))))) = omega arith

@@ -36,3 +36,7 @@ SlotsFitPage = (class : ℕ) → slots class * width class ≤ 48
 -- so does each word of each slot, where the words of slot s are those from s * width on
 abbrev pub SlotWordsFitPage : Type 0
 SlotWordsFitPage = (class slot i : ℕ) → slot < slots class → i < width class → slot * width class + i < 48
+
+-- a slot has no more words than a value may have
+abbrev pub WidthsAreFew : Type 0
+WidthsAreFew = (class : ℕ) → width class ≤ 16

@@ -1,6 +1,6 @@
 //! The laws of places and of classes.
 ghost use Rattle.sh_shape.specs.Places.{PlacesDiffer, PlacesAreWords, WordsHavePlaces};
-ghost use Rattle.sh_shape.specs.Classes.{SlotsFitPage, SlotWordsFitPage};
+ghost use Rattle.sh_shape.specs.Classes.{SlotsFitPage, SlotWordsFitPage, WidthsAreFew};
 
 /// What is true of the places of every shape: no two have the same number, each has the number of one of the words, and
 /// each word is at a place.
@@ -11,8 +11,9 @@ pub fn place_laws()
 {}
 
 /// The slots of a page fit its 48 payload words, whatever class the page has, and so does each word of each slot: those
-/// of slot s are the words from s times the width on.
+/// of slot s are the words from s times the width on. A slot has 16 words at most.
 pub fn slots_fit_page()
     ensures slots { SlotsFitPage }
     ensures words { SlotWordsFitPage }
+    ensures widths { WidthsAreFew }
 {}

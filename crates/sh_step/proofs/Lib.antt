@@ -8,3 +8,4 @@ pub mod KeyLaws
 pub mod Tests
 pub mod ConditionLaws
 pub mod StepLaws
+pub mod FootstepLaws

@@ -1,5 +1,6 @@
-//! The laws of the table of actions.
+//! The laws of the table of actions, and of what is counted over steps.
 ghost use Rattle.sh_step.specs.Conditions.{RowsMeet, WhoMeetsHasRow};
+ghost use Rattle.sh_step.specs.Footsteps.{CountsGrow};
 ghost use Rattle.sh_step.specs.Moves.{StepsLookAtNoPart, StoresAreBlind};
 
 /// An action has a row of the table exactly where its condition holds, and then the row that the condition names.
@@ -13,4 +14,9 @@ pub fn conditions_have_rows()
 pub fn steps_look_at_no_part()
     ensures steps { StepsLookAtNoPart }
     ensures stores { StoresAreBlind }
+{}
+
+/// What is counted over a list of steps grows by 1 with one step more that is such, and stays with another.
+pub fn footsteps_count()
+    ensures { CountsGrow }
 {}

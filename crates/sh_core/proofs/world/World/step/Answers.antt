@@ -5,8 +5,8 @@ use Rattle.sh_step.specs.declared.body.Body.{Body}
 use Rattle.sh_step.specs.Moves.{row_of}
 use Rattle.sh_step.specs.Plans.{plan_of}
 use Rattle.sh_core.specs.declared.outcome.Outcome.TheVariants.{Skipped}
-use Rattle.sh_core.specs.Kept.{Kept, Steps, IsDone}
-use Rattle.sh_core.proofs.Doing.{reached_after, steps_after, done_after, steps_past, steps_skipped, set_here}
+use Rattle.sh_core.specs.Kept.{Kept, Steps, IsDone, NeedsMemory}
+use Rattle.sh_core.proofs.Doing.{reached_after, steps_after, done_after, needs_after, steps_past, steps_skipped, set_here}
 use Rattle.sh_core.proofs.Ready.{ready}
 use Rattle.sh_core.proofs.world.World.step.Goals as goal
 
@@ -59,6 +59,17 @@ returns-in-Some-clause-done g c =
     let t = ready g.L.KeyLayout.layout _ c.args.event.now.pass c.index_mut-part.result.now c.args.event.now.action row c.self.invariant at is in
     subst (λ (k : Kept). OnErr c.do_move.result (IsDone g.L.KeyLayout.layout k c.args.event.now)) c.self.view_is
     (done_after g.L.KeyLayout.layout _ c.args.event.now c.index_mut-part.result.now row c.self.invariant at is t c.do_move.result c.do_move.new.words.items c.do_move.new.part c.do_move.new.log.items c.do_move.ensures.ok)
+
+pub returns-in-Some-clause-needs : goal.returns-in-Some-clause-needs
+returns-in-Some-clause-needs g c =
+    let many = c.len.ensures in
+    let vec = c.self.inside.parts.ok in
+    let less = c.if-pass-len.false in
+    let at = slice_get-get_or c.self.inside.parts.items c.args.event.now.pass c.index_mut-part.result.now (omega arith) ∙ ap (λ (p : Body). Some p) (sym c.index_mut-part.ensures.value) in
+    let row = row_of (plan_of g.L.KeyLayout.layout c.self.inside.shape) c.index_mut-part.result.now c.in-Some.the_move in
+    let k : Kept = record { shape = c.self.inside.shape; words = c.self.inside.words.items; parts = c.self.inside.parts.items; log = c.self.inside.log.items } in
+    subst (λ (k : Kept). OnErr c.do_move.result (NeedsMemory g.L.KeyLayout.layout k c.args.event.now)) c.self.view_is
+    (needs_after g.L.KeyLayout.layout k c.args.event.now c.index_mut-part.result.now row at c.in-Some.ensures c.do_move.result c.do_move.ensures.asks)
 
 pub returns-in-None-clause-ok : goal.returns-in-None-clause-ok
 returns-in-None-clause-ok g c =

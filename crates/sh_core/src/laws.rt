@@ -1,0 +1,15 @@
+//! Laws of what passes did, and of the places that they step on.
+ghost use Rattle.sh_core.specs.Trails.{TrailGrows, OthersTrailsStay, SkipsLeaveTrails};
+ghost use Rattle.sh_core.specs.Within.{PlansHaveShapesPlaces};
+
+/// What one more event adds to the trails of the passes: a step to that of the pass that did it, and nothing to another's.
+pub fn trails_grow()
+    ensures own { TrailGrows }
+    ensures others { OthersTrailsStay }
+    ensures skipped { SkipsLeaveTrails }
+{}
+
+/// A place that the plan of a heap has is one of the heap's shape.
+pub fn plans_have_the_places_of_shapes()
+    ensures { PlansHaveShapesPlaces }
+{}
