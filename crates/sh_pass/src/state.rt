@@ -38,7 +38,7 @@ impl<L: KeyLayout> Model for PassState<L> {
 }
 
 // Where the key stands first among the holds.
-fn find(held: &[u64], key: u64) -> Option<usize>
+pub(crate) fn find(held: &[u64], key: u64) -> Option<usize>
     ensures { result ≡ position (λ k. k == key) held.now }
 {
     held.iter().position(|k| *k == key)

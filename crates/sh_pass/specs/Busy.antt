@@ -1,0 +1,49 @@
+-- Passes that step by hand: one event a call.
+use Rattle.std.specs.Prelude.{◌≡◌, ◌≢◌, ℕ, Bool, true, false, List, length, None, Result, Ok, Err}
+use Rattle.atomic_table.specs.declared.shared.Seat.{Seat}
+use Rattle.sh_key.specs.Layout.{Layout}
+use Rattle.sh_slots.specs.declared.hand.Hand.{Hand}
+use Rattle.sh_slots.specs.declared.hand.Hand.TheVariants.{Idle}
+use Rattle.sh_step.specs.declared.action.Action.{Action}
+use Rattle.sh_step.specs.declared.kind.Kind.{Kind}
+use Rattle.sh_step.specs.declared.kind.Kind.TheVariants as kind
+use Rattle.sh_step.specs.declared.moves.Move.{Move}
+use Rattle.sh_step.specs.Kinds.{kind_of}
+use Rattle.sh_step.specs.Plans.{plan_of}
+use Rattle.sh_step.specs.Rows.{row}
+use Rattle.sh_core.specs.Lists.{times}
+use Rattle.sh_table.specs.declared.view.View.{View}
+use Rattle.sh_table.specs.Seats.{Heap, IsSeat}
+use Rattle.sh_table.specs.Steps.{MayDo, did}
+use Rattle.sh_pass.specs.Passes.{Caller, IsTally}
+
+-- the kinds of a pass that owns no shard
+abbrev pub is_by_hand : Kind → Bool
+is_by_hand kind.Enter = true
+is_by_hand kind.Mark = true
+is_by_hand kind.Drop = true
+is_by_hand kind.Finish = true
+is_by_hand kind.Put = true
+is_by_hand kind.Tie = true
+is_by_hand kind.Ring = true
+is_by_hand kind.RingTie = true
+is_by_hand _ = false
+
+-- The call answers whether the action is of such a kind and its condition holds. Then it was that one event, for the word that it found; and else nothing
+abbrev pub Acts : Layout → Action → View → Bool → View → Type 0
+Acts layout x v true w = (is_by_hand (kind_of x) ≡ true) × ((m : Move) × (n : ℕ) × MayDo layout v x m × (w ≡ did layout x m v n))
+Acts layout x v false w = (is_by_hand (kind_of x) ≡ true → row (plan_of layout v.shape) v.own.body x ≡ None) × (w ≡ v)
+
+-- the pass comes back exactly where its hand is idle, and in either case as it was
+abbrev pub Ends : Caller → Result Caller Caller → Type 0
+Ends v (Ok w) = (v.view.own.body.hand ≡ Idle) × (w ≡ v)
+Ends v (Err w) = (v.view.own.body.hand ≢ Idle) × (w ≡ v)
+
+-- a seat that owns no shard, and what is kept of it: its holds, in some order, the bits of its tale, and its hand
+pub record IsBusy (layout : Layout) (heap : Heap) (t : Seat (Unit {0}) View) (held : List ℕ) (bits : ℕ) (begun : Hand) : Type 0 where
+  pub seat : IsSeat layout heap t
+  pub hand : t.me.0.own.body.hand ≡ begun
+  pub left : t.me.0.own.body.owned ≡ None
+  pub count : length held ≡ length t.me.0.own.body.holds
+  pub holds : (k : ℕ) → times k held ≡ times k t.me.0.own.body.holds
+  pub tally : IsTally bits t.me.0

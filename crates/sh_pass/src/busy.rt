@@ -1,0 +1,103 @@
+//! Passes that step by hand.
+ghost use Rattle.std.specs.Prelude.{◌≡◌};
+ghost use Rattle.sh_table.specs.Tales.{ViewStands};
+ghost use Rattle.sh_pass.specs.Busy.{Acts, Ends};
+
+use crate::by_hand::BusyState;
+use crate::heap::Heap;
+use crate::pass::Pass;
+use crate::state::PassState;
+use sh_key::KeyLayout;
+use sh_slots::Hand;
+use sh_step::Action;
+use std::marker::{Model, PhantomData};
+
+/// A pass that does one step a call, so that it can stop between any two.
+///
+/// A contract sees which heap it is of and what it knows, as of a `Pass`.
+#[derive(Drop)]
+pub struct Busy<'a, L: KeyLayout> {
+    heap: &'a Heap<L>,
+    state: BusyState,
+}
+
+impl<'a, L: KeyLayout> Model for Busy<'a, L> {
+    ghost use Rattle.sh_pass.specs.Passes.{Caller, caller_of};
+    ghost use Rattle.sh_pass.specs.Busy.{IsBusy};
+
+    ghost Value = { Caller };
+
+    ghost view = { λ b. caller_of b.state.seat };
+
+    ghost invariant = { λ b. IsBusy L.layout b.heap.now b.state.seat b.state.held.items b.state.named b.state.hand };
+}
+
+impl<'a, L: KeyLayout> Pass<'a, L> {
+    /// The pass, to step by hand.
+    pub fn begin(self) -> Busy<'a, L>
+        ensures { result ≡ self.entry }
+    {
+        let Pass { heap, state } = self;
+        let PassState {
+            seat,
+            held,
+            named,
+            layout: _,
+        } = state;
+        Busy {
+            heap,
+            state: BusyState {
+                seat,
+                held,
+                named,
+                hand: Hand::Idle,
+            },
+        }
+    }
+}
+
+impl<'a, L: KeyLayout> Busy<'a, L> {
+    /// Does one step: true exactly where the action is of one of the kinds Enter, Mark, Drop, Finish, Put, Tie, Ring and
+    /// RingTie, and its condition holds. Else it does nothing.
+    pub fn act(&mut self, action: &Action) -> bool
+        ensures acts { Acts L.layout action.now self.old.view result self.new.view }
+        ensures same { self.new.heap ≡ self.old.heap }
+        ensures stands { ViewStands L.layout self.new.view }
+    {
+        let heap = self.heap;
+        self.state.act(&heap.table, action)
+    }
+
+    /// The pass again, exactly where it has begun nothing that it has yet to end.
+    pub fn end(self) -> Result<Pass<'a, L>, Busy<'a, L>>
+        ensures { Ends self.entry result }
+    {
+        let Busy { heap, state } = self;
+        let BusyState {
+            seat,
+            held,
+            named,
+            hand,
+        } = state;
+        match hand {
+            Hand::Idle => Ok(Pass {
+                heap,
+                state: PassState {
+                    seat,
+                    held,
+                    named,
+                    layout: PhantomData,
+                },
+            }),
+            hand => Err(Busy {
+                heap,
+                state: BusyState {
+                    seat,
+                    held,
+                    named,
+                    hand,
+                },
+            }),
+        }
+    }
+}

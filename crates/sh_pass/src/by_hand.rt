@@ -1,0 +1,224 @@
+// The steps of a pass that steps by hand, one function for each form of action. Each answers whether the condition of
+// its action holds, and does the step just there.
+ghost use Rattle.std.specs.Prelude.{◌≡◌};
+ghost use Rattle.sh_step.specs.declared.action.Action.TheVariants as action;
+ghost use Rattle.sh_pass.specs.Busy.{Acts, IsBusy};
+
+use crate::ending::gen_max;
+use crate::entering::guard_max;
+use crate::state::find;
+use arrayvec::ArrayVec;
+use sh_bell::{is_armed, top_of};
+use sh_key::KeyLayout;
+use sh_slots::{GetAnswer, Hand, after_drop, after_enter_remove, answer_to_get, is_reusable_after};
+use sh_stack::link_over;
+use sh_step::Action;
+use sh_step::operands::place_of_key;
+use sh_table::{HeapTable, Token};
+
+/// What is kept of a pass that steps by hand.
+#[derive(Drop)]
+pub(crate) struct BusyState {
+    pub(crate) seat: Token,
+    // The keys that it holds, in any order.
+    pub(crate) held: ArrayVec<u64, 16>,
+    // A bit for each pass that its tale names.
+    pub(crate) named: u64,
+    // What it has begun.
+    pub(crate) hand: Hand,
+}
+
+impl BusyState {
+    // Enters the slot of a key, to get it.
+    fn enter_get<L: KeyLayout>(&mut self, table: &HeapTable<L>, key: u64) -> bool
+        requires { IsBusy L.layout table.now self.old.seat self.old.held.items self.old.named self.old.hand }
+        ensures busy { IsBusy L.layout table.now self.new.seat self.new.held.items self.new.named self.new.hand }
+        ensures acts { Acts L.layout (action.EnterGet key) self.old.seat.me.0 result self.new.seat.me.0 }
+    {
+        let Hand::Idle = self.hand else {
+            return false;
+        };
+        if self.held.is_full() {
+            return false;
+        }
+        let Some(name) = place_of_key::<L>(table.shape(), key) else {
+            return false;
+        };
+        let found = table.enter_get(&mut self.seat, key, name);
+        match answer_to_get(name.generation, guard_max::<L>(), found) {
+            GetAnswer::Got => self.held.push(key),
+            GetAnswer::Crowded => self.hand = Hand::Leaving(name.spot()),
+            GetAnswer::Gone => self.hand = Hand::Leaving(name.spot()),
+        }
+        true
+    }
+
+    // Enters the slot of a key, to remove it.
+    fn enter_remove<L: KeyLayout>(&mut self, table: &HeapTable<L>, key: u64) -> bool
+        requires { IsBusy L.layout table.now self.old.seat self.old.held.items self.old.named self.old.hand }
+        ensures busy { IsBusy L.layout table.now self.new.seat self.new.held.items self.new.named self.new.hand }
+        ensures acts { Acts L.layout (action.EnterRemove key) self.old.seat.me.0 result self.new.seat.me.0 }
+    {
+        let Hand::Idle = self.hand else {
+            return false;
+        };
+        let Some(name) = place_of_key::<L>(table.shape(), key) else {
+            return false;
+        };
+        let found = table.enter_remove(&mut self.seat, key, name);
+        self.hand = after_enter_remove(key, name, found);
+        true
+    }
+
+    // Marks the slot of the key that it removes.
+    fn mark<L: KeyLayout>(&mut self, table: &HeapTable<L>) -> bool
+        requires { IsBusy L.layout table.now self.old.seat self.old.held.items self.old.named self.old.hand }
+        ensures busy { IsBusy L.layout table.now self.new.seat self.new.held.items self.new.named self.new.hand }
+        ensures acts { Acts L.layout action.Mark self.old.seat.me.0 result self.new.seat.me.0 }
+    {
+        let Hand::Removing(key) = self.hand else {
+            return false;
+        };
+        let Some(name) = place_of_key::<L>(table.shape(), key) else {
+            return false;
+        };
+        table.mark(&mut self.seat, key, name);
+        self.hand = Hand::Leaving(name.spot());
+        true
+    }
+
+    // Gives back the count on the slot that it leaves.
+    fn drop_count<L: KeyLayout>(&mut self, table: &HeapTable<L>) -> bool
+        requires { IsBusy L.layout table.now self.old.seat self.old.held.items self.old.named self.old.hand }
+        ensures busy { IsBusy L.layout table.now self.new.seat self.new.held.items self.new.named self.new.hand }
+        ensures acts { Acts L.layout action.Drop self.old.seat.me.0 result self.new.seat.me.0 }
+    {
+        let Hand::Leaving(spot) = self.hand else {
+            return false;
+        };
+        let found = table.drop_count(&mut self.seat, spot);
+        self.hand = after_drop(spot, found);
+        true
+    }
+
+    // Gives back the count of a hold on a key.
+    fn drop_hold<L: KeyLayout>(&mut self, table: &HeapTable<L>, key: u64) -> bool
+        requires { IsBusy L.layout table.now self.old.seat self.old.held.items self.old.named self.old.hand }
+        ensures busy { IsBusy L.layout table.now self.new.seat self.new.held.items self.new.named self.new.hand }
+        ensures acts { Acts L.layout (action.DropHold key) self.old.seat.me.0 result self.new.seat.me.0 }
+    {
+        let Hand::Idle = self.hand else {
+            return false;
+        };
+        let Some(at) = find(self.held.as_slice(), key) else {
+            return false;
+        };
+        let Some(name) = place_of_key::<L>(table.shape(), key) else {
+            return false;
+        };
+        let found = table.drop_hold(&mut self.seat, key, name);
+        self.held.remove(at);
+        self.hand = after_drop(name.spot(), found);
+        true
+    }
+
+    // Ends the generation of the slot.
+    fn finish<L: KeyLayout>(&mut self, table: &HeapTable<L>) -> bool
+        requires { IsBusy L.layout table.now self.old.seat self.old.held.items self.old.named self.old.hand }
+        ensures busy { IsBusy L.layout table.now self.new.seat self.new.held.items self.new.named self.new.hand }
+        ensures acts { Acts L.layout action.Finish self.old.seat.me.0 result self.new.seat.me.0 }
+    {
+        let Hand::Finishing(spot, generation) = self.hand else {
+            return false;
+        };
+        let found = table.finish(&mut self.seat, spot, generation);
+        self.hand = if is_reusable_after(generation, gen_max::<L>(), found) {
+            Hand::ToPut(spot)
+        } else {
+            Hand::Idle
+        };
+        true
+    }
+
+    // Puts the slot in its hand.
+    fn put<L: KeyLayout>(&mut self, table: &HeapTable<L>) -> bool
+        requires { IsBusy L.layout table.now self.old.seat self.old.held.items self.old.named self.old.hand }
+        ensures busy { IsBusy L.layout table.now self.new.seat self.new.held.items self.new.named self.new.hand }
+        ensures acts { Acts L.layout action.Put self.old.seat.me.0 result self.new.seat.me.0 }
+    {
+        let Hand::ToPut(spot) = self.hand else {
+            return false;
+        };
+        let head = table.put(&mut self.seat, spot);
+        self.hand = Hand::Tying(spot, link_over(top_of(head)), is_armed(head));
+        true
+    }
+
+    // Stores the link of the slot that it put.
+    fn tie<L: KeyLayout>(&mut self, table: &HeapTable<L>) -> bool
+        requires { IsBusy L.layout table.now self.old.seat self.old.held.items self.old.named self.old.hand }
+        ensures busy { IsBusy L.layout table.now self.new.seat self.new.held.items self.new.named self.new.hand }
+        ensures acts { Acts L.layout action.Tie self.old.seat.me.0 result self.new.seat.me.0 }
+    {
+        let Hand::Tying(spot, link, armed) = self.hand else {
+            return false;
+        };
+        table.tie(&mut self.seat, spot, link, armed);
+        self.hand = if armed {
+            Hand::Ringing(spot.page)
+        } else {
+            Hand::Idle
+        };
+        true
+    }
+
+    // Puts the page on its shard's bell.
+    fn ring<L: KeyLayout>(&mut self, table: &HeapTable<L>) -> bool
+        requires { IsBusy L.layout table.now self.old.seat self.old.held.items self.old.named self.old.hand }
+        ensures busy { IsBusy L.layout table.now self.new.seat self.new.held.items self.new.named self.new.hand }
+        ensures acts { Acts L.layout action.Ring self.old.seat.me.0 result self.new.seat.me.0 }
+    {
+        let Hand::Ringing(page) = self.hand else {
+            return false;
+        };
+        let next = table.ring(&mut self.seat, page);
+        self.hand = Hand::RingTying(page, link_over(next));
+        true
+    }
+
+    // Stores the link of the page that it put.
+    fn ring_tie<L: KeyLayout>(&mut self, table: &HeapTable<L>) -> bool
+        requires { IsBusy L.layout table.now self.old.seat self.old.held.items self.old.named self.old.hand }
+        ensures busy { IsBusy L.layout table.now self.new.seat self.new.held.items self.new.named self.new.hand }
+        ensures acts { Acts L.layout action.RingTie self.old.seat.me.0 result self.new.seat.me.0 }
+    {
+        let Hand::RingTying(page, link) = self.hand else {
+            return false;
+        };
+        table.ring_tie(&mut self.seat, page, link);
+        self.hand = Hand::Idle;
+        true
+    }
+
+    /// Does the step of the action where it is one of these and its condition holds: whether it did.
+    pub(crate) fn act<L: KeyLayout>(&mut self, table: &HeapTable<L>, action: &Action) -> bool
+        requires { IsBusy L.layout table.now self.old.seat self.old.held.items self.old.named self.old.hand }
+        ensures busy { IsBusy L.layout table.now self.new.seat self.new.held.items self.new.named self.new.hand }
+        ensures acts { Acts L.layout action.now self.old.seat.me.0 result self.new.seat.me.0 }
+    {
+        match action {
+            Action::EnterGet(key) => self.enter_get(table, *key),
+            Action::EnterRemove(key) => self.enter_remove(table, *key),
+            Action::Mark => self.mark(table),
+            Action::Drop => self.drop_count(table),
+            Action::DropHold(key) => self.drop_hold(table, *key),
+            Action::Finish => self.finish(table),
+            Action::Put => self.put(table),
+            Action::Tie => self.tie(table),
+            Action::Ring => self.ring(table),
+            Action::RingTie => self.ring_tie(table),
+            // Of the other forms one, `PutSlot`, is of these kinds, and takes a slot that only an owner has.
+            _ => false,
+        }
+    }
+}
