@@ -9,3 +9,4 @@ pub mod Tests
 pub mod ConditionLaws
 pub mod StepLaws
 pub mod FootstepLaws
+pub mod OperationLaws
