@@ -1,5 +1,5 @@
 -- A record whose insert stands in the book is given back.
-use Rattle.std.proofs.Common.{◌≡◌, ℕ, List, [], ◌∷◌, ◌++◌, Option, Some, None, refl, sym, ◌∙◌, ap, arith, Ok, Err, Result, map, append_assoc, inr, suc, take, drop, drop-cons}
+use Rattle.std.proofs.Common.{◌≡◌, ℕ, List, [], ◌∷◌, ◌++◌, Option, Some, None, refl, sym, ◌∙◌, ap, subst, arith, Ok, Err, Result, map, append_assoc, inr, suc, take, drop, drop-cons}
 use Rattle.std.specs.List.{Contains}
 use Rattle.std.proofs.lemmas.List.{map-append, take-append-drop}
 use Rattle.sh_value.specs.declared.hold.Hold.{Hold}
@@ -26,18 +26,26 @@ kept key value book more front rest e is =
     rw is (ap (λ l. l ++ more) (map-append (filled key value) front (Known e ∷ rest))
     ∙ append_assoc (map (filled key value) front) (Known e ∷ map (filled key value) rest) more)
 
+-- where a got value was read, a release of its hold is refused for memory alone
+pub refused_for_memory : (s t : Setting) (key k : ℕ) (value : List ℕ) (start book after : List LogEntry) (refusal : Refusal)
+    → t ≡ s → k ≡ key → GotValue s key value start book → ReleaseLeaves t k book (Err refusal) after → refusal ≡ Memory
+refused_for_memory s t key k value start book after Memory same same_key got leaves = refl
+refused_for_memory s t key k value start book after NotHeld same same_key got leaves =
+    let free : logged_holds_by book s.pass key ≡ 0 = rw (same, same_key) at leaves.0 in
+    let held = got.held in absurd (omega arith)
+refused_for_memory s t key k value start book after _ same same_key got leaves = absurd leaves
+
 -- what a get of a record leaves, whatever reads the value
 module _ {R : Type 0} (read : List ℕ → Option R) where
   pub release_refused : (s t : Setting) (key k : ℕ) (value : List ℕ) (start book after : List LogEntry) (refusal : Refusal)
       → t ≡ s → k ≡ key → GotValue s key value start book → read value ≡ None
       → ReleaseLeaves t k book (Err refusal) after
       → RecordLeaves read s key start (Err refusal) after
-  release_refused s t key k value start book after Memory same same_key got none leaves =
-      inr (value, record { got = leaves.1 ∙ got.got; held = rw leaves.1 got.held }, none)
-  release_refused s t key k value start book after NotHeld same same_key got none leaves =
-      let free : logged_holds_by book s.pass key ≡ 0 = rw (same, same_key) at leaves.0 in
-      let held = got.held in absurd (omega arith)
-  release_refused s t key k value start book after _ same same_key got none leaves = absurd leaves
+  release_refused s t key k value start book after refusal same same_key got none leaves =
+      let for_memory = refused_for_memory s t key k value start book after refusal same same_key got leaves in
+      let P : Refusal → Type 0 = λ r. ReleaseLeaves t k book (Err r) after in
+      let left = subst P for_memory leaves in
+      rw for_memory (inr (value, record { got = left.1 ∙ got.got; held = rw left.1 got.held }, none))
 
   same_read : (s t : Setting) (key pass : ℕ) (value got : List ℕ) (book after more : List LogEntry)
       → after ≡ map (filled key got) book ++ Known (Got s.pass key got) ∷ more → IsBook t after
