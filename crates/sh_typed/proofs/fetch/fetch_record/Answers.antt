@@ -1,4 +1,4 @@
-use Rattle.std.proofs.Common.{Err, Result, inr, subst, sym}
+use Rattle.std.proofs.Common.{Err, inr, subst, sym}
 use Rattle.sh_value.specs.declared.refusal.Refusal.{Refusal}
 use Rattle.sh_typed.specs.Typed.{record_in}
 use Rattle.sh_typed.proofs.Given.{refused_for_memory, release_refused}
