@@ -336,7 +336,8 @@ impl<L: KeyLayout> Store for PlainStore<L> {
         ensures leaves { ReadLeaves (plain_setting L.layout self.old) hold.key (plain_book self.old) result (plain_book self.new) }
         ensures stands { IsBook (plain_setting L.layout self.new) (plain_book self.new) }
         ensures same { plain_setting L.layout self.new ≡ plain_setting L.layout self.old }
-        ensures exact { (result ≡ read_answer self.old hold.key) × (self.new ≡ self.old) }
+        ensures exact { result ≡ read_answer self.old hold.key }
+        ensures unchanged { self.new ≡ self.old }
     {
         let result = self.plain_read(hold);
         let _ = &self.entries;

@@ -11,13 +11,9 @@ use Rattle.sh_history.specs.declared.log.LogEntry.{LogEntry}
 use Rattle.sh_history.specs.declared.log.LogEntry.TheVariants.{Known}
 use Rattle.sh_history.specs.Log.{filled, logged_holds_by}
 use Rattle.sh_history.proofs.LogLaws.{same_value}
+use Rattle.sh_history.proofs.Standing.{splits_at}
 use Rattle.sh_plain.specs.Store.{Setting, IsBook, ReleaseLeaves}
 use Rattle.sh_typed.specs.Typed.{GotValue, GivesBack, RecordLeaves}
-
--- where an entry stands, the list is what comes before it, the entry, and what comes after it
-splits_at : {X : Type 0} (xs : List X) (y : X) → Contains xs y → (front : List X) × (rest : List X) × (xs ≡ front ++ y ∷ rest)
-splits_at xs y (k, inside, is) =
-    (take k xs, drop (suc k) xs, sym (take-append-drop k xs) ∙ rw (drop-cons xs k y inside, is) refl)
 
 -- an entry that is known stays where a value is read and entries come behind
 pub kept : (key : ℕ) (value : List ℕ) (book more front rest : List LogEntry) (e : Entry) → book ≡ front ++ Known e ∷ rest
