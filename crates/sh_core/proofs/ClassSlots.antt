@@ -9,6 +9,7 @@ use Rattle.sh_step.specs.Collections.{if1}
 use Rattle.sh_core.specs.Lists.{slots_under}
 use Rattle.sh_core.specs.Tallies.{room}
 use Rattle.sh_core.specs.Words.{Words}
+use Rattle.sh_core.proofs.Conditions.{lt_of}
 
 -- a class word that names a class, and one that is not 0
 pub under_class : (c : ℕ) → slots_under (c + 1) ≡ slots c
@@ -26,15 +27,12 @@ room_is c t = go (c == 0) refl where
 -- where a slot has room, its page has a class, and it is one of its slots
 pub room_under : (w : Words) (x : Spot) → 0 < room w x → (0 < w.class_at x.page) × (x.slot < slots_under (w.class_at x.page))
 room_under w x some = (classed (w.class_at x.page) some, go (nat_lt x.slot (slots_under (w.class_at x.page))) refl (let is = room_is (w.class_at x.page) x.slot in omega arith)) where
-  less : (m n : ℕ) → nat_lt m n ≡ true → m < n
-  less m n e = grind (arith, nat_tests)
-
   classed : (c : ℕ) → 0 < if1 (nat_lt 0 c && nat_lt x.slot (slots (c - 1))) → 0 < c
   classed zero h = absurd (omega arith)
   classed (suc c) h = omega arith
 
   go : (b : Bool) → nat_lt x.slot (slots_under (w.class_at x.page)) ≡ b → 0 < if1 b → x.slot < slots_under (w.class_at x.page)
-  go true e h = less x.slot (slots_under (w.class_at x.page)) e
+  go true e h = lt_of x.slot (slots_under (w.class_at x.page)) e
   go false e h = absurd (omega arith)
 
 -- a page has at most 48 slots

@@ -19,6 +19,14 @@ none_has f (x ∷ xs) e = go (f x) (none_has f xs) e where
   go true rest e = absurd (omega arith)
   go false rest e = rest (omega arith)
 
+pub has_some : {A : Type 0} (f : A → Bool) (xs : List A) → has f xs ≡ true → 0 < total (λ y. if1 (f y)) xs
+unfolding total has
+has_some f [] e = absurd (let z : ⊥ = cc in z)
+has_some f (x ∷ xs) e = go (f x) (has_some f xs) e where
+  go : (b : Bool) → (has f xs ≡ true → 0 < total (λ y. if1 (f y)) xs) → (b || has f xs) ≡ true → 0 < if1 b + total (λ y. if1 (f y)) xs
+  go true rest e = omega arith
+  go false rest e = let r = rest e in omega arith
+
 -- what passes once does not pass again where it is taken out
 pub once_only : {A : Type 0} (f : A → Bool) (xs : List A) → total (λ y. if1 (f y)) xs ≤ 1 → has f (without f xs) ≡ false
 unfolding total has without

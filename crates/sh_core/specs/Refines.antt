@@ -169,7 +169,8 @@ abbrev pub ShardlessHaveNothing : World → Type 0
 ShardlessHaveNothing w = (a : ℕ) (p : Body) → slice_get w.parts a ≡ Some p → p.owned ≡ None
     → (p.mine ≡ []) × (p.cursors ≡ []) × (p.armed ≡ []) × (p.bell_cursor ≡ None)
 
--- each link of a stack, a chain, a bell names the next item, or is the end, or is 0 with one pass that ties it; an owner's cursor is its chain's first
+-- what EachLinked says in words, as sums: along each list an item's link and what the pass that ties it will store are together what
+-- names the rest; a head names the first of its stack, and a cursor is at the first of its chain
 abbrev pub Linked : Plan → World → Lists → Type 0
 Linked plan w l =
     Chains (λ q. w.words.head_at q / 2) w.words.link_at (λ q s. total (tying (spot q s)) w.parts) (λ q s. total (ties_of (spot q s)) w.parts) (λ q s. total (cursor_at q s) w.parts) l.stack l.chain
