@@ -252,7 +252,8 @@ impl<L: KeyLayout> PlainStore<L> {
         }
         match self.value_of(hold.key) {
             Some(value) => Ok(value.copy()),
-            None => unreachable!(),
+            // No history has a hold on a key that was not issued.
+            None => Err(Refusal::NotHeld),
         }
     }
 
