@@ -17,7 +17,7 @@ use Rattle.sh_core.specs.Stacks.{spot}
 use Rattle.sh_core.specs.Refines.{Always, OneKind, HeldStands, Armed, LeftEmpty, Linked}
 use Rattle.sh_core.specs.Variants.{Table, step_by, run_from_by, run_by, list_step_by, lists_from_by, lists_by, AlwaysBy}
 use Rattle.sh_core.specs.WrongRows.{keeps_generation, ignores_count, wraps_generation, ties_first, ends_at_unwritten, leaves_link, never_rings, leaves_slots, forgets_last_slot}
-use Rattle.sh_step.proofs.Tests.{no_bool}
+use Rattle.sh_step.proofs.Truths.{no_bool}
 use Rattle.sh_core.proofs.Worked.{small, ev, at, page, everything}
 
 -- ---- over the right table it is the run
