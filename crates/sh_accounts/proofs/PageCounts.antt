@@ -1,27 +1,25 @@
 -- The accounts of a page are those that the code counts.
 use Rattle.std.proofs.Common.{◌≡◌, ℕ, zero, suc, ◌+◌, ◌-◌, ◌<◌, ◌≤◌, ◌==◌, ◌&&◌, ◌∙◌, Bool, true, false, cond, List, refl, ap, arith, Some, None}
-use Rattle.std.specs.Prelude.{not}
+use Rattle.std.specs.Prelude.{not, nat_lt}
+use Rattle.std.proofs.lemmas.Bool.{lt-ltb}
 use Rattle.std.proofs.lemmas.Bool.Decides.{nat_tests}
 use Rattle.sh_word.specs.Kinds.{kind_of}
-use Rattle.sh_key.specs.Layout.{Layout, IsLayout}
+use Rattle.sh_key.specs.Layout.{Layout}
 use Rattle.sh_shape.specs.declared.places.Place.TheVariants.{Class, State}
-use Rattle.sh_shape.specs.Classes.{slots}
+use Rattle.sh_shape.specs.Classes.{class_count, slots}
 use Rattle.sh_shape.proofs.ClassLaws.{slots_few}
 use Rattle.sh_shape.specs.Places.{all_pages}
-use Rattle.sh_shape.specs.Shape.{IsShape, Fits}
 use Rattle.sh_slots.specs.declared.hand.Spot.{Spot}
 use Rattle.sh_slots.specs.Slots.{spots}
 use Rattle.sh_step.specs.declared.action.Event.{Event}
 use Rattle.sh_step.specs.Collections.{total, if1}
-use Rattle.sh_step.specs.Plans.{Plan, plan_of, Lawful}
+use Rattle.sh_step.specs.Plans.{Plan, plan_of}
 use Rattle.sh_core.specs.declared.accounts.Accounts.{Accounts}
-use Rattle.sh_core.specs.Kept.{Kept, Stands}
-use Rattle.sh_core.specs.Lists.{Lists, accounts, among, class_named, lists_of, mine_at, in_hand, no_lists, slots_under, state_of, times}
-use Rattle.sh_core.specs.Placed.{All}
-use Rattle.sh_core.specs.Worlds.{World, run, open_world}
-use Rattle.sh_core.proofs.LayoutLaws.{plan_lawful}
-use Rattle.sh_core.proofs.RunAll.{all_from}
-use Rattle.sh_core.proofs.RunRefines.{all_open, one_kind}
+use Rattle.sh_core.specs.Kept.{Kept, Stands, Reached}
+use Rattle.sh_core.specs.Lists.{Lists, accounts, among, class_named, lists_of, mine_at, in_hand, slots_under, state_of, times}
+use Rattle.sh_core.specs.Refines.{Always, KindsAddUp, ClassesAreKnown, kind_count}
+use Rattle.sh_core.specs.Worlds.{World, run}
+use Rattle.sh_core.proofs.ClassSlots.{under_class}
 use Rattle.sh_accounts.specs.declared.kinds.SlotKind.{SlotKind}
 use Rattle.sh_accounts.specs.declared.kinds.SlotKind.TheVariants.{Live, Marked, Retired, Mine, Hand, Queued}
 use Rattle.sh_accounts.specs.Kinds.{is, kind_by}
@@ -37,7 +35,7 @@ among_same q f g n h = go 0 n (λ t a b. h t (omega arith)) where
   go s (suc n) h = let here = h s (omega arith) (omega arith) in let rest = go (s + 1) n (λ t a b. h t (omega arith) (omega arith)) in omega arith
 
 under_some : (n c : ℕ) → n ≡ c + 1 → slots_under n ≡ slots c
-under_some n c e = let z : (n == 0) ≡ false = grind (arith, nat_tests) in let d : n - 1 ≡ c = omega arith in rw (z, d) refl
+under_some n c e = ap slots_under e ∙ under_class c
 
 named_some : (n c : ℕ) → n ≡ c + 1 → class_named n ≡ Some c
 named_some n c e = let z : (n == 0) ≡ false = grind (arith, nat_tests) in let d : n - 1 ≡ c = omega arith in rw (z, d) refl
@@ -56,7 +54,7 @@ names_none n e = go (n == 0) refl e where
   go false is e = absurd (let z : None ≡ Some (n - 1) = e in cc)
 
 -- what is kept stands for the world, and all that holds of runs holds of it
-module _ (plan : Plan) (k : Kept) (w : World) (l : Lists) (stands : Stands k w) (all : All plan w l) (q : ℕ) (there : q < all_pages k.shape) where
+module _ (plan : Plan) (k : Kept) (w : World) (l : Lists) (stands : Stands k w) (kinds : KindsAddUp w l) (q : ℕ) (there : q < all_pages k.shape) where
   class_is : class_word k q ≡ w.words.class_at q
   class_is = stands.words.at (Class q) there
 
@@ -65,7 +63,9 @@ module _ (plan : Plan) (k : Kept) (w : World) (l : Lists) (stands : Stands k w) 
 
   each : (c t : ℕ) → w.words.class_at q ≡ c + 1 → t < slots c → let x : Spot = record { page = q; slot = t } in
       Once w.parts x (state_of w x).marked (state_of w x).present (times t (l.stack q) + times t (l.chain q))
-  each c t e low = let x : Spot = record { page = q; slot = t } in once w.parts x (state_of w x).marked (state_of w x).present (times t (l.stack q) + times t (l.chain q)) ((one_kind plan w l all x c e).0 low)
+  each c t e low = let x : Spot = record { page = q; slot = t } in once w.parts x (state_of w x).marked (state_of w x).present (times t (l.stack q) + times t (l.chain q)) (one c t e low) where
+    one : (c t : ℕ) → w.words.class_at q ≡ c + 1 → t < slots c → kind_count w l (record { page = q; slot = t }) ≡ 1
+    one c t e low = kinds (record { page = q; slot = t }) ∙ (let is : nat_lt t (slots_under (w.words.class_at q)) ≡ true = rw (under_some (w.words.class_at q) c e) (lt-ltb t (slots c) low) in rw is refl)
 
   -- one number of the accounts
   number_is : (kind : SlotKind) (g : Spot → ℕ) (n : ℕ) → n ≤ 48
@@ -90,31 +90,30 @@ module _ (plan : Plan) (k : Kept) (w : World) (l : Lists) (stands : Stands k w) 
   unfolding accounts total spots
   blank_is e = rw e refl
 
--- what holds of each list of events
-all_of : (layout : Layout) (k : Kept) (es : List Event) → IsLayout layout → IsShape k.shape → Fits layout k.shape → All (plan_of layout k.shape) (run (plan_of layout k.shape) es) (lists_of (plan_of layout k.shape) es)
-all_of layout k es is_layout is_shape fits =
-    let plan : Plan = plan_of layout k.shape in
-    let laws : Lawful plan = plan_lawful layout k.shape is_layout is_shape fits in all_from plan (open_world plan) no_lists es laws (all_open plan laws)
+-- a class word of a heap that was reached is small
+pub class_small : (layout : Layout) (k : Kept) (q : ℕ) → Always (λ plan w l. ClassesAreKnown plan w) → Reached layout k → q < all_pages k.shape → class_word k q ≤ class_count
+class_small layout k q classes reached there =
+    let small = (classes layout k.shape reached.is_layout reached.is_shape reached.fits reached.events q).0 in
+    let here = reached.stands.words.at (Class q) there in omega arith
 
--- a page of a class
-pub are_counted : (layout : Layout) (k : Kept) (q c : ℕ) (a : Accounts) → IsLayout layout → IsShape k.shape → Fits layout k.shape → q < all_pages k.shape
-    → (class_word k q ≤ 8 → Some c ≡ class_named (class_word k q)) → a ≡ counted k q c (slots c) → AreAccounts layout k q a
-are_counted layout k q c a is_layout is_shape fits there named same es stands =
-    let plan : Plan = plan_of layout k.shape in
-    let all = all_of layout k es is_layout is_shape fits in
-    let e = class_is plan k (run plan es) (lists_of plan es) stands all q there in
-    let low = (all.sound.classes q).0 in
-    same ∙ counted_is plan k (run plan es) (lists_of plan es) stands all q there c (omega (arith, names_some (class_word k q) c (named (omega arith))))
+module _ (layout : Layout) (k : Kept) (q : ℕ) (kinds : Always (λ plan w l. KindsAddUp w l)) (reached : Reached layout k) (there : q < all_pages k.shape) where
+  abbrev plan : Plan
+  plan = plan_of layout k.shape
 
--- a blank page
-pub are_none : (layout : Layout) (k : Kept) (q : ℕ) (a : Accounts) → IsLayout layout → IsShape k.shape → Fits layout k.shape → q < all_pages k.shape
-    → (class_word k q ≤ 8 → None ≡ class_named (class_word k q)) → a ≡ no_slots None → AreAccounts layout k q a
-are_none layout k q a is_layout is_shape fits there named same es stands =
-    let plan : Plan = plan_of layout k.shape in
-    let all = all_of layout k es is_layout is_shape fits in
-    let e = class_is plan k (run plan es) (lists_of plan es) stands all q there in
-    let low = (all.sound.classes q).0 in
-    same ∙ blank_is plan k (run plan es) (lists_of plan es) stands all q there (omega (arith, names_none (class_word k q) (named (omega arith))))
+  kinds_at : (es : List Event) → KindsAddUp (run plan es) (lists_of plan es)
+  kinds_at es = kinds layout k.shape reached.is_layout reached.is_shape reached.fits es
+
+  -- a page of a class
+  pub are_counted : (c : ℕ) (a : Accounts) → Some c ≡ class_named (class_word k q) → a ≡ counted k q c (slots c) → AreAccounts layout k q a
+  are_counted c a named same es stands =
+      let e = class_is plan k (run plan es) (lists_of plan es) stands (kinds_at es) q there in
+      same ∙ counted_is plan k (run plan es) (lists_of plan es) stands (kinds_at es) q there c (omega (arith, names_some (class_word k q) c named))
+
+  -- a blank page
+  pub are_none : (a : Accounts) → None ≡ class_named (class_word k q) → a ≡ no_slots None → AreAccounts layout k q a
+  are_none a named same es stands =
+      let e = class_is plan k (run plan es) (lists_of plan es) stands (kinds_at es) q there in
+      same ∙ blank_is plan k (run plan es) (lists_of plan es) stands (kinds_at es) q there (omega (arith, names_none (class_word k q) named))
 
 -- each slot is counted once
 pub fills : (k : Kept) (q c : ℕ) (a : Accounts) → c < 8 → all_slots a ≡ slots c → a ≡ counted k q c (slots c) → FillPage a

@@ -7,7 +7,7 @@ ghost use Rattle.sh_accounts.specs.Kinds.{with_one};
 ghost use Rattle.sh_accounts.specs.Accounts.{HasPage, AreAccounts, FillPage, all_slots, no_slots, class_word, kind_in, counted};
 
 use crate::kinds::{SlotKind, slot_kind};
-use sh_core::{Accounts, World};
+use sh_core::{Accounts, World, refines_map};
 use sh_key::KeyLayout;
 use sh_shape::slots;
 use sh_slots::Spot;
@@ -26,9 +26,10 @@ fn class_of(word: u64) -> Option<u32>
 // The class of a page, if it has one.
 fn class_at<L: KeyLayout>(world: &World<L>, shard: u32, page: u32) -> Option<u32>
     requires { HasPage world.now.shape shard page }
-    ensures is { let word = class_word world.now (page_number world.now.shape shard page) in word ≤ class_count → result ≡ class_named word }
+    ensures is { result ≡ class_named (class_word world.now (page_number world.now.shape shard page)) }
     ensures known { IfSome result (λ class. class < class_count) }
 {
+    refines_map();
     let number = world.shape().class_at(shard, page);
     class_of(world.words()[number as usize])
 }
@@ -103,6 +104,7 @@ pub fn page<L: KeyLayout>(world: &World<L>, shard: u32, page: u32) -> Option<Acc
     ensures are { IfSome result (AreAccounts L.layout world.now (page_number world.now.shape shard page)) }
     ensures fill { IfSome result FillPage }
 {
+    refines_map();
     let shape = world.shape();
     if shard >= shape.shards() || page >= shape.pages() {
         return None;

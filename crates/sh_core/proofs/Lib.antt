@@ -27,6 +27,7 @@ pub mod ClassGood
 pub mod KeptSlots
 pub mod KeptLists
 pub mod RunAll
+pub mod ClassSlots
 pub mod RunRefines
 pub mod KnowKinds
 pub mod HeldStands
@@ -36,6 +37,11 @@ pub mod KeptValues
 pub mod RowsFit
 pub mod FewHolds
 pub mod KeyNotes
+pub mod LinkFacts
+pub mod KeyFacts
+pub mod ListCounts
+pub mod OwnerFacts
+pub mod LastGenerations
 pub mod RunTheorem
 pub mod Ready
 pub mod Operating

@@ -1,30 +1,30 @@
 -- The clauses of the theorem, from what is kept.
-use Rattle.std.proofs.Common.{◌≡◌, ℕ, ◌+◌, ◌-◌, ◌<◌, ◌≤◌, ◌==◌, ◌&&◌, Bool, true, false, cond, List, [], ◌∷◌, sym, refl, subst, arith, Option, Some, None, slice_get}
+use Rattle.std.proofs.Common.{◌≡◌, ℕ, ◌+◌, ◌-◌, ◌<◌, ◌≤◌, ◌==◌, ◌&&◌, Bool, true, false, cond, List, [], ◌∷◌, sym, refl, ◌∙◌, subst, arith, Option, Some, None, slice_get}
 use Rattle.std.specs.Prelude.{not, nat_lt}
 use Rattle.std.proofs.lemmas.Bool.Decides.{nat_tests}
 use Rattle.sh_slots.specs.declared.hand.Spot.{Spot}
 use Rattle.sh_slots.specs.declared.hand.Name.{Name}
 use Rattle.sh_word.specs.Fields.{Fields, fields_of}
 use Rattle.sh_step.specs.Plans.{Plan, home, Lawful, over_heap}
-use Rattle.sh_shape.specs.Classes.{slots}
-use Rattle.sh_slots.specs.Slots.{spot_of}
+use Rattle.sh_slots.specs.Slots.{spot_of, spots}
 use Rattle.sh_step.specs.Collections.{total, if1}
 use Rattle.sh_step.specs.declared.body.Body.{Body}
 use Rattle.sh_core.specs.Lists.{Lists, times, mine_at}
-use Rattle.sh_core.specs.Stacks.{spot, ties_of, cursor_at, ring_ties, is_at, bell_cursor_at}
+use Rattle.sh_core.specs.Stacks.{spot, ties_of, cursor_at, ring_ties, bell_cursor_at}
 use Rattle.sh_core.specs.Bells.{rings, armed_at, owns}
 use Rattle.sh_core.specs.Placed.{HomedPart, All}
 use Rattle.std.proofs.lemmas.Bool.{lt-ltb}
 use Rattle.sh_step.specs.Rows.{owned_by}
 use Rattle.sh_core.specs.Worlds.{World, open_world, value_at}
-use Rattle.sh_core.specs.Lists.{no_lists, state_of}
-use Rattle.sh_core.specs.Tallies.{held, lost, room, at_spot, current, stale}
+use Rattle.sh_core.specs.Lists.{no_lists, state_of, accounts, slots_under}
+use Rattle.sh_core.specs.Tallies.{held, lost, at_spot, current, stale}
 use Rattle.sh_core.specs.Stories.{values}
-use Rattle.sh_core.specs.Refines.{OneKind, Counted, holds_now, LeftEmpty}
+use Rattle.sh_core.specs.Refines.{OneKind, KindsAddUp, Filled, Counted, holds_now, LeftEmpty}
 use Rattle.sh_core.proofs.Totals.{total_at, total_plus}
 use Rattle.sh_core.proofs.Slots.{same_spot-refl}
 use Rattle.sh_core.proofs.StackSteps.{same_page}
-use Rattle.sh_core.proofs.More.{three}
+use Rattle.sh_core.proofs.More.{three, accounts_fill}
+use Rattle.sh_core.proofs.ClassSlots.{under_class, under_class_word, room_is}
 use Rattle.sh_core.proofs.OpenGood.{good_open, none_new, part_new}
 use Rattle.sh_step.specs.Plans.{Plan, home, Lawful}
 use Rattle.sh_core.proofs.PageNumbers.{over_none}
@@ -48,20 +48,39 @@ all_open plan laws = record {
   no_link n q true = rw (over_none plan n 2 (omega arith)) refl
   no_link n q false = refl
 
+-- a blank page has no slots to count
+blank_fills : (w : World) (l : Lists) (q : ℕ) → w.words.class_at q ≡ 0 → let a = accounts w l q in a.live + (a.marked + (a.retired + (a.mine + (a.hand + a.queued)))) ≡ slots_under (w.words.class_at q)
+unfolding accounts total spots
+blank_fills w l q e = rw e refl
+
 module _ (plan : Plan) (w : World) (l : Lists) (all : All plan w l) where
+  pub kinds_add_up : KindsAddUp w l
+  kinds_add_up x =
+      let fine = all.good.slots x in
+      let states = three (state_of w x).present (state_of w x).marked in
+      let is = room_is (w.words.class_at x.page) x.slot in omega arith
+
   pub one_kind : OneKind w l
   one_kind x c is = (
-    λ small. let f = all.good.slots x in let k = three (state_of w x).present (state_of w x).marked in let r : room w.words x ≡ 1 = rw is (inside c x.slot small) in omega arith,
-    λ big. let f = all.good.slots x in let k = three (state_of w x).present (state_of w x).marked in let r : room w.words x ≡ 0 = rw is (outside c x.slot big) in omega arith,
+    λ small. let sum = kinds_add_up x in let one : if1 (nat_lt x.slot (slots_under (w.words.class_at x.page))) ≡ 1 = rw (is, below (c + 1) x.slot (rw (under_class c) small)) refl in omega arith,
+    λ big. let sum = kinds_add_up x in let none : if1 (nat_lt x.slot (slots_under (w.words.class_at x.page))) ≡ 0 = rw (is, above (c + 1) x.slot (rw (under_class c) big)) refl in omega arith,
   ) where
-    inside : (c t : ℕ) → t < slots c → if1 (nat_lt 0 (c + 1) && nat_lt t (slots (c + 1 - 1))) ≡ 1
-    inside c t b = let d : c + 1 - 1 ≡ c = omega arith in let x : nat_lt 0 (c + 1) ≡ true = grind (arith, nat_tests) in let y : nat_lt t (slots c) ≡ true = lt-ltb t (slots c) b in rw (d, x, y) refl
+    below : (n t : ℕ) → t < slots_under n → nat_lt t (slots_under n) ≡ true
+    below n t small = lt-ltb t (slots_under n) small
 
     past : (a b : ℕ) → b ≤ a → nat_lt a b ≡ false
     past a b h = grind (arith, nat_tests)
 
-    outside : (c t : ℕ) → slots c ≤ t → if1 (nat_lt 0 (c + 1) && nat_lt t (slots (c + 1 - 1))) ≡ 0
-    outside c t b = let d : c + 1 - 1 ≡ c = omega arith in let x : nat_lt 0 (c + 1) ≡ true = grind (arith, nat_tests) in let y : nat_lt t (slots c) ≡ false = past t (slots c) b in rw (d, x, y) refl
+    above : (n t : ℕ) → slots_under n ≤ t → nat_lt t (slots_under n) ≡ false
+    above n t big = past t (slots_under n) big
+
+  pub filled : Filled w l
+  filled q = go (w.words.class_at q == 0) refl where
+    go : (b : Bool) → (w.words.class_at q == 0) ≡ b → let a = accounts w l q in a.live + (a.marked + (a.retired + (a.mine + (a.hand + a.queued)))) ≡ slots_under (w.words.class_at q)
+    go true e = blank_fills w l q (same_page (w.words.class_at q) 0 e)
+    go false e =
+        let some : w.words.class_at q ≡ w.words.class_at q - 1 + 1 = grind (arith, nat_tests) in
+        accounts_fill plan w l q (w.words.class_at q - 1) all.good.slots some ∙ sym (under_class_word (w.words.class_at q) e)
 
   some_total : {A : Type 0} (f g : A → ℕ) → ((x : A) → g x ≡ 0 → f x ≡ 0) → (xs : List A) → total g xs ≡ 0 → total f xs ≡ 0
   some_total f g h xs e = zero_all f g xs (λ j x _. h x) e
@@ -126,14 +145,6 @@ module _ (plan : Plan) (w : World) (l : Lists) (all : All plan w l) where
         λ x h. zero_all (mine_at x) (owns n) w.parts (λ j u at z. (all.rest.homed j u at).mines x (no_owner u.owned x.page h z)) none,
         λ q s h. zero_all (cursor_at q s) (owns n) w.parts (λ j u at z. (all.rest.homed j u at).points q s (no_owner u.owned q h z)) none,
         λ q h. zero_all (armed_at q) (owns n) w.parts (λ j u at z. (all.rest.homed j u at).arms q (no_owner u.owned q h z)) none,
-        λ q. zero_all (bell_cursor_at n q) (owns n) w.parts (λ j u at z. bell u.owned u.bell_cursor q z) none,
       ) where
         no_owner : (o : Option ℕ) (q : ℕ) → home plan q ≡ n → (elim o as (λ _. ℕ) [ Some k ↦ if1 (k == n) | None ↦ 0 ]) ≡ 0 → owned_by plan o q ≡ false
         no_owner o q h z = owns_none plan o q (let P : ℕ → Type 0 = λ m. (elim o as (λ _. ℕ) [ Some k ↦ if1 (k == m) | None ↦ 0 ]) ≡ 0 in subst P (sym h) z)
-
-        bell : (o b : Option ℕ) (q : ℕ) → (elim o as (λ _. ℕ) [ Some k ↦ if1 (k == n) | None ↦ 0 ]) ≡ 0 → (elim o as (λ _. ℕ) [ Some k ↦ cond (k == n) (is_at b q) 0 | None ↦ 0 ]) ≡ 0
-        bell (Some k) b q z = go (k == n) z where
-          go : (c : Bool) → if1 c ≡ 0 → cond c (is_at b q) 0 ≡ 0
-          go true e = absurd (omega arith)
-          go false e = refl
-        bell None b q z = refl

@@ -1,13 +1,12 @@
 -- The theorem: what is kept along a run, and each clause of it.
-use Rattle.std.proofs.Common.{◌||◌, ◌≡◌, ℕ, ◌<◌, Bool, true, false, List, [], ◌∷◌, refl, subst, arith, Some, None}
+use Rattle.std.proofs.Common.{◌||◌, ◌≡◌, ℕ, zero, suc, ◌<◌, ◌≤◌, List, [], ◌∷◌, refl, subst, arith, Some, None}
 use Rattle.sh_slots.specs.declared.hand.Hand.{Hand}
 use Rattle.sh_slots.specs.declared.hand.Hand.TheVariants.{Filling}
 use Rattle.sh_history.specs.History.{Legal}
 use Rattle.sh_step.specs.Plans.{Plan, Lawful, keys_of}
 use Rattle.sh_step.specs.Collections.{total, if1, noted}
 use Rattle.sh_step.specs.declared.body.Body.{Body}
-use Rattle.sh_core.specs.Lists.{Lists, times, mine_at}
-use Rattle.sh_core.specs.Stacks.{cursor_at}
+use Rattle.sh_core.specs.Lists.{Lists}
 use Rattle.sh_core.specs.Placed.{All}
 use Rattle.sh_step.specs.declared.action.Event.{Event}
 use Rattle.sh_core.specs.Worlds.{World, step, run, run_from, open_world}
@@ -16,29 +15,27 @@ use Rattle.sh_core.specs.Knows.{KnowsPart, AllKnow}
 use Rattle.sh_core.proofs.OpenGood.{part_new}
 use Rattle.sh_core.proofs.RunAll.{all_step}
 use Rattle.sh_core.proofs.KnowKinds.{know_step}
-use Rattle.sh_core.proofs.RunRefines.{all_open, one_kind, counted, left_empty}
+use Rattle.sh_core.proofs.RunRefines.{all_open, one_kind, kinds_add_up, filled, counted, left_empty}
+use Rattle.sh_core.proofs.KeyFacts.{past, keys_told, holds_told}
+use Rattle.sh_core.proofs.LastGenerations.{Beside, beside_step, beside_open}
+use Rattle.sh_core.proofs.LinkFacts.{each_linked}
+use Rattle.sh_core.proofs.OwnerFacts.{one_owner, shardless, own_stands}
 use Rattle.sh_key.specs.Layout.{Layout, IsLayout}
 use Rattle.sh_shape.specs.Shape.{Numbers, IsShape, Fits}
 use Rattle.sh_slots.specs.Slots.{name_of}
-use Rattle.sh_step.specs.Plans.{plan_of}
-use Rattle.sh_step.specs.Rows.{own}
-use Rattle.sh_core.specs.Refines.{OwnPartsStand, FillsAreKeys, Refines, CountIsFew, PastIsRemoved}
+use Rattle.sh_step.specs.Plans.{plan_of, all_pages}
+use Rattle.sh_core.specs.Refines.{ClassesAreKnown, FillsAreKeys, Refines, CountIsFew}
 use Rattle.sh_core.specs.Within.{AllWithin, ValuesFit}
 use Rattle.sh_core.proofs.BellWords.{bells_are_small}
 use Rattle.sh_core.proofs.RowsFit.{stores_words, issues_keys}
-use Rattle.sh_core.specs.Stacks.{cursor_at}
 use Rattle.sh_core.specs.Tallies.{visits}
 use Rattle.sh_core.proofs.LayoutLaws.{plan_lawful}
-use Rattle.sh_core.proofs.More.{accounts_fill}
-use Rattle.sh_core.proofs.Permits.{value_some, removed_by}
 use Rattle.sh_core.proofs.HeldStands.{has_room, held as held_keys, reads}
 use Rattle.sh_core.proofs.StaysWithin.{within_step, within_open}
-use Rattle.sh_core.proofs.PlacesWithin.{steps_within, counts_fit, pointed, rung, roomy, noted_at}
+use Rattle.sh_core.proofs.PlacesWithin.{steps_within, counts_fit}
 use Rattle.sh_core.proofs.SlotGood.{total_length, visits_few}
-use Rattle.sh_core.proofs.SlotGood.{room_few}
 use Rattle.sh_core.proofs.FewHolds.{FewHolds, few_step, few_open}
 use Rattle.sh_core.proofs.KeyNotes.{AllTold, told_step, told_open, notes}
-use Rattle.sh_core.proofs.Totals.{total_at}
 
 know_open : (plan : Plan) → AllKnow plan (open_world plan)
 unfolding total noted
@@ -47,18 +44,19 @@ know_open plan a p at =
     let P : Body → Type 0 = λ u. KnowsPart plan (open_world plan).words u in
     subst P e (record { named = λ k h. absurd (omega arith); classed = λ k c h. absurd (let z : None ≡ Some c = h in cc); measured = λ k c h. absurd (let z : None ≡ Some c = h in cc) })
 
--- all five are kept along a run
+-- all six are kept along a run
 pub record Kept (plan : Plan) (w : World) (l : Lists) : Type 0 where
   pub all : All plan w l
   pub know : AllKnow plan w
   pub within : AllWithin plan w
   pub few : FewHolds plan w
   pub told : AllTold w
+  pub beside : Beside plan w
 
 kept_from : (plan : Plan) (w : World) (l : Lists) (es : List Event) → Lawful plan → Kept plan w l → Kept plan (run_from plan w es) (lists_from plan w l es)
 unfolding run_from lists_from
 kept_from plan w l [] laws k = k
-kept_from plan w l (e ∷ es) laws k = kept_from plan (step plan w e) (list_step plan w e l) es laws (record { all = all_step plan w l e laws k.all; know = know_step plan w l e k.all k.know; within = within_step plan w e (λ q s. (k.all.sound.generations q s).1) k.within; few = few_step plan w l e k.all.good k.few; told = told_step plan w l e k.all k.know k.told })
+kept_from plan w l (e ∷ es) laws k = kept_from plan (step plan w e) (list_step plan w e l) es laws (record { all = all_step plan w l e laws k.all; know = know_step plan w l e k.all k.know; within = within_step plan w e (λ q s. (k.all.sound.generations q s).1) k.within; few = few_step plan w l e k.all.good k.few; told = told_step plan w l e k.all k.know k.told; beside = beside_step plan w l e k.all (counts_fit plan w l laws k.all k.know k.within) k.beside })
 
 module _ (plan : Plan) (w : World) (l : Lists) (laws : Lawful plan) (kept : Kept plan w l) where
   abbrev all : All plan w l
@@ -70,34 +68,15 @@ module _ (plan : Plan) (w : World) (l : Lists) (laws : Lawful plan) (kept : Kept
       let h = kept.few x in
       let v = total_length (visits plan x) (λ p. visits_few plan x p p.hand) w.parts in omega arith
 
-  past : PastIsRemoved plan w
-  past k n name less =
-      let b = (all.good.keys k n name).before less in
-      let b0 = b.0 in
-      let b1 = b.1 in (value_some k w.log (omega arith), (removed_by k w.log).1 (omega arith))
+  -- class words are small, and 0 past the last page
+  classes : ClassesAreKnown plan w
+  classes q = (bounds.0, λ past. none (w.words.class_at q) refl past) where
+    bounds : (w.words.class_at q ≤ 8) × (0 < w.words.class_at q → q < all_pages plan)
+    bounds = all.sound.classes q
 
-  -- what is not zero is not that of another's page
-  own_or : (b : Bool) (n : ℕ) → 0 < n → (b ≡ false → n ≡ 0) → b ≡ true
-  own_or true n some h = refl
-  own_or false n some h = let z = h refl in absurd (omega arith)
-
-  own_parts : OwnPartsStand plan w
-  own_parts a p at =
-      let o = all.rest.homed a p at in
-      let v = kept.within a p at in record {
-        few_holds = (all.good.parts a p at).0;
-        mine = λ x some.
-            let t = total_at (mine_at x) w.parts a p at in
-            let f = all.good.slots x in
-            let r = room_few w.words x in
-            let y = roomy plan w l laws all kept.know kept.within x (omega arith) in
-            (omega arith, own_or (own plan p x.page) (mine_at x p) some (λ e. o.mines x e), y.0, y.1);
-        cursors = λ q s is. (own_or (own plan p q) (cursor_at q s p) (noted_at q s p.cursors is) (λ e. o.points q s e), pointed plan w l laws all kept.know kept.within a p q s at is);
-        armed = λ q some. (own_or (own plan p q) (times q p.armed) some (λ e. o.arms q e), v.armed q some);
-        notes = λ q c mine is. (o.notes q c mine is).0;
-        bell = λ q is. rung plan w l laws all kept.know kept.within a p q at is;
-        owned = v.owned;
-      }
+    none : (n : ℕ) → w.words.class_at q ≡ n → all_pages plan ≤ q → n ≡ 0
+    none zero e past = refl
+    none (suc n) e past = absurd (let inside = bounds.1 (omega arith) in omega arith)
 
   values_fit : ValuesFit plan w
   values_fit x there =
@@ -115,28 +94,37 @@ module _ (plan : Plan) (w : World) (l : Lists) (laws : Lawful plan) (kept : Kept
   pub refines : Refines plan w l
   refines = record {
     legal = all.good.legal;
+    entries = kept.beside.entries;
     one_kind = one_kind plan w l all;
-    filled = λ q c is. accounts_fill plan w l q c all.good.slots is;
+    kinds = kinds_add_up plan w l all;
+    filled = filled plan w l all;
+    classes = classes;
     held = held_keys plan w l all kept.know;
     reads = reads plan w l all kept.know;
     notes = notes plan w l all kept.know kept.told;
+    holds = holds_told plan w l all;
     counted = counted plan w l all;
     few = few;
-    past = past;
+    counts = counts_fit plan w l laws all kept.know kept.within;
+    past = past plan w l all;
+    keys = keys_told plan w l all;
     generations = λ x. all.sound.generations x.page x.slot;
+    retired = kept.beside.retired;
     finished = λ x a b c. (all.good.slots x).owed a b c;
+    owners = one_owner plan w l all;
     armed = all.rest.duty;
     left = left_empty plan w l all;
+    shardless = shardless plan w l all;
     linked = (all.rest.stacks, all.rest.bells);
-    parts = own_parts;
+    links = each_linked plan w l laws all kept.know kept.within;
+    parts = own_stands plan w l laws all kept.know kept.within;
     fills = fills;
     places = steps_within plan w l laws all kept.know kept.within;
-    counts = counts_fit plan w l laws all kept.know kept.within;
-    passes = all.good.passes;
     bells = bells_are_small plan w l laws all kept.know kept.within;
     values = values_fit;
     stores = stores_words plan w laws fills kept.within;
     issues = issues_keys plan w laws fills kept.within;
+    passes = all.good.passes;
   }
 
 -- every run of every heap
@@ -144,7 +132,7 @@ pub theorem : (layout : Layout) (shape : Numbers) → IsLayout layout → IsShap
 theorem layout shape a b c es =
     let plan : Plan = plan_of layout shape in
     let laws : Lawful plan = plan_lawful layout shape a b c in
-    refines plan (run plan es) (lists_of plan es) laws (kept_from plan (open_world plan) no_lists es laws (record { all = all_open plan laws; know = know_open plan; within = within_open plan; few = few_open plan; told = told_open plan }))
+    refines plan (run plan es) (lists_of plan es) laws (kept_from plan (open_world plan) no_lists es laws (record { all = all_open plan laws; know = know_open plan; within = within_open plan; few = few_open plan; told = told_open plan; beside = beside_open plan }))
 
 -- its log, in the layout's own number of holds
 pub legal_of : (layout : Layout) (shape : Numbers) → IsLayout layout → IsShape shape → Fits layout shape → (es : List Event) → Legal shape.passes layout.guard_max (run (plan_of layout shape) es).log

@@ -1,6 +1,7 @@
 -- A step of the code is the step of the world that it stands for.
 use Rattle.std.proofs.Common.{◌≡◌, ◌≢◌, ℕ, List, [], ◌∷◌, ◌++◌, get_or, set, sym, ap, ◌∙◌, subst, Option, Some, None, slice_get}
 use Rattle.sh_history.specs.declared.entry.Entry.{Entry}
+use Rattle.sh_history.specs.History.{Legal}
 use Rattle.std.specs.Prelude.{replicate}
 use Rattle.sh_key.specs.Layout.{Layout, IsLayout}
 use Rattle.sh_shape.specs.Shape.{Numbers, IsShape, Fits}
@@ -20,6 +21,7 @@ use Rattle.sh_core.specs.Kept.{Kept, Stands, Hold, Reached}
 use Rattle.sh_core.specs.Opening.{opening_words}
 use Rattle.sh_core.proofs.OpeningWords.{opening_holds}
 use Rattle.sh_core.proofs.KeptWords.{hold_write}
+use Rattle.sh_core.proofs.RunTheorem.{legal_of}
 use Rattle.sh_core.proofs.Steps.{step_moves, step_skips, step_past, run_snoc}
 
 -- what is kept once the row was done on the word n
@@ -98,3 +100,7 @@ stands_open layout shape words parts log w p l = record {
 pub reached_open : (layout : Layout) (k : Kept) → IsLayout layout → IsShape k.shape → Fits layout k.shape → Stands k (open_world (plan_of layout k.shape)) → Reached layout k
 unfolding run_from
 reached_open layout k a b c s = record { is_layout = a; is_shape = b; fits = c; events = []; stands = s }
+
+-- the log of what is kept is that of the run
+pub reached_legal : (layout : Layout) (k : Kept) → Reached layout k → Legal k.shape.passes layout.guard_max k.log
+reached_legal layout k r = subst (Legal k.shape.passes layout.guard_max) (sym r.stands.log) (legal_of layout k.shape r.is_layout r.is_shape r.fits r.events)

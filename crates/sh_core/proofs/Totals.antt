@@ -1,5 +1,5 @@
 -- Sums over the passes after a change of one of them.
-use Rattle.std.proofs.Common.{◌≡◌, ◌≢◌, ℕ, zero, suc, ◌+◌, ◌≤◌, Bool, true, false, cond, List, [], ◌∷◌, ◌++◌, ◌||◌, ◌⊎◌, set, refl, ap, arith, Some, None, slice_get, inl, inr, ⊎_elim}
+use Rattle.std.proofs.Common.{◌≡◌, ◌≢◌, ℕ, zero, suc, ◌+◌, ◌<◌, ◌≤◌, Bool, true, false, cond, List, [], ◌∷◌, ◌++◌, ◌||◌, ◌⊎◌, set, refl, ap, arith, Some, None, slice_get, inl, inr, ⊎_elim}
 use Rattle.sh_step.specs.Collections.{total, without, has}
 
 pub total_set : {A : Type 0} (f : A → ℕ) (xs : List A) (i : ℕ) (v w : A) → slice_get xs i ≡ Some v → total f (set xs i w) + f v ≡ total f xs + f w
@@ -61,3 +61,12 @@ total_two f (x ∷ xs) zero zero v w n e d = absurd (n refl)
 total_two f (x ∷ xs) zero (suc j) v w n e d = let s : x ≡ v = cc in let t : f x ≡ f v = ap f s in let r = total_at f xs j w d in omega arith
 total_two f (x ∷ xs) (suc i) zero v w n e d = let s : x ≡ w = cc in let t : f x ≡ f w = ap f s in let r = total_at f xs i v e in omega arith
 total_two f (x ∷ xs) (suc i) (suc j) v w n e d = let r = total_two f xs i j v w (λ h. n (ap suc h)) e d in omega arith
+
+-- what adds up to something has an item that does
+pub some_part : {A : Type 0} (f : A → ℕ) (xs : List A) → 0 < total f xs → (i : ℕ) × (x : A) × (slice_get xs i ≡ Some x) × (0 < f x)
+unfolding total
+some_part f [] h = absurd (omega arith)
+some_part {A = A} f (x ∷ xs) h = go (f x) refl (λ k. some_part f xs k) where
+  go : (n : ℕ) → f x ≡ n → (0 < total f xs → (i : ℕ) × (y : A) × (slice_get xs i ≡ Some y) × (0 < f y)) → (i : ℕ) × (y : A) × (slice_get (x ∷ xs) i ≡ Some y) × (0 < f y)
+  go (suc n) e rest = (0, x, refl, omega arith)
+  go zero e rest = let r = rest (omega arith) in (suc r.0, r.1, r.2, r.3)

@@ -1,11 +1,11 @@
 -- The theorem refuses wrong tables: of each, a clause that some list of events breaks.
-use Rattle.std.proofs.Common.{◌≡◌, ℕ, ◌<◌, ◌≤◌, true, false, List, [], ◌∷◌, ◌++◌, refl, sym, ◌∙◌, subst, arith, Some, None, slice_get}
-use Rattle.sh_history.specs.declared.entry.Entry.TheVariants.{Insert, Removed}
+use Rattle.std.proofs.Common.{◌≡◌, ℕ, ◌+◌, ◌<◌, ◌≤◌, true, false, List, [], ◌∷◌, ◌++◌, refl, sym, ◌∙◌, subst, arith, Some, None, slice_get}
+use Rattle.sh_history.specs.declared.entry.Entry.TheVariants.{Insert, Crowded, Removed}
 use Rattle.sh_history.specs.History.{Legal}
 use Rattle.sh_key.specs.Layouts.{tiny, tiny_numbers}
 use Rattle.sh_slots.specs.declared.hand.Name.{Name}
 use Rattle.sh_slots.specs.Slots.{spot_of}
-use Rattle.sh_step.specs.declared.action.Action.TheVariants.{EnterGet, EnterRemove, Mark, Drop, Finish, FillSlot, Publish, ReadPage, SetClass, Take, Follow, Put, Tie, Adopt, Leave, Arm}
+use Rattle.sh_step.specs.declared.action.Action.TheVariants.{EnterGet, EnterRemove, Mark, Drop, DropHold, Finish, FillSlot, Publish, ReadClass, ReadPage, SetClass, Take, Follow, Put, Tie, Adopt, Leave, Arm, Ring, RingTie, TakeBell}
 use Rattle.sh_step.specs.declared.action.Event.{Event}
 use Rattle.sh_step.specs.declared.body.Body.{Body}
 use Rattle.sh_step.specs.Plans.{Plan, plan_of, keys_of}
@@ -14,9 +14,9 @@ use Rattle.sh_core.specs.Worlds.{World, step, run_from, run, open_world}
 use Rattle.sh_step.specs.Parts.{newcomer}
 use Rattle.sh_core.specs.Lists.{Lists, list_step, lists_from, lists_of, no_lists, state_of, times}
 use Rattle.sh_core.specs.Stacks.{spot}
-use Rattle.sh_core.specs.Refines.{Always, OneKind, HeldStands, Armed, LeftEmpty, Linked}
+use Rattle.sh_core.specs.Refines.{Always, OneKind, HeldStands, NotesAreTrue, Counted, GenerationsEnd, Finished, Armed, LeftEmpty, Linked, OwnPartsStand, ClassesAreKnown}
 use Rattle.sh_core.specs.Variants.{Table, step_by, run_from_by, run_by, list_step_by, lists_from_by, lists_by, AlwaysBy}
-use Rattle.sh_core.specs.WrongRows.{keeps_generation, ignores_count, wraps_generation, ties_first, ends_at_unwritten, leaves_link, never_rings, leaves_slots, forgets_last_slot}
+use Rattle.sh_core.specs.WrongRows.{crowds_at_once, both_remove, marks_and_stays, drops_and_forgets, knows_after_hold, keeps_generation, ignores_count, wraps_generation, never_retires, ties_first, ends_at_unwritten, leaves_link, follows_twice, never_rings, leaves_slots, leaves_bell, forgets_last_slot, gives_any_class}
 use Rattle.sh_step.proofs.Truths.{no_bool}
 use Rattle.sh_core.proofs.Worked.{small, ev, at, page, everything}
 
@@ -38,7 +38,7 @@ same_always P always layout shape a b c es =
 
 -- ---- one list of events in a tiny heap refutes what should always hold
 
-abbrev IsLegal : Plan → World → Lists → Type 0
+abbrev pub IsLegal : Plan → World → Lists → Type 0
 IsLegal plan w l = Legal plan.passes plan.keys.guard_max w.log
 
 refuted : (rows : Table) (P : Plan → World → Lists → Type 0) (n : ℕ) → 1 ≤ n → n ≤ 64 → (es : List Event) → ¬ P (small n) (run_by rows (small n) es) (lists_by rows (small n) es) → ¬ AlwaysBy rows P
@@ -58,7 +58,7 @@ abbrev put_back : ℕ → ℕ → List Event
 put_back a k = removed a k ++ ev a Put ∷ ev a Tie ∷ []
 
 wrongly : ℕ
-unfolding everything step_by run_from_by list_step_by lists_from_by keeps_generation ignores_count wraps_generation ties_first ends_at_unwritten leaves_link never_rings leaves_slots forgets_last_slot
+unfolding everything step_by run_from_by list_step_by lists_from_by crowds_at_once both_remove marks_and_stays drops_and_forgets knows_after_hold keeps_generation ignores_count wraps_generation never_retires ties_first ends_at_unwritten leaves_link follows_twice never_rings leaves_slots leaves_bell forgets_last_slot gives_any_class
 wrongly = 0
 
 -- a key is issued twice where the end of a generation leaves it
@@ -150,3 +150,79 @@ unfolding wrongly
 forgotten_slot_has_two_kinds = refuted forgets_last_slot (λ plan w l. OneKind w l) 1 (omega arith) (omega arith) (opened ++ inserted 2 ++ ev 0 (SetClass (page 0 0) 6) ∷ []) (λ h.
     let small : 2 < 4 = omega arith in
     let z : 2 ≡ 1 = (h (spot 0 2) 6 refl).0 small in absurd (omega arith))
+
+-- a key with one hold to come is not crowded where four may be had
+abbrev getting : List Event
+getting = opened ++ inserted 0 ++ ev 0 (EnterGet 4096) ∷ []
+
+crowded : (run_by crowds_at_once (small 1) getting).log ≡ Insert 0 4096 [] ∷ Crowded 0 4096 ∷ []
+unfolding wrongly
+crowded = refl
+
+pub crowded_too_early : ¬ AlwaysBy crowds_at_once IsLegal
+unfolding keys_of
+crowded_too_early = refuted crowds_at_once IsLegal 1 (omega arith) (omega arith) getting (λ h. let t : Legal 1 4 (Insert 0 4096 [] ∷ Crowded 0 4096 ∷ []) = subst (Legal 1 4) crowded h in let z : 4 < 0 + 1 = t.1.0.2 in absurd (omega arith))
+
+-- two passes remove one key
+abbrev removing : List Event
+removing = opened ++ inserted 0 ++ ev 0 (EnterRemove 4096) ∷ ev 1 (EnterRemove 4096) ∷ ev 0 Mark ∷ ev 1 Mark ∷ []
+
+removed_both : (run_by both_remove (small 2) removing).log ≡ Insert 0 4096 [] ∷ Removed 0 4096 ∷ Removed 1 4096 ∷ []
+unfolding wrongly
+removed_both = refl
+
+pub key_is_removed_twice : ¬ AlwaysBy both_remove IsLegal
+unfolding keys_of
+key_is_removed_twice = refuted both_remove IsLegal 2 (omega arith) (omega arith) removing (λ h. let t : Legal 2 4 (Insert 0 4096 [] ∷ Removed 0 4096 ∷ Removed 1 4096 ∷ []) = subst (Legal 2 4) removed_both h in let z : true ≡ false = t.1.1.0.1 in cc)
+
+-- a count that nobody takes back
+pub stayed_count_is_nobodys : ¬ AlwaysBy marks_and_stays (λ plan w l. Counted plan w)
+unfolding wrongly
+stayed_count_is_nobodys = refuted marks_and_stays (λ plan w l. Counted plan w) 1 (omega arith) (omega arith) (opened ++ inserted 0 ++ ev 0 (EnterRemove 4096) ∷ ev 0 Mark ∷ []) (λ h. let z : 1 ≡ 0 = h (spot 0 0) in absurd (omega arith))
+
+-- a marked slot that nobody finishes
+pub forgotten_end_never_comes : ¬ AlwaysBy drops_and_forgets (λ plan w l. Finished plan w)
+unfolding wrongly
+forgotten_end_never_comes = refuted drops_and_forgets (λ plan w l. Finished plan w) 1 (omega arith) (omega arith) (opened ++ inserted 0 ++ ev 0 (EnterRemove 4096) ∷ ev 0 Mark ∷ ev 0 Drop ∷ []) (λ h. let z : 0 < 0 = h (spot 0 0) refl refl refl in absurd (omega arith))
+
+-- the class of a key that is held no more
+abbrev knowing : List Event
+knowing = opened ++ inserted 0 ++ ev 0 (EnterGet 4096) ∷ ev 0 (ReadClass 4096) ∷ ev 0 (DropHold 4096) ∷ []
+
+abbrev knower : Body
+knower = record newcomer { owned = Some 0; classes = (0, 8) ∷ (0, 0) ∷ []; mine = spot 0 1 ∷ spot 0 2 ∷ []; widths = (4096, 8) ∷ [] }
+
+pub known_key_is_not_held : ¬ AlwaysBy knows_after_hold (λ plan w l. NotesAreTrue plan w)
+unfolding wrongly
+known_key_is_not_held = refuted knows_after_hold (λ plan w l. NotesAreTrue plan w) 1 (omega arith) (omega arith) knowing (λ h. let z : 0 < 0 = ((h 0 knower refl).widths 4096 8 refl).0 in absurd (omega arith))
+
+-- a fourth generation, of which tiny has three
+pub unretired_slot_has_no_key : ¬ AlwaysBy never_retires (λ plan w l. GenerationsEnd plan w)
+unfolding wrongly
+unretired_slot_has_no_key = refuted never_retires (λ plan w l. GenerationsEnd plan w) 1 (omega arith) (omega arith) (opened ++ inserted 0 ++ removed 0 4096 ++ inserted 0 ++ removed 0 8192 ++ inserted 0 ++ removed 0 12288) (λ h. let z : 4 ≤ 3 = (h (spot 0 0)).1 in absurd (omega arith))
+
+-- a slot that stands twice among its owner's
+abbrev collecting : List Event
+collecting = opened ++ inserted 0 ++ put_back 1 4096 ++ ev 0 (Take (page 0 0)) ∷ ev 0 (Follow (page 0 0)) ∷ []
+
+pub followed_twice_is_mine_twice : ¬ AlwaysBy follows_twice (λ plan w l. OneKind w l)
+unfolding wrongly
+followed_twice_is_mine_twice = refuted follows_twice (λ plan w l. OneKind w l) 2 (omega arith) (omega arith) collecting (λ h.
+    let small : 0 < 3 = omega arith in
+    let z : 2 ≡ 1 = (h (spot 0 0) 7 refl).0 small in absurd (omega arith))
+
+-- what was rung for is followed by nobody where its owner left
+abbrev ringing : List Event
+ringing = opened ++ inserted 0 ++ inserted 1 ++ inserted 2 ++ ev 0 (Arm (page 0 0)) ∷ put_back 1 4096 ++ ev 1 Ring ∷ ev 1 RingTie ∷ ev 0 TakeBell ∷ ev 0 Leave ∷ []
+
+abbrev gone : Body
+gone = record newcomer { classes = (0, 8) ∷ (0, 0) ∷ []; armed = 0 ∷ []; bell_cursor = Some 0 }
+
+pub left_bell_is_nobodys : ¬ AlwaysBy leaves_bell (λ plan w l. OwnPartsStand plan w)
+unfolding wrongly
+left_bell_is_nobodys = refuted leaves_bell (λ plan w l. OwnPartsStand plan w) 2 (omega arith) (omega arith) ringing (λ h. let z : false ≡ true = ((h 0 gone refl).bell 0 refl).0 in no_bool z)
+
+-- a page of a ninth class
+pub ninth_class_is_none : ¬ AlwaysBy gives_any_class (λ plan w l. ClassesAreKnown plan w)
+unfolding wrongly
+ninth_class_is_none = refuted gives_any_class (λ plan w l. ClassesAreKnown plan w) 1 (omega arith) (omega arith) (ev 0 (Adopt 0) ∷ ev 0 (ReadPage (page 0 0)) ∷ ev 0 (SetClass (page 0 0) 8) ∷ []) (λ h. let z : 9 ≤ 8 = (h 0).0 in absurd (omega arith))

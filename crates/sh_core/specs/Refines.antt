@@ -1,24 +1,27 @@
 -- What holds after every list of events: the clauses of the theorem, each of a world and of the lists of what was put.
-use Rattle.std.specs.Prelude.{IsSome, ℕ, ◌+◌, ◌-◌, ◌*◌, ◌/◌, ◌%◌, ◌≡◌, ◌<◌, ◌≤◌, true, not, ◌&&◌, List, Some, length, slice_get, slice_index}
+use Rattle.std.specs.Prelude.{IsSome, ℕ, ◌+◌, ◌-◌, ◌*◌, ◌/◌, ◌%◌, ◌≡◌, ◌<◌, ◌≤◌, true, false, nat_lt, not, ◌&&◌, ◌||◌, List, [], Some, None, All, length, slice_get, slice_index}
 use Rattle.sh_step.specs.declared.action.Event.{Event}
 use Rattle.sh_slots.specs.declared.hand.Spot.{Spot}
 use Rattle.sh_slots.specs.declared.hand.Name.{Name}
 use Rattle.sh_word.specs.Fields.{Fields}
 use Rattle.sh_key.specs.Layout.{Layout, IsLayout}
 use Rattle.sh_shape.specs.Shape.{Numbers, IsShape, Fits}
-use Rattle.sh_step.specs.Rows.{own}
+use Rattle.sh_step.specs.Rows.{own, unpoint}
 use Rattle.sh_core.specs.Within.{StepsWithin, CountsFit, BellsAreSmall, ValuesFit, StoresWords, IssuesKeys}
 use Rattle.sh_slots.specs.declared.hand.Hand.TheVariants.{Filling}
 use Rattle.sh_slots.specs.Slots.{name_of}
 use Rattle.sh_step.specs.Plans.{plan_of, Plan, all_pages, home}
-use Rattle.sh_shape.specs.Classes.{slots, width}
+use Rattle.sh_shape.specs.Classes.{class_count, slots, width}
 use Rattle.sh_slots.specs.Slots.{spot_of}
 use Rattle.sh_step.specs.Collections.{total, if1, noted}
 use Rattle.sh_step.specs.declared.body.Body.{Body}
 use Rattle.sh_core.specs.Worlds.{World, run, value_at}
-use Rattle.sh_core.specs.Lists.{Lists, accounts, lists_of, times, mine_at, in_hand, state_of}
+use Rattle.sh_core.specs.Lists.{Lists, accounts, lists_of, slots_under, times, mine_at, in_hand, state_of}
+use Rattle.sh_core.specs.LinkWords.{EachLinked}
 use Rattle.sh_core.specs.Tallies.{at_spot, current, visits, finishing}
-use Rattle.sh_history.specs.History.{Legal, value_of, is_removed}
+use Rattle.sh_history.specs.declared.entry.Entry.{Entry}
+use Rattle.sh_history.specs.History.{Legal, value_of, is_removed, got_count, released_count, got_count_by, released_count_by}
+use Rattle.sh_history.specs.Log.{pass_of}
 use Rattle.sh_core.specs.Stacks.{Chains, spot, tying, ties_of, cursor_at, ring_tying, ring_ties, bell_cursor_at, bell_link, bell_head}
 use Rattle.sh_core.specs.Bells.{rings, armed_at}
 
@@ -41,15 +44,28 @@ in_hands w x = total (in_hand x) w.parts
 abbrev pub queue : Lists → Spot → ℕ
 queue l x = times x.slot (l.stack x.page) + times x.slot (l.chain x.page)
 
+-- how often the six kinds count a slot, together
+abbrev pub kind_count : World → Lists → Spot → ℕ
+kind_count w l x = live (state_of w x) + marked (state_of w x) + retired (state_of w x) + mine w x + in_hands w x + queue l x
+
 -- a slot of its page's class has one kind, and only one; another has none
 abbrev pub OneKind : World → Lists → Type 0
-OneKind w l = (x : Spot) (c : ℕ) → w.words.class_at x.page ≡ c + 1 →
-    (x.slot < slots c → live (state_of w x) + marked (state_of w x) + retired (state_of w x) + mine w x + in_hands w x + queue l x ≡ 1)
-    × (slots c ≤ x.slot → live (state_of w x) + marked (state_of w x) + retired (state_of w x) + mine w x + in_hands w x + queue l x ≡ 0)
+OneKind w l = (x : Spot) (c : ℕ) → w.words.class_at x.page ≡ c + 1
+    → (x.slot < slots c → kind_count w l x ≡ 1) × (slots c ≤ x.slot → kind_count w l x ≡ 0)
 
--- the accounts of a page with a class add up to its slots
+-- the same as one equation for every spot: 1 below the slots of the page's class, and else 0; a blank page has no slots
+abbrev pub KindsAddUp : World → Lists → Type 0
+KindsAddUp w l = (x : Spot) → kind_count w l x ≡ if1 (nat_lt x.slot (slots_under (w.words.class_at x.page)))
+
+-- the accounts of a page add up to the slots of its class, and those of a blank page to 0
 abbrev pub Filled : World → Lists → Type 0
-Filled w l = (q c : ℕ) → w.words.class_at q ≡ c + 1 → let a = accounts w l q in a.live + (a.marked + (a.retired + (a.mine + (a.hand + a.queued)))) ≡ slots c
+Filled w l = (q : ℕ) → let a = accounts w l q in
+    a.live + (a.marked + (a.retired + (a.mine + (a.hand + a.queued)))) ≡ slots_under (w.words.class_at q)
+
+-- a class word names a class or says 0, and only pages of the heap have a class
+abbrev pub ClassesAreKnown : Plan → World → Type 0
+ClassesAreKnown plan w = (q : ℕ) →
+    (w.words.class_at q ≤ class_count) × (all_pages plan ≤ q → w.words.class_at q ≡ 0)
 
 -- while a pass holds k, k names a slot of the heap, which is present in k's generation, and its words are the value that k was issued with
 pub record Stands (plan : Plan) (w : World) (k : ℕ) : Type 0 where
@@ -97,6 +113,34 @@ PastIsRemoved plan w = (k : ℕ) (n : Name) → plan.keys.unpack k ≡ Some n �
 abbrev pub GenerationsEnd : Plan → World → Type 0
 GenerationsEnd plan w = (x : Spot) → (0 < (state_of w x).generation) × ((state_of w x).generation ≤ plan.keys.gen_max)
 
+-- and none follows where it is retired
+abbrev pub RetiredIsLast : Plan → World → Type 0
+RetiredIsLast plan w = (x : Spot) → (state_of w x).present ≡ false → (state_of w x).marked ≡ true
+    → (state_of w x).generation ≡ plan.keys.gen_max
+
+-- what the log says of a key of generation g, at a slot in the state st whose words hold `now`. Of the present generation: it was issued
+-- where the slot is live, marked or retired, with the value in its words, and not where it is empty; it was removed exactly where the
+-- mark is set. Of a later one: neither
+pub record KeyTold (log : List Entry) (k g : ℕ) (st : Fields) (now : List ℕ) : Type 0 where
+  pub issued : g ≡ st.generation → (st.present || st.marked) ≡ true → value_of log k ≡ Some now
+  pub empty : g ≡ st.generation → (st.present || st.marked) ≡ false → value_of log k ≡ None
+  pub removed : g ≡ st.generation → is_removed log k ≡ st.marked
+  pub later : st.generation < g → (value_of log k ≡ None) × (is_removed log k ≡ false)
+
+abbrev pub KeysAreTold : Plan → World → Type 0
+KeysAreTold plan w = (k : ℕ) (n : Name) → plan.keys.unpack k ≡ Some n
+    → KeyTold w.log k n.generation (state_of w (spot_of n)) (value_at w.words n.page n.slot)
+
+-- each pass's Got of a key are its Released and its holds, and so are all passes' together
+pub record HoldsAreTold (w : World) : Type 0 where
+  pub of_pass : (a : ℕ) (p : Body) (k : ℕ) → slice_get w.parts a ≡ Some p
+      → got_count_by w.log a k ≡ released_count_by w.log a k + times k p.holds
+  pub together : (k : ℕ) → got_count w.log k ≡ released_count w.log k + total (λ (p : Body). times k p.holds) w.parts
+
+-- each entry is of a pass of the heap
+abbrev pub EntriesAreOurs : Plan → World → Type 0
+EntriesAreOurs plan w = All (λ e. pass_of e < plan.passes) w.log
+
 -- a marked slot that nobody is on has a pass that finishes it
 abbrev pub Finished : Plan → World → Type 0
 Finished plan w = (x : Spot) → (state_of w x).present ≡ true → (state_of w x).marked ≡ true → (state_of w x).count ≡ 0 → 0 < total (finishing x (state_of w x).generation) w.parts
@@ -105,10 +149,25 @@ Finished plan w = (x : Spot) → (state_of w x).present ≡ true → (state_of w
 abbrev pub Armed : Plan → World → Lists → Type 0
 Armed plan w l = (q : ℕ) → (total (armed_at q) w.parts ≡ w.words.head_at q % 2 + total (rings q) w.parts + times q (l.bells (home plan q)) + times q (l.bell_chain (home plan q))) × (total (armed_at q) w.parts ≤ 1)
 
+-- a shard's owner word is 1 where a pass owns it, and then one pass alone; else it is 0
+pub record OneOwner (w : World) : Type 0 where
+  pub word : (n : ℕ) → w.words.owner_at n ≤ 1
+  pub owned : (n : ℕ) → w.words.owner_at n ≡ 1 → (a : ℕ) × (p : Body) × (slice_get w.parts a ≡ Some p) × (p.owned ≡ Some n)
+  pub owner : (a : ℕ) (p : Body) (n : ℕ) → slice_get w.parts a ≡ Some p → p.owned ≡ Some n → w.words.owner_at n ≡ 1
+  pub alone : (a b : ℕ) (p r : Body) (n : ℕ) → slice_get w.parts a ≡ Some p → slice_get w.parts b ≡ Some r
+      → p.owned ≡ Some n → r.owned ≡ Some n → a ≡ b
+
 -- a shard that nobody owns has no cursor, nothing armed and nothing mine
 abbrev pub LeftEmpty : Plan → World → Type 0
-LeftEmpty plan w = (n : ℕ) → w.words.owner_at n ≡ 0 → ((x : Spot) → home plan x.page ≡ n → mine w x ≡ 0) × ((q s : ℕ) → home plan q ≡ n → total (cursor_at q s) w.parts ≡ 0) × ((q : ℕ) → home plan q ≡ n → total (armed_at q) w.parts ≡ 0)
-    × ((q : ℕ) → total (bell_cursor_at n q) w.parts ≡ 0)
+LeftEmpty plan w = (n : ℕ) → w.words.owner_at n ≡ 0
+    → ((x : Spot) → home plan x.page ≡ n → mine w x ≡ 0)
+    × ((q s : ℕ) → home plan q ≡ n → total (cursor_at q s) w.parts ≡ 0)
+    × ((q : ℕ) → home plan q ≡ n → total (armed_at q) w.parts ≡ 0)
+
+-- a pass that owns no shard has no slot, no cursor, no armed page and no bell cursor
+abbrev pub ShardlessHaveNothing : World → Type 0
+ShardlessHaveNothing w = (a : ℕ) (p : Body) → slice_get w.parts a ≡ Some p → p.owned ≡ None
+    → (p.mine ≡ []) × (p.cursors ≡ []) × (p.armed ≡ []) × (p.bell_cursor ≡ None)
 
 -- each link of a stack, a chain, a bell names the next item, or is the end, or is 0 with one pass that ties it; an owner's cursor is its chain's first
 abbrev pub Linked : Plan → World → Lists → Type 0
@@ -116,15 +175,21 @@ Linked plan w l =
     Chains (λ q. w.words.head_at q / 2) w.words.link_at (λ q s. total (tying (spot q s)) w.parts) (λ q s. total (ties_of (spot q s)) w.parts) (λ q s. total (cursor_at q s) w.parts) l.stack l.chain
     × Chains (bell_head plan w.words.bell_at) (bell_link plan w.words.page_link_at) (λ n q. total (ring_tying plan n q) w.parts) (λ n q. total (ring_ties plan n q) w.parts) (λ n q. total (bell_cursor_at n q) w.parts) l.bells l.bell_chain
 
--- what a pass has of its own lies within its shard, and what it noted is true
+-- what a pass has of its own lies within its shard, and what it noted is true. A slot is its own once, and is one of its page's class;
+-- a page has one cursor at most, at a slot of its class that is not its own; an armed page is armed once, and the bell's cursor is at
+-- one; a page of the shard that is not armed has no flag
 pub record OwnStands (plan : Plan) (w : World) (p : Body) : Type 0 where
   pub few_holds : length p.holds ≤ 16
-  pub mine : (x : Spot) → 0 < mine_at x p → (mine_at x p ≡ 1) × (own plan p x.page ≡ true) × (x.page < all_pages plan) × (x.slot < slots (w.words.class_at x.page - 1))
-  pub cursors : (q s : ℕ) → noted q p.cursors ≡ Some s → (own plan p q ≡ true) × (s < 48)
-  pub armed : (q : ℕ) → 0 < times q p.armed → (own plan p q ≡ true) × (q < all_pages plan)
-  pub notes : (q c : ℕ) → own plan p q ≡ true → noted q p.classes ≡ Some c → w.words.class_at q ≡ c
-  pub bell : (q : ℕ) → p.bell_cursor ≡ Some q → q < all_pages plan
   pub owned : (n : ℕ) → p.owned ≡ Some n → n < plan.shards
+  pub mine : (x : Spot) → 0 < mine_at x p
+      → (mine_at x p ≡ 1) × (own plan p x.page ≡ true) × (x.page < all_pages plan) × (x.slot < slots_under (w.words.class_at x.page))
+  pub cursors : (q s : ℕ) → noted q p.cursors ≡ Some s
+      → (own plan p q ≡ true) × (q < all_pages plan) × (s < slots_under (w.words.class_at q)) × (mine_at (spot q s) p ≡ 0)
+  pub one_cursor : (q : ℕ) → noted q (unpoint q p.cursors) ≡ None
+  pub armed : (q : ℕ) → 0 < times q p.armed → (times q p.armed ≡ 1) × (own plan p q ≡ true) × (q < all_pages plan)
+  pub unarmed : (q : ℕ) → own plan p q ≡ true → times q p.armed ≡ 0 → w.words.head_at q % 2 ≡ 0
+  pub bell : (q : ℕ) → p.bell_cursor ≡ Some q → (own plan p q ≡ true) × (q < all_pages plan) × (times q p.armed ≡ 1)
+  pub notes : (q c : ℕ) → own plan p q ≡ true → noted q p.classes ≡ Some c → w.words.class_at q ≡ c
 
 abbrev pub OwnPartsStand : Plan → World → Type 0
 OwnPartsStand plan w = (a : ℕ) (p : Body) → slice_get w.parts a ≡ Some p → OwnStands plan w p
@@ -136,28 +201,37 @@ FillsAreKeys plan w = (a : ℕ) (p : Body) (x : Spot) (v : List ℕ) (i : ℕ) �
 -- all of it
 pub record Refines (plan : Plan) (w : World) (l : Lists) : Type 0 where
   pub legal : Legal plan.passes plan.keys.guard_max w.log
+  pub entries : EntriesAreOurs plan w
   pub one_kind : OneKind w l
+  pub kinds : KindsAddUp w l
   pub filled : Filled w l
+  pub classes : ClassesAreKnown plan w
   pub held : HeldStands plan w
   pub reads : ReadsWithin plan w
   pub notes : NotesAreTrue plan w
+  pub holds : HoldsAreTold w
   pub counted : Counted plan w
   pub few : CountIsFew plan w
+  pub counts : CountsFit plan w
   pub past : PastIsRemoved plan w
+  pub keys : KeysAreTold plan w
   pub generations : GenerationsEnd plan w
+  pub retired : RetiredIsLast plan w
   pub finished : Finished plan w
+  pub owners : OneOwner w
   pub armed : Armed plan w l
   pub left : LeftEmpty plan w
+  pub shardless : ShardlessHaveNothing w
   pub linked : Linked plan w l
+  pub links : EachLinked plan w l
   pub parts : OwnPartsStand plan w
   pub fills : FillsAreKeys plan w
   pub places : StepsWithin plan w
-  pub counts : CountsFit plan w
-  pub passes : length w.parts ≡ plan.passes
   pub bells : BellsAreSmall plan w
   pub values : ValuesFit plan w
   pub stores : StoresWords plan w
   pub issues : IssuesKeys plan w
+  pub passes : length w.parts ≡ plan.passes
 
 -- P holds after every list of events, in every heap whose shape fits its layout
 abbrev pub Always : (Plan → World → Lists → Type 0) → Type 0

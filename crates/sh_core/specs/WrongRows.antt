@@ -1,19 +1,53 @@
 -- Tables that are the right one but for one action, or for two whose order is turned.
-use Rattle.std.specs.Prelude.{ℕ, ◌+◌, ◌-◌, ◌*◌, ◌%◌, ◌==◌, nat_lt, Bool, true, false, cond, not, ◌&&◌, ◌||◌, ◌∷◌, Some, None, length}
+use Rattle.std.specs.Prelude.{ℕ, ◌-◌, ◌==◌, nat_lt, Bool, true, false, cond, not, ◌&&◌, ◌||◌, ◌∷◌, Some, None, length}
 use Rattle.sh_shape.specs.declared.places.Place.TheVariants.{State, Link, Head}
 use Rattle.sh_shape.specs.Classes.{slots}
-use Rattle.sh_slots.specs.declared.hand.Hand.TheVariants.{Idle, Finishing, ToPut, Tying, Ringing}
+use Rattle.sh_slots.specs.declared.hand.Hand.TheVariants.{Idle, Removing, Leaving, Finishing, ToPut, Tying, Ringing}
 use Rattle.sh_slots.specs.declared.hand.Spot.{Spot}
-use Rattle.sh_slots.specs.Slots.{same_spot, spots, marked_word, reusable_word, retired_word}
-use Rattle.sh_step.specs.declared.action.Action.TheVariants.{Finish, SetClass, Follow, Put, Tie, Leave}
+use Rattle.sh_slots.specs.declared.hand.Name.{Name}
+use Rattle.sh_slots.specs.declared.reply.Reply.TheVariants as reply
+use Rattle.sh_slots.specs.Slots.{same_spot, spots, spot_of, live_at, after_drop, marked_word, reusable_word, retired_word}
+use Rattle.sh_step.specs.declared.action.Action.TheVariants.{EnterGet, Mark, Drop, DropHold, Finish, SetClass, Follow, Put, Tie, Leave}
 use Rattle.sh_step.specs.declared.body.Body.{Body}
 use Rattle.sh_step.specs.declared.operation.Operation.{Operation}
 use Rattle.sh_step.specs.declared.operation.Operation.TheVariants.{Swap, Store, CompareExchange, Load}
-use Rattle.sh_step.specs.Collections.{has, noted, every}
+use Rattle.sh_step.specs.Collections.{has, noted, every, without}
 use Rattle.sh_step.specs.Plans.{Plan}
-use Rattle.sh_step.specs.Rows.{Row, row, when, silent, hand, idle, own, paged, point, unpoint, set_class, follow, leave}
+use Rattle.sh_step.specs.Rows.{Row, row, when, silent, hand, idle, own, named, paged, point, unpoint, enter_get, mark, drop_hand, drop_key, set_class, follow, leave, all_mine}
+use Rattle.sh_stack.specs.Stack.{top_word}
+use Rattle.sh_bell.specs.Bell.{head_word, is_armed}
 use Rattle.sh_word.specs.Fields.{word_of}
 use Rattle.sh_core.specs.Variants.{Table}
+
+-- ---- what is answered of a key, and what is known of it
+
+-- a key is crowded however few holds it has
+unfoldable pub crowds_at_once : Table
+crowds_at_once plan p (EnterGet k) = named plan k (λ x. when (idle p && nat_lt (length p.holds) 16) (record (enter_get plan p k x) {
+  part = λ n. hand p (Leaving (spot_of x));
+  reply = λ n. Some (cond (live_at x.generation n) (reply.Crowded k) (reply.Gone k));
+}))
+crowds_at_once plan p x = row plan p x
+
+-- a mark removes the key whether or not it was marked before
+unfoldable pub both_remove : Table
+both_remove plan p Mark = elim (p.hand) [ Removing k ↦ named plan k (λ x. Some (record (mark p k x) { reply = λ n. Some (reply.Removed k) })) | _ ↦ None ]
+both_remove plan p x = row plan p x
+
+-- whoever marked a slot has done with it, and never takes its count back
+unfoldable pub marks_and_stays : Table
+marks_and_stays plan p Mark = elim (p.hand) [ Removing k ↦ named plan k (λ x. Some (record (mark p k x) { part = λ n. hand p Idle })) | _ ↦ None ]
+marks_and_stays plan p x = row plan p x
+
+-- the last one to leave a marked slot does not end its generation
+unfoldable pub drops_and_forgets : Table
+drops_and_forgets plan p Drop = elim (p.hand) [ Leaving x ↦ Some (record (drop_hand p x) { part = λ n. hand p Idle }) | _ ↦ None ]
+drops_and_forgets plan p x = row plan p x
+
+-- what was read of a key stays known after its last hold
+unfoldable pub knows_after_hold : Table
+knows_after_hold plan p (DropHold k) = named plan k (λ x. when (idle p && has (λ j. j == k) p.holds) (record (drop_key p k x) { part = λ n. hand (record p { holds = without (λ j. j == k) p.holds }) (after_drop (spot_of x) n) }))
+knows_after_hold plan p x = row plan p x
 
 -- ---- the end of a generation
 
@@ -44,6 +78,11 @@ unfoldable pub wraps_generation : Table
 wraps_generation plan p Finish = elim (p.hand) [ Finishing x g ↦ Some (finish_by plan p x (CompareExchange (marked_word g) (cond (g == plan.keys.gen_max) (reusable_word 0) (reusable_word g))) (λ n. n == marked_word g)) | _ ↦ None ]
 wraps_generation plan p x = row plan p x
 
+-- after the last generation comes one more
+unfoldable pub never_retires : Table
+never_retires plan p Finish = elim (p.hand) [ Finishing x g ↦ Some (finish_by plan p x (CompareExchange (marked_word g) (reusable_word g)) (λ n. n == marked_word g)) | _ ↦ None ]
+never_retires plan p x = row plan p x
+
 -- ---- stacks
 
 abbrev pub tie_first : Body → Spot → Row
@@ -57,8 +96,8 @@ tie_first p x = record {
 abbrev pub put_last : Body → Spot → Row
 put_last p x = record {
   place = Head x.page;
-  operation = Swap ((x.slot + 1) * 2);
-  part = λ n. hand p (cond (n % 2 == 1) (Ringing x.page) Idle);
+  operation = Swap (head_word (top_word x.slot));
+  part = λ n. hand p (cond (is_armed n) (Ringing x.page) Idle);
   reply = silent;
 }
 
@@ -86,6 +125,16 @@ unfoldable pub leaves_link : Table
 leaves_link plan p (Follow y) = paged plan y (λ q. elim (noted q p.cursors) [ Some s ↦ when (idle p && own plan p q) (record (follow p q s) { operation = Load }) | None ↦ None ])
 leaves_link plan p x = row plan p x
 
+abbrev pub follow_twice : Body → ℕ → ℕ → Row
+follow_twice p q s = record (follow p q s) {
+  part = λ n. cond (n == 0) p (record p { cursors = point 2 q n (unpoint q p.cursors); mine = record { page = q; slot = s } ∷ record { page = q; slot = s } ∷ p.mine });
+}
+
+-- a slot that is followed is handed out twice
+unfoldable pub follows_twice : Table
+follows_twice plan p (Follow y) = paged plan y (λ q. elim (noted q p.cursors) [ Some s ↦ when (idle p && own plan p q) (follow_twice p q s) | None ↦ None ])
+follows_twice plan p x = row plan p x
+
 abbrev pub tie_and_stop : Body → Spot → ℕ → Row
 tie_and_stop p x l = record {
   place = Link x.page x.slot;
@@ -106,6 +155,11 @@ unfoldable pub leaves_slots : Table
 leaves_slots plan p Leave = elim (p.owned) [ Some n ↦ when (idle p && (length p.cursors == 0) && (length p.armed == 0) && (elim (p.bell_cursor) [ None ↦ true | _ ↦ false ])) (leave p n) | None ↦ None ]
 leaves_slots plan p x = row plan p x
 
+-- an owner leaves while what was rung is still to be followed
+unfoldable pub leaves_bell : Table
+leaves_bell plan p Leave = elim (p.owned) [ Some n ↦ when (idle p && (length p.mine == 0) && (length p.cursors == 0)) (leave p n) | None ↦ None ]
+leaves_bell plan p x = row plan p x
+
 -- all slots but the last one are asked for
 abbrev pub most_mine : Body → ℕ → ℕ → Bool
 most_mine p q n = every (λ x. has (same_spot x) p.mine) (spots q 0 (slots (n - 1) - 1))
@@ -113,3 +167,8 @@ most_mine p q n = every (λ x. has (same_spot x) p.mine) (spots q 0 (slots (n - 
 unfoldable pub forgets_last_slot : Table
 forgets_last_slot plan p (SetClass y c) = paged plan y (λ q. elim (noted q p.classes) [ Some n ↦ when (idle p && own plan p q && ((n == 0) || most_mine p q n) && nat_lt c 8) (set_class p q c) | None ↦ None ])
 forgets_last_slot plan p x = row plan p x
+
+-- any number is a class
+unfoldable pub gives_any_class : Table
+gives_any_class plan p (SetClass y c) = paged plan y (λ q. elim (noted q p.classes) [ Some n ↦ when (idle p && own plan p q && ((n == 0) || all_mine p q n)) (set_class p q c) | None ↦ None ])
+gives_any_class plan p x = row plan p x

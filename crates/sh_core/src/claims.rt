@@ -1,38 +1,51 @@
 //! What holds of every run.
 ghost use Rattle.std.specs.Prelude.{◌≡◌, length};
 ghost use Rattle.sh_history.specs.History.{Legal};
+ghost use Rattle.sh_core.specs.LinkWords.{EachLinked};
 ghost use Rattle.sh_core.specs.Within.{StepsWithin, CountsFit, BellsAreSmall, ValuesFit, StoresWords, IssuesKeys};
-ghost use Rattle.sh_core.specs.Refines.{Always, OneKind, Filled, HeldStands, ReadsWithin, NotesAreTrue, Counted, CountIsFew, PastIsRemoved, GenerationsEnd, Finished, Armed, LeftEmpty, Linked, OwnPartsStand, FillsAreKeys};
+ghost use Rattle.sh_core.specs.Refines.{Always, OneKind, KindsAddUp, Filled, ClassesAreKnown, HeldStands, ReadsWithin, NotesAreTrue, HoldsAreTold, Counted, CountIsFew};
+ghost use Rattle.sh_core.specs.Refines.{PastIsRemoved, KeysAreTold, EntriesAreOurs, GenerationsEnd, RetiredIsLast, Finished, OneOwner, Armed, LeftEmpty, ShardlessHaveNothing, Linked, OwnPartsStand, FillsAreKeys};
 
 /// The core refines the map: in every heap whose shape fits its layout, after every list of events, whoever did them and
 /// in whatever order, and wherever calls were left unfinished.
 pub fn refines_map()
     // The replies, in the order of their deciding steps, are a legal history of a map whose keys are never used again.
     ensures legal { Always (λ plan w l. Legal plan.passes plan.keys.guard_max w.log) }
+    ensures entries { Always (λ plan w l. EntriesAreOurs plan w) }
 
     // Each slot of a page's class is exactly one of live, marked, retired, mine, in hand and queued, and the six fill the page.
     ensures one_kind { Always (λ plan w l. OneKind w l) }
+    ensures kinds { Always (λ plan w l. KindsAddUp w l) }
     ensures filled { Always (λ plan w l. Filled w l) }
+    ensures classes { Always (λ plan w l. ClassesAreKnown plan w) }
 
-    // What is held stands in its slot, unchanged.
+    // What is held stands in its slot, unchanged, and holds are what the log says.
     ensures held { Always (λ plan w l. HeldStands plan w) }
     ensures reads { Always (λ plan w l. ReadsWithin plan w) }
     ensures notes { Always (λ plan w l. NotesAreTrue plan w) }
+    ensures holds { Always (λ plan w l. HoldsAreTold w) }
 
     // A slot's count is its holds and the passes on it for a moment, and has room.
     ensures counted { Always (λ plan w l. Counted plan w) }
     ensures few { Always (λ plan w l. CountIsFew plan w) }
     ensures counts { Always (λ plan w l. CountsFit plan w) }
 
-    // Generations go up, and end.
+    // Generations go up, and end; the log says of each key what its slot's state word does.
     ensures past { Always (λ plan w l. PastIsRemoved plan w) }
+    ensures keys { Always (λ plan w l. KeysAreTold plan w) }
     ensures generations { Always (λ plan w l. GenerationsEnd plan w) }
+    ensures retired { Always (λ plan w l. RetiredIsLast plan w) }
     ensures finished { Always (λ plan w l. Finished plan w) }
 
-    // The duty to ring for an armed page is at one place, and a left shard keeps nothing.
+    // A shard has one owner at most; the duty to ring for an armed page is at one place; a left shard keeps nothing.
+    ensures owners { Always (λ plan w l. OneOwner w) }
     ensures armed { Always (λ plan w l. Armed plan w l) }
     ensures left { Always (λ plan w l. LeftEmpty plan w) }
+    ensures shardless { Always (λ plan w l. ShardlessHaveNothing w) }
+
+    // What stands on a page and on a bell.
     ensures linked { Always (λ plan w l. Linked plan w l) }
+    ensures links { Always (λ plan w l. EachLinked plan w l) }
 
     // What a pass has of its own is within its shard, and each step is on a place of the heap.
     ensures parts { Always (λ plan w l. OwnPartsStand plan w) }

@@ -1,7 +1,8 @@
 //! The core: the heap as a state machine over its words, and what holds after every list of events.
 //!
 //! An event is one action of one pass: one operation on one word, by a row of the table in `sh_step`. A world is the words,
-//! what each pass has of its own, and one log of all replies. The theorem stands on `refines_map`.
+//! what each pass has of its own, and one log of all replies. The theorem stands on `refines_map`, and `refutes_wrong_tables` says
+//! of wrong tables of actions that they do not keep it.
 #![tactic(auto)]
 
 pub mod accounts;
@@ -11,6 +12,7 @@ pub mod laws;
 mod moving;
 mod opening;
 pub mod outcome;
+pub mod refuted;
 #[cfg(test)]
 mod tests;
 pub mod world;
@@ -19,4 +21,5 @@ pub use accounts::Accounts;
 pub use claims::refines_map;
 pub use laws::{counts_leave_room, plans_have_the_places_of_shapes, trails_grow};
 pub use outcome::Outcome;
+pub use refuted::refutes_wrong_tables;
 pub use world::{World, run};

@@ -79,16 +79,19 @@ impl<L: KeyLayout> World<L> {
         })
     }
 
-    /// All replies so far, in the order of their deciding steps.
+    /// All replies so far, in the order of their deciding steps: a legal history.
+    #[tactic(auto, using(crate::proofs::Stepping::reached_legal))]
     pub fn log(&self) -> &[Entry]
-        ensures { result.now ≡ self.now.log }
+        ensures is { result.now ≡ self.now.log }
+        ensures legal { Legal self.now.shape.passes L.layout.guard_max self.now.log }
     {
         &self.log
     }
 
-    /// The words, each at the number of its place.
+    /// The words, each at the number of its place. Some list of events leads from the heap as it opens to them.
     pub fn words(&self) -> &[u64]
-        ensures { result.now ≡ self.now.words }
+        ensures is { result.now ≡ self.now.words }
+        ensures reached { Reached L.layout self.now }
     {
         &self.words
     }

@@ -296,6 +296,16 @@ impl<L: KeyLayout> Store for PlainStore<L> {
 
     ghost setting = { plain_setting L.layout };
 
+    ghost inserts = { λ old value result new. Replied (insert_reply L.layout old value) old result new };
+
+    ghost gets = { λ old key result new. Replied (get_reply L.layout old key) old result new };
+
+    ghost reads = { λ old key result new. (result ≡ read_answer old key) × (new ≡ old) };
+
+    ghost removes = { λ old key result new. Replied (remove_reply L.layout old key) old result new };
+
+    ghost releases = { λ old key result new. Replied (release_reply old key) old result new };
+
     fn insert(&mut self, value: &Value) -> Result<u64, Refusal>
         ensures leaves { InsertLeaves (plain_setting L.layout self.old) value.now (plain_book self.old) result (plain_book self.new) }
         ensures stands { IsBook (plain_setting L.layout self.new) (plain_book self.new) }

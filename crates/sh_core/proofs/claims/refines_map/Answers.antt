@@ -4,11 +4,20 @@ use Rattle.sh_core.proofs.claims.refines_map.Goals as goal
 pub returns-clause-legal : goal.returns-clause-legal
 returns-clause-legal c = λ layout shape a b f es. (theorem layout shape a b f es).legal
 
+pub returns-clause-entries : goal.returns-clause-entries
+returns-clause-entries c = λ layout shape a b f es. (theorem layout shape a b f es).entries
+
 pub returns-clause-one_kind : goal.returns-clause-one_kind
 returns-clause-one_kind c = λ layout shape a b f es. (theorem layout shape a b f es).one_kind
 
+pub returns-clause-kinds : goal.returns-clause-kinds
+returns-clause-kinds c = λ layout shape a b f es. (theorem layout shape a b f es).kinds
+
 pub returns-clause-filled : goal.returns-clause-filled
 returns-clause-filled c = λ layout shape a b f es. (theorem layout shape a b f es).filled
+
+pub returns-clause-classes : goal.returns-clause-classes
+returns-clause-classes c = λ layout shape a b f es. (theorem layout shape a b f es).classes
 
 pub returns-clause-held : goal.returns-clause-held
 returns-clause-held c = λ layout shape a b f es. (theorem layout shape a b f es).held
@@ -18,6 +27,9 @@ returns-clause-reads c = λ layout shape a b f es. (theorem layout shape a b f e
 
 pub returns-clause-notes : goal.returns-clause-notes
 returns-clause-notes c = λ layout shape a b f es. (theorem layout shape a b f es).notes
+
+pub returns-clause-holds : goal.returns-clause-holds
+returns-clause-holds c = λ layout shape a b f es. (theorem layout shape a b f es).holds
 
 pub returns-clause-counted : goal.returns-clause-counted
 returns-clause-counted c = λ layout shape a b f es. (theorem layout shape a b f es).counted
@@ -31,11 +43,20 @@ returns-clause-counts c = λ layout shape a b f es. (theorem layout shape a b f 
 pub returns-clause-past : goal.returns-clause-past
 returns-clause-past c = λ layout shape a b f es. (theorem layout shape a b f es).past
 
+pub returns-clause-keys : goal.returns-clause-keys
+returns-clause-keys c = λ layout shape a b f es. (theorem layout shape a b f es).keys
+
 pub returns-clause-generations : goal.returns-clause-generations
 returns-clause-generations c = λ layout shape a b f es. (theorem layout shape a b f es).generations
 
+pub returns-clause-retired : goal.returns-clause-retired
+returns-clause-retired c = λ layout shape a b f es. (theorem layout shape a b f es).retired
+
 pub returns-clause-finished : goal.returns-clause-finished
 returns-clause-finished c = λ layout shape a b f es. (theorem layout shape a b f es).finished
+
+pub returns-clause-owners : goal.returns-clause-owners
+returns-clause-owners c = λ layout shape a b f es. (theorem layout shape a b f es).owners
 
 pub returns-clause-armed : goal.returns-clause-armed
 returns-clause-armed c = λ layout shape a b f es. (theorem layout shape a b f es).armed
@@ -43,8 +64,14 @@ returns-clause-armed c = λ layout shape a b f es. (theorem layout shape a b f e
 pub returns-clause-left : goal.returns-clause-left
 returns-clause-left c = λ layout shape a b f es. (theorem layout shape a b f es).left
 
+pub returns-clause-shardless : goal.returns-clause-shardless
+returns-clause-shardless c = λ layout shape a b f es. (theorem layout shape a b f es).shardless
+
 pub returns-clause-linked : goal.returns-clause-linked
 returns-clause-linked c = λ layout shape a b f es. (theorem layout shape a b f es).linked
+
+pub returns-clause-links : goal.returns-clause-links
+returns-clause-links c = λ layout shape a b f es. (theorem layout shape a b f es).links
 
 pub returns-clause-parts : goal.returns-clause-parts
 returns-clause-parts c = λ layout shape a b f es. (theorem layout shape a b f es).parts
@@ -54,9 +81,6 @@ returns-clause-fills c = λ layout shape a b f es. (theorem layout shape a b f e
 
 pub returns-clause-places : goal.returns-clause-places
 returns-clause-places c = λ layout shape a b f es. (theorem layout shape a b f es).places
-
-pub returns-clause-passes : goal.returns-clause-passes
-returns-clause-passes c = λ layout shape a b f es. (theorem layout shape a b f es).passes
 
 pub returns-clause-bells : goal.returns-clause-bells
 returns-clause-bells c = λ layout shape a b f es. (theorem layout shape a b f es).bells
@@ -69,3 +93,6 @@ returns-clause-stores c = λ layout shape a b f es. (theorem layout shape a b f 
 
 pub returns-clause-issues : goal.returns-clause-issues
 returns-clause-issues c = λ layout shape a b f es. (theorem layout shape a b f es).issues
+
+pub returns-clause-passes : goal.returns-clause-passes
+returns-clause-passes c = λ layout shape a b f es. (theorem layout shape a b f es).passes

@@ -1,0 +1,35 @@
+//! What the theorem refuses.
+ghost use Rattle.sh_history.specs.History.{Legal};
+ghost use Rattle.sh_core.specs.Variants.{AlwaysBy};
+ghost use Rattle.sh_core.specs.Refines.{OneKind, HeldStands, NotesAreTrue, Counted, GenerationsEnd, Finished, Armed, LeftEmpty, Linked, OwnPartsStand, ClassesAreKnown};
+ghost use Rattle.sh_core.specs.WrongRows.{crowds_at_once, both_remove, marks_and_stays, drops_and_forgets, knows_after_hold, keeps_generation, ignores_count, wraps_generation, never_retires, ties_first, ends_at_unwritten, leaves_link, follows_twice, never_rings, leaves_slots, leaves_bell, forgets_last_slot, gives_any_class};
+
+/// The theorem is not one that any table of actions has: of each of these tables, which are the right one but for an
+/// action or two, some list of events breaks a clause.
+pub fn refutes_wrong_tables()
+    // What is answered of a key, and what is known of it.
+    ensures crowds_at_once { ¬ AlwaysBy crowds_at_once (λ plan w l. Legal plan.passes plan.keys.guard_max w.log) }
+    ensures both_remove { ¬ AlwaysBy both_remove (λ plan w l. Legal plan.passes plan.keys.guard_max w.log) }
+    ensures marks_and_stays { ¬ AlwaysBy marks_and_stays (λ plan w l. Counted plan w) }
+    ensures drops_and_forgets { ¬ AlwaysBy drops_and_forgets (λ plan w l. Finished plan w) }
+    ensures knows_after_hold { ¬ AlwaysBy knows_after_hold (λ plan w l. NotesAreTrue plan w) }
+
+    // The end of a generation.
+    ensures keeps_generation { ¬ AlwaysBy keeps_generation (λ plan w l. Legal plan.passes plan.keys.guard_max w.log) }
+    ensures ignores_count { ¬ AlwaysBy ignores_count (λ plan w l. HeldStands plan w) }
+    ensures wraps_generation { ¬ AlwaysBy wraps_generation (λ plan w l. Legal plan.passes plan.keys.guard_max w.log) }
+    ensures never_retires { ¬ AlwaysBy never_retires (λ plan w l. GenerationsEnd plan w) }
+
+    // Stacks and bells.
+    ensures ties_first { ¬ AlwaysBy ties_first (λ plan w l. Linked plan w l) }
+    ensures ends_at_unwritten { ¬ AlwaysBy ends_at_unwritten (λ plan w l. Linked plan w l) }
+    ensures leaves_link { ¬ AlwaysBy leaves_link (λ plan w l. Linked plan w l) }
+    ensures follows_twice { ¬ AlwaysBy follows_twice (λ plan w l. OneKind w l) }
+    ensures never_rings { ¬ AlwaysBy never_rings (λ plan w l. Armed plan w l) }
+
+    // Owners.
+    ensures leaves_slots { ¬ AlwaysBy leaves_slots (λ plan w l. LeftEmpty plan w) }
+    ensures leaves_bell { ¬ AlwaysBy leaves_bell (λ plan w l. OwnPartsStand plan w) }
+    ensures forgets_last_slot { ¬ AlwaysBy forgets_last_slot (λ plan w l. OneKind w l) }
+    ensures gives_any_class { ¬ AlwaysBy gives_any_class (λ plan w l. ClassesAreKnown plan w) }
+{}
