@@ -20,7 +20,7 @@ use Rattle.sh_step.specs.Rows.{class_of, all_mine}
 use Rattle.sh_core.specs.Worlds.{World, value_at, words_from}
 use Rattle.sh_core.specs.Tallies.{room, queued, SlotsFine}
 use Rattle.sh_core.specs.Good.{Good, FillFine}
-use Rattle.sh_step.proofs.Tests.{lt_of}
+use Rattle.sh_step.proofs.Truths.{lt_of}
 use Rattle.sh_core.proofs.Totals.{total_set, total_at, total_without, total_append}
 use Rattle.sh_core.proofs.StateWords.{put2_same, put2_other}
 use Rattle.sh_core.proofs.Slots.{tally_set, same_spot-refl, same_spot-true}

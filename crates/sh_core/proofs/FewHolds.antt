@@ -24,7 +24,7 @@ use Rattle.sh_core.proofs.OpenGood.{none_new}
 use Rattle.sh_core.proofs.StackSteps.{same_page}
 use Rattle.sh_step.specs.Conditions.{Meets}
 use Rattle.sh_step.proofs.ConditionLaws.{meets}
-use Rattle.sh_step.proofs.Tests.{lt_of}
+use Rattle.sh_step.proofs.Truths.{lt_of}
 
 -- every key that names a slot and is held is held in its present generation, so these are the holds on the slot's key
 abbrev pub FewHolds : Plan → World → Type 0

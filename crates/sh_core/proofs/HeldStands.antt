@@ -16,7 +16,7 @@ use Rattle.sh_core.specs.Tallies.{room}
 use Rattle.sh_core.specs.Knows.{AllKnow}
 use Rattle.sh_core.specs.Refines.{HeldStands, ReadsWithin}
 use Rattle.sh_core.proofs.Permits.{value_one}
-use Rattle.sh_step.proofs.Tests.{lt_of}
+use Rattle.sh_step.proofs.Truths.{lt_of}
 use Rattle.sh_core.proofs.RunRefines.{held_stands}
 
 pub has_room : (w : Words) (x : Spot) → 0 < room w x → (0 < w.class_at x.page) × (x.slot < slots (w.class_at x.page - 1))

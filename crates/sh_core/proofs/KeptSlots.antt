@@ -25,7 +25,7 @@ use Rattle.sh_step.specs.Rows.{Row, hand, own, freed, class_of, enter_get, enter
 use Rattle.sh_core.specs.Worlds.{World, apply}
 use Rattle.sh_core.specs.Tallies.{held, room, at_spot}
 use Rattle.sh_core.specs.Good.{Good}
-use Rattle.sh_step.proofs.Tests.{lt_of}
+use Rattle.sh_step.proofs.Truths.{lt_of}
 use Rattle.sh_core.proofs.Totals.{total_at, total_without}
 use Rattle.sh_core.proofs.StateWords.{fields_of-entered}
 use Rattle.sh_word.proofs.Words.{fields_of-sub, fields_of-or_mark, fields_of-or_present, fields_of-word_of}

@@ -5,7 +5,7 @@ use Rattle.std.proofs.lemmas.Bool.Decides.{nat_tests}
 use Rattle.sh_step.specs.Collections.{total, if1}
 use Rattle.sh_step.specs.Plans.{Plan, Lawful, home}
 use Rattle.sh_core.specs.Knows.{AllKnow}
-use Rattle.sh_core.specs.Links.{LinksOn, EachLinked}
+use Rattle.sh_core.specs.LinkWords.{LinksOn, EachLinked}
 use Rattle.sh_core.specs.Lists.{Lists, times}
 use Rattle.sh_core.specs.Placed.{All}
 use Rattle.sh_core.specs.Stacks.{Chained, spot, link_to, ties_of, ring_ties, bell_link}
@@ -48,10 +48,10 @@ module _ (plan : Plan) (w : World) (l : Lists) (laws : Lawful plan) (all : All p
     go : (b : Bool) → (n == home plan q) ≡ b → home plan q ≡ n
     go true e = sym (same_page n (home plan q) e)
     go false e = absurd (
-      let ties = all.rest.bells.ties n q in
-      let nobody = ties_home plan n q e w.parts in
-      let unwritten : if1 (not (bell_link plan w.words.page_link_at n q == 0)) ≡ 0 = rw e refl in omega arith
-    )
+        let ties = all.rest.bells.ties n q in
+        let nobody = ties_home plan n q e w.parts in
+        let unwritten : if1 (not (bell_link plan w.words.page_link_at n q == 0)) ≡ 0 = rw e refl in omega arith
+        )
 
   -- and stands there once at most
   page_link : (n q : ℕ) → 0 < times q (l.bells n) + times q (l.bell_chain n) → if1 (not (bell_link plan w.words.page_link_at n q == 0)) + total (ring_ties plan n q) w.parts ≡ 1

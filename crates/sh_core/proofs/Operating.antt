@@ -4,7 +4,7 @@ use Rattle.sh_word.specs.Fields.{fields_of}
 use Rattle.sh_step.specs.declared.operation.Operation.{Operation}
 use Rattle.sh_step.specs.declared.operation.Operation.TheVariants.{FetchAdd, FetchSub, FetchOr, Swap, Store, CompareExchange, Load}
 use Rattle.sh_step.specs.Operations.{HasRoom}
-use Rattle.sh_core.specs.Within.{CountFits}
+use Rattle.sh_core.specs.Within.{CountFits, CountsLeaveRoom}
 
 -- the count stands lowest in a state word
 add_fits : (n m : ℕ) → n < 2 ^ 64 → (fields_of n).count + m < 2 ^ 30 → n + m < 2 ^ 64
@@ -15,7 +15,7 @@ sub_fits : (n m : ℕ) → m ≤ (fields_of n).count → m ≤ n
 unfolding fields_of
 sub_fits n m f = omega arith
 
-fits_room : (o : Operation) (n : ℕ) → n < 2 ^ 64 → CountFits o n → HasRoom o n
+pub fits_room : CountsLeaveRoom
 fits_room (FetchAdd m) n h f = add_fits n m h f
 fits_room (FetchSub m) n h f = sub_fits n m f
 fits_room (FetchOr m) n h f = tt

@@ -10,7 +10,7 @@ use Rattle.sh_core.specs.Bells.{armed_at, owns}
 use Rattle.sh_core.specs.Knows.{AllKnow}
 use Rattle.sh_core.specs.Lists.{Lists, times, mine_at, slots_under}
 use Rattle.sh_core.specs.Placed.{All}
-use Rattle.sh_core.specs.Refines.{OneOwner, LeaversHaveNothing, OwnStands}
+use Rattle.sh_core.specs.Refines.{OneOwner, ShardlessHaveNothing, OwnStands}
 use Rattle.sh_core.specs.Stacks.{spot, cursor_at, bell_cursor_at, is_at, first_is}
 use Rattle.sh_core.specs.Tallies.{room}
 use Rattle.sh_core.specs.Within.{AllWithin}
@@ -46,13 +46,13 @@ module _ (plan : Plan) (w : World) (l : Lists) (all : All plan w l) where
     go : (c : Bool) → (a == b) ≡ c → a ≡ b
     go true e = grind (arith, nat_tests)
     go false e = absurd (
-      let apart : a ≢ b = λ same. absurd (let z : ⊥ = grind (arith, nat_tests) in z) in
-      let two = total_two (owns n) w.parts a b p r apart at at' in
-      let one = owns_here n p mine in
-      let one' = owns_here n r mine' in
-      let count = (all.rest.owned n).0 in
-      let few = (all.rest.owned n).1 in omega arith
-    )
+        let apart : a ≢ b = λ same. absurd (let z : ⊥ = grind (arith, nat_tests) in z) in
+        let two = total_two (owns n) w.parts a b p r apart at at' in
+        let one = owns_here n p mine in
+        let one' = owns_here n r mine' in
+        let count = (all.rest.owned n).0 in
+        let few = (all.rest.owned n).1 in omega arith
+        )
 
   pub one_owner : OneOwner w
   one_owner = record {
@@ -66,8 +66,8 @@ module _ (plan : Plan) (w : World) (l : Lists) (all : All plan w l) where
     alone = alone;
   }
 
-  pub leavers : LeaversHaveNothing w
-  leavers a p at none =
+  pub shardless : ShardlessHaveNothing w
+  shardless a p at none =
       let h = all.rest.homed a p at in
       let off : (q : ℕ) → owned_by plan p.owned q ≡ false = λ q. ap (λ (o : Option ℕ). owned_by plan o q) none in (
         no_spots p.mine (λ x. h.mines x (off x.page)),

@@ -25,7 +25,7 @@ use Rattle.sh_core.specs.Within.{PlansHaveShapesPlaces, CountFits, BellsAreSmall
 use Rattle.sh_core.specs.Kept.{Kept, Stands, Reached, IsReady, HasValue, KeepsValue, word_at}
 use Rattle.sh_step.specs.Conditions.{Meets}
 use Rattle.sh_step.proofs.ConditionLaws.{meets}
-use Rattle.sh_step.proofs.Tests.{and3}
+use Rattle.sh_step.proofs.Truths.{and3}
 use Rattle.sh_shape.proofs.ClassLaws.{slots_few}
 use Rattle.sh_core.proofs.RunTheorem.{theorem}
 

@@ -19,7 +19,7 @@ use Rattle.sh_core.proofs.RunRefines.{all_open, one_kind, kinds_add_up, filled, 
 use Rattle.sh_core.proofs.KeyFacts.{past, keys_told, holds_told}
 use Rattle.sh_core.proofs.LastGenerations.{Beside, beside_step, beside_open}
 use Rattle.sh_core.proofs.LinkFacts.{each_linked}
-use Rattle.sh_core.proofs.OwnerFacts.{one_owner, leavers, own_stands}
+use Rattle.sh_core.proofs.OwnerFacts.{one_owner, shardless, own_stands}
 use Rattle.sh_key.specs.Layout.{Layout, IsLayout}
 use Rattle.sh_shape.specs.Shape.{Numbers, IsShape, Fits}
 use Rattle.sh_slots.specs.Slots.{name_of}
@@ -114,7 +114,7 @@ module _ (plan : Plan) (w : World) (l : Lists) (laws : Lawful plan) (kept : Kept
     owners = one_owner plan w l all;
     armed = all.rest.duty;
     left = left_empty plan w l all;
-    leavers = leavers plan w l all;
+    shardless = shardless plan w l all;
     linked = (all.rest.stacks, all.rest.bells);
     links = each_linked plan w l laws all kept.know kept.within;
     parts = own_stands plan w l laws all kept.know kept.within;

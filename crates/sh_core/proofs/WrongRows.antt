@@ -17,7 +17,7 @@ use Rattle.sh_core.specs.Stacks.{spot}
 use Rattle.sh_core.specs.Refines.{Always, OneKind, HeldStands, NotesAreTrue, Counted, GenerationsEnd, Finished, Armed, LeftEmpty, Linked, OwnPartsStand, ClassesAreKnown}
 use Rattle.sh_core.specs.Variants.{Table, step_by, run_from_by, run_by, list_step_by, lists_from_by, lists_by, AlwaysBy}
 use Rattle.sh_core.specs.WrongRows.{crowds_at_once, both_remove, marks_and_stays, drops_and_forgets, knows_after_hold, keeps_generation, ignores_count, wraps_generation, never_retires, ties_first, ends_at_unwritten, leaves_link, follows_twice, never_rings, leaves_slots, leaves_bell, forgets_last_slot, gives_any_class}
-use Rattle.sh_step.proofs.Tests.{no_bool}
+use Rattle.sh_step.proofs.Truths.{no_bool}
 use Rattle.sh_core.proofs.Worked.{small, ev, at, page, everything}
 
 -- ---- over the right table it is the run

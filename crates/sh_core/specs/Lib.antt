@@ -9,7 +9,7 @@ pub mod Good
 pub mod Stacks
 pub mod Bells
 pub mod Placed
-pub mod Links
+pub mod LinkWords
 pub mod Opening
 pub mod Kept
 pub mod Refines

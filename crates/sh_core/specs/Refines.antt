@@ -17,8 +17,9 @@ use Rattle.sh_step.specs.Collections.{total, if1, noted}
 use Rattle.sh_step.specs.declared.body.Body.{Body}
 use Rattle.sh_core.specs.Worlds.{World, run, value_at}
 use Rattle.sh_core.specs.Lists.{Lists, accounts, lists_of, slots_under, times, mine_at, in_hand, state_of}
-use Rattle.sh_core.specs.Links.{EachLinked}
+use Rattle.sh_core.specs.LinkWords.{EachLinked}
 use Rattle.sh_core.specs.Tallies.{at_spot, current, visits, finishing}
+use Rattle.sh_history.specs.declared.entry.Entry.{Entry}
 use Rattle.sh_history.specs.History.{Legal, value_of, is_removed, got_count, released_count, got_count_by, released_count_by}
 use Rattle.sh_history.specs.Log.{pass_of}
 use Rattle.sh_core.specs.Stacks.{Chains, spot, tying, ties_of, cursor_at, ring_tying, ring_ties, bell_cursor_at, bell_link, bell_head}
@@ -49,19 +50,22 @@ kind_count w l x = live (state_of w x) + marked (state_of w x) + retired (state_
 
 -- a slot of its page's class has one kind, and only one; another has none
 abbrev pub OneKind : World → Lists → Type 0
-OneKind w l = (x : Spot) (c : ℕ) → w.words.class_at x.page ≡ c + 1 → (x.slot < slots c → kind_count w l x ≡ 1) × (slots c ≤ x.slot → kind_count w l x ≡ 0)
+OneKind w l = (x : Spot) (c : ℕ) → w.words.class_at x.page ≡ c + 1
+    → (x.slot < slots c → kind_count w l x ≡ 1) × (slots c ≤ x.slot → kind_count w l x ≡ 0)
 
--- the same as one equation for every spot: one below the slots of the page's class, and none above; a blank page has no slots
+-- the same as one equation for every spot: 1 below the slots of the page's class, and else 0; a blank page has no slots
 abbrev pub KindsAddUp : World → Lists → Type 0
 KindsAddUp w l = (x : Spot) → kind_count w l x ≡ if1 (nat_lt x.slot (slots_under (w.words.class_at x.page)))
 
 -- the accounts of a page add up to the slots of its class, and those of a blank page to 0
 abbrev pub Filled : World → Lists → Type 0
-Filled w l = (q : ℕ) → let a = accounts w l q in a.live + (a.marked + (a.retired + (a.mine + (a.hand + a.queued)))) ≡ slots_under (w.words.class_at q)
+Filled w l = (q : ℕ) → let a = accounts w l q in
+    a.live + (a.marked + (a.retired + (a.mine + (a.hand + a.queued)))) ≡ slots_under (w.words.class_at q)
 
 -- a class word names a class or says 0, and only pages of the heap have a class
 abbrev pub ClassesAreKnown : Plan → World → Type 0
-ClassesAreKnown plan w = (q : ℕ) → (w.words.class_at q ≤ class_count) × (all_pages plan ≤ q → w.words.class_at q ≡ 0)
+ClassesAreKnown plan w = (q : ℕ) →
+    (w.words.class_at q ≤ class_count) × (all_pages plan ≤ q → w.words.class_at q ≡ 0)
 
 -- while a pass holds k, k names a slot of the heap, which is present in k's generation, and its words are the value that k was issued with
 pub record Stands (plan : Plan) (w : World) (k : ℕ) : Type 0 where
@@ -111,21 +115,26 @@ GenerationsEnd plan w = (x : Spot) → (0 < (state_of w x).generation) × ((stat
 
 -- and none follows where it is retired
 abbrev pub RetiredIsLast : Plan → World → Type 0
-RetiredIsLast plan w = (x : Spot) → (state_of w x).present ≡ false → (state_of w x).marked ≡ true → (state_of w x).generation ≡ plan.keys.gen_max
+RetiredIsLast plan w = (x : Spot) → (state_of w x).present ≡ false → (state_of w x).marked ≡ true
+    → (state_of w x).generation ≡ plan.keys.gen_max
 
--- what the log says of a key of its slot's present generation: it was issued where the slot is live, marked or retired, with the value in its words, and not where it is empty; it was removed where it is marked or retired. A key of a later generation is not issued and not removed
-pub record KeyTold (w : World) (k : ℕ) (n : Name) : Type 0 where
-  pub issued : n.generation ≡ (state_of w (spot_of n)).generation → ((state_of w (spot_of n)).present || (state_of w (spot_of n)).marked) ≡ true → value_of w.log k ≡ Some (value_at w.words n.page n.slot)
-  pub empty : n.generation ≡ (state_of w (spot_of n)).generation → ((state_of w (spot_of n)).present || (state_of w (spot_of n)).marked) ≡ false → value_of w.log k ≡ None
-  pub removed : n.generation ≡ (state_of w (spot_of n)).generation → is_removed w.log k ≡ (state_of w (spot_of n)).marked
-  pub later : (state_of w (spot_of n)).generation < n.generation → (value_of w.log k ≡ None) × (is_removed w.log k ≡ false)
+-- what the log says of a key of generation g, at a slot in the state st whose words hold `now`. Of the present generation: it was issued
+-- where the slot is live, marked or retired, with the value in its words, and not where it is empty; it was removed exactly where the
+-- mark is set. Of a later one: neither
+pub record KeyTold (log : List Entry) (k g : ℕ) (st : Fields) (now : List ℕ) : Type 0 where
+  pub issued : g ≡ st.generation → (st.present || st.marked) ≡ true → value_of log k ≡ Some now
+  pub empty : g ≡ st.generation → (st.present || st.marked) ≡ false → value_of log k ≡ None
+  pub removed : g ≡ st.generation → is_removed log k ≡ st.marked
+  pub later : st.generation < g → (value_of log k ≡ None) × (is_removed log k ≡ false)
 
 abbrev pub KeysAreTold : Plan → World → Type 0
-KeysAreTold plan w = (k : ℕ) (n : Name) → plan.keys.unpack k ≡ Some n → KeyTold w k n
+KeysAreTold plan w = (k : ℕ) (n : Name) → plan.keys.unpack k ≡ Some n
+    → KeyTold w.log k n.generation (state_of w (spot_of n)) (value_at w.words n.page n.slot)
 
 -- each pass's Got of a key are its Released and its holds, and so are all passes' together
 pub record HoldsAreTold (w : World) : Type 0 where
-  pub of_pass : (a : ℕ) (p : Body) (k : ℕ) → slice_get w.parts a ≡ Some p → got_count_by w.log a k ≡ released_count_by w.log a k + times k p.holds
+  pub of_pass : (a : ℕ) (p : Body) (k : ℕ) → slice_get w.parts a ≡ Some p
+      → got_count_by w.log a k ≡ released_count_by w.log a k + times k p.holds
   pub together : (k : ℕ) → got_count w.log k ≡ released_count w.log k + total (λ (p : Body). times k p.holds) w.parts
 
 -- each entry is of a pass of the heap
@@ -145,29 +154,38 @@ pub record OneOwner (w : World) : Type 0 where
   pub word : (n : ℕ) → w.words.owner_at n ≤ 1
   pub owned : (n : ℕ) → w.words.owner_at n ≡ 1 → (a : ℕ) × (p : Body) × (slice_get w.parts a ≡ Some p) × (p.owned ≡ Some n)
   pub owner : (a : ℕ) (p : Body) (n : ℕ) → slice_get w.parts a ≡ Some p → p.owned ≡ Some n → w.words.owner_at n ≡ 1
-  pub alone : (a b : ℕ) (p r : Body) (n : ℕ) → slice_get w.parts a ≡ Some p → slice_get w.parts b ≡ Some r → p.owned ≡ Some n → r.owned ≡ Some n → a ≡ b
+  pub alone : (a b : ℕ) (p r : Body) (n : ℕ) → slice_get w.parts a ≡ Some p → slice_get w.parts b ≡ Some r
+      → p.owned ≡ Some n → r.owned ≡ Some n → a ≡ b
 
 -- a shard that nobody owns has no cursor, nothing armed and nothing mine
 abbrev pub LeftEmpty : Plan → World → Type 0
-LeftEmpty plan w = (n : ℕ) → w.words.owner_at n ≡ 0 → ((x : Spot) → home plan x.page ≡ n → mine w x ≡ 0) × ((q s : ℕ) → home plan q ≡ n → total (cursor_at q s) w.parts ≡ 0) × ((q : ℕ) → home plan q ≡ n → total (armed_at q) w.parts ≡ 0)
+LeftEmpty plan w = (n : ℕ) → w.words.owner_at n ≡ 0
+    → ((x : Spot) → home plan x.page ≡ n → mine w x ≡ 0)
+    × ((q s : ℕ) → home plan q ≡ n → total (cursor_at q s) w.parts ≡ 0)
+    × ((q : ℕ) → home plan q ≡ n → total (armed_at q) w.parts ≡ 0)
 
 -- a pass that owns no shard has no slot, no cursor, no armed page and no bell cursor
-abbrev pub LeaversHaveNothing : World → Type 0
-LeaversHaveNothing w = (a : ℕ) (p : Body) → slice_get w.parts a ≡ Some p → p.owned ≡ None → (p.mine ≡ []) × (p.cursors ≡ []) × (p.armed ≡ []) × (p.bell_cursor ≡ None)
+abbrev pub ShardlessHaveNothing : World → Type 0
+ShardlessHaveNothing w = (a : ℕ) (p : Body) → slice_get w.parts a ≡ Some p → p.owned ≡ None
+    → (p.mine ≡ []) × (p.cursors ≡ []) × (p.armed ≡ []) × (p.bell_cursor ≡ None)
 
--- each link of a stack, a chain, a bell names the next item, or is the end, or is 0 with one pass that ties it; an owner's cursor is its chain's first
+-- what EachLinked says in words, as sums: along each list an item's link and what the pass that ties it will store are together what
+-- names the rest; a head names the first of its stack, and a cursor is at the first of its chain
 abbrev pub Linked : Plan → World → Lists → Type 0
 Linked plan w l =
     Chains (λ q. w.words.head_at q / 2) w.words.link_at (λ q s. total (tying (spot q s)) w.parts) (λ q s. total (ties_of (spot q s)) w.parts) (λ q s. total (cursor_at q s) w.parts) l.stack l.chain
     × Chains (bell_head plan w.words.bell_at) (bell_link plan w.words.page_link_at) (λ n q. total (ring_tying plan n q) w.parts) (λ n q. total (ring_ties plan n q) w.parts) (λ n q. total (bell_cursor_at n q) w.parts) l.bells l.bell_chain
 
--- what a pass has of its own lies within its shard, and what it noted is true: a slot is its own once, and is one of its page's class; a page has one cursor at most,
--- at a slot of its class that is not its own; an armed page is armed once, and the bell's cursor is at one; a page of the shard that it did not arm has no flag
+-- what a pass has of its own lies within its shard, and what it noted is true. A slot is its own once, and is one of its page's class;
+-- a page has one cursor at most, at a slot of its class that is not its own; an armed page is armed once, and the bell's cursor is at
+-- one; a page of the shard that is not armed has no flag
 pub record OwnStands (plan : Plan) (w : World) (p : Body) : Type 0 where
   pub few_holds : length p.holds ≤ 16
   pub owned : (n : ℕ) → p.owned ≡ Some n → n < plan.shards
-  pub mine : (x : Spot) → 0 < mine_at x p → (mine_at x p ≡ 1) × (own plan p x.page ≡ true) × (x.page < all_pages plan) × (x.slot < slots_under (w.words.class_at x.page))
-  pub cursors : (q s : ℕ) → noted q p.cursors ≡ Some s → (own plan p q ≡ true) × (q < all_pages plan) × (s < slots_under (w.words.class_at q)) × (mine_at (spot q s) p ≡ 0)
+  pub mine : (x : Spot) → 0 < mine_at x p
+      → (mine_at x p ≡ 1) × (own plan p x.page ≡ true) × (x.page < all_pages plan) × (x.slot < slots_under (w.words.class_at x.page))
+  pub cursors : (q s : ℕ) → noted q p.cursors ≡ Some s
+      → (own plan p q ≡ true) × (q < all_pages plan) × (s < slots_under (w.words.class_at q)) × (mine_at (spot q s) p ≡ 0)
   pub one_cursor : (q : ℕ) → noted q (unpoint q p.cursors) ≡ None
   pub armed : (q : ℕ) → 0 < times q p.armed → (times q p.armed ≡ 1) × (own plan p q ≡ true) × (q < all_pages plan)
   pub unarmed : (q : ℕ) → own plan p q ≡ true → times q p.armed ≡ 0 → w.words.head_at q % 2 ≡ 0
@@ -204,7 +222,7 @@ pub record Refines (plan : Plan) (w : World) (l : Lists) : Type 0 where
   pub owners : OneOwner w
   pub armed : Armed plan w l
   pub left : LeftEmpty plan w
-  pub leavers : LeaversHaveNothing w
+  pub shardless : ShardlessHaveNothing w
   pub linked : Linked plan w l
   pub links : EachLinked plan w l
   pub parts : OwnPartsStand plan w

@@ -17,7 +17,7 @@ use Rattle.sh_word.specs.Fields.{fields_of}
 use Rattle.sh_step.specs.declared.operation.Operation.{Operation}
 use Rattle.sh_step.specs.declared.operation.Operation.TheVariants.{FetchAdd, FetchSub}
 use Rattle.sh_slots.specs.declared.reply.Reply.TheVariants.{Insert}
-use Rattle.sh_step.specs.Operations.{StoresWord}
+use Rattle.sh_step.specs.Operations.{StoresWord, HasRoom}
 use Rattle.sh_core.specs.Words.{read}
 use Rattle.sh_core.specs.Worlds.{World}
 use Rattle.sh_core.specs.Lists.{times}
@@ -70,6 +70,10 @@ abbrev pub CountFits : Operation → ℕ → Type 0
 CountFits (FetchAdd m) n = (fields_of n).count + m < 2 ^ 30
 CountFits (FetchSub m) n = m ≤ (fields_of n).count
 CountFits _ n = Unit {0}
+
+-- so the word has room for it
+abbrev pub CountsLeaveRoom : Type 0
+CountsLeaveRoom = (o : Operation) (n : ℕ) → n < 2 ^ 64 → CountFits o n → HasRoom o n
 
 abbrev pub CountsFit : Plan → World → Type 0
 CountsFit plan w = (a : ℕ) (p : Body) (x : Action) (r : Row) → slice_get w.parts a ≡ Some p → row plan p x ≡ Some r → CountFits r.operation (read w.words r.place)

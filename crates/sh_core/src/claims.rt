@@ -1,10 +1,10 @@
 //! What holds of every run.
 ghost use Rattle.std.specs.Prelude.{◌≡◌, length};
 ghost use Rattle.sh_history.specs.History.{Legal};
-ghost use Rattle.sh_core.specs.Links.{EachLinked};
+ghost use Rattle.sh_core.specs.LinkWords.{EachLinked};
 ghost use Rattle.sh_core.specs.Within.{StepsWithin, CountsFit, BellsAreSmall, ValuesFit, StoresWords, IssuesKeys};
 ghost use Rattle.sh_core.specs.Refines.{Always, OneKind, KindsAddUp, Filled, ClassesAreKnown, HeldStands, ReadsWithin, NotesAreTrue, HoldsAreTold, Counted, CountIsFew};
-ghost use Rattle.sh_core.specs.Refines.{PastIsRemoved, KeysAreTold, EntriesAreOurs, GenerationsEnd, RetiredIsLast, Finished, OneOwner, Armed, LeftEmpty, LeaversHaveNothing, Linked, OwnPartsStand, FillsAreKeys};
+ghost use Rattle.sh_core.specs.Refines.{PastIsRemoved, KeysAreTold, EntriesAreOurs, GenerationsEnd, RetiredIsLast, Finished, OneOwner, Armed, LeftEmpty, ShardlessHaveNothing, Linked, OwnPartsStand, FillsAreKeys};
 
 /// The core refines the map: in every heap whose shape fits its layout, after every list of events, whoever did them and
 /// in whatever order, and wherever calls were left unfinished.
@@ -41,7 +41,7 @@ pub fn refines_map()
     ensures owners { Always (λ plan w l. OneOwner w) }
     ensures armed { Always (λ plan w l. Armed plan w l) }
     ensures left { Always (λ plan w l. LeftEmpty plan w) }
-    ensures leavers { Always (λ plan w l. LeaversHaveNothing w) }
+    ensures shardless { Always (λ plan w l. ShardlessHaveNothing w) }
 
     // What stands on a page and on a bell.
     ensures linked { Always (λ plan w l. Linked plan w l) }

@@ -1,6 +1,6 @@
-//! Laws of what passes did, and of the places that they step on.
+//! Laws of what passes did, and of the places and words that they step on.
 ghost use Rattle.sh_core.specs.Trails.{TrailGrows, OthersTrailsStay, SkipsLeaveTrails};
-ghost use Rattle.sh_core.specs.Within.{PlansHaveShapesPlaces};
+ghost use Rattle.sh_core.specs.Within.{PlansHaveShapesPlaces, CountsLeaveRoom};
 
 /// What one more event adds to the trails of the passes: a step to that of the pass that did it, and nothing to another's.
 pub fn trails_grow()
@@ -12,4 +12,9 @@ pub fn trails_grow()
 /// A place that the plan of a heap has is one of the heap's shape.
 pub fn plans_have_the_places_of_shapes()
     ensures { PlansHaveShapesPlaces }
+{}
+
+/// Where the count of a state word stays within its bounds, the whole word has room.
+pub fn counts_leave_room()
+    ensures { CountsLeaveRoom }
 {}

@@ -112,8 +112,8 @@ impl<L: KeyLayout> World<L> {
     }
 
     /// Does one event: by the row of its action, where there is such a pass and the action's condition holds of its own
-    /// part, and else nothing, which is `Skipped`. Only a step that is not skipped, and by which an entry joins the log or a list of the
-    /// pass's own part grows, may be refused, as `Memory`, and then nothing changed.
+    /// part, and else nothing, which is `Skipped`. Only a step that is not skipped, and by which an entry joins the log or a
+    /// list of the pass's own part grows, may be refused, as `Memory`, and then nothing changed.
     pub fn step(&mut self, event: &Event) -> Result<Outcome, Refusal>
         ensures ok { IfOk result (λ outcome. Steps L.layout self.old event.now outcome self.new) }
         ensures err { OnErr result (self.new ≡ self.old) }

@@ -1,5 +1,5 @@
 -- Laws of histories and of logs that agree with them.
-use Rattle.std.proofs.Common.{◌≡◌, ℕ, ◌+◌, ◌<◌, ◌≤◌, Bool, true, false, List, [], ◌∷◌, ◌++◌, Option, Some, None, refl, sym, ◌∙◌, ap, subst, append_assoc, arith, rules, map, cond, zero-add}
+use Rattle.std.proofs.Common.{◌≡◌, ℕ, ◌+◌, ◌<◌, ◌≤◌, Bool, true, false, List, [], ◌∷◌, ◌++◌, Option, Some, None, refl, sym, ◌∙◌, ap, subst, append_assoc, arith, rules, map, cond, zero-add, eq-eqb}
 use Rattle.std.specs.Prelude.{◌==◌, ◌&&◌, filter, count_by}
 use Rattle.std.specs.List.{AllZip}
 use Rattle.std.proofs.lemmas.List.{append-nil}
@@ -76,9 +76,6 @@ bump : (b : Bool) (m n : ℕ) → m ≤ n → (b ≡ true → m < n) → m + con
 bump true m n h f = let lt = f refl in omega arith
 bump false m n h f = omega arith
 
-eqb_self : (k : ℕ) → (k == k) ≡ true
-eqb_self k = search rules
-
 pub both : (p pass k key : ℕ) → ((p == pass) && (k == key)) ≡ true → (p ≡ pass) × (k ≡ key)
 both p pass k key e = search rules
 
@@ -153,7 +150,7 @@ module _ (passes guard_max : ℕ) where
       value_of-append_none front (Insert p key value ∷ rest) key parts.1.0 ∙ found
     where
       found : value_of (Insert p key value ∷ rest) key ≡ Some value
-      found = rw (eqb_self key) refl
+      found = rw (eq-eqb key key refl) refl
 
   pub value_of_got : (front rest : List Entry) (p key : ℕ) (value : List ℕ)
       → Legal passes guard_max (front ++ Got p key value ∷ rest)

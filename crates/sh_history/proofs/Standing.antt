@@ -1,8 +1,9 @@
 -- What a history says of a key, by the entries that stand in it.
-use Rattle.std.proofs.Common.{◌≡◌, ℕ, Bool, true, false, cond, List, [], ◌∷◌, ◌++◌, Some, refl, ◌∙◌, ap, arith, rules, inl, inr}
+use Rattle.std.proofs.Common.{◌≡◌, ℕ, Bool, true, false, cond, List, [], ◌∷◌, ◌++◌, Some, suc, refl, sym, ◌∙◌, ap, take, drop, drop-cons, arith, rules, inl, inr}
 use Rattle.std.specs.Prelude.{◌==◌, ◌||◌}
 use Rattle.std.specs.List.{Contains}
-use Rattle.std.proofs.lemmas.List.Elements.{Contains-append_left, Contains-append_right, Contains-append_cases, Contains-push, Contains-push_cases}
+use Rattle.std.proofs.lemmas.List.Elements.{Contains-append_left, Contains-append_right, Contains-push}
+use Rattle.std.proofs.lemmas.List.{take-append-drop}
 use Rattle.std.proofs.lemmas.List.Folds.{list_any_at}
 use Rattle.sh_history.specs.declared.entry.Entry.{Entry}
 use Rattle.sh_history.specs.declared.entry.Entry.TheVariants.{Insert, Got, Removed}
@@ -16,20 +17,10 @@ first_stands x xs = Contains-append_left (x ∷ []) xs x (Contains-push [] x)
 later_stands : (x y : Entry) (xs : List Entry) → Contains xs y → Contains (x ∷ xs) y
 later_stands x y xs h = Contains-append_right (x ∷ []) xs y h
 
-nothing_stands : (y : Entry) → Contains [] y → ⊥
-nothing_stands y h = let lt = h.1 in omega arith
-
--- where an entry stands, the history is what comes before it, the entry, and what comes after it
-pub splits_at : (xs : List Entry) (y : Entry) → Contains xs y → (front : List Entry) × (rest : List Entry) × (xs ≡ front ++ y ∷ rest)
-splits_at [] y h = absurd (nothing_stands y h)
-splits_at (x ∷ xs) y h =
-    elim (Contains-append_cases (x ∷ []) xs y h) [
-      | inl here ↦ elim (Contains-push_cases [] x y here) [
-        | inl none ↦ absurd (nothing_stands y none)
-        | inr same ↦ ([], xs, ap (λ z. z ∷ xs) same)
-      ]
-      | inr later ↦ (let r = splits_at xs y later in (x ∷ r.0, r.1, ap (λ zs. x ∷ zs) r.2))
-    ]
+-- where x stands, the list is what comes before it, x, and what comes after it
+pub splits_at : {X : Type 0} (xs : List X) (x : X) → Contains xs x → (front : List X) × (rest : List X) × (xs ≡ front ++ x ∷ rest)
+splits_at xs x (k, inside, is) =
+    (take k xs, drop (suc k) xs, sym (take-append-drop k xs) ∙ rw (drop-cons xs k x inside, is) refl)
 
 issued_later : (x : Entry) (xs : List Entry) (key : ℕ) (value : List ℕ) → IsIssuedWith xs key value → IsIssuedWith (x ∷ xs) key value
 issued_later x xs key value h = (h.0, later_stands x (Insert h.0 key value) xs h.1)

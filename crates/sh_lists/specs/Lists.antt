@@ -1,5 +1,5 @@
 -- The two lists of free slots of a page.
-use Rattle.std.specs.Prelude.{◌≡◌, ℕ, zero, suc, List, [], ◌∷◌, ◌++◌, get_or, Option}
+use Rattle.std.specs.Prelude.{◌≡◌, ℕ, zero, suc, ◌<◌, List, [], ◌∷◌, ◌++◌, get_or, Option, IfSome}
 use Rattle.sh_lists.specs.Numbers.{Distinct, AllBelow}
 
 -- the slots from which allocation takes, the owner's own frees, each list from its front, and the slot at which reading
@@ -9,10 +9,19 @@ pub record Lists : Type 0 where
   pub local : List ℕ
   pub cursor : Option ℕ
 
--- a slot stands in one of the lists at most, there once, and is one of 48
+-- a slot stands in one of the lists at most, there once, and is one of 48, as the cursor is
 pub record SlotsOnce (l : Lists) : Type 0 where
   pub distinct : Distinct (l.free ++ l.local)
   pub small : AllBelow 48 (l.free ++ l.local)
+  pub cursor : IfSome l.cursor (λ slot. slot < 48)
+
+-- `local` has become `free` where that was empty
+abbrev pub refilled_by : List ℕ → Lists → Lists
+refilled_by [] l = record l { free = l.local; local = [] }
+refilled_by (_ ∷ _) l = l
+
+abbrev pub refilled : Lists → Lists
+refilled l = refilled_by l.free l
 
 -- n places from i on, each telling the next
 abbrev pub walk : List ℕ → ℕ → ℕ → List ℕ

@@ -1,7 +1,7 @@
 //! The two lists of free slots of a page, threaded through one array.
 ghost use Rattle.std.specs.Prelude.{◌≡◌, ◌+◌, ◌<◌, ◌≤◌, [], ◌∷◌, ◌++◌, length, None, IfSome, IfNone};
 ghost use Rattle.sh_lists.specs.Numbers.{Misses, upward};
-ghost use Rattle.sh_lists.specs.Lists.{SlotsOnce};
+ghost use Rattle.sh_lists.specs.Lists.{SlotsOnce, refilled};
 
 use std::marker::Model;
 
@@ -37,13 +37,14 @@ pub struct PageLists {
 }
 
 impl Model for PageLists {
+    ghost use Rattle.std.specs.Prelude.{◌<◌, IfSome};
     ghost use Rattle.sh_lists.specs.Lists.{Lists, walk, Threaded};
 
     ghost Value = { Lists };
 
     ghost view = { λ p. record { free = walk p.next p.free.front p.free.count; local = walk p.next p.local.front p.local.count; cursor = p.cursor } };
 
-    ghost invariant = { λ p. Threaded (walk p.next p.free.front p.free.count) p.free.end (walk p.next p.local.front p.local.count) p.local.end };
+    ghost invariant = { λ p. Threaded (walk p.next p.free.front p.free.count) p.free.end (walk p.next p.local.front p.local.count) p.local.end × IfSome p.cursor (λ slot. slot < 48) };
 }
 
 impl PageLists {
@@ -91,13 +92,15 @@ impl PageLists {
 
     /// The slot at which reading the page's stack goes on.
     pub fn cursor(&self) -> Option<u32>
-        ensures { result ≡ self.now.cursor }
+        ensures cursor { result ≡ self.now.cursor }
+        ensures small { IfSome result (λ slot. slot < 48) }
     {
         self.cursor
     }
 
     /// Says at which slot reading the page's stack goes on.
     pub fn set_cursor(&mut self, cursor: Option<u32>)
+        requires { IfSome cursor (λ slot. slot < 48) }
         ensures { self.new ≡ record self.old { cursor = cursor } }
     {
         self.cursor = cursor;
@@ -118,6 +121,23 @@ impl PageLists {
         self.free.front = self.next[slot as usize];
         self.free.count -= 1;
         Some(slot as u32)
+    }
+
+    /// Takes the next slot to use: the front of `free`, or where that is empty, of `local`, which then becomes `free`. None,
+    /// with nothing changed, where both are empty.
+    pub fn next_slot(&mut self) -> Option<u32>
+        ensures front { IfSome result (λ slot. refilled self.old ≡ record self.new { free = slot ∷ self.new.free }) }
+        ensures apart { IfSome result (λ slot. Misses slot (self.new.free ++ self.new.local)) }
+        ensures small { IfSome result (λ slot. slot < 48) }
+        ensures no_free { IfNone result (self.old.free ≡ []) }
+        ensures no_local { IfNone result (self.old.local ≡ []) }
+        ensures same { IfNone result (self.new ≡ self.old) }
+    {
+        if let Some(slot) = self.pop() {
+            return Some(slot);
+        }
+        self.flip();
+        self.pop()
     }
 
     /// Puts a slot that stands in neither list in front of `local`.

@@ -1,5 +1,5 @@
 -- Holds and values in the book of a plain store.
-use Rattle.std.proofs.Common.{◌≡◌, ℕ, ◌+◌, ◌<◌, true, List, [], ◌∷◌, ◌++◌, None, refl, subst, arith, rules, map}
+use Rattle.std.proofs.Common.{◌≡◌, ℕ, ◌+◌, ◌<◌, true, List, [], ◌∷◌, ◌++◌, None, refl, subst, arith, eq-eqb, map}
 use Rattle.std.specs.Prelude.{◌==◌, count_by}
 use Rattle.sh_key.specs.Layout.{Layout}
 use Rattle.sh_history.specs.declared.entry.Entry.{Entry}
@@ -31,8 +31,7 @@ module _ (passes guard_max : ℕ) (entries : List Entry) (pass key : ℕ) (legal
   -- who got a key holds it
   pub got_is_held : (value : List ℕ) → 0 < logged_holds_by (map Known (entries ++ Got pass key value ∷ [])) pass key
   got_is_held value =
-      let same : (n : ℕ) → (n == n) ≡ true = λ n. search rules in
-      let yes : is_got_by pass key (Got pass key value) ≡ true = rw (same pass, same key) refl in
+      let yes : is_got_by pass key (Got pass key value) ≡ true = rw (eq-eqb pass pass refl, eq-eqb key key refl) refl in
       let got : count_by (is_got_by pass key) (entries ++ Got pass key value ∷ []) ≡ got_count_by entries pass key + 1 =
       rw (count_by-push (is_got_by pass key) entries (Got pass key value), yes) refl in
       let released = count_by-push (is_release_by pass key) entries (Got pass key value) in

@@ -252,7 +252,8 @@ impl<L: KeyLayout> PlainStore<L> {
         }
         match self.value_of(hold.key) {
             Some(value) => Ok(value.copy()),
-            None => unreachable!(),
+            // No history has a hold on a key that was not issued.
+            None => Err(Refusal::NotHeld),
         }
     }
 
@@ -295,6 +296,16 @@ impl<L: KeyLayout> Store for PlainStore<L> {
     ghost book = { plain_book };
 
     ghost setting = { plain_setting L.layout };
+
+    ghost inserts = { λ old value result new. Replied (insert_reply L.layout old value) old result new };
+
+    ghost gets = { λ old key result new. Replied (get_reply L.layout old key) old result new };
+
+    ghost reads = { λ old key result new. (result ≡ read_answer old key) × (new ≡ old) };
+
+    ghost removes = { λ old key result new. Replied (remove_reply L.layout old key) old result new };
+
+    ghost releases = { λ old key result new. Replied (release_reply old key) old result new };
 
     fn insert(&mut self, value: &Value) -> Result<u64, Refusal>
         ensures leaves { InsertLeaves (plain_setting L.layout self.old) value.now (plain_book self.old) result (plain_book self.new) }

@@ -4,3 +4,5 @@ pub mod Sections
 pub mod Moves
 pub mod Openings
 pub mod Fronts
+pub mod Times
+pub mod PageLaws

@@ -259,3 +259,28 @@ leaves_full w w' p size size' opened unopened notes v is h old new distinct size
       shows = λ i. record { opened = opened; unopened = unopened; classes = classes i; full = m.target i; blank = blank i };
     } in
     subst P is at old
+
+-- ---- the same for whatever class the page is put into
+
+-- each mark is there once the page is taken out
+pub mark_is_there
+    : (w out : List ℕ) (p size opened unopened : ℕ) (notes : List Bool)
+    → Kept w size opened unopened notes → out ≡ without (11 + p) w → (mark : ℕ) → mark < 11 → has mark out ≡ true
+mark_is_there w out p size opened unopened notes h is mark inside =
+    ap (has mark) is ∙ mark_stays w mark p size opened unopened notes h inside
+
+pub kept_in_front
+    : (w out w' : List ℕ) (p size size' opened unopened : ℕ) (notes : List Bool) (v : PageQueues)
+    → shown w opened unopened ≡ v → Kept w size opened unopened notes → p < v.opened → out ≡ without (11 + p) w
+    → Distinct w' → size' ≡ size → (c : ℕ) → w' ≡ put_after c (11 + p) out → c < 8
+    → Kept w' size' opened unopened (set notes p false)
+kept_in_front w out w' p size size' opened unopened notes v is h old taken distinct sized c new class =
+    (leaves_front w w' c p size size' opened unopened notes v is h class old (new ∙ ap (put_after c (11 + p)) taken) distinct sized).kept
+
+pub kept_in_back
+    : (w out w' : List ℕ) (p size size' opened unopened : ℕ) (notes : List Bool) (v : PageQueues)
+    → shown w opened unopened ≡ v → Kept w size opened unopened notes → p < v.opened → out ≡ without (11 + p) w
+    → Distinct w' → size' ≡ size → (c : ℕ) → w' ≡ put_before (c + 1) ((11 + p) ∷ []) out → c < 8
+    → Kept w' size' opened unopened (set notes p false)
+kept_in_back w out w' p size size' opened unopened notes v is h old taken distinct sized c new class =
+    (leaves_back w w' c p size size' opened unopened notes v is h class old (new ∙ ap (put_before (c + 1) ((11 + p) ∷ [])) taken) distinct sized).kept

@@ -20,8 +20,10 @@ use Rattle.sh_core.specs.Words.{read}
 use Rattle.sh_core.specs.Worlds.{World, entry_of, value_of}
 use Rattle.sh_core.specs.Outcomes.{outcome_of, done}
 use Rattle.sh_core.specs.Refines.{FillsAreKeys}
-use Rattle.sh_core.proofs.Conditions.{Meets, meets}
-use Rattle.sh_core.proofs.Stepping.{row_of_at, row_of_past, outcome_done, outcome_skipped}
+use Rattle.sh_step.specs.Conditions.{Meets}
+use Rattle.sh_step.proofs.ConditionLaws.{meets}
+use Rattle.sh_core.proofs.Steps.{row_of_at}
+use Rattle.sh_core.proofs.Stepping.{row_of_past, outcome_done, outcome_skipped}
 use Rattle.sh_replay.specs.StepsKeys.{KeysWithin}
 
 -- a reply's key is below the bound

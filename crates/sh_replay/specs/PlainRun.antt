@@ -1,5 +1,5 @@
 -- A run of calls on the plain store, line by line.
-use Rattle.std.specs.Prelude.{◌≡◌, ℕ, ok_or, nat_lt, nat_le, not, Bool, true, false, List, [], ◌∷◌, ◌++◌, length, replicate, slice_get, slice_index_or, slice_set, Option, Some, None, Result, Ok, Err, if◌then◌else◌}
+use Rattle.std.specs.Prelude.{◌≡◌, ℕ, ok_or, nat_lt, nat_le, not, Bool, true, false, List, [], ◌∷◌, ◌++◌, length, replicate, slice_get, slice_index_or, slice_set, Option, Some, None, IsSome, Result, Ok, Err, if◌then◌else◌}
 use Rattle.std.specs.Result.{result_ok}
 use Rattle.sh_value.specs.declared.refusal.Refusal.{Refusal}
 use Rattle.sh_value.specs.declared.refusal.Refusal.TheVariants as refusal
@@ -108,6 +108,11 @@ Tells reply run (Ok key) told next =
     (told ≡ done_answer (reply run.store key).answer)
     × (next ≡ record run { store = with_added run.store (reply run.store key).adds })
 
+-- the call has an entry, for which memory may be refused
+abbrev pub MayEnd : {A : Type 0} → (Plain → ℕ → Reply A) → Run → Result ℕ Answer → Type 0
+MayEnd reply run (Err a) = ⊥
+MayEnd reply run (Ok key) = IsSome (reply run.store key).adds
+
 abbrev pub Reads : Run → Result ℕ Answer → Answer → Run → Type 0
 Reads run (Err a) told next = (told ≡ a) × (next ≡ run)
 Reads run (Ok key) told next = (told ≡ value_answer (read_answer run.store key)) × (next ≡ run)
@@ -127,6 +132,16 @@ Calls layout run (call.Wait name) told next = (told ≡ answer.Done) × (next �
 
 abbrev pub Steps : Layout → Run → CallLine → Answer → Run → Type 0
 Steps layout run line told next = Calls layout (at_turn run line.pass) line.call told next
+
+-- the calls that end a run where memory for their entry is refused; an insert is answered then
+abbrev pub CallEnds : Layout → Run → Call → Type 0
+CallEnds layout run (call.Get r) = MayEnd (get_reply layout) run (key_of run r)
+CallEnds layout run (call.Remove r) = MayEnd (remove_reply layout) run (key_of run r)
+CallEnds layout run (call.Release r) = MayEnd release_reply run (key_of run r)
+CallEnds layout run _ = ⊥
+
+abbrev pub EndsAt : Layout → Run → CallLine → Type 0
+EndsAt layout run line = CallEnds layout (at_turn run line.pass) line.call
 
 -- these lines are answered so, one after the other
 abbrev pub Ran : Layout → Run → List CallLine → List Answer → Run → Type 0

@@ -26,7 +26,11 @@ fn plain_lines<L: KeyLayout>(
     ensures output { IfOk result (λ output. IsPlainOutput L.layout shape tag lines.now output.items) }
     ensures memory { IfErr result (λ fault. fault ≡ Fault.Memory) }
 {
-    let mut run = PlainRun::<L>::new(alloc, shape.shards(), shape.passes(), tag);
+    // Each line binds one name at most.
+    let names = lines.len();
+    let Ok(mut run) = PlainRun::<L>::new(alloc, shape.shards(), shape.passes(), tag, names) else {
+        return Err(Fault::Memory);
+    };
     let mut output = Vec::new(alloc);
     for line in lines {
         let answer = run.step(line)?;

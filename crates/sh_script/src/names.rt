@@ -1,6 +1,6 @@
 //! The names that are bound.
 use std::alloc::{AllocError, Global};
-use std::collections::HashMap;
+use std::collections::BTreeMap;
 use std::marker::Model;
 
 /// What binds a name.
@@ -30,13 +30,14 @@ pub struct Found {
 #[derive(Drop)]
 pub struct Names<'a> {
     bound: Vec<Bound<'a>>,
-    found: HashMap<&'a [u8], Found>,
+    found: BTreeMap<&'a [u8], Found>,
 }
 
 impl<'a> Model for Names<'a> {
     ghost use Rattle.std.specs.Prelude.{◌≡◌, List, ℕ, map};
-    ghost use Rattle.std.specs.HashMap.{get_by};
-    ghost use Rattle.std.specs.Str.{bytes_eq};
+    ghost use Rattle.std.specs.BTreeMap.{get_by};
+    ghost use Rattle.std.specs.Cmp.Lexicographic.{slice_cmp};
+    ghost use Rattle.std.specs.Ordering.{nat_cmp};
     ghost use Rattle.sh_script.specs.Names.{Binding, find_from};
 
     ghost Value = { List Binding };
@@ -44,7 +45,7 @@ impl<'a> Model for Names<'a> {
     ghost view = { λ n. map (λ b. record { name = b.name.now; by = b.by }) n.bound.items };
 
     // The map finds each name that is bound.
-    ghost invariant = { λ n. (q : List ℕ) → get_by (λ k. bytes_eq q k.now) n.found
+    ghost invariant = { λ n. (q : List ℕ) → get_by (λ k. slice_cmp nat_cmp q k.now) n.found
         ≡ find_from 0 (map (λ b. record { name = b.name.now; by = b.by }) n.bound.items) q };
 }
 
@@ -58,7 +59,7 @@ impl<'a> Names<'a> {
     {
         Names {
             bound: Vec::new(alloc),
-            found: HashMap::new(alloc),
+            found: BTreeMap::new(alloc),
         }
     }
 

@@ -2,10 +2,10 @@
 use Rattle.std.proofs.Common.{◌≡◌, ℕ, ◌+◌, ◌-◌, ◌*◌, ◌/◌, ◌%◌, ◌<◌, ◌≤◌, zero, suc, inl, inr, sym, ◌∙◌, ap, arith}
 use Rattle.sh_shape.specs.declared.places.Place.{Place}
 use Rattle.sh_shape.specs.declared.places.Place.TheVariants.{Class, Head, PageLink, State, Link, Length, Payload, Owner, Bell}
-use Rattle.std.proofs.lemmas.Nat.{mul-add-lt}
+use Rattle.std.proofs.lemmas.Nat.{mul-add-lt, div-mul-add, mod-mul-add, div_below, mod_below, div-add-mod'}
 use Rattle.std.proofs.lemmas.Bool.{cases_lt}
 use Rattle.sh_shape.specs.Shape.{Numbers, IsShape}
-use Rattle.sh_shape.specs.Places.{pages_of, all_pages, page_number, IsPlace, number, page_words, PlacesDiffer, PlacesAreWords, WordsHavePlaces}
+use Rattle.sh_shape.specs.Places.{pages_of, all_pages, page_number, IsPlace, number, page_words, PagesDiffer, PagesHaveShards, PlacesDiffer, PlacesAreWords, WordsHavePlaces}
 
 -- how many pages a heap has at most
 pub few_pages : (shape : Numbers) → IsShape shape → all_pages shape ≤ 2048
@@ -18,6 +18,28 @@ pub page_is_below : (shape : Numbers) (shard page : ℕ) → shard < shape.shard
     → page_number shape shard page < all_pages shape
 page_is_below shape shard page h k =
     let below = mul-add-lt shard (pages_of shape) page shape.shards h k in omega (arith, below)
+
+-- where the heap has a page, each shard has one
+some_page : (shape : Numbers) (n : ℕ) → n < all_pages shape → 0 < pages_of shape
+some_page shape n h = elim (cases_lt 0 (pages_of shape)) [
+  | inl lt ↦ lt
+  | inr past ↦
+      let none : pages_of shape ≡ 0 = omega arith in
+      let empty : all_pages shape ≡ 0 = ap (λ m. shape.shards * m) none ∙ (let z : shape.shards * 0 ≡ 0 = omega arith in z) in absurd (omega arith)
+]
+
+pub pages_differ : PagesDiffer
+pages_differ shape shard page other_shard other_page h k same =
+    let pages = pages_of shape in (
+      sym (div-mul-add shard pages page h) ∙ ap (λ n. n / pages) same ∙ div-mul-add other_shard pages other_page k,
+      sym (mod-mul-add shard pages page h) ∙ ap (λ n. n % pages) same ∙ mod-mul-add other_shard pages other_page k,
+    )
+
+pub pages_have_shards : PagesHaveShards
+pages_have_shards shape n h =
+    let pages = pages_of shape in
+    let some : 0 < pages = some_page shape n h in
+    (n / pages, n % pages, div_below n pages shape.shards some h, mod_below n pages some, div-add-mod' n pages)
 
 pub places_are_words : PlacesAreWords
 places_are_words shape (Class page) is = omega arith

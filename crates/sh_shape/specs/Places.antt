@@ -30,6 +30,18 @@ all_pages shape = shape.shards * pages_of shape
 abbrev pub page_number : Numbers → (shard page : ℕ) → ℕ
 page_number shape shard page = shard * pages_of shape + page
 
+-- two shards, or two pages of a shard, have two page numbers
+abbrev pub PagesDiffer : Type 0
+PagesDiffer =
+    (shape : Numbers) (shard page other_shard other_page : ℕ) → page < pages_of shape → other_page < pages_of shape
+    → page_number shape shard page ≡ page_number shape other_shard other_page → (shard ≡ other_shard) × (page ≡ other_page)
+
+-- each page of the heap is one of a shard
+abbrev pub PagesHaveShards : Type 0
+PagesHaveShards =
+    (shape : Numbers) (n : ℕ) → n < all_pages shape
+    → (shard : ℕ) × (page : ℕ) × (shard < shape.shards) × (page < pages_of shape) × (page_number shape shard page ≡ n)
+
 -- the heap has this place; a page is given by its number over the whole heap
 abbrev pub IsPlace : Numbers → Place → Type 0
 IsPlace shape (Class page) = page < all_pages shape

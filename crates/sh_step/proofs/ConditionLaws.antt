@@ -17,7 +17,7 @@ use Rattle.sh_step.specs.Collections.{has, noted, without}
 use Rattle.sh_step.specs.Conditions.{Named, HasPage, Owns, Holds, HasMine, its_page, Meets, RowsMeet, WhoMeetsHasRow}
 use Rattle.sh_step.specs.Plans.{Plan, all_pages, home, page_of, slot_of}
 use Rattle.sh_step.specs.Rows.{Row, row, named, paged, slotted, when, idle, own, owned_by, class_of, no_cursor, all_mine, mark, drop_hand, drop_key, enter_get, enter_remove, finish, fill_slot, fill, publish, read_class, read_length, read_word, read_page, set_class, take_page, follow, put_at, tie, adopt, leave, arm, ring, ring_tie, take_bell, follow_bell}
-use Rattle.sh_step.proofs.Tests.{and2, and3, and4, and5, lt_of, le_of, lt_true, le_true, not_of, no_bool, no_row, by_when, by_some}
+use Rattle.sh_step.proofs.Truths.{and2, and3, and4, and5, lt_of, le_of, lt_true, le_true, not_of, no_bool, no_row, by_when, by_some}
 
 -- ---- what a test of the part says
 

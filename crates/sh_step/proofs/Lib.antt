@@ -5,7 +5,8 @@ pub mod WordLaws
 pub mod PageLaws
 pub mod HoldLaws
 pub mod KeyLaws
-pub mod Tests
+pub mod Truths
 pub mod ConditionLaws
 pub mod StepLaws
 pub mod FootstepLaws
+pub mod OperationLaws

@@ -1,5 +1,5 @@
 -- What an operation leaves of the word that it finds, and what it answers.
-use Rattle.std.specs.Prelude.{ℕ, ◌+◌, ◌-◌, ◌%◌, ◌^◌, ◌<◌, ◌≤◌, ◌==◌, cond, bit_or, Option, Some, None}
+use Rattle.std.specs.Prelude.{ℕ, ◌≡◌, ◌+◌, ◌-◌, ◌%◌, ◌^◌, ◌<◌, ◌≤◌, ◌==◌, cond, bit_or, Option, Some, None}
 use Rattle.sh_step.specs.declared.operation.Operation.{Operation}
 use Rattle.sh_step.specs.declared.operation.Operation.TheVariants.{FetchAdd, FetchSub, FetchOr, Swap, Store, CompareExchange, Load}
 
@@ -34,6 +34,10 @@ wrapped (Swap m) n = m
 wrapped (Store m) n = m
 wrapped (CompareExchange old new) n = cond (n == old) new n
 wrapped Load n = n
+
+-- where the word found has room, that is what the operation leaves
+abbrev pub RoomDoesNotWrap : Type 0
+RoomDoesNotWrap = (o : Operation) (n : ℕ) → n < 2 ^ 64 → HasRoom o n → operate o n ≡ wrapped o n
 
 -- what it answers: the word that it found, but for a store
 abbrev pub answer : Operation → ℕ → Option ℕ

@@ -2,8 +2,8 @@
 use crate::Action;
 use sh_shape::Place;
 
-/// What a pass did in one step. It is a word of contracts, and no value of it is made: the trail of a pass is a list of these, the
-/// earliest first.
+/// What a pass did in one step. It is a word of contracts, and no value of it is made: the trail of a pass is a list of
+/// these, the earliest first.
 pub struct Footstep {
     /// What was done.
     pub action: Action,

@@ -1,7 +1,8 @@
-//! The laws of the table of actions, and of what is counted over steps.
+//! The laws of the table of actions, of its operations, and of what is counted over steps.
 ghost use Rattle.sh_step.specs.Conditions.{RowsMeet, WhoMeetsHasRow};
 ghost use Rattle.sh_step.specs.Footsteps.{CountsGrow};
 ghost use Rattle.sh_step.specs.Moves.{StepsLookAtNoPart, StoresAreBlind};
+ghost use Rattle.sh_step.specs.Operations.{RoomDoesNotWrap};
 
 /// An action has a row of the table exactly where its condition holds, and then the row that the condition names.
 pub fn conditions_have_rows()
@@ -9,8 +10,8 @@ pub fn conditions_have_rows()
     ensures each { WhoMeetsHasRow }
 {}
 
-/// What a step is done on, and what it does there, depends on the move alone. What a store leaves of the part, and what is replied, does
-/// not depend on the word found, which a store does not answer.
+/// What a step is done on, and what it does there, depends on the move alone. What a store leaves of the part, and what is
+/// replied, does not depend on the word found, which a store does not answer.
 pub fn steps_look_at_no_part()
     ensures steps { StepsLookAtNoPart }
     ensures stores { StoresAreBlind }
@@ -19,4 +20,9 @@ pub fn steps_look_at_no_part()
 /// What is counted over a list of steps grows by 1 with one step more that is such, and stays with another.
 pub fn footsteps_count()
     ensures { CountsGrow }
+{}
+
+/// What an operation leaves of a word that has room for it is what a machine leaves, whose words wrap around.
+pub fn room_does_not_wrap()
+    ensures { RoomDoesNotWrap }
 {}

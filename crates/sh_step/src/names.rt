@@ -1,7 +1,6 @@
 //! What keys and names of pages and slots name.
-ghost use Rattle.std.specs.Prelude.{◌≡◌, ◌+◌, ◌*◌, ◌<◌, nat_lt, ◌&&◌};
-ghost use Rattle.sh_key.specs.Layout.{IsInRange};
-ghost use Rattle.sh_step.specs.Plans.{plan_of, parts_of};
+ghost use Rattle.std.specs.Prelude.{◌≡◌, ◌+◌, ◌*◌, ◌<◌, nat_lt, ◌&&◌, Some};
+ghost use Rattle.sh_step.specs.Plans.{plan_of};
 ghost use Rattle.sh_shape.specs.Places.{all_pages, pages_of};
 ghost use Rattle.sh_step.specs.Moves.{has_place, place_named, page_named, slot_named};
 
@@ -81,12 +80,12 @@ pub fn slot_of_name<L: KeyLayout>(shape: &Shape, name: SlotName) -> Option<Spot>
     }
 }
 
-/// The key of a name: the layout has one for it.
-#[tactic(auto, unfolding(crate::specs::Plans::keys_of))]
+/// The key of a name of a slot of the heap: the key names it.
+#[tactic(auto, using(crate::proofs::KeyLaws::parts_in_range), unfolding(crate::specs::Plans::keys_of))]
 pub fn key_of_name<L: KeyLayout>(shape: &Shape, name: Name) -> u64
     requires page { name.page < all_pages shape.now }
     requires slot { name.slot < 48 }
-    requires range { IsInRange L.layout (parts_of (pages_of shape.now) name) }
+    requires names { (plan_of L.layout shape.now).keys.unpack ((plan_of L.layout shape.now).keys.pack name) ≡ Some name }
     ensures { result ≡ (plan_of L.layout shape.now).keys.pack name }
 {
     let pages = u64::from(shape.pages());

@@ -91,8 +91,8 @@ impl Move {
         }
     }
 
-    /// The place of the one word that it touches, and what it does there: those of its row of the table, whatever the part. The place
-    /// is one of the shape, and what a swap or an exchange stores fits a word.
+    /// The place of the one word that it touches, and what it does there: those of its row of the table, whatever the part.
+    /// The place is one of the shape, and what a swap or an exchange stores fits a word.
     pub fn step<L: KeyLayout>(&self, shape: &Shape) -> Step
         requires place { IsPlace shape.now (step_at (plan_of L.layout shape.now) self.now).place }
         requires stores { StoresWord (step_at (plan_of L.layout shape.now) self.now).operation }

@@ -1,5 +1,9 @@
 ghost use Rattle.std.specs.Prelude.{◌≡◌};
 
+use crate::operands::{
+    bell_of, bell_word, gen_max, guard_max, payload_word, put_word, slots_of_word, width_of_word,
+    word_of_value,
+};
 use crate::{Action, Kind, Move, Operation, PageName, Part, SlotName, enabled};
 use sh_key::Tiny;
 use sh_shape::{Place, Shape};
@@ -82,5 +86,23 @@ fn generations_end_in_one_exchange(rt: HostRuntime) -> Result<(), Fail> {
         used_up.operation,
         Operation::CompareExchange(16106127360, 15032385536)
     );
+    Ok(())
+}
+
+// A page of class 7 has 3 slots of 16 words.
+#[test]
+fn steps_are_done_with_these_words(rt: HostRuntime) -> Result<(), Fail> {
+    let shape = one_shard(&rt);
+    let value = Value::new(&[5, 6]).expect(&rt, "two words fit");
+    assert_eq!(rt; width_of_word(8), 16);
+    assert_eq!(rt; slots_of_word(8), 3);
+    assert_eq!(rt; width_of_word(0), 1);
+    assert_eq!(rt; payload_word(2, 8, 1), 33);
+    assert_eq!(rt; word_of_value(&value, 1), 6);
+    assert_eq!(rt; put_word(2), 6);
+    assert_eq!(rt; bell_of::<Tiny>(&shape, 3), Place::Bell(0));
+    assert_eq!(rt; bell_word::<Tiny>(&shape, 3), 4);
+    assert_eq!(rt; gen_max::<Tiny>(), 3);
+    assert_eq!(rt; guard_max::<Tiny>(), 4);
     Ok(())
 }

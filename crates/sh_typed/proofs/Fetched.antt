@@ -1,5 +1,5 @@
 -- What a get and its read leave, over any store.
-use Rattle.std.proofs.Common.{◌≡◌, ℕ, ◌<◌, Bool, true, false, cond, List, [], ◌∷◌, ◌++◌, refl, ◌∙◌, ap, subst, arith, rules, map, Ok, Err}
+use Rattle.std.proofs.Common.{◌≡◌, ℕ, ◌<◌, Bool, true, false, cond, List, [], ◌∷◌, ◌++◌, refl, ◌∙◌, ap, subst, arith, rules, map, Ok, Err, eq-eqb}
 use Rattle.std.specs.Prelude.{◌==◌, ◌&&◌, count_by}
 use Rattle.std.proofs.lemmas.List.{map-append}
 use Rattle.sh_value.specs.declared.refusal.Refusal.{Refusal}
@@ -53,9 +53,6 @@ last_has : (key : ℕ) (value : List ℕ) (xs : List LogEntry) (e : LogEntry) �
 last_has key value [] e h = h.0
 last_has key value (x ∷ xs) e h = last_has key value xs e h.1
 
-eqb_self : (k : ℕ) → (k == k) ≡ true
-eqb_self k = search rules
-
 -- the get once it is read
 read_got : (pass key : ℕ) (value : List ℕ) (e : LogEntry) → IsGotBy pass key e → HasValue key value (filled key value e)
     → filled key value e ≡ Known (Got pass key value)
@@ -65,7 +62,7 @@ read_got pass key value (Known (Gone _ _)) is has = absurd is
 read_got pass key value (Known (Crowded _ _)) is has = absurd is
 read_got pass key value (Known (Removed _ _)) is has = absurd is
 read_got pass key value (Known (Released _ _)) is has = absurd is
-read_got pass key value (Unread p k) is has = rw (is.0, is.1, eqb_self key) refl
+read_got pass key value (Unread p k) is has = rw (is.0, is.1, eq-eqb key key refl) refl
 
 -- a get that is read
 pub fetched : (s s' : Setting) (key k : ℕ) (book mid after : List LogEntry) (value : List ℕ) → s' ≡ s → k ≡ key

@@ -1,5 +1,5 @@
 -- A record whose insert stands in the book is given back.
-use Rattle.std.proofs.Common.{◌≡◌, ℕ, List, [], ◌∷◌, ◌++◌, Option, Some, None, refl, sym, ◌∙◌, ap, arith, Ok, Err, Result, map, append_assoc, inr, suc, take, drop, drop-cons}
+use Rattle.std.proofs.Common.{◌≡◌, ℕ, List, [], ◌∷◌, ◌++◌, Option, Some, None, refl, sym, ◌∙◌, ap, subst, arith, Ok, Err, Result, map, append_assoc, inr, suc, take, drop, drop-cons}
 use Rattle.std.specs.List.{Contains}
 use Rattle.std.proofs.lemmas.List.{map-append, take-append-drop}
 use Rattle.sh_value.specs.declared.hold.Hold.{Hold}
@@ -11,13 +11,9 @@ use Rattle.sh_history.specs.declared.log.LogEntry.{LogEntry}
 use Rattle.sh_history.specs.declared.log.LogEntry.TheVariants.{Known}
 use Rattle.sh_history.specs.Log.{filled, logged_holds_by}
 use Rattle.sh_history.proofs.LogLaws.{same_value}
+use Rattle.sh_history.proofs.Standing.{splits_at}
 use Rattle.sh_plain.specs.Store.{Setting, IsBook, ReleaseLeaves}
 use Rattle.sh_typed.specs.Typed.{GotValue, GivesBack, RecordLeaves}
-
--- where an entry stands, the list is what comes before it, the entry, and what comes after it
-splits_at : {X : Type 0} (xs : List X) (y : X) → Contains xs y → (front : List X) × (rest : List X) × (xs ≡ front ++ y ∷ rest)
-splits_at xs y (k, inside, is) =
-    (take k xs, drop (suc k) xs, sym (take-append-drop k xs) ∙ rw (drop-cons xs k y inside, is) refl)
 
 -- an entry that is known stays where a value is read and entries come behind
 pub kept : (key : ℕ) (value : List ℕ) (book more front rest : List LogEntry) (e : Entry) → book ≡ front ++ Known e ∷ rest
@@ -26,18 +22,26 @@ kept key value book more front rest e is =
     rw is (ap (λ l. l ++ more) (map-append (filled key value) front (Known e ∷ rest))
     ∙ append_assoc (map (filled key value) front) (Known e ∷ map (filled key value) rest) more)
 
+-- where a got value was read, a release of its hold is refused for memory alone
+pub refused_for_memory : (s t : Setting) (key k : ℕ) (value : List ℕ) (start book after : List LogEntry) (refusal : Refusal)
+    → t ≡ s → k ≡ key → GotValue s key value start book → ReleaseLeaves t k book (Err refusal) after → refusal ≡ Memory
+refused_for_memory s t key k value start book after Memory same same_key got leaves = refl
+refused_for_memory s t key k value start book after NotHeld same same_key got leaves =
+    let free : logged_holds_by book s.pass key ≡ 0 = rw (same, same_key) at leaves.0 in
+    let held = got.held in absurd (omega arith)
+refused_for_memory s t key k value start book after _ same same_key got leaves = absurd leaves
+
 -- what a get of a record leaves, whatever reads the value
 module _ {R : Type 0} (read : List ℕ → Option R) where
   pub release_refused : (s t : Setting) (key k : ℕ) (value : List ℕ) (start book after : List LogEntry) (refusal : Refusal)
       → t ≡ s → k ≡ key → GotValue s key value start book → read value ≡ None
       → ReleaseLeaves t k book (Err refusal) after
       → RecordLeaves read s key start (Err refusal) after
-  release_refused s t key k value start book after Memory same same_key got none leaves =
-      inr (value, record { got = leaves.1 ∙ got.got; held = rw leaves.1 got.held }, none)
-  release_refused s t key k value start book after NotHeld same same_key got none leaves =
-      let free : logged_holds_by book s.pass key ≡ 0 = rw (same, same_key) at leaves.0 in
-      let held = got.held in absurd (omega arith)
-  release_refused s t key k value start book after _ same same_key got none leaves = absurd leaves
+  release_refused s t key k value start book after refusal same same_key got none leaves =
+      let for_memory = refused_for_memory s t key k value start book after refusal same same_key got leaves in
+      let P : Refusal → Type 0 = λ r. ReleaseLeaves t k book (Err r) after in
+      let left = subst P for_memory leaves in
+      rw for_memory (inr (value, record { got = left.1 ∙ got.got; held = rw left.1 got.held }, none))
 
   same_read : (s t : Setting) (key pass : ℕ) (value got : List ℕ) (book after more : List LogEntry)
       → after ≡ map (filled key got) book ++ Known (Got s.pass key got) ∷ more → IsBook t after

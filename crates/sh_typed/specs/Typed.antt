@@ -39,6 +39,37 @@ RecordLeaves read s key book (Err Memory) after =
     (after ≡ book) ⊎ ((value : List ℕ) × GotValue s key value book after × (read value ≡ None))
 RecordLeaves read s key book (Err refusal) after = GetLeaves s key book (Err refusal) after
 
+-- ---- which of the store's answers led to it
+
+-- a get and its read, as the store answers them: both, or the get's refusal
+abbrev pub Fetches : {S : Type 0} → (gets : S → ℕ → Result Hold Refusal → S → Type 0)
+    → (reads : S → ℕ → Result (List ℕ) Refusal → S → Type 0) → S → ℕ → Result (Hold × List ℕ) Refusal → S → Type 0
+Fetches gets reads old key (Ok (hold, value)) new = (got : _) × gets old key (Ok hold) got × reads got hold.key (Ok value) new
+Fetches gets reads old key (Err refusal) new = gets old key (Err refusal) new
+
+-- the store gave a hold and a value that is read as none, and answers the release of that hold so
+pub record Returns {S R : Type 0} (read : List ℕ → Option R) (gets : S → ℕ → Result Hold Refusal → S → Type 0)
+    (reads : S → ℕ → Result (List ℕ) Refusal → S → Type 0) (releases : S → ℕ → Result (Unit {0}) Refusal → S → Type 0)
+    (old : S) (key : ℕ) (answer : Result (Unit {0}) Refusal) (new : S) : Type 0 where
+  pub hold : Hold
+  pub value : List ℕ
+  pub held : S
+  pub fetched : Fetches gets reads old key (Ok (hold, value)) held
+  pub none : read value ≡ None
+  pub released : releases held hold.key answer new
+
+-- a get of a record: the store's hold with the record that its value is read as; `WrongKind` where it is read as none and
+-- the store took the hold back; else the store's refusal of the get, or of the release, which is for memory
+abbrev pub FetchesRecord : {S R : Type 0} → (List ℕ → Option R) → (gets : S → ℕ → Result Hold Refusal → S → Type 0)
+    → (reads : S → ℕ → Result (List ℕ) Refusal → S → Type 0) → (releases : S → ℕ → Result (Unit {0}) Refusal → S → Type 0)
+    → S → ℕ → Result (Hold × R) Refusal → S → Type 0
+FetchesRecord read gets reads releases old key (Ok (hold, found)) new =
+    (value : List ℕ) × Fetches gets reads old key (Ok (hold, value)) new × (read value ≡ Some found)
+FetchesRecord read gets reads releases old key (Err WrongKind) new = Returns read gets reads releases old key (Ok tt) new
+FetchesRecord read gets reads releases old key (Err Memory) new =
+    gets old key (Err Memory) new ⊎ Returns read gets reads releases old key (Err Memory) new
+FetchesRecord read gets reads releases old key (Err refusal) new = gets old key (Err refusal) new
+
 -- the record is given back, or the get is refused as a store refuses a get
 abbrev pub GivesBack : {R : Type 0} → R → Result (Hold × R) Refusal → Type 0
 GivesBack given (Ok (hold, found)) = found ≡ given

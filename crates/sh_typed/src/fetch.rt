@@ -1,7 +1,7 @@
 //! A get, and what it gives.
 ghost use Rattle.std.specs.Prelude.{◌≡◌};
 ghost use Rattle.sh_plain.specs.Store.{IsBook};
-ghost use Rattle.sh_typed.specs.Typed.{FetchLeaves, RecordLeaves, record_in};
+ghost use Rattle.sh_typed.specs.Typed.{FetchLeaves, Fetches, FetchesRecord, RecordLeaves, record_in};
 
 use crate::stored::stored_record;
 use sh_plain::Store;
@@ -12,6 +12,7 @@ fn fetch<S: Store>(store: &mut S, key: u64) -> Result<(Hold, Value), Refusal>
     ensures leaves { FetchLeaves (S.setting store.old) key (S.book store.old) result (S.book store.new) }
     ensures stands { IsBook (S.setting store.new) (S.book store.new) }
     ensures same { S.setting store.new ≡ S.setting store.old }
+    ensures exact { Fetches S.gets S.reads store.old key result store.new }
 {
     let hold = store.get(key)?;
     match store.read(hold) {
@@ -28,6 +29,7 @@ pub(crate) fn fetch_record<S: Store, R: Record>(
     ensures leaves { RecordLeaves (record_in R.KIND R.record_of) (S.setting store.old) key (S.book store.old) result (S.book store.new) }
     ensures stands { IsBook (S.setting store.new) (S.book store.new) }
     ensures same { S.setting store.new ≡ S.setting store.old }
+    ensures exact { FetchesRecord (record_in R.KIND R.record_of) S.gets S.reads S.releases store.old key result store.new }
 {
     let (hold, value) = fetch(store, key)?;
     match stored_record(&value) {

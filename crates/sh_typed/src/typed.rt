@@ -4,7 +4,7 @@ ghost use Rattle.std.specs.List.{Contains};
 ghost use Rattle.sh_history.specs.declared.entry.Entry.TheVariants.{Insert};
 ghost use Rattle.sh_history.specs.declared.log.LogEntry.TheVariants.{Known};
 ghost use Rattle.sh_plain.specs.Store.{IsBook, InsertLeaves, RemoveLeaves, ReleaseLeaves};
-ghost use Rattle.sh_typed.specs.Typed.{GivesBack, RecordLeaves, record_in};
+ghost use Rattle.sh_typed.specs.Typed.{FetchesRecord, GivesBack, RecordLeaves, record_in};
 
 use crate::fetch::fetch_record;
 use crate::stored::stored_value;
@@ -52,6 +52,7 @@ impl<S: Store, R: Record> Typed<S, R> {
         ensures decodes { record_in R.KIND R.record_of (R.KIND ∷ R.words stored.now) ≡ Some stored.now }
         ensures stands { IsBook (S.setting self.new) (S.book self.new) }
         ensures same { S.setting self.new ≡ S.setting self.old }
+        ensures exact { S.inserts self.old (R.KIND ∷ R.words stored.now) result self.new }
     {
         let value = stored_value(stored);
         self.store.insert(&value)
@@ -69,6 +70,7 @@ impl<S: Store, R: Record> Typed<S, R> {
             → record_in R.KIND R.record_of value ≡ Some given → GivesBack given result }
         ensures stands { IsBook (S.setting self.new) (S.book self.new) }
         ensures same { S.setting self.new ≡ S.setting self.old }
+        ensures exact { FetchesRecord (record_in R.KIND R.record_of) S.gets S.reads S.releases self.old key result self.new }
     {
         fetch_record(&mut self.store, key)
     }
@@ -78,6 +80,7 @@ impl<S: Store, R: Record> Typed<S, R> {
         ensures leaves { RemoveLeaves (S.setting self.old) key (S.book self.old) result (S.book self.new) }
         ensures stands { IsBook (S.setting self.new) (S.book self.new) }
         ensures same { S.setting self.new ≡ S.setting self.old }
+        ensures exact { S.removes self.old key result self.new }
     {
         self.store.remove(key)
     }
@@ -88,6 +91,7 @@ impl<S: Store, R: Record> Typed<S, R> {
         ensures leaves { ReleaseLeaves (S.setting self.old) hold.key (S.book self.old) result (S.book self.new) }
         ensures stands { IsBook (S.setting self.new) (S.book self.new) }
         ensures same { S.setting self.new ≡ S.setting self.old }
+        ensures exact { S.releases self.old hold.key result self.new }
     {
         self.store.release(hold)
     }

@@ -1,71 +1,80 @@
 -- How the reading of a command line ends.
-use Rattle.std.proofs.Common.{◌≡◌, ◌≢◌, ◌⊎◌, ◌∙◌, ℕ, List, [], Option, Some, None, true, refl, sym, subst, ap, inl, inr, codes}
-use Rattle.std.specs.Prelude.{unwrap_or, option_map}
+use Rattle.std.proofs.Common.{◌≡◌, ◌≢◌, ◌⊎◌, ◌∙◌, ◌||◌, Bool, ℕ, List, [], ◌∷◌, Option, Some, None, true, false, map, refl, sym, subst, ap, inl, inr, codes}
+use Rattle.std.specs.Prelude.{option_map, unwrap_or}
+use Rattle.std.specs.List.{list_any}
+use Rattle.std.specs.Str.{bytes_eq}
 use Rattle.std.specs.Borrow.{Bor}
-use Rattle.clap.specs.Words.{App, Text, IsAmong, HasMatchesOf, app_of, fault_of, first_of, first_value, found_of, is_simple, is_simple_and_free, matches_of, one_of, one_text, rows_of}
+use Rattle.std.proofs.lemmas.Slice.Eq.{bytes_eq-Decides}
+use Rattle.clap.specs.Words.{Accepts, App, Text, IsAmong, HasMatchesOf, app_of, fault_of, first_of, first_value, found_of, is_simple, is_simple_and_free, matches_of, one_of, one_text, rows_of, takes}
 use Rattle.clap.specs.declared.builder.command.Command.{Command}
+use Rattle.clap.specs.declared.builder.value_parser.ValueParser.TheVariants.{Names}
 use Rattle.clap.specs.declared.parser.matches.ArgMatches.{ArgMatches}
 use Rattle.clap.specs.declared.error.kind.ErrorKind.{ErrorKind}
 use Rattle.clap.specs.declared.error.kind.ErrorKind.TheVariants.{OutOfMemory}
 use Rattle.clap.proofs.WalkLemmas.{first_value-rows, one_text-rows}
 use Rattle.sh_replay.specs.declared.mode.Mode.{Mode}
 use Rattle.sh_replay.specs.declared.mode.Mode.TheVariants.{Plain, Steps}
-use Rattle.shardheap.specs.Options.{IsCommandLine, IsNoMode, IsRefused, IsUnknown, accounts_text, command_line, mode_word, name_of}
+use Rattle.shardheap.specs.Options.{IsNoMode, IsRefused, NameModes, accounts_text, command_line, mode_word, name_of}
 
-simple_and_free : is_simple_and_free command_line ≡ true
-simple_and_free = refl
+simple_and_free : (modes : Bor (List (Bor Text))) → is_simple_and_free (command_line modes) ≡ true
+simple_and_free modes = refl
 
 -- where clap's rules are exact about the faults, they are so for this command line
-pub free : (c : Command) → app_of c ≡ command_line → is_simple_and_free (app_of c) ≡ true
-free c is = ap is_simple_and_free is ∙ simple_and_free
+pub free : (c : Command) (modes : Bor (List (Bor Text))) → app_of c ≡ command_line modes → is_simple_and_free (app_of c) ≡ true
+free c modes is = ap is_simple_and_free is ∙ simple_and_free modes
 
-simple : is_simple command_line ≡ true
-simple = refl
+simple : (modes : Bor (List (Bor Text))) → is_simple (command_line modes) ≡ true
+simple modes = refl
 
 -- the matches are those that clap's rules give
-pub rows_are : (c : Command) (words : List Text) (m : ArgMatches) → app_of c ≡ command_line → HasMatchesOf (app_of c) words m → rows_of (found_of m) ≡ matches_of command_line words
-rows_are c words m is h = (h (ap is_simple is ∙ simple)).0 ∙ ap (λ (a : App). matches_of a words) is
+pub rows_are : (c : Command) (modes : Bor (List (Bor Text))) (words : List Text) (m : ArgMatches) → app_of c ≡ command_line modes → HasMatchesOf (app_of c) words m
+    → rows_of (found_of m) ≡ matches_of (command_line modes) words
+rows_are c modes words m is h = (h (ap is_simple is ∙ simple modes)).0 ∙ ap (λ (a : App). matches_of a words) is
 
-now_or_empty : (o : Option (Bor (List ℕ))) (b : Bor (List ℕ)) → b.now ≡ [] → (unwrap_or o b).now ≡ unwrap_or (option_map (λ s. s.now) o) []
-now_or_empty (Some x) b e = refl
-now_or_empty None b e = e
-
-pub no_fault : (c : Command) (words : List Text) → app_of c ≡ command_line → fault_of (app_of c) words ≡ [] → fault_of command_line words ≡ []
-no_fault c words is h = ap (λ (a : App). fault_of a words) (sym is) ∙ h
+pub no_fault : (c : Command) (modes : Bor (List (Bor Text))) (words : List Text) → app_of c ≡ command_line modes → fault_of (app_of c) words ≡ [] → fault_of (command_line modes) words ≡ []
+no_fault c modes words is h = ap (λ (a : App). fault_of a words) (sym is) ∙ h
 
 -- the word that was read is the one for the mode
-pub word_is : (words : List Text) (m : ArgMatches) (o : Option (Bor (List ℕ))) (b w : Bor (List ℕ)) → rows_of (found_of m) ≡ matches_of command_line words
-    → option_map (λ s. s.now) o ≡ first_value (found_of m) (codes "mode") → b.now ≡ [] → w ≡ unwrap_or o b → w.now ≡ unwrap_or (mode_word words) []
-word_is words m o b w rows o_is b_is w_is = ap (λ (x : Bor (List ℕ)). x.now) w_is ∙ now_or_empty o b b_is
-    ∙ ap (λ (x : Option Text). unwrap_or x []) (o_is ∙ first_value-rows (found_of m) (codes "mode") ∙ ap (first_of (codes "mode")) rows)
+pub word_is : (modes : Bor (List (Bor Text))) (words : List Text) (m : ArgMatches) → rows_of (found_of m) ≡ matches_of (command_line modes) words
+    → first_value (found_of m) (codes "mode") ≡ mode_word modes words
+word_is modes words m rows = first_value-rows (found_of m) (codes "mode") ∙ ap (first_of (codes "mode")) rows
 
 -- the text of the flag
-pub flag_is : (words : List Text) (m : ArgMatches) → rows_of (found_of m) ≡ matches_of command_line words → one_text (found_of m) (codes "accounts") ≡ accounts_text words
-flag_is words m rows = one_text-rows (found_of m) (codes "accounts") ∙ ap (one_of (codes "accounts")) rows
+pub flag_is : (modes : Bor (List (Bor Text))) (words : List Text) (m : ArgMatches) → rows_of (found_of m) ≡ matches_of (command_line modes) words
+    → one_text (found_of m) (codes "accounts") ≡ accounts_text modes words
+flag_is modes words m rows = one_text-rows (found_of m) (codes "accounts") ∙ ap (one_of (codes "accounts")) rows
 
-pub given_word : (o : Option Text) (w : Text) (mode : Mode) → w ≡ unwrap_or o [] → w ≡ name_of mode → o ≡ Some (name_of mode)
-given_word (Some t) w mode e h = ap Some (sym e ∙ h)
-given_word None w Plain e h = absurd (cc)
-given_word None w Steps e h = absurd (cc)
+-- a text that is there is what is read
+pub read_word : (o : Option (Bor Text)) (b w : Bor Text) (t : Text) → option_map (λ s. s.now) o ≡ Some t → w ≡ unwrap_or o b → w.now ≡ t
+read_word (Some s) b w t e is = ap (λ (y : Bor Text). y.now) is ∙ ap (λ (y : Option Text). unwrap_or y []) e
+read_word None b w t e is = cc
 
-other_word : (o : Option Text) (w : Text) (mode : Mode) → w ≡ unwrap_or o [] → IsNoMode w → o ≢ Some (name_of mode)
-other_word (Some t) w mode e unnamed h = let same : t ≡ name_of mode = cc in unnamed mode (e ∙ same)
-other_word None w mode e unnamed h = cc
+-- a word that is among the modes' names
+pub among : (modes : Bor (List (Bor Text))) (t : Text) → NameModes modes → Accepts false (Names modes) t → IsNoMode t → ⊥
+among modes t named accepted unnamed = go modes.now named accepted
+  where
+    same : (mode : Mode) (x : Text) → x ≡ name_of mode → bytes_eq x t ≡ false
+    same mode x is = differ (bytes_eq x t) refl
+      where
+        differ : (b : Bool) → bytes_eq x t ≡ b → bytes_eq x t ≡ false
+        differ true e = absurd (unnamed mode (sym ((bytes_eq-Decides x t).0 e) ∙ is))
+        differ false e = e
 
-pub refused_by_clap : (c : Command) (words : List Text) (k : ErrorKind) → app_of c ≡ command_line → (k ≡ OutOfMemory) ⊎ IsAmong k (fault_of (app_of c) words) → IsRefused words k
-refused_by_clap c words k is (inl e) = inl e
-refused_by_clap c words k is (inr h) = inr (inl (subst (λ (a : App). IsAmong k (fault_of a words)) is h))
+    go : (names : List (Bor Text)) → map (λ w. w.now) names ≡ name_of Plain ∷ name_of Steps ∷ [] → list_any (λ name. bytes_eq name.now t) names ≡ true → ⊥
+    go [] is e = cc
+    go (x ∷ []) is e = cc
+    go (x ∷ y ∷ []) is e =
+        let first : bytes_eq x.now t ≡ false = same Plain x.now (ap (λ (l : List Text). Rattle.std.specs.List.slice_index_or l 0 []) is) in
+        let second : bytes_eq y.now t ≡ false = same Steps y.now (ap (λ (l : List Text). Rattle.std.specs.List.slice_index_or l 1 []) is) in
+        let no : false ≡ true = rw (first, second) at e in
+        cc
+    go (x ∷ y ∷ z ∷ xs) is e = cc
 
-pub refused_by_mode : (words : List Text) (w : Text) (k : ErrorKind) → fault_of command_line words ≡ [] → w ≡ unwrap_or (mode_word words) [] → IsUnknown w k → IsRefused words k
-refused_by_mode words w k faultless e (inl h) = inl h
-refused_by_mode words w k faultless e (inr h) = inr (inr (
-  h.0,
-  record {
-    faultless = faultless;
-    unknown = λ mode. other_word (mode_word words) w mode e h.1;
-  },
-))
-
-pub refused_for_memory : (words : List Text) (w : Text) (k : ErrorKind) → w ≡ unwrap_or (mode_word words) [] → IsUnknown w k → IsCommandLine words → k ≡ OutOfMemory
-refused_for_memory words w k e (inl h) line = h
-refused_for_memory words w k e (inr h) line = absurd (other_word (mode_word words) w line.mode e h.1 line.mode_is)
+pub refused : (c : Command) (modes : Bor (List (Bor Text))) (words : List Text) (k : ErrorKind) → NameModes modes → app_of c ≡ command_line modes
+    → (k ≡ OutOfMemory) ⊎ IsAmong k (fault_of (app_of c) words) → (takes (app_of c) words ≡ true → k ≡ OutOfMemory) → IsRefused words k
+refused c modes words k named is why passes = record {
+  modes = modes;
+  named = named;
+  why = subst (λ (a : App). (k ≡ OutOfMemory) ⊎ IsAmong k (fault_of a words)) is why;
+  taken = subst (λ (a : App). takes a words ≡ true → k ≡ OutOfMemory) is passes;
+}

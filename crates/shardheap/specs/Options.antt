@@ -1,10 +1,12 @@
 -- The command line: what clap is told of it, and what clap's rules make of the words. The first word is the program's
--- name.
-use Rattle.std.specs.Prelude.{◌≡◌, ◌≢◌, ◌⊎◌, Bool, true, false, List, [], Option, Some, None, codes}
+-- name. clap is told the modes by reference, so they are words that stand somewhere (`Bor`).
+use Rattle.std.specs.Prelude.{◌≡◌, ◌≢◌, ◌⊎◌, Bool, true, false, List, [], ◌∷◌, map, Option, Some, None, codes}
+use Rattle.std.specs.Borrow.{Bor}
 use Rattle.clap.specs.Words.{App, Rule, Text, IsAmong, fault_of, first_of, matches_of, new_app, new_rule, one_of, takes, with_rule}
 use Rattle.clap.specs.declared.builder.action.ArgAction.TheVariants.{Set, SetTrue}
 use Rattle.clap.specs.declared.error.kind.ErrorKind.{ErrorKind}
-use Rattle.clap.specs.declared.error.kind.ErrorKind.TheVariants.{InvalidValue, OutOfMemory}
+use Rattle.clap.specs.declared.error.kind.ErrorKind.TheVariants.{OutOfMemory}
+use Rattle.clap.specs.declared.builder.value_parser.ValueParser.TheVariants.{Names}
 use Rattle.sh_replay.specs.declared.mode.Mode.{Mode}
 use Rattle.sh_replay.specs.declared.mode.Mode.TheVariants.{Plain, Steps}
 
@@ -17,29 +19,33 @@ name_of Steps = codes "steps"
 abbrev pub IsNoMode : Text → Type 0
 IsNoMode word = (mode : Mode) → word ≢ name_of mode
 
--- the error for a word that names no mode
-abbrev pub IsUnknown : Text → ErrorKind → Type 0
-IsUnknown word kind = (kind ≡ OutOfMemory) ⊎ ((kind ≡ InvalidValue) × IsNoMode word)
+-- the words of the modes, in the order of the help, wherever they stand
+abbrev pub NameModes : Bor (List (Bor Text)) → Type 0
+NameModes modes = map (λ w. w.now) modes.now ≡ name_of Plain ∷ name_of Steps ∷ []
 
--- the mode has to be given
-abbrev pub mode_rule : Rule
-mode_rule = record (new_rule (codes "mode")) { required = true; action = Some Set }
+-- the mode has to be given, and is one of these words
+abbrev pub mode_rule : Bor (List (Bor Text)) → Rule
+mode_rule modes = record (new_rule (codes "mode")) { required = true; action = Some Set; parser = Some (Names modes) }
 
 -- the flag --accounts
 abbrev pub accounts_rule : Rule
 accounts_rule = record (new_rule (codes "accounts")) { long = Some (codes "accounts"); action = Some SetTrue }
 
+-- the program's name, and that it has a version
+abbrev pub program_app : App
+program_app = let new = new_app (codes "shardheap") in record new { top = record new.top { has_version = true } }
+
 -- what clap is told of the command line
-abbrev pub command_line : App
-command_line = with_rule (with_rule (new_app (codes "shardheap")) mode_rule) accounts_rule
+abbrev pub command_line : Bor (List (Bor Text)) → App
+command_line modes = with_rule (with_rule program_app (mode_rule modes)) accounts_rule
 
 -- the word that clap takes for the mode
-abbrev pub mode_word : List Text → Option Text
-mode_word words = first_of (codes "mode") (matches_of command_line words)
+abbrev pub mode_word : Bor (List (Bor Text)) → List Text → Option Text
+mode_word modes words = first_of (codes "mode") (matches_of (command_line modes) words)
 
 -- what clap makes of the flag
-abbrev pub accounts_text : List Text → Option Text
-accounts_text words = one_of (codes "accounts") (matches_of command_line words)
+abbrev pub accounts_text : Bor (List (Bor Text)) → List Text → Option Text
+accounts_text modes words = one_of (codes "accounts") (matches_of (command_line modes) words)
 
 -- a flag is set where its text is "true", and isn't where it has none or "false"
 pub record Shows (text : Option Text) (flag : Bool) : Type 0 where
@@ -49,23 +55,16 @@ pub record Shows (text : Option Text) (flag : Bool) : Type 0 where
 
 -- clap's rules find no fault with the words, and its matches have this mode and this flag
 pub record Says (words : List Text) (mode : Mode) (accounts : Bool) : Type 0 where
-  pub faultless : fault_of command_line words ≡ []
-  pub mode_is : mode_word words ≡ Some (name_of mode)
-  pub accounts_is : Shows (accounts_text words) accounts
+  pub modes : Bor (List (Bor Text))
+  pub named : NameModes modes
+  pub faultless : fault_of (command_line modes) words ≡ []
+  pub mode_is : mode_word modes words ≡ Some (name_of mode)
+  pub accounts_is : Shows (accounts_text modes words) accounts
 
--- clap's rules find no fault with the words, and the word for the mode names none
-pub record HasUnknownMode (words : List Text) : Type 0 where
-  pub faultless : fault_of command_line words ≡ []
-  pub unknown : (mode : Mode) → mode_word words ≢ Some (name_of mode)
-
--- the words may be refused with an error of this kind: memory ran out, or clap's rules find this fault, or the mode is
--- unknown
-abbrev pub IsRefused : List Text → ErrorKind → Type 0
-IsRefused words kind = (kind ≡ OutOfMemory) ⊎ (IsAmong kind (fault_of command_line words)
-    ⊎ ((kind ≡ InvalidValue) × HasUnknownMode words))
-
--- clap's rules take the words, and the word for the mode names one
-pub record IsCommandLine (words : List Text) : Type 0 where
-  pub taken : takes command_line words ≡ true
-  pub mode : Mode
-  pub mode_is : mode_word words ≡ Some (name_of mode)
+-- the words are refused with an error of this kind: memory ran out, or clap's rules find this fault; words that the rules
+-- take are refused for want of memory alone
+pub record IsRefused (words : List Text) (kind : ErrorKind) : Type 0 where
+  pub modes : Bor (List (Bor Text))
+  pub named : NameModes modes
+  pub why : (kind ≡ OutOfMemory) ⊎ IsAmong kind (fault_of (command_line modes) words)
+  pub taken : takes (command_line modes) words ≡ true → kind ≡ OutOfMemory

@@ -18,11 +18,13 @@ EndsBy DisplayVersion status = (status ≡ 0) ⊎ (status ≡ 3)
 EndsBy OutOfMemory status = status ≡ 3
 EndsBy _ status = status ≡ 2
 
--- the words are refused for a reason, the exit status is that reason's, and only help is output
-pub record EndsRefused (words : List Text) (old new : Option (List ℕ)) (status : ℕ) : Type 0 where
+-- the words are refused for a reason, the exit status is that reason's, nothing of the input is read, and only help is
+-- output
+pub record EndsRefused (words : List Text) (before after : Option (List ℕ)) (old new : Option (List ℕ)) (status : ℕ) : Type 0 where
   pub kind : ErrorKind
   pub refused : IsRefused words kind
   pub ends : EndsBy kind status
+  pub unread : after ≡ before
   pub quiet : kind ≢ DisplayHelp → kind ≢ DisplayVersion → new ≡ old
 
 -- the run ended with a fault, and the exit status is that fault's

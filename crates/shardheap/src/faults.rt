@@ -2,8 +2,14 @@
 ghost use Rattle.std.specs.Prelude.{◌≡◌};
 ghost use Rattle.shardheap.specs.Faults.{status_of};
 
+use arrayvec::ArrayString;
 use sh_script::Fault;
 use std::fmt;
+use std::fmt::Write;
+
+// As many bytes as the longest fault line has, and a newline: `shardheap: fault 14 Script line`, a number of 20 digits, and
+// `Command` or `Unbound`.
+const LINE_MAX: usize = 64;
 
 /// The exit status of a run that ended with this fault: 2 where the script is at fault, and 3 where memory, an owner or
 /// a device was.
@@ -24,4 +30,11 @@ impl fmt::Display for FaultLine {
     fn fmt<W: fmt::Write>(&self, f: &mut fmt::Formatter<W>) -> fmt::Result {
         write!(f, "shardheap: {}", self.0)
     }
+}
+
+/// The line on the standard error that names a fault, with its newline.
+pub fn fault_line(fault: Fault) -> ArrayString<LINE_MAX> {
+    let mut line = ArrayString::new();
+    let _ = writeln!(line, "{}", FaultLine(fault));
+    line
 }

@@ -1,10 +1,11 @@
 //! The whole program, over the words of a command line, a reader and two writers.
 ghost use Rattle.std.specs.Prelude.{◌≡◌, ◌≢◌, ◌⊎◌, ℕ, List, Some, map, take};
 ghost use Rattle.clap.specs.Words.{kind_of};
+ghost use Rattle.sh_replay.specs.Ends.{ReadsAtMostBytes};
 ghost use Rattle.shardheap.specs.Faults.{status_of};
 ghost use Rattle.shardheap.specs.Program.{EndsBy, EndsRefused, EndsRun, IsStatus};
 
-use crate::faults::{FaultLine, status};
+use crate::faults::{fault_line, status};
 use crate::options::options;
 use clap::Error;
 use clap::error::ErrorKind;
@@ -13,11 +14,12 @@ use sh_script::Fault;
 use std::alloc::Global;
 use std::io::{Read, Write};
 
-/// Names a fault on one line of `errors`, and gives the exit status. The status tells it also where `errors` takes nothing.
+/// Names a fault on one line of `errors`, in one write where the line is taken whole, and gives the exit status. The status
+/// tells it also where `errors` takes nothing.
 pub fn report<E: Write>(fault: Fault, errors: &mut E) -> u8
     ensures { result ≡ status_of fault }
 {
-    let _ = writeln!(errors, "{}", FaultLine(fault));
+    let _ = errors.write_all(fault_line(fault).as_str().as_bytes());
     status(fault)
 }
 
@@ -41,8 +43,11 @@ fn show<W: Write, E: Write>(error: &Error, output: &mut W, errors: &mut E) -> u8
 }
 
 /// Runs the program: the script that `input` gives, in the mode that `words` say, with the replies to `output` and what
-/// is wrong to `errors`. The first word is the program's name. Gives the exit status: 0, also for help; 2 for a mistake
-/// in the words or in the script; and 3 where memory, an owner, a read or a write failed.
+/// is wrong to `errors`. The first word is the program's name. Gives the exit status: 0, also for help and the version; 2
+/// for a mistake in the words or in the script; and 3 where memory, an owner, a read or a write failed.
+///
+/// Nothing of `input` is read for help, for the version and for a mistake in the words, and never more than one byte more
+/// than a script may have.
 pub fn run<R: Read, W: Write, E: Write>(
     alloc: Global,
     words: &[&str],
@@ -51,8 +56,10 @@ pub fn run<R: Read, W: Write, E: Write>(
     errors: &mut E,
 ) -> u8
     ensures ends { (text : List ℕ) → R.remaining input.old ≡ Some text
-        → EndsRefused (map (λ w. w.now) words.now) (W.contents output.old) (W.contents output.new) result
+        → EndsRefused (map (λ w. w.now) words.now) (R.remaining input.old) (R.remaining input.new)
+        (W.contents output.old) (W.contents output.new) result
         ⊎ EndsRun (map (λ w. w.now) words.now) (take 1048577 text) (W.contents output.old) (W.contents output.new) result }
+    ensures reads { ReadsAtMostBytes (R.remaining input.old) (R.remaining input.new) 1048577 }
     ensures status { IsStatus result }
 {
     let (mode, accounts) = match options(alloc, words) {

@@ -1,6 +1,6 @@
-use crate::faults::{FaultLine, status};
+use crate::faults::{FaultLine, fault_line, status};
 use crate::options::options;
-use crate::program::run;
+use crate::program::{report, run};
 use clap::error::ErrorKind;
 use sh_replay::Mode;
 use sh_script::{Cause, Fault};
@@ -76,9 +76,11 @@ fn options_are_taken(rt: HostRuntime) -> Result<(), Fail> {
 
 #[test]
 fn options_are_refused(rt: HostRuntime) -> Result<(), Fail> {
-    let table: [(&[&str], ErrorKind, bool); 5] = [
+    let table: [(&[&str], ErrorKind, bool); 8] = [
         (&["shardheap"], ErrorKind::MissingRequiredArgument, true),
         (&["shardheap", "heap"], ErrorKind::InvalidValue, true),
+        (&["shardheap", ""], ErrorKind::InvalidValue, true),
+        (&["shardheap", "Plain"], ErrorKind::InvalidValue, true),
         (
             &["shardheap", "plain", "x"],
             ErrorKind::UnknownArgument,
@@ -86,6 +88,11 @@ fn options_are_refused(rt: HostRuntime) -> Result<(), Fail> {
         ),
         (&["shardheap", "--nope"], ErrorKind::UnknownArgument, true),
         (&["shardheap", "--help"], ErrorKind::DisplayHelp, false),
+        (
+            &["shardheap", "--version"],
+            ErrorKind::DisplayVersion,
+            false,
+        ),
     ];
     for (words, kind, is_mistake) in table {
         let Err(error) = options(rt.alloc(), words) else {
@@ -172,14 +179,18 @@ fn a_faulty_script_is_named(rt: HostRuntime) -> Result<(), Fail> {
 
 #[test]
 fn a_mistake_in_the_words_is_shown(rt: HostRuntime) -> Result<(), Fail> {
-    let table: [(&[&str], &str); 2] = [
+    let table: [(&[&str], &str); 3] = [
         (
             &["shardheap"],
             "error: the following required arguments were not provided:\n  <mode>\n\nUsage: shardheap <mode>\n\nFor more information, try '--help'.\n",
         ),
         (
             &["shardheap", "heap"],
-            "error: invalid value 'heap' for '<mode>'\n  [possible values: plain, steps]\n\nUsage: shardheap [OPTIONS] <mode>\n\nFor more information, try '--help'.\n",
+            "error: invalid value 'heap' for '<mode>'\n  [possible values: plain, steps]\n\nFor more information, try '--help'.\n",
+        ),
+        (
+            &["shardheap", "plan"],
+            "error: invalid value 'plan' for '<mode>'\n  [possible values: plain, steps]\n\n  tip: a similar value exists: 'plain'\n\nFor more information, try '--help'.\n",
         ),
     ];
     for (words, text) in table {
@@ -193,8 +204,18 @@ fn a_mistake_in_the_words_is_shown(rt: HostRuntime) -> Result<(), Fail> {
     Ok(())
 }
 
+/// The end of the help.
+const HELP_END: &str = "Example:
+  shardheap plain < FILE
+
+Exit status:
+  0  the script was run, or help or the version was asked for
+  2  the command line or the script is wrong
+  3  memory was refused, an owner could not leave, or a read or a write failed
+";
+
 #[test]
-fn help_is_output(rt: HostRuntime) -> Result<(), Fail> {
+fn help_and_the_version_are_output(rt: HostRuntime) -> Result<(), Fail> {
     let mut output = Vec::new(rt.alloc());
     let mut errors = Vec::new(rt.alloc());
     let words = ["shardheap", "--help"];
@@ -203,7 +224,45 @@ fn help_is_output(rt: HostRuntime) -> Result<(), Fail> {
         0
     );
     assert!(rt; output.starts_with("Runs a script".as_bytes()));
+    assert!(rt; output.ends_with(HELP_END.as_bytes()));
+    let words = ["shardheap", "--version"];
+    let mut output = Vec::new(rt.alloc());
+    assert_eq!(rt;
+        run(rt.alloc(), &words, &mut Broken, &mut output, &mut errors),
+        0
+    );
+    assert!(rt; output.as_slice() == "shardheap 0.1.0\n".as_bytes());
     assert!(rt; errors.is_empty());
+    Ok(())
+}
+
+/// A device that counts the writes to it.
+#[derive(Drop)]
+struct Counting {
+    writes: u64,
+}
+
+impl Write for Counting {
+    fn write(&mut self, buffer: &[u8]) -> io::Result<usize> {
+        self.writes = self.writes.saturating_add(1);
+        Ok(buffer.len())
+    }
+
+    fn flush(&mut self) -> io::Result<()> {
+        Ok(())
+    }
+}
+
+#[test]
+fn a_fault_line_goes_out_in_one_write(rt: HostRuntime) -> Result<(), Fail> {
+    let longest = Fault::Script(u64::MAX, Cause::Unbound);
+    let text = "shardheap: fault 14 Script line 18446744073709551615 Unbound\n";
+    assert!(rt; fault_line(longest).as_str() == text);
+    for fault in [longest, Fault::BadShape, Fault::Memory] {
+        let mut errors = Counting { writes: 0 };
+        assert_eq!(rt; report(fault, &mut errors), status(fault));
+        assert_eq!(rt; errors.writes, 1);
+    }
     Ok(())
 }
 

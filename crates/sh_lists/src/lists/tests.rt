@@ -35,3 +35,14 @@ fn a_bare_page_reads_slots_in_turn(rt: HostRuntime) {
     assert_eq!(rt; lists.pop(), Some(5));
     assert_eq!(rt; lists.pop(), None);
 }
+
+#[test]
+fn the_next_slot_is_of_local_where_none_is_free(rt: HostRuntime) {
+    let mut lists = PageLists::full(2);
+    assert_eq!(rt; lists.next_slot(), Some(0));
+    lists.push_local(0);
+    assert_eq!(rt; lists.next_slot(), Some(1));
+    assert_eq!(rt; lists.next_slot(), Some(0));
+    assert_eq!(rt; lists.next_slot(), None);
+    assert_eq!(rt; lists.len(), 0);
+}

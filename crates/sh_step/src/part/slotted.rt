@@ -33,7 +33,6 @@ impl Part {
 
     // The end of a filling that found this state word: the value is inserted under the slot's key in the generation found,
     // which names it.
-    #[tactic(auto, using(crate::proofs::KeyLaws::parts_in_range))]
     pub(super) fn publish<L: KeyLayout>(
         &mut self,
         shape: &Shape,

@@ -1,6 +1,9 @@
 ghost use Rattle.std.specs.Prelude.{length, ◌==◌, get_or, [], ◌∷◌, Some, None, if◌then◌else◌};
 
+mod lender;
+
 use super::*;
+use lender::{LENT_KEY, Lender, Stage};
 use sh_key::Tiny;
 use sh_plain::PlainStore;
 use sh_value::Value;
@@ -123,4 +126,57 @@ fn words_that_do_not_decode_are_refused(rt: HostRuntime) -> Result<(), Fail> {
     assert_eq!(rt; points.get(4097), Err(Refusal::WrongKind));
     assert_eq!(rt; points.release(Hold { key: 4097 }), Err(Refusal::NotHeld));
     Ok(())
+}
+
+fn idle_lender(words: &[u64], rt: &impl Abort) -> Lender {
+    Lender {
+        value: value(words, rt),
+        stage: Stage::Idle,
+        has_memory: true,
+    }
+}
+
+// What the lender refuses the view refuses in the same way.
+#[test]
+fn the_stores_own_refusals_are_answered(rt: HostRuntime) {
+    let point = Point { x: 5, y: 6 };
+    let mut points = Typed::<_, Point>::new(idle_lender(&[1, 5, 6], &rt));
+    assert_eq!(rt; points.insert(&point), Err(Refusal::Full));
+    assert_eq!(rt; points.get(LENT_KEY + 1), Err(Refusal::BadKey));
+    assert_eq!(rt; points.remove(LENT_KEY + 1), Err(Refusal::BadKey));
+    assert_eq!(rt; points.remove(LENT_KEY), Err(Refusal::Memory));
+    let hold = Hold { key: LENT_KEY };
+    assert_eq!(rt; points.release(hold), Err(Refusal::NotHeld));
+    assert_eq!(rt; points.get(LENT_KEY), Ok((hold, point)));
+    assert_eq!(rt; points.get(LENT_KEY), Err(Refusal::HoldsFull));
+    let mut store = points.into_store();
+    store.has_memory = false;
+    let mut points = Typed::<_, Point>::new(store);
+    assert_eq!(rt; points.insert(&point), Err(Refusal::Memory));
+    assert_eq!(rt; points.get(LENT_KEY), Err(Refusal::Memory));
+    assert_eq!(rt; points.release(hold), Err(Refusal::Memory));
+    let mut store = points.into_store();
+    assert_eq!(rt; store.stage, Stage::Read);
+    store.has_memory = true;
+    let mut points = Typed::<_, Point>::new(store);
+    assert_eq!(rt; points.release(hold), Ok(()));
+    assert_eq!(rt; points.release(hold), Err(Refusal::NotHeld));
+}
+
+// The hold on another kind goes back, or stays where memory for that is refused.
+#[test]
+fn a_hold_on_another_kind_goes_back_where_it_can(rt: HostRuntime) {
+    let mut counts = Typed::<_, Count>::new(idle_lender(&[1, 5, 6], &rt));
+    assert_eq!(rt; counts.get(LENT_KEY), Err(Refusal::WrongKind));
+    assert_eq!(rt; counts.into_store().stage, Stage::Returned);
+    let mut store = idle_lender(&[1, 5, 6], &rt);
+    store.has_memory = false;
+    let mut counts = Typed::<_, Count>::new(store);
+    assert_eq!(rt; counts.get(LENT_KEY), Err(Refusal::Memory));
+    let mut store = counts.into_store();
+    assert_eq!(rt; store.stage, Stage::Read);
+    assert_eq!(rt;
+        store.read(Hold { key: LENT_KEY }),
+        Ok(value(&[1, 5, 6], &rt))
+    );
 }

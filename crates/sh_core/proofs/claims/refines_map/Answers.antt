@@ -64,8 +64,8 @@ returns-clause-armed c = λ layout shape a b f es. (theorem layout shape a b f e
 pub returns-clause-left : goal.returns-clause-left
 returns-clause-left c = λ layout shape a b f es. (theorem layout shape a b f es).left
 
-pub returns-clause-leavers : goal.returns-clause-leavers
-returns-clause-leavers c = λ layout shape a b f es. (theorem layout shape a b f es).leavers
+pub returns-clause-shardless : goal.returns-clause-shardless
+returns-clause-shardless c = λ layout shape a b f es. (theorem layout shape a b f es).shardless
 
 pub returns-clause-linked : goal.returns-clause-linked
 returns-clause-linked c = λ layout shape a b f es. (theorem layout shape a b f es).linked

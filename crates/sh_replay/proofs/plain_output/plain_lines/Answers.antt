@@ -1,4 +1,4 @@
-use Rattle.std.proofs.Common.{◌∙◌}
+use Rattle.std.proofs.Common.{◌∙◌, arith}
 use Rattle.sh_replay.specs.PlainRun.{opening, run_of}
 use Rattle.sh_replay.proofs.RunLemmas.{writes_more, from_ok}
 use Rattle.sh_replay.proofs.plain_output.plain_lines.Goals as goal
@@ -15,4 +15,6 @@ loop-line-preserved g c =
           (from_ok c.push_reply.result c.if-is_err.ensures.value c.push_reply.ensures);
       passes = c.step.ensures.passes ∙ c.loop-line.invariant.passes;
       tag = c.step.ensures.tag ∙ c.loop-line.invariant.tag;
+      names = omega (arith, c.step.ensures.names, c.loop-line.invariant.names);
+      capacity = omega (arith, c.step.ensures.capacity, c.loop-line.invariant.capacity);
     }

@@ -1,4 +1,5 @@
-use Rattle.std.proofs.Common.{◌≡◌, take}
+use Rattle.std.proofs.Common.{◌≡◌, ◌≤◌, length, take, vec_len}
+use Rattle.std.specs.Vec.{vec_capacity}
 use Rattle.sh_replay.specs.PlainRun.{opening, run_of}
 use Rattle.sh_replay.specs.Output.{Writes}
 use Rattle.sh_replay.proofs.plain_output.plain_lines.Given as goal
@@ -9,4 +10,6 @@ invariant-loop-line g l = record {
       (run_of l.run.shards l.run.tag l.run.store l.run.owners l.run.keys.items) l.output.items;
   passes : l.run.store.passes ≡ l.fn.shape.passes;
   tag : l.run.tag ≡ l.fn.tag;
+  names : vec_len l.run.keys ≤ l.line-index;
+  capacity : length l.lines ≤ vec_capacity l.run.keys;
 }

@@ -1,5 +1,11 @@
-use Rattle.sh_shape.proofs.PlaceLaws.{places_differ, places_are_words, words_have_places}
+use Rattle.sh_shape.proofs.PlaceLaws.{pages_differ, pages_have_shards, places_differ, places_are_words, words_have_places}
 use Rattle.sh_shape.proofs.laws.place_laws.Goals as goal
+
+pub returns-clause-pages_differ : goal.returns-clause-pages_differ
+returns-clause-pages_differ c = pages_differ
+
+pub returns-clause-pages_have_shards : goal.returns-clause-pages_have_shards
+returns-clause-pages_have_shards c = pages_have_shards
 
 pub returns-clause-differ : goal.returns-clause-differ
 returns-clause-differ c = places_differ

@@ -7,7 +7,7 @@ use Rattle.sh_queue.proofs.Fronts.{front_of, lowest_blank}
 use Rattle.sh_queue.proofs.queues.Queues.blank.Goals as goal
 
 pub following-requires-clause-here : goal.following-requires-clause-here
-following-requires-clause-here c = has-mark 9 c.self.inside.chain.numbers c.self.invariant.marked (omega arith)
+following-requires-clause-here c = has-mark _ c.self.inside.chain.numbers c.self.invariant.marked (omega arith)
 
 pub returns-clause-front : goal.returns-clause-front
 returns-clause-front c =

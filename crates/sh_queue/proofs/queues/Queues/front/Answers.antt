@@ -7,7 +7,7 @@ use Rattle.sh_queue.proofs.Fronts.{front_of}
 use Rattle.sh_queue.proofs.queues.Queues.front.Goals as goal
 
 pub following-requires-clause-here : goal.following-requires-clause-here
-following-requires-clause-here c = has-mark c.args.c c.self.inside.chain.numbers c.self.invariant.marked (omega arith)
+following-requires-clause-here c = has-mark _ c.self.inside.chain.numbers c.self.invariant.marked (omega arith)
 
 pub returns-clause-front : goal.returns-clause-front
 returns-clause-front c =

@@ -1,4 +1,4 @@
-use Rattle.std.proofs.Common.{◌+◌, ◌<◌, arith, sym, ap, ◌∙◌, subst}
+use Rattle.std.proofs.Common.{◌<◌, arith, sym, ap, ◌∙◌, subst}
 use Rattle.std.specs.Prelude.{None, IfSome}
 use Rattle.std.specs.List.{last_or}
 use Rattle.sh_queue.specs.Queues.{PageQueues, class_of}
@@ -8,7 +8,7 @@ use Rattle.sh_queue.proofs.Fronts.{last_of}
 use Rattle.sh_queue.proofs.queues.Queues.last.Goals as goal
 
 pub preceding-requires-clause-here : goal.preceding-requires-clause-here
-preceding-requires-clause-here c = has-mark (c.args.c + 1) c.self.inside.chain.numbers c.self.invariant.marked (omega arith)
+preceding-requires-clause-here c = has-mark _ c.self.inside.chain.numbers c.self.invariant.marked (omega arith)
 
 pub returns-clause-last : goal.returns-clause-last
 returns-clause-last c =

@@ -8,8 +8,8 @@ pub put_before-requires-clause-here : goal.put_before-requires-clause-here
 put_before-requires-clause-here c =
     let q = c.self.inside in
     let w = q.chain.numbers in
-    ap (λ (v : Chained). has 9 v.numbers) c.unlink.ensures.out
-    ∙ mark_stays w 9 c.args.page q.chain.size q.opened q.unopened q.full.items c.self.invariant (omega arith)
+    ap (λ (v : Chained). has _ v.numbers) c.unlink.ensures.out
+    ∙ mark_stays w _ c.args.page q.chain.size q.opened q.unopened q.full.items c.self.invariant (omega arith)
 
 pub invariant_of-self : goal.invariant_of-self
 invariant_of-self c =
