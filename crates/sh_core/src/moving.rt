@@ -22,10 +22,8 @@ fn has_reply(the_move: &Move, found: u64) -> bool
 {
     match the_move {
         Move::EnterRemove(_, name) => !is_live_at(name.generation, found),
-        Move::EnterGet(_, _)
-        | Move::Mark(_, _)
-        | Move::DropHold(_, _)
-        | Move::Publish(_, _) => true,
+        Move::EnterGet(_, _) | Move::Mark(_, _) | Move::DropHold(_, _) | Move::Publish(_, _) =>
+            true,
         _ => false,
     }
 }

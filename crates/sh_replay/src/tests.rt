@@ -185,7 +185,7 @@ fn refused_memory_is_a_fault_or_a_reply(rt: HostRuntime) {
     }
 }
 
-// With `rt try --test --fail-alloc N`, for each N at which the insert asks for memory (docs/DEVELOPMENT.md has them), the run
+// With `rt try --test --fail-alloc N`, for each N at which the insert asks for memory, which is 16 and 17, the run
 // goes on to its end: the refused insert is answered, and its name is unbound from then on.
 #[test]
 fn an_insert_refused_for_memory_is_answered(rt: HostRuntime) -> Result<(), Fail> {

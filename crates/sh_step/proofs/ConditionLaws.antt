@@ -1,5 +1,5 @@
 -- An action has a row exactly where its condition holds.
-use Rattle.std.proofs.Common.{◌≡◌, ◌≢◌, ℕ, ◌-◌, ◌<◌, ◌≤◌, ◌==◌, ◌&&◌, ◌||◌, ◌⊎◌, inl, inr, Bool, true, false, cond, List, [], ◌∷◌, length, refl, sym, ap, ◌∙◌, subst, arith, Option, Some, None}
+use Rattle.std.proofs.Common.{◌≡◌, ℕ, ◌-◌, ◌<◌, ◌==◌, ◌&&◌, ◌||◌, ◌⊎◌, inl, inr, Bool, true, false, cond, List, [], ◌∷◌, length, refl, sym, ap, ◌∙◌, arith, Option, Some, None}
 use Rattle.std.specs.Prelude.{not, nat_lt, nat_le}
 use Rattle.std.proofs.lemmas.Bool.Decides.{nat_tests}
 use Rattle.sh_shape.specs.Classes.{width}
@@ -14,7 +14,7 @@ use Rattle.sh_step.specs.declared.action.SlotName.{SlotName}
 use Rattle.sh_step.specs.declared.action.Action.{Action}
 use Rattle.sh_step.specs.declared.action.Action.TheVariants.{EnterGet, EnterRemove, Mark, Drop, DropHold, Finish, FillSlot, Fill, Publish, ReadClass, ReadLength, ReadWord, ReadPage, SetClass, Take, Follow, Put, PutSlot, Tie, Adopt, Leave, Arm, Ring, RingTie, TakeBell, FollowBell}
 use Rattle.sh_step.specs.Collections.{has, noted, without}
-use Rattle.sh_step.specs.Conditions.{Named, HasPage, Owns, Holds, HasMine, its_page, Meets, RowsMeet, WhoMeetsHasRow}
+use Rattle.sh_step.specs.Conditions.{Named, HasPage, Owns, Holds, its_page, Meets, RowsMeet, WhoMeetsHasRow}
 use Rattle.sh_step.specs.Plans.{Plan, all_pages, home, page_of, slot_of}
 use Rattle.sh_step.specs.Rows.{Row, row, named, paged, slotted, when, idle, own, owned_by, class_of, no_cursor, all_mine, mark, drop_hand, drop_key, enter_get, enter_remove, finish, fill_slot, fill, publish, read_class, read_length, read_word, read_page, set_class, take_page, follow, put_at, tie, adopt, leave, arm, ring, ring_tie, take_bell, follow_bell}
 use Rattle.sh_step.proofs.Truths.{and2, and3, and4, and5, lt_of, le_of, lt_true, le_true, not_of, no_bool, no_row, by_when, by_some}

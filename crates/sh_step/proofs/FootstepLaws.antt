@@ -1,5 +1,5 @@
 -- What is counted over a list of steps with one more.
-use Rattle.std.proofs.Common.{◌≡◌, ℕ, ◌+◌, cond, [], ◌∷◌, ap, ◌∙◌, zero-add}
+use Rattle.std.proofs.Common.{◌+◌, cond, [], ◌∷◌, ap, ◌∙◌, zero-add}
 use Rattle.std.specs.Prelude.{count_by}
 use Rattle.std.proofs.lemmas.List.Sums.{sum_by-append}
 use Rattle.sh_step.specs.Collections.{if1}

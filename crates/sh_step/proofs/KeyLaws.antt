@@ -1,5 +1,5 @@
 -- A key that a layout unpacks to a name is packed from parts in range.
-use Rattle.std.proofs.Common.{◌≡◌, refl, ℕ, ◌+◌, ◌*◌, ◌/◌, ◌%◌, Bool, true, false, cond, ap, ◌∙◌, sym, subst, ltb-true, Option, Some, None}
+use Rattle.std.proofs.Common.{◌≡◌, refl, ℕ, ◌+◌, ◌*◌, Bool, true, false, cond, ap, ◌∙◌, sym, subst, ltb-true, Option, Some, None}
 use Rattle.std.specs.Prelude.{nat_lt, ◌&&◌}
 use Rattle.std.proofs.lemmas.Nat.{div-mul-add, mod-mul-add}
 use Rattle.sh_key.specs.declared.parts.Parts.{Parts}

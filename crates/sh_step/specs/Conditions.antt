@@ -1,5 +1,5 @@
 -- The condition of each action: what it asks of the pass's own part, and which row the action then has.
-use Rattle.std.specs.Prelude.{ℕ, ◌≡◌, ◌-◌, ◌<◌, ◌≤◌, ◌==◌, ◌⊎◌, Bool, true, false, List, [], length, Option, Some, None}
+use Rattle.std.specs.Prelude.{ℕ, ◌≡◌, ◌-◌, ◌<◌, ◌≤◌, ◌==◌, ◌⊎◌, Bool, true, false, List, [], length, Some, None}
 use Rattle.sh_shape.specs.Classes.{width}
 use Rattle.sh_slots.specs.declared.hand.Spot.{Spot}
 use Rattle.sh_slots.specs.declared.hand.Name.{Name}

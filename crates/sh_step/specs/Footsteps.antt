@@ -1,5 +1,5 @@
 -- What a pass did, step by step, and what is counted over a list of its steps.
-use Rattle.std.specs.Prelude.{ℕ, ◌≡◌, ◌+◌, ◌==◌, Bool, true, false, ◌&&◌, List, [], ◌∷◌, ◌++◌, Option, Some, None, length, count_by}
+use Rattle.std.specs.Prelude.{ℕ, ◌≡◌, ◌+◌, ◌==◌, Bool, true, false, ◌&&◌, List, [], ◌∷◌, ◌++◌, Some, None, length, count_by}
 use Rattle.sh_shape.specs.declared.places.Place.{Place}
 use Rattle.sh_shape.specs.declared.places.Place.TheVariants.{Head, Link, PageLink, Owner, Bell}
 use Rattle.sh_step.specs.declared.action.Action.{Action}

@@ -1,5 +1,5 @@
 -- Parts: that of a pass which did nothing yet, and which of a part's lists grow.
-use Rattle.std.specs.Prelude.{ℕ, ◌<◌, [], None, length}
+use Rattle.std.specs.Prelude.{◌<◌, [], None, length}
 use Rattle.sh_slots.specs.declared.hand.Hand.TheVariants.{Idle}
 use Rattle.sh_step.specs.declared.body.Body.{Body}
 use Rattle.sh_step.specs.declared.moves.Move.{Move}

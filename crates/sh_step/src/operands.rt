@@ -6,13 +6,12 @@ ghost use Rattle.sh_bell.specs.Bell.{head_word};
 ghost use Rattle.sh_step.specs.Plans.{keys_of, plan_of, home, local};
 ghost use Rattle.sh_step.specs.Rows.{payload_word};
 
+pub use crate::names::{key_of_name, page_of_name, place_of_key, slot_of_name};
 use sh_bell::{head_word, home_of, local_of};
 use sh_key::KeyLayout;
 use sh_shape::{Place, Shape, classes};
 use sh_stack::top_word;
 use sh_value::Value;
-
-pub use crate::names::{key_of_name, page_of_name, place_of_key, slot_of_name};
 
 // How many classes there are.
 const CLASSES: u64 = 8;

@@ -5,8 +5,8 @@ ghost use Rattle.sh_step.specs.Collections.{has};
 ghost use Rattle.sh_step.specs.Rows.{idle, own, class_of, no_cursor, all_mine};
 ghost use Rattle.sh_step.specs.Moves.{IsMoveOf};
 
-use crate::operands::slots_of_word;
 use crate::names::page_of_name;
+use crate::operands::slots_of_word;
 use crate::{Action, Move, PageName, Part};
 use sh_bell::home_of;
 use sh_key::KeyLayout;

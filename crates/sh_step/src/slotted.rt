@@ -7,8 +7,8 @@ ghost use Rattle.sh_step.specs.Collections.{has};
 ghost use Rattle.sh_step.specs.Rows.{idle, own, class_of};
 ghost use Rattle.sh_step.specs.Moves.{IsMoveOf};
 
-use crate::operands::width_of_word;
 use crate::names::slot_of_name;
+use crate::operands::width_of_word;
 use crate::paged::may_touch;
 use crate::{Action, Move, Part, SlotName};
 use sh_key::KeyLayout;

@@ -6,8 +6,8 @@ ghost use Rattle.sh_step.specs.Parts.{ListGrows};
 ghost use Rattle.sh_step.specs.Rows.{drop_hand, finish, put_at, tie, ring, ring_tie};
 
 use super::Part;
-use crate::operands::gen_max;
 use crate::lists::put_first;
+use crate::operands::gen_max;
 use crate::paged::owns;
 use sh_bell::{is_armed, top_of};
 use sh_key::KeyLayout;

@@ -6,8 +6,8 @@ ghost use Rattle.sh_step.specs.Parts.{ListGrows};
 ghost use Rattle.sh_step.specs.Rows.{enter_get, enter_remove, mark, freed, drop_key, read_class, read_length, read_word};
 
 use super::Part;
-use crate::operands::guard_max;
 use crate::lists::{forget_notes, forget_words, has_number, put_first, remove_number};
+use crate::operands::guard_max;
 use sh_key::KeyLayout;
 use sh_slots::{
     GetAnswer, Hand, Name, Reply, after_drop, after_enter_remove, answer_to_get, is_first_mark,

@@ -5,10 +5,10 @@ ghost use Rattle.sh_step.specs.Parts.{ListGrows};
 ghost use Rattle.sh_step.specs.Rows.{read_page, set_class, take_page, follow, arm, point};
 
 use super::Part;
-use crate::operands::slots_of_word;
 use crate::lists::{
     forget_page, make_room, put_first, put_in_room, put_slots, remove_note, remove_number,
 };
+use crate::operands::slots_of_word;
 use sh_bell::{is_armed, top_of};
 use sh_slots::Spot;
 use sh_stack::{Link, top_item};
