@@ -9,7 +9,7 @@ use Rattle.sh_step.specs.Collections.{if1}
 use Rattle.sh_core.specs.Lists.{slots_under}
 use Rattle.sh_core.specs.Tallies.{room}
 use Rattle.sh_core.specs.Words.{Words}
-use Rattle.sh_core.proofs.Conditions.{lt_of}
+use Rattle.sh_step.proofs.Truths.{lt_of}
 
 -- a class word that names a class, and one that is not 0
 pub under_class : (c : ℕ) → slots_under (c + 1) ≡ slots c

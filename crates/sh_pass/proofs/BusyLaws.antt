@@ -110,7 +110,7 @@ module _ (layout : Layout) (v : View) where
   unfolding Meets
   not_own_slot y left = refused (action.PutSlot y) (λ m e. let owns = e.3 in let z : ⊥ = cc in z)
 
-  -- no other form is of these kinds, and has its condition met by a pass without a shard
+  -- of the other forms none is of these kinds and has its condition met by a pass without a shard
   pub no_other : (x : Action) → v.own.body.owned ≡ None
       → ((k : ℕ) → x ≡ action.EnterGet k → ⊥) → ((k : ℕ) → x ≡ action.EnterRemove k → ⊥) → (x ≡ action.Mark → ⊥) → (x ≡ action.Drop → ⊥) → ((k : ℕ) → x ≡ action.DropHold k → ⊥)
       → (x ≡ action.Finish → ⊥) → (x ≡ action.Put → ⊥) → (x ≡ action.Tie → ⊥) → (x ≡ action.Ring → ⊥) → (x ≡ action.RingTie → ⊥) → Acts layout x v false v

@@ -17,7 +17,7 @@ use Rattle.sh_table.specs.Seats.{Heap, IsSeat}
 use Rattle.sh_table.specs.Steps.{MayDo, did}
 use Rattle.sh_pass.specs.Passes.{Caller, IsTally}
 
--- the kinds of a pass that owns no shard
+-- the kinds of step that a pass does by hand
 abbrev pub is_by_hand : Kind → Bool
 is_by_hand kind.Enter = true
 is_by_hand kind.Mark = true
