@@ -1,11 +1,9 @@
 use Rattle.std.proofs.Common.{◌≡◌, ◌==◌, ℕ, List, Some, None, refl, ap, ◌∙◌, sym, subst}
 use Rattle.sh_step.specs.declared.action.Action.TheVariants as action
 use Rattle.sh_step.specs.declared.moves.Move.TheVariants as move
-use Rattle.sh_slots.specs.declared.hand.Hand.{Hand}
 use Rattle.sh_slots.specs.declared.hand.Spot.{Spot}
 use Rattle.sh_slots.specs.Slots.{after_drop}
 use Rattle.sh_step.specs.Collections.{without}
-use Rattle.sh_step.specs.Rows.{hand, freed}
 use Rattle.sh_step.proofs.MoveLaws.{DropHold_none}
 use Rattle.sh_pass.specs.Busy.{IsBusy}
 use Rattle.sh_pass.proofs.MayLaws.{may_drop_hold}
