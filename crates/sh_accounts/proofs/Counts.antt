@@ -3,7 +3,7 @@ use Rattle.std.proofs.Common.{◌≡◌, ℕ, zero, suc, ◌+◌, refl, arith, S
 use Rattle.sh_slots.specs.declared.hand.Spot.{Spot}
 use Rattle.sh_slots.specs.Slots.{spots}
 use Rattle.sh_step.specs.Collections.{total, if1}
-use Rattle.sh_core.specs.Kept.{Kept}
+use Rattle.sh_core.specs.Kept.{KeptWorld}
 use Rattle.sh_core.specs.Lists.{among}
 use Rattle.sh_accounts.specs.declared.kinds.SlotKind.TheVariants.{Live, Marked, Retired, Mine, Hand, Queued}
 use Rattle.sh_accounts.specs.Kinds.{is, with_one}
@@ -20,11 +20,11 @@ last q f s (suc n) =
 pub among_more : (q : ℕ) (f : Spot → ℕ) (n : ℕ) → among q f (n + 1) ≡ among q f n + f (record { page = q; slot = n })
 among_more q f n = let e : n + 1 ≡ suc n = omega arith in let z : 0 + n ≡ n = omega arith in rw e (rw z at (last q f 0 n))
 
-pub counted_none : (k : Kept) (q class : ℕ) → counted k q class 0 ≡ no_slots (Some class)
+pub counted_none : (k : KeptWorld) (q class : ℕ) → counted k q class 0 ≡ no_slots (Some class)
 unfolding counted total spots
 counted_none k q class = refl
 
-pub counted_more : (k : Kept) (q class n : ℕ) → counted k q class (n + 1) ≡ with_one (counted k q class n) (kind_in k (record { page = q; slot = n }))
+pub counted_more : (k : KeptWorld) (q class n : ℕ) → counted k q class (n + 1) ≡ with_one (counted k q class n) (kind_in k (record { page = q; slot = n }))
 unfolding counted
 counted_more k q class n =
     let a = among_more q (λ x. if1 (is Live (kind_in k x))) n in

@@ -12,7 +12,7 @@ use Rattle.sh_step.specs.declared.body.Body.{Body}
 use Rattle.sh_step.proofs.ListLaws.{any_is_has}
 use Rattle.sh_core.specs.Lists.{mine_at, in_hand}
 use Rattle.sh_accounts.specs.declared.kinds.SlotKind.TheVariants.{Live, Marked, Retired, Mine, Hand, Queued}
-use Rattle.sh_accounts.specs.Kinds.{is, kind_by, empty_kind, has_in_hand}
+use Rattle.sh_accounts.specs.Kinds.{is, slot_kind_by, empty_kind, has_in_hand}
 
 -- where one item passes, the sum of what those that pass give is not 0; where none passes, it is
 any_some : {A : Type 0} (t : A → Bool) (f : A → ℕ) → ((x : A) → t x ≡ true → 0 < f x) → (xs : List A) → list_any t xs ≡ true → 0 < total f xs
@@ -87,12 +87,12 @@ none_hand x ps = any_none (has_in_hand x) (in_hand x) (hand_none x) ps
 
 -- The slot counts once, under its kind
 pub record Once (ps : List Body) (x : Spot) (is_marked is_present : Bool) (in_line : ℕ) : Type 0 where
-  pub live : if1 (is Live (kind_by (state_kind is_marked is_present) ps x)) ≡ if1 (is_present && not is_marked)
-  pub marked : if1 (is Marked (kind_by (state_kind is_marked is_present) ps x)) ≡ if1 (is_present && is_marked)
-  pub retired : if1 (is Retired (kind_by (state_kind is_marked is_present) ps x)) ≡ if1 (not is_present && is_marked)
-  pub mine : if1 (is Mine (kind_by (state_kind is_marked is_present) ps x)) ≡ total (mine_at x) ps
-  pub hand : if1 (is Hand (kind_by (state_kind is_marked is_present) ps x)) ≡ total (in_hand x) ps
-  pub queued : if1 (is Queued (kind_by (state_kind is_marked is_present) ps x)) ≡ in_line
+  pub live : if1 (is Live (slot_kind_by (state_kind is_marked is_present) ps x)) ≡ if1 (is_present && not is_marked)
+  pub marked : if1 (is Marked (slot_kind_by (state_kind is_marked is_present) ps x)) ≡ if1 (is_present && is_marked)
+  pub retired : if1 (is Retired (slot_kind_by (state_kind is_marked is_present) ps x)) ≡ if1 (not is_present && is_marked)
+  pub mine : if1 (is Mine (slot_kind_by (state_kind is_marked is_present) ps x)) ≡ total (mine_at x) ps
+  pub hand : if1 (is Hand (slot_kind_by (state_kind is_marked is_present) ps x)) ≡ total (in_hand x) ps
+  pub queued : if1 (is Queued (slot_kind_by (state_kind is_marked is_present) ps x)) ≡ in_line
 
 once_empty : (ps : List Body) (x : Spot) (in_line : ℕ) → total (mine_at x) ps + total (in_hand x) ps + in_line ≡ 1 → Once ps x false false in_line
 unfolding empty_kind

@@ -15,14 +15,14 @@ use Rattle.sh_step.specs.declared.action.Event.{Event}
 use Rattle.sh_step.specs.Collections.{total, if1}
 use Rattle.sh_step.specs.Plans.{Plan, plan_of}
 use Rattle.sh_core.specs.declared.accounts.Accounts.{Accounts}
-use Rattle.sh_core.specs.Kept.{Kept, Stands, Reached}
-use Rattle.sh_core.specs.Lists.{Lists, accounts, among, class_named, lists_of, mine_at, in_hand, slots_under, state_of, times}
+use Rattle.sh_core.specs.Kept.{KeptWorld, StandsFor, FromEvents}
+use Rattle.sh_core.specs.Lists.{PutLists, accounts, among, class_named, lists_of, mine_at, in_hand, slots_under, state_of, times}
 use Rattle.sh_core.specs.Refines.{Always, KindsAddUp, ClassesAreKnown, kind_count}
 use Rattle.sh_core.specs.Worlds.{World, run}
 use Rattle.sh_core.proofs.ClassSlots.{under_class}
 use Rattle.sh_accounts.specs.declared.kinds.SlotKind.{SlotKind}
 use Rattle.sh_accounts.specs.declared.kinds.SlotKind.TheVariants.{Live, Marked, Retired, Mine, Hand, Queued}
-use Rattle.sh_accounts.specs.Kinds.{is, kind_by}
+use Rattle.sh_accounts.specs.Kinds.{is, slot_kind_by}
 use Rattle.sh_accounts.specs.Accounts.{AreAccounts, FillPage, all_slots, no_slots, counted, kind_in, class_word}
 use Rattle.sh_accounts.proofs.OneByOne.{Once, once}
 
@@ -54,11 +54,11 @@ names_none n e = go (n == 0) refl e where
   go false is e = absurd (let z : None ≡ Some (n - 1) = e in cc)
 
 -- what is kept stands for the world, and all that holds of runs holds of it
-module _ (plan : Plan) (k : Kept) (w : World) (l : Lists) (stands : Stands k w) (kinds : KindsAddUp w l) (q : ℕ) (there : q < all_pages k.shape) where
+module _ (plan : Plan) (k : KeptWorld) (w : World) (l : PutLists) (stands : StandsFor k w) (kinds : KindsAddUp w l) (q : ℕ) (there : q < all_pages k.shape) where
   class_is : class_word k q ≡ w.words.class_at q
   class_is = stands.words.at (Class q) there
 
-  kind_is : (t : ℕ) → t < 48 → kind_in k (record { page = q; slot = t }) ≡ kind_by (kind_of (state_of w (record { page = q; slot = t }))) w.parts (record { page = q; slot = t })
+  kind_is : (t : ℕ) → t < 48 → kind_in k (record { page = q; slot = t }) ≡ slot_kind_by (kind_of (state_of w (record { page = q; slot = t }))) w.parts (record { page = q; slot = t })
   kind_is t low = rw (stands.words.at (State q t) (there, low), stands.parts) refl
 
   each : (c t : ℕ) → w.words.class_at q ≡ c + 1 → t < slots c → let x : Spot = record { page = q; slot = t } in
@@ -69,7 +69,7 @@ module _ (plan : Plan) (k : Kept) (w : World) (l : Lists) (stands : Stands k w) 
 
   -- one number of the accounts
   number_is : (kind : SlotKind) (g : Spot → ℕ) (n : ℕ) → n ≤ 48
-      → ((t : ℕ) → t < n → if1 (is kind (kind_by (kind_of (state_of w (record { page = q; slot = t }))) w.parts (record { page = q; slot = t }))) ≡ g (record { page = q; slot = t }))
+      → ((t : ℕ) → t < n → if1 (is kind (slot_kind_by (kind_of (state_of w (record { page = q; slot = t }))) w.parts (record { page = q; slot = t }))) ≡ g (record { page = q; slot = t }))
       → among q (λ x. if1 (is kind (kind_in k x))) n ≡ among q g n
   number_is kind g n few h = among_same q (λ x. if1 (is kind (kind_in k x))) g n (λ t low. ap (λ y. if1 (is kind y)) (kind_is t (omega arith)) ∙ h t low)
 
@@ -91,12 +91,12 @@ module _ (plan : Plan) (k : Kept) (w : World) (l : Lists) (stands : Stands k w) 
   blank_is e = rw e refl
 
 -- a class word of a heap that was reached is small
-pub class_small : (layout : Layout) (k : Kept) (q : ℕ) → Always (λ plan w l. ClassesAreKnown plan w) → Reached layout k → q < all_pages k.shape → class_word k q ≤ class_count
+pub class_small : (layout : Layout) (k : KeptWorld) (q : ℕ) → Always (λ plan w l. ClassesAreKnown plan w) → FromEvents layout k → q < all_pages k.shape → class_word k q ≤ class_count
 class_small layout k q classes reached there =
     let small = (classes layout k.shape reached.is_layout reached.is_shape reached.fits reached.events q).0 in
     let here = reached.stands.words.at (Class q) there in omega arith
 
-module _ (layout : Layout) (k : Kept) (q : ℕ) (kinds : Always (λ plan w l. KindsAddUp w l)) (reached : Reached layout k) (there : q < all_pages k.shape) where
+module _ (layout : Layout) (k : KeptWorld) (q : ℕ) (kinds : Always (λ plan w l. KindsAddUp w l)) (reached : FromEvents layout k) (there : q < all_pages k.shape) where
   abbrev plan : Plan
   plan = plan_of layout k.shape
 
@@ -116,6 +116,6 @@ module _ (layout : Layout) (k : Kept) (q : ℕ) (kinds : Always (λ plan w l. Ki
       same ∙ blank_is plan k (run plan es) (lists_of plan es) stands (kinds_at es) q there (omega (arith, names_none (class_word k q) named))
 
 -- each slot is counted once
-pub fills : (k : Kept) (q c : ℕ) (a : Accounts) → c < 8 → all_slots a ≡ slots c → a ≡ counted k q c (slots c) → FillPage a
+pub fills : (k : KeptWorld) (q c : ℕ) (a : Accounts) → c < 8 → all_slots a ≡ slots c → a ≡ counted k q c (slots c) → FillPage a
 unfolding counted
 fills k q c a small full same = let e : a.class ≡ Some c = ap (λ (a : Accounts). a.class) same in rw e (small, full)

@@ -13,20 +13,20 @@ use Rattle.sh_step.specs.declared.action.Event.{Event}
 use Rattle.sh_step.specs.Collections.{if1}
 use Rattle.sh_step.specs.Plans.{plan_of}
 use Rattle.sh_core.specs.declared.accounts.Accounts.{Accounts}
-use Rattle.sh_core.specs.Kept.{Kept, Stands}
+use Rattle.sh_core.specs.Kept.{KeptWorld, StandsFor}
 use Rattle.sh_core.specs.Lists.{accounts, lists_of, among}
 use Rattle.sh_core.specs.Worlds.{run}
 use Rattle.sh_accounts.specs.declared.kinds.SlotKind.{SlotKind}
 use Rattle.sh_accounts.specs.declared.kinds.SlotKind.TheVariants.{Live, Marked, Retired, Mine, Hand, Queued}
-use Rattle.sh_accounts.specs.Kinds.{is, kind_by}
+use Rattle.sh_accounts.specs.Kinds.{is, slot_kind_by}
 
 -- the shape has this page of this shard
-abbrev pub HasPage : Numbers → (shard page : ℕ) → Type 0
-HasPage shape shard page = (shard < shape.shards) × (page < pages_of shape)
+abbrev pub ShapeHasPage : Numbers → (shard page : ℕ) → Type 0
+ShapeHasPage shape shard page = (shard < shape.shards) × (page < pages_of shape)
 
 -- they are those of page q over the whole heap, after whatever list of events led to what is kept
-abbrev pub AreAccounts : Layout → Kept → ℕ → Accounts → Type 0
-AreAccounts layout k q a = (es : List Event) → Stands k (run (plan_of layout k.shape) es)
+abbrev pub AreAccounts : Layout → KeptWorld → ℕ → Accounts → Type 0
+AreAccounts layout k q a = (es : List Event) → StandsFor k (run (plan_of layout k.shape) es)
     → a ≡ accounts (run (plan_of layout k.shape) es) (lists_of (plan_of layout k.shape) es) q
 
 -- the six numbers together
@@ -42,23 +42,23 @@ abbrev pub FillPage : Accounts → Type 0
 FillPage a = elim (a.class) [ Some c ↦ (c < class_count) × (all_slots a ≡ slots c) | None ↦ a ≡ no_slots None ]
 
 -- what is kept of a word, 0 where there is none
-abbrev pub word_at : Kept → Place → ℕ
-word_at k p = get_or k.words (number k.shape p) 0
+abbrev pub kept_word : KeptWorld → Place → ℕ
+kept_word k p = get_or k.words (number k.shape p) 0
 
 -- the class word of page q
-abbrev pub class_word : Kept → ℕ → ℕ
-class_word k q = word_at k (Class q)
+abbrev pub class_word : KeptWorld → ℕ → ℕ
+class_word k q = kept_word k (Class q)
 
 -- what a slot is, where it is one of its page's class
-abbrev pub kind_in : Kept → Spot → SlotKind
-kind_in k x = kind_by (kind_of (fields_of (word_at k (State x.page x.slot)))) k.parts x
+abbrev pub kind_in : KeptWorld → Spot → SlotKind
+kind_in k x = slot_kind_by (kind_of (fields_of (kept_word k (State x.page x.slot)))) k.parts x
 
 -- how many of the first n slots of page q are of this kind
-abbrev pub count : Kept → ℕ → SlotKind → ℕ → ℕ
+abbrev pub count : KeptWorld → ℕ → SlotKind → ℕ → ℕ
 count k q kind n = among q (λ x. if1 (is kind (kind_in k x))) n
 
 -- the first n slots of page q by their kinds
-unfoldable pub counted : Kept → (q class n : ℕ) → Accounts
+unfoldable pub counted : KeptWorld → (q class n : ℕ) → Accounts
 counted k q class n = record {
   class = Some class;
   live = count k q Live n;

@@ -20,11 +20,11 @@ has_in_hand x p = elim (p.hand) [ ToPut y ↦ same_spot x y | Filling y v n ↦ 
 unfoldable pub empty_kind : List Body → Spot → SlotKind
 empty_kind ps x = cond (list_any (λ p. has (same_spot x) p.mine) ps) Mine (cond (list_any (has_in_hand x) ps) Hand Queued)
 
-abbrev pub kind_by : Kind → List Body → Spot → SlotKind
-kind_by state.Live ps x = Live
-kind_by state.Marked ps x = Marked
-kind_by state.Retired ps x = Retired
-kind_by state.Empty ps x = empty_kind ps x
+abbrev pub slot_kind_by : Kind → List Body → Spot → SlotKind
+slot_kind_by state.Live ps x = Live
+slot_kind_by state.Marked ps x = Marked
+slot_kind_by state.Retired ps x = Retired
+slot_kind_by state.Empty ps x = empty_kind ps x
 
 -- the two are the same kind
 abbrev pub is : SlotKind → SlotKind → Bool

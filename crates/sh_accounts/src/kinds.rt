@@ -5,7 +5,7 @@ ghost use Rattle.sh_word.specs.Fields.{fields_of};
 ghost use Rattle.sh_word.specs.Kinds.{kind_of};
 ghost use Rattle.sh_slots.specs.Slots.{same_spot};
 ghost use Rattle.sh_step.specs.Collections.{has};
-ghost use Rattle.sh_accounts.specs.Kinds.{has_in_hand, empty_kind, kind_by};
+ghost use Rattle.sh_accounts.specs.Kinds.{has_in_hand, empty_kind, slot_kind_by};
 
 use sh_slots::{Hand, Spot};
 use sh_step::Part;
@@ -69,7 +69,7 @@ fn empty_kind(parts: &[Part], spot: Spot) -> SlotKind
 
 /// What a slot of a page's class is, by its state word and what the passes have of their own.
 pub fn slot_kind(word: u64, parts: &[Part], spot: Spot) -> SlotKind
-    ensures { result ≡ kind_by (kind_of (fields_of word)) parts.now spot }
+    ensures { result ≡ slot_kind_by (kind_of (fields_of word)) parts.now spot }
 {
     match State::of(word).kind() {
         Kind::Live => SlotKind::Live,

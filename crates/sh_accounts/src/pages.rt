@@ -4,7 +4,7 @@ ghost use Rattle.sh_shape.specs.Places.{page_number};
 ghost use Rattle.sh_shape.specs.Classes.{slots, class_count};
 ghost use Rattle.sh_core.specs.Lists.{class_named};
 ghost use Rattle.sh_accounts.specs.Kinds.{with_one};
-ghost use Rattle.sh_accounts.specs.Accounts.{HasPage, AreAccounts, FillPage, all_slots, no_slots, class_word, kind_in, counted};
+ghost use Rattle.sh_accounts.specs.Accounts.{ShapeHasPage, AreAccounts, FillPage, all_slots, no_slots, class_word, kind_in, counted};
 
 use crate::kinds::{SlotKind, slot_kind};
 use sh_core::{Accounts, World, refines_map};
@@ -25,7 +25,7 @@ fn class_of(word: u64) -> Option<u32>
 
 // The class of a page, if it has one.
 fn class_at<L: KeyLayout>(world: &World<L>, shard: u32, page: u32) -> Option<u32>
-    requires { HasPage world.now.shape shard page }
+    requires { ShapeHasPage world.now.shape shard page }
     ensures is { result ≡ class_named (class_word world.now (page_number world.now.shape shard page)) }
     ensures known { IfSome result (λ class. class < class_count) }
 {
@@ -67,7 +67,7 @@ fn count_one(accounts: &mut Accounts, kind: SlotKind)
 
 // What a slot of a page's class is.
 fn kind_at<L: KeyLayout>(world: &World<L>, shard: u32, page: u32, slot: u32) -> SlotKind
-    requires page { HasPage world.now.shape shard page }
+    requires page { ShapeHasPage world.now.shape shard page }
     requires slot { slot < 48 }
     ensures { result ≡ kind_in world.now (record { page = page_number world.now.shape shard page; slot = slot }) }
 {
@@ -83,7 +83,7 @@ fn kind_at<L: KeyLayout>(world: &World<L>, shard: u32, page: u32, slot: u32) -> 
 // The slots of a page of this class, each counted by what it is.
 #[tactic(auto, using(crate::proofs::Counts::counted_none, crate::proofs::Counts::counted_more))]
 fn count_slots<L: KeyLayout>(world: &World<L>, shard: u32, page: u32, class: u32) -> Accounts
-    requires page { HasPage world.now.shape shard page }
+    requires page { ShapeHasPage world.now.shape shard page }
     requires class { class < class_count }
     ensures is { result ≡ counted world.now (page_number world.now.shape shard page) class (slots class) }
     ensures fill { all_slots result ≡ slots class }
@@ -100,7 +100,7 @@ fn count_slots<L: KeyLayout>(world: &World<L>, shard: u32, page: u32, class: u32
 ///
 /// They are the page's after every list of events that leads to this world.
 pub fn page<L: KeyLayout>(world: &World<L>, shard: u32, page: u32) -> Option<Accounts>
-    ensures there { MatchOption result (¬ HasPage world.now.shape shard page) (λ accounts. HasPage world.now.shape shard page) }
+    ensures there { MatchOption result (¬ ShapeHasPage world.now.shape shard page) (λ accounts. ShapeHasPage world.now.shape shard page) }
     ensures are { IfSome result (AreAccounts L.layout world.now (page_number world.now.shape shard page)) }
     ensures fill { IfSome result FillPage }
 {

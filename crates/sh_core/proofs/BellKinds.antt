@@ -9,7 +9,7 @@ use Rattle.sh_shape.specs.declared.places.Place.TheVariants.{PageLink, Bell}
 use Rattle.sh_step.specs.Plans.{Plan, home, local, over_heap}
 use Rattle.sh_step.specs.Collections.{total, if1, has, without}
 use Rattle.sh_step.specs.declared.body.Body.{Body}
-use Rattle.sh_core.specs.Lists.{Lists, times, bells_taken}
+use Rattle.sh_core.specs.Lists.{PutLists, times, bells_taken}
 use Rattle.sh_core.specs.Stacks.{spot, top, link_to, first_is, tying, ties_of, cursor_at, ring_tying, ring_ties, is_at, bell_cursor_at, bell_link, bell_head}
 use Rattle.sh_core.specs.Bells.{rings, armed_at, owns}
 use Rattle.sh_core.specs.Placed.{RestOf}
@@ -28,7 +28,7 @@ not_both n k q j h e = let z : ((n == k) && true) ≡ false = rw (← e) h in go
   go false h = refl
 
 -- Ring puts the page on its shard's bell
-module _ (plan : Plan) (w : Words) (ps : List Body) (l : Lists) (a : ℕ) (p : Body) (q : ℕ) (old : RestOf plan w ps l) (at : slice_get ps a ≡ Some (hand p (Ringing q))) where
+module _ (plan : Plan) (w : Words) (ps : List Body) (l : PutLists) (a : ℕ) (p : Body) (q : ℕ) (old : RestOf plan w ps l) (at : slice_get ps a ≡ Some (hand p (Ringing q))) where
   abbrev n : ℕ
   n = home plan q
 
@@ -38,7 +38,7 @@ module _ (plan : Plan) (w : Words) (ps : List Body) (l : Lists) (a : ℕ) (p : B
   abbrev after : Body
   after = hand p (RingTying q (w.bell_at n + 1))
 
-  abbrev L : Lists
+  abbrev L : PutLists
   L = record l { bells = put l.bells n (q ∷ l.bells n) }
 
   not_rung : times q (l.bells n) + times q (l.bell_chain n) ≡ 0
@@ -92,7 +92,7 @@ module _ (plan : Plan) (w : Words) (ps : List Body) (l : Lists) (a : ℕ) (p : B
   }
 
 -- RingTie stores the page's link
-module _ (plan : Plan) (w : Words) (ps : List Body) (l : Lists) (a : ℕ) (p : Body) (q n : ℕ) (old : RestOf plan w ps l) (at : slice_get ps a ≡ Some (hand p (RingTying q n))) where
+module _ (plan : Plan) (w : Words) (ps : List Body) (l : PutLists) (a : ℕ) (p : Body) (q n : ℕ) (old : RestOf plan w ps l) (at : slice_get ps a ≡ Some (hand p (RingTying q n))) where
   abbrev before2 : Body
   before2 = hand p (RingTying q n)
 
@@ -173,7 +173,7 @@ pub owned_at : (n m : ℕ) (o : Option ℕ) (x : ℕ) → o ≡ Some n → (elim
 owned_at n m (Some k) x e = let i : k ≡ n = cc in rw i refl
 owned_at n m None x e = absurd (let z : None ≡ Some n = e in cc)
 
-module _ (plan : Plan) (w : Words) (ps : List Body) (l : Lists) (a : ℕ) (p : Body) (n : ℕ) (old : RestOf plan w ps l) (at : slice_get ps a ≡ Some p) (mine : p.owned ≡ Some n) (no : p.bell_cursor ≡ None) where
+module _ (plan : Plan) (w : Words) (ps : List Body) (l : PutLists) (a : ℕ) (p : Body) (n : ℕ) (old : RestOf plan w ps l) (at : slice_get ps a ≡ Some p) (mine : p.owned ≡ Some n) (no : p.bell_cursor ≡ None) where
   abbrev after3 : Body
   after3 = record p { bell_cursor = top_item (bell_head plan w.bell_at n) }
 
@@ -239,7 +239,7 @@ some_has q (x ∷ xs) h = go (x == q) h (λ n. some_has q xs n) where
 pub times_off : (q k : ℕ) (xs : List ℕ) → 0 < times q xs → times k (without (λ x. x == q) xs) + if1 (q == k) ≡ times k xs
 times_off q k xs h = total_without (λ y. if1 (y == k)) (λ x. x == q) (if1 (q == k)) (λ x e. let i = same_page x q e in ap (λ (m : ℕ). if1 (m == k)) i) xs (some_has q xs h)
 
-module _ (plan : Plan) (w : Words) (ps : List Body) (l : Lists) (a : ℕ) (p : Body) (n q : ℕ) (old : RestOf plan w ps l) (at : slice_get ps a ≡ Some p) (mine : p.owned ≡ Some n) (is : p.bell_cursor ≡ Some q) (found : (w.page_link_at q == 0) ≡ false) where
+module _ (plan : Plan) (w : Words) (ps : List Body) (l : PutLists) (a : ℕ) (p : Body) (n q : ℕ) (old : RestOf plan w ps l) (at : slice_get ps a ≡ Some p) (mine : p.owned ≡ Some n) (is : p.bell_cursor ≡ Some q) (found : (w.page_link_at q == 0) ≡ false) where
   abbrev after4 : Body
   after4 = record p { bell_cursor = link_item (over_heap plan (home plan q) 2 (w.page_link_at q)); armed = without (λ x. x == q) p.armed }
 

@@ -2,9 +2,9 @@
 use Rattle.std.proofs.Common.{◌≡◌, ℕ, zero, suc, ◌+◌, ◌-◌, ◌*◌, ◌<◌, ◌≤◌, ◌==◌, Bool, true, false, cond, List, [], ◌∷◌, refl, ap, ◌∙◌, subst, arith}
 use Rattle.std.specs.Prelude.{not, nat_lt}
 use Rattle.sh_step.specs.Collections.{total, if1}
-use Rattle.sh_step.specs.Plans.{Plan, Lawful, all_pages, home, page_number, over_heap}
+use Rattle.sh_step.specs.Plans.{Plan, Lawful, heap_pages, home, page_number, over_heap}
 use Rattle.sh_core.specs.Worlds.{World}
-use Rattle.sh_core.specs.Lists.{Lists, times}
+use Rattle.sh_core.specs.Lists.{PutLists, times}
 use Rattle.sh_core.specs.Stacks.{Chained, top, link_to, ring_tying, bell_link}
 use Rattle.sh_core.specs.Placed.{All}
 use Rattle.sh_core.specs.Knows.{AllKnow}
@@ -30,8 +30,8 @@ over_small plan n k m = go (nat_lt m k) refl where
   go true e = omega arith
   go false e = omega arith
 
-module _ (plan : Plan) (w : World) (l : Lists) (laws : Lawful plan) (all : All plan w l) (know : AllKnow plan w) (within : AllWithin plan w) where
-  listed : (n : ℕ) (xs : List ℕ) → ((s : ℕ) → times s xs ≤ times s (l.bells n) + times s (l.bell_chain n)) → (top xs ≤ all_pages plan) × (link_to xs ≤ all_pages plan + 1)
+module _ (plan : Plan) (w : World) (l : PutLists) (laws : Lawful plan) (all : All plan w l) (know : AllKnow plan w) (within : AllWithin plan w) where
+  listed : (n : ℕ) (xs : List ℕ) → ((s : ℕ) → times s xs ≤ times s (l.bells n) + times s (l.bell_chain n)) → (top xs ≤ heap_pages plan) × (link_to xs ≤ heap_pages plan + 1)
   listed n [] few = (omega arith, omega arith)
   listed n (s ∷ xs) few =
       let f = few s in
@@ -39,13 +39,13 @@ module _ (plan : Plan) (w : World) (l : Lists) (laws : Lawful plan) (all : All p
       let one : if1 (s == s) ≡ 1 = rw (page_same s) refl in
       let b = belled plan w l laws all know within n s (omega arith) in (omega arith, omega arith)
 
-  bell_small : (n : ℕ) → w.words.bell_at n ≤ all_pages plan
+  bell_small : (n : ℕ) → w.words.bell_at n ≤ heap_pages plan
   bell_small n =
       let t = all.rest.bells.tops n in
       let s = over_small plan n 1 (w.words.bell_at n) in
       let f = (listed n (l.bells n) (λ s. omega arith)).0 in omega arith
 
-  link_small : (q : ℕ) → w.words.page_link_at q ≤ all_pages plan + 1
+  link_small : (q : ℕ) → w.words.page_link_at q ≤ heap_pages plan + 1
   link_small q = go (w.words.page_link_at q == 0) refl where
     n : ℕ
     n = home plan q
@@ -59,7 +59,7 @@ module _ (plan : Plan) (w : World) (l : Lists) (laws : Lawful plan) (all : All p
     here : word q ≡ over_heap plan n 2 (w.words.page_link_at q)
     here = rw (page_same (home plan q)) refl
 
-    ends : (xs : List ℕ) → Chained word owed xs → ((s : ℕ) → times s xs ≤ times s (l.bells n) + times s (l.bell_chain n)) → 0 < times q xs → w.words.page_link_at q ≤ all_pages plan + 1
+    ends : (xs : List ℕ) → Chained word owed xs → ((s : ℕ) → times s xs ≤ times s (l.bells n) + times s (l.bell_chain n)) → 0 < times q xs → w.words.page_link_at q ≤ heap_pages plan + 1
     ends xs c few some =
         let r = chained_at word owed q xs c some in
         let f = (listed n r.0 (λ s. let a = r.2 s in let b = few s in omega arith)).1 in
@@ -67,14 +67,14 @@ module _ (plan : Plan) (w : World) (l : Lists) (laws : Lawful plan) (all : All p
         let h = here in
         let e = r.1 in omega arith
 
-    go : (b : Bool) → (w.words.page_link_at q == 0) ≡ b → w.words.page_link_at q ≤ all_pages plan + 1
+    go : (b : Bool) → (w.words.page_link_at q == 0) ≡ b → w.words.page_link_at q ≤ heap_pages plan + 1
     go true e = let i = same_page (w.words.page_link_at q) 0 e in omega arith
     go false e =
         let z : (word q == 0) ≡ false = ap (λ (k : ℕ). k == 0) here ∙ over_some plan n (w.words.page_link_at q) e in
         let y : if1 (not (word q == 0)) ≡ 1 = rw z refl in
         let t = all.rest.bells.ties n q in
         at (times q (l.bells n)) refl (omega arith) where
-          at : (k : ℕ) → times q (l.bells n) ≡ k → 0 < k + times q (l.bell_chain n) → w.words.page_link_at q ≤ all_pages plan + 1
+          at : (k : ℕ) → times q (l.bells n) ≡ k → 0 < k + times q (l.bell_chain n) → w.words.page_link_at q ≤ heap_pages plan + 1
           at (suc k) is some = ends (l.bells n) (all.rest.bells.stacks n) (λ s. omega arith) (omega arith)
           at zero is some = ends (l.bell_chain n) (all.rest.bells.chains n) (λ s. omega arith) (omega arith)
 

@@ -8,15 +8,15 @@ use Rattle.sh_slots.specs.declared.hand.Hand.TheVariants.{Filling}
 use Rattle.sh_core.specs.Words.{Words, write, put, put2}
 use Rattle.sh_shape.specs.declared.places.Place.TheVariants.{Class, State, Length}
 use Rattle.sh_word.specs.Fields.{Fields, fields_of}
-use Rattle.sh_step.specs.Plans.{Plan, all_pages}
+use Rattle.sh_step.specs.Plans.{Plan, heap_pages}
 use Rattle.sh_shape.specs.Classes.{width, slots}
 use Rattle.sh_slots.specs.Slots.{same_spot, spots}
 use Rattle.sh_step.specs.Collections.{total, if1, has, off, every}
 use Rattle.sh_step.specs.declared.body.Body.{Body}
-use Rattle.sh_core.specs.Lists.{Lists, mine_at, in_hand}
+use Rattle.sh_core.specs.Lists.{PutLists, mine_at, in_hand}
 use Rattle.sh_core.specs.Stacks.{spot}
 use Rattle.sh_core.specs.Placed.{SoundOf}
-use Rattle.sh_step.specs.Rows.{class_of, all_mine}
+use Rattle.sh_step.specs.Rows.{class_word_noted, all_mine}
 use Rattle.sh_core.specs.Worlds.{World, value_at, words_from}
 use Rattle.sh_core.specs.Tallies.{room, queued, SlotsFine}
 use Rattle.sh_core.specs.Good.{Good, FillFine}
@@ -56,7 +56,7 @@ room_mine w p q n is h s = rw is (go (nat_lt 0 n) (nat_lt s (slots (n - 1))) ref
   go true false a b = omega arith
   go false b a c = omega arith
 
-module _ (plan : Plan) (w : World) (l : Lists) (a : ℕ) (p : Body) (q c : ℕ) (g : Good plan w l) (at : slice_get w.parts a ≡ Some p) (all : (s : ℕ) → room w.words (spot q s) ≤ mine_at (spot q s) p) where
+module _ (plan : Plan) (w : World) (l : PutLists) (a : ℕ) (p : Body) (q c : ℕ) (g : Good plan w l) (at : slice_get w.parts a ≡ Some p) (all : (s : ℕ) → room w.words (spot q s) ≤ mine_at (spot q s) p) where
   abbrev W : Words
   W = write w.words (Class q) (c + 1)
 
@@ -133,7 +133,7 @@ module _ (plan : Plan) (w : World) (l : Lists) (a : ℕ) (p : Body) (q c : ℕ) 
               let one : if1 (same_spot y y) ≡ 1 = rw r refl in
               let m = total_at (in_hand y) w.parts b u at' in absurd (omega arith)
           go false d =
-              let P : ℕ → Type 0 = λ k. (w.words.length_at y.page y.slot ≡ length v) × (i ≤ length v) × (length v ≤ width (k - 1)) × (words_from (w.words.payload_at y.page) (y.slot * width (k - 1)) i ≡ take i v) × (class_of u y.page ≡ k) in
+              let P : ℕ → Type 0 = λ k. (w.words.length_at y.page y.slot ≡ length v) × (i ≤ length v) × (length v ≤ width (k - 1)) × (words_from (w.words.payload_at y.page) (y.slot * width (k - 1)) i ≡ take i v) × (class_word_noted u y.page ≡ k) in
               subst P (sym (put_other w.words.class_at q y.page (c + 1) d)) f
         others b u at' _ e f = f
 
@@ -171,11 +171,11 @@ sound_length plan w x n old none = record { generations = old.generations; class
       let z : true ≡ false = sym h ∙ k ∙ m in absurd (cc)
   lens q s false e h = rw (put2_other w.length_at x.page x.slot n q s e) (old.lengths q s h)
 
-pub sound_class : (plan : Plan) (w : Words) (q c : ℕ) → SoundOf plan w → c < 8 → q < all_pages plan → ((s : ℕ) → if1 ((fields_of (w.state_at q s)).present || (fields_of (w.state_at q s)).marked) ≡ 0) → SoundOf plan (write w (Class q) (c + 1))
+pub sound_class : (plan : Plan) (w : Words) (q c : ℕ) → SoundOf plan w → c < 8 → q < heap_pages plan → ((s : ℕ) → if1 ((fields_of (w.state_at q s)).present || (fields_of (w.state_at q s)).marked) ≡ 0) → SoundOf plan (write w (Class q) (c + 1))
 sound_class plan w q c old small page none = record { generations = old.generations; classes = λ k. cls k (k == q) refl; lengths = λ k s. lens k s (k == q) refl } where
-  cls : (k : ℕ) (b : Bool) → (k == q) ≡ b → (put w.class_at q (c + 1) k ≤ 8) × (0 < put w.class_at q (c + 1) k → k < all_pages plan)
+  cls : (k : ℕ) (b : Bool) → (k == q) ≡ b → (put w.class_at q (c + 1) k ≤ 8) × (0 < put w.class_at q (c + 1) k → k < heap_pages plan)
   cls k true e = let i = same_page k q e in let j : put w.class_at q (c + 1) k ≡ c + 1 = rw i (put_same w.class_at q (c + 1)) in (omega arith, λ _. rw i page)
-  cls k false e = let P : ℕ → Type 0 = λ m. (m ≤ 8) × (0 < m → k < all_pages plan) in subst P (sym (put_other w.class_at q k (c + 1) e)) (old.classes k)
+  cls k false e = let P : ℕ → Type 0 = λ m. (m ≤ 8) × (0 < m → k < heap_pages plan) in subst P (sym (put_other w.class_at q k (c + 1) e)) (old.classes k)
 
   lens : (k s : ℕ) (b : Bool) → (k == q) ≡ b → ((fields_of (w.state_at k s)).present || (fields_of (w.state_at k s)).marked) ≡ true → w.length_at k s ≤ width (put w.class_at q (c + 1) k - 1)
   lens k s true e h =

@@ -15,7 +15,7 @@ use Rattle.sh_step.specs.Plans.{Plan, page_of}
 use Rattle.sh_step.specs.Rows.{Row, row, hand, own}
 use Rattle.sh_core.specs.Words.{read}
 use Rattle.sh_core.specs.Worlds.{World, apply, step, open_world}
-use Rattle.sh_core.specs.Lists.{Lists}
+use Rattle.sh_core.specs.Lists.{PutLists}
 use Rattle.sh_core.specs.Tallies.{held, at_spot}
 use Rattle.sh_core.specs.Good.{Good}
 use Rattle.sh_core.proofs.Totals.{total_set, total_without}
@@ -94,7 +94,7 @@ module _ (plan : Plan) (w : World) (p : Body) where
   bounded TakeBell m e = let h = meets plan p TakeBell m e in quiet m _ h.4 refl
   bounded FollowBell m e = let h = meets plan p FollowBell m e in quiet m _ h.3 (same_cond (w.words.page_link_at h.0 == 0) p _ refl refl)
 
-few_apply : (plan : Plan) (w : World) (l : Lists) (a : ℕ) (p : Body) (m : Row) → Good plan w l → slice_get w.parts a ≡ Some p → Bounded plan w p m → FewHolds plan w → FewHolds plan (apply w a m)
+few_apply : (plan : Plan) (w : World) (l : PutLists) (a : ℕ) (p : Body) (m : Row) → Good plan w l → slice_get w.parts a ≡ Some p → Bounded plan w p m → FewHolds plan w → FewHolds plan (apply w a m)
 unfolding apply
 few_apply plan w l a p m good at least old x =
     let u : Body = m.part (read w.words m.place) in
@@ -103,7 +103,7 @@ few_apply plan w l a p m good at least old x =
     let c = (good.slots x).counts in
     ⊎_elim (λ h. omega arith) (λ h. let h0 = h.0 in let h1 = h.1 in omega arith) (least x)
 
-pub few_step : (plan : Plan) (w : World) (l : Lists) (e : Event) → Good plan w l → FewHolds plan w → FewHolds plan (step plan w e)
+pub few_step : (plan : Plan) (w : World) (l : PutLists) (e : Event) → Good plan w l → FewHolds plan w → FewHolds plan (step plan w e)
 unfolding step
 few_step plan w l e good old = go (slice_get w.parts e.pass) refl where
   go : (o : Option Body) → slice_get w.parts e.pass ≡ o → FewHolds plan (elim o as (λ _. World) [ Some p ↦ elim (row plan p e.action) [ Some m ↦ apply w e.pass m | None ↦ w ] | None ↦ w ])

@@ -14,9 +14,9 @@ use Rattle.sh_shape.specs.Classes.{width}
 use Rattle.sh_slots.specs.Slots.{same_spot, spot_of}
 use Rattle.sh_step.specs.Collections.{if1, has, without}
 use Rattle.sh_step.specs.declared.body.Body.{Body}
-use Rattle.sh_step.specs.Rows.{hand, class_of, fill_slot, fill}
+use Rattle.sh_step.specs.Rows.{hand, class_word_noted, fill_slot, fill}
 use Rattle.sh_core.specs.Worlds.{World, apply, value_at, words_from}
-use Rattle.sh_core.specs.Lists.{Lists, mine_at, in_hand}
+use Rattle.sh_core.specs.Lists.{PutLists, mine_at, in_hand}
 use Rattle.sh_core.specs.Tallies.{due, room}
 use Rattle.sh_core.specs.Stories.{values, removals, KeysFine}
 use Rattle.sh_core.specs.Good.{Good, FillFine}
@@ -47,7 +47,7 @@ fill_due plan p x v is y st h =
     tally_ext (due plan y st (hand (record p { mine = without (same_spot x) p.mine }) (Filling x v 0))) (due plan y st (hand p Idle)) (omega arith) n refl refl refl refl
 
 -- a slot of `mine` is in no hand
-not_mine : (plan : Plan) (w : World) (l : Lists) (a b : ℕ) (p q : Body) (x y : Spot) (u : List ℕ) (i : ℕ) → Good plan w l → slice_get w.parts a ≡ Some p → has (same_spot x) p.mine ≡ true → slice_get w.parts b ≡ Some q → q.hand ≡ Filling y u i → same_spot y x ≡ false
+not_mine : (plan : Plan) (w : World) (l : PutLists) (a b : ℕ) (p q : Body) (x y : Spot) (u : List ℕ) (i : ℕ) → Good plan w l → slice_get w.parts a ≡ Some p → has (same_spot x) p.mine ≡ true → slice_get w.parts b ≡ Some q → q.hand ≡ Filling y u i → same_spot y x ≡ false
 not_mine plan w l a b p q x y u i g at is at' e = go (same_spot y x) refl where
   go : (c : Bool) → same_spot y x ≡ c → c ≡ false
   go false h = refl
@@ -62,7 +62,7 @@ not_mine plan w l a b p q x y u i g at is at' e = go (same_spot y x) refl where
       let t : same_spot x y ≡ true = ap (same_spot x) s ∙ same_spot-refl x in
       let one : if1 (same_spot x y) ≡ 1 = rw t refl in absurd (omega arith)
 
-pub good_fill_slot : (plan : Plan) (w : World) (l : Lists) (a : ℕ) (p : Body) (x : Spot) (v : List ℕ) → Good plan w l → slice_get w.parts a ≡ Some (hand p Idle) → has (same_spot x) p.mine ≡ true → class_of p x.page ≡ w.words.class_at x.page → length v ≤ width (w.words.class_at x.page - 1)
+pub good_fill_slot : (plan : Plan) (w : World) (l : PutLists) (a : ℕ) (p : Body) (x : Spot) (v : List ℕ) → Good plan w l → slice_get w.parts a ≡ Some (hand p Idle) → has (same_spot x) p.mine ≡ true → class_word_noted p x.page ≡ w.words.class_at x.page → length v ≤ width (w.words.class_at x.page - 1)
     → Good plan (apply w a (fill_slot (hand p Idle) x v)) l
 unfolding apply value_at
 good_fill_slot plan w l a p x v g at is class fits =
@@ -87,7 +87,7 @@ good_fill_slot plan w l a p x v g at is class fits =
       apart y none false h = inl (ap (λ (n : ℕ). words_from (w.words.payload_at y.page) (y.slot * width (w.words.class_at y.page - 1)) n) (put2_other w.words.length_at x.page x.slot (length v) y.page y.slot h))
 
 -- a slot in a hand is in no other hand
-not_hand : (plan : Plan) (w : World) (l : Lists) (a b : ℕ) (p q : Body) (x y : Spot) (v u : List ℕ) (i j : ℕ) → Good plan w l → b ≢ a → slice_get w.parts a ≡ Some p → p.hand ≡ Filling x v i → slice_get w.parts b ≡ Some q → q.hand ≡ Filling y u j → same_spot y x ≡ false
+not_hand : (plan : Plan) (w : World) (l : PutLists) (a b : ℕ) (p q : Body) (x y : Spot) (v u : List ℕ) (i j : ℕ) → Good plan w l → b ≢ a → slice_get w.parts a ≡ Some p → p.hand ≡ Filling x v i → slice_get w.parts b ≡ Some q → q.hand ≡ Filling y u j → same_spot y x ≡ false
 not_hand plan w l a b p q x y v u i j g n at d at' e = go (same_spot y x) refl where
   go : (c : Bool) → same_spot y x ≡ c → c ≡ false
   go false h = refl
@@ -136,7 +136,7 @@ has_class w x h = go (nat_lt 0 (w.class_at x.page)) refl where
   go true e = grind (arith, nat_tests)
   go false e = absurd (let r : room w x ≡ 0 = rw e refl in omega arith)
 
-pub good_fill : (plan : Plan) (w : World) (l : Lists) (a : ℕ) (p : Body) (x : Spot) (v : List ℕ) (i : ℕ) → Good plan w l → SoundOf plan w.words → slice_get w.parts a ≡ Some (hand p (Filling x v i)) → i < length v
+pub good_fill : (plan : Plan) (w : World) (l : PutLists) (a : ℕ) (p : Body) (x : Spot) (v : List ℕ) (i : ℕ) → Good plan w l → SoundOf plan w.words → slice_get w.parts a ≡ Some (hand p (Filling x v i)) → i < length v
     → Good plan (apply w a (fill (hand p (Filling x v i)) x v i)) l
 unfolding apply value_at
 good_fill plan w l a p x v i g sound at less =

@@ -15,7 +15,7 @@ use Rattle.sh_step.specs.Collections.{if1, has, without}
 use Rattle.sh_step.specs.declared.body.Body.{Body}
 use Rattle.sh_step.specs.Rows.{hand, freed, drop_key, enter_remove, finish, own}
 use Rattle.sh_core.specs.Worlds.{World, apply, value_at}
-use Rattle.sh_core.specs.Lists.{Lists, times}
+use Rattle.sh_core.specs.Lists.{PutLists, times}
 use Rattle.sh_core.specs.Tallies.{Fine, tally, due, held, room, queued, at_spot, current, stale}
 use Rattle.sh_core.specs.Stories.{values, removals, removed_in, Story, KeysFine}
 use Rattle.sh_core.proofs.Permits.{Permits}
@@ -34,7 +34,7 @@ pub found_marked : (n g : ℕ) → (n == marked_word g) ≡ true → fields_of n
 found_marked n g e = let i : n ≡ marked_word g = grind (arith, nat_tests) in rw i (fields_of-word_of (record { generation = g; marked = true; present = true; count = 0 }) (omega arith))
 
 -- Enter of a remove that meets the live value
-pub good_enter_remove : (plan : Plan) (w : World) (l : Lists) (a : ℕ) (p : Body) (k : ℕ) (y : Name) → Lawful plan → Good plan w l → slice_get w.parts a ≡ Some (hand p Idle) → plan.keys.unpack k ≡ Some y
+pub good_enter_remove : (plan : Plan) (w : World) (l : PutLists) (a : ℕ) (p : Body) (k : ℕ) (y : Name) → Lawful plan → Good plan w l → slice_get w.parts a ≡ Some (hand p Idle) → plan.keys.unpack k ≡ Some y
     → live_at y.generation (w.words.state_at y.page y.slot) ≡ true → Good plan (apply w a (enter_remove plan (hand p Idle) k y)) l
 unfolding apply
 good_enter_remove plan w l a p k y laws g at name live =
@@ -57,7 +57,7 @@ finish_keys plan w log x g old is = keys_state plan w log log x (word_of (reused
     rw (fields_of-word_of (reused g) (omega arith)) (story_finish (record { generation = g; marked = true; present = true; count = 0 }) z.generation (values k log) (removals k log) (value_at w x.page x.slot) (value_at w x.page x.slot) (subst Q is s) refl refl))
 
 -- Finish that succeeds, of a slot of another's shard
-pub good_finish_hand : (plan : Plan) (w : World) (l : Lists) (a : ℕ) (p : Body) (x : Spot) (g : ℕ) → Good plan w l → slice_get w.parts a ≡ Some (hand p (Finishing x g)) → (w.words.state_at x.page x.slot == marked_word g) ≡ true → (g == plan.keys.gen_max) ≡ false → own plan p x.page ≡ false
+pub good_finish_hand : (plan : Plan) (w : World) (l : PutLists) (a : ℕ) (p : Body) (x : Spot) (g : ℕ) → Good plan w l → slice_get w.parts a ≡ Some (hand p (Finishing x g)) → (w.words.state_at x.page x.slot == marked_word g) ≡ true → (g == plan.keys.gen_max) ≡ false → own plan p x.page ≡ false
     → Good plan (apply w a (finish plan (hand p (Finishing x g)) x g)) l
 unfolding apply
 good_finish_hand plan w l a p x g good at is more other =
@@ -89,7 +89,7 @@ unfolding values
 none_released a k j = (refl, refl)
 
 -- a hold that stands has been got and not released
-pub released_permitted : (plan : Plan) (w : World) (l : Lists) (a : ℕ) (p : Body) (k : ℕ) → Good plan w l → slice_get w.parts a ≡ Some p → has (λ j. j == k) p.holds ≡ true → Permits plan w.log (Released a k)
+pub released_permitted : (plan : Plan) (w : World) (l : PutLists) (a : ℕ) (p : Body) (k : ℕ) → Good plan w l → slice_get w.parts a ≡ Some p → has (λ j. j == k) p.holds ≡ true → Permits plan w.log (Released a k)
 released_permitted plan w l a p k g at is =
     let h = g.holds a p at k in
     let t = total_without (λ j. if1 (j == k)) (λ j. j == k) 1 (λ j e. rw e refl) p.holds is in omega arith
@@ -109,7 +109,7 @@ fill_after : (w : Words) (p : Body) (b : Bool) (x : Spot) (g : ℕ) → FillFine
 fill_after w p true x g = tt
 fill_after w p false x g = tt
 
-pub good_drop_key : (plan : Plan) (w : World) (l : Lists) (a : ℕ) (p : Body) (k : ℕ) (y : Name) → Good plan w l → slice_get w.parts a ≡ Some (hand p Idle) → plan.keys.unpack k ≡ Some y → has (λ j. j == k) p.holds ≡ true → Good plan (apply w a (drop_key (hand p Idle) k y)) l
+pub good_drop_key : (plan : Plan) (w : World) (l : PutLists) (a : ℕ) (p : Body) (k : ℕ) (y : Name) → Good plan w l → slice_get w.parts a ≡ Some (hand p Idle) → plan.keys.unpack k ≡ Some y → has (λ j. j == k) p.holds ≡ true → Good plan (apply w a (drop_key (hand p Idle) k y)) l
 unfolding apply
 good_drop_key plan w l a p k y g at name is =
     let x : Spot = spot_of y in

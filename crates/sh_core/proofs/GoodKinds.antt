@@ -12,7 +12,7 @@ use Rattle.sh_step.specs.Plans.{Plan, Lawful}
 use Rattle.sh_slots.specs.Slots.{same_spot, spot_of, live_at, marked_word}
 use Rattle.sh_step.specs.Collections.{total, if1}
 use Rattle.sh_step.specs.declared.body.Body.{Body}
-use Rattle.sh_core.specs.Lists.{Lists, times, mine_at, pushed, taken}
+use Rattle.sh_core.specs.Lists.{PutLists, times, mine_at, pushed, taken}
 use Rattle.sh_core.specs.Stacks.{spot}
 use Rattle.sh_history.specs.declared.entry.Entry.TheVariants.{Gone, Crowded}
 use Rattle.sh_step.specs.Rows.{hand, own, finish, enter_get, enter_remove}
@@ -40,7 +40,7 @@ abbrev pub with : World → Words → ℕ → Body → World
 with w W a p' = record { words = W; parts = set w.parts a p'; log = w.log }
 
 -- a step that changes nothing of slots and keys
-pub good_quiet : (plan : Plan) (w : World) (l l' : Lists) (a : ℕ) (p p' : Body) (h pl : ℕ → ℕ) (li : ℕ → ℕ → ℕ) (ow be : ℕ → ℕ) → Good plan w l → slice_get w.parts a ≡ Some p
+pub good_quiet : (plan : Plan) (w : World) (l l' : PutLists) (a : ℕ) (p p' : Body) (h pl : ℕ → ℕ) (li : ℕ → ℕ → ℕ) (ow be : ℕ → ℕ) → Good plan w l → slice_get w.parts a ≡ Some p
     → ((y : Spot) (st : Fields) → due plan y st p' ≡ due plan y st p) → ((y : Spot) → queued l' y ≡ queued l y) → p'.holds ≡ p.holds → FillFine w.words p' p'.hand
     → Good plan (with w (beside w.words h pl li ow be) a p') l'
 unfolding value_at
@@ -49,7 +49,7 @@ good_quiet plan w l l' a p p' h pl li ow be g at same lists holds fill =
     (λ y. rw (lists y, tally_same plan y (fields_of (w.words.state_at y.page y.slot)) w.parts a p p' at (same y (fields_of (w.words.state_at y.page y.slot)))) (g.slots y))
     g.keys tt (λ k. ap (times k) holds) (rw holds (g.parts a p at).0, fill) (λ b q _ _ x. x)
 
-pub queued_push : (l : Lists) (x y : Spot) → queued (pushed l x) y ≡ queued l y + if1 (same_spot y x)
+pub queued_push : (l : PutLists) (x y : Spot) → queued (pushed l x) y ≡ queued l y + if1 (same_spot y x)
 unfolding total
 queued_push l x y = go (y.page == x.page) refl where
   go : (b : Bool) → (y.page == x.page) ≡ b → queued (pushed l x) y ≡ queued l y + if1 (b && (y.slot == x.slot))
@@ -64,7 +64,7 @@ abbrev pub tied : Body → Spot → ℕ → Bool → Body
 tied p x n r = hand p (Tying x n r)
 
 -- Put: what was in the hand, or mine, is queued. u is what the pass gave up of a slot
-pub good_put : (plan : Plan) (w : World) (l : Lists) (a : ℕ) (p p' : Body) (x : Spot) (n : ℕ) (r : Bool) (h : ℕ → ℕ) → Good plan w l → slice_get w.parts a ≡ Some p → p'.holds ≡ p.holds
+pub good_put : (plan : Plan) (w : World) (l : PutLists) (a : ℕ) (p p' : Body) (x : Spot) (n : ℕ) (r : Bool) (h : ℕ → ℕ) → Good plan w l → slice_get w.parts a ≡ Some p → p'.holds ≡ p.holds
     → ((y : Spot) (st : Fields) → (due plan y st p).mine + (due plan y st p).hand ≡ (due plan y st (tied p' x n r)).mine + if1 (same_spot y x))
     → ((y : Spot) (st : Fields) → (held plan y p ≡ held plan y p') × (visits plan y p ≡ 0) × (lost plan y st p ≡ lost plan y st (tied p' x n r)) × (finishing y st.generation p ≡ 0))
     → Good plan (with w (beside w.words h w.words.page_link_at w.words.link_at w.words.owner_at w.words.bell_at) a (tied p' x n r)) (pushed l x)
@@ -85,7 +85,7 @@ good_put plan w l a p p' x n r h g at holds moves rest = good_at plan w l (pushe
     g.keys tt (λ k. ap (times k) holds) (rw holds (g.parts a p at).0, tt) (λ b q _ _ x. x)
 
 -- Take and Arm: the stack becomes the empty chain
-pub queued_taken : (l : Lists) (q : ℕ) → l.chain q ≡ [] → (y : Spot) → queued (taken l q) y ≡ queued l y
+pub queued_taken : (l : PutLists) (q : ℕ) → l.chain q ≡ [] → (y : Spot) → queued (taken l q) y ≡ queued l y
 queued_taken l q none y = go (y.page == q) refl where
   go : (b : Bool) → (y.page == q) ≡ b → queued (taken l q) y ≡ queued l y
   go true e =
@@ -94,7 +94,7 @@ queued_taken l q none y = go (y.page == q) refl where
   go false e = rw (put_other l.stack q y.page [] e, put_other l.chain q y.page (l.stack q) e) refl
 
 -- Follow: what was queued is mine
-pub good_follow : (plan : Plan) (w : World) (l : Lists) (a : ℕ) (p p' : Body) (q s : ℕ) (li : ℕ → ℕ → ℕ) → Good plan w l → slice_get w.parts a ≡ Some p → l.chain q ≡ s ∷ drop 1 (l.chain q)
+pub good_follow : (plan : Plan) (w : World) (l : PutLists) (a : ℕ) (p p' : Body) (q s : ℕ) (li : ℕ → ℕ → ℕ) → Good plan w l → slice_get w.parts a ≡ Some p → l.chain q ≡ s ∷ drop 1 (l.chain q)
     → ((y : Spot) (st : Fields) → due plan y st p' ≡ record (due plan y st p) { mine = if1 (same_spot y (spot q s)) + mine_at y p }) → p'.holds ≡ p.holds → FillFine w.words p' p'.hand
     → Good plan (with w (beside w.words w.words.head_at w.words.page_link_at li w.words.owner_at w.words.bell_at) a p') (record l { chain = put l.chain q (drop 1 (l.chain q)) })
 unfolding value_at
@@ -113,7 +113,7 @@ good_follow plan w l a p p' q s li g at is moves holds fill = good_at plan w l L
     let k = one_less y in
     record { kinds = omega arith; counts = omega arith; none_lost = omega arith; owed = λ b c d. let o = f.owed b c d in omega arith })
     g.keys tt (λ k. ap (times k) holds) (rw holds (g.parts a p at).0, fill) (λ b q _ _ x. x) where
-      L : Lists
+      L : PutLists
       L = record l { chain = put l.chain q (drop 1 (l.chain q)) }
 
       one_less : (y : Spot) → queued L y + if1 (same_spot y (spot q s)) ≡ queued l y
@@ -127,7 +127,7 @@ good_follow plan w l a p p' q s li g at is moves holds fill = good_at plan w l L
         go false e = rw (put_other l.chain q y.page (drop 1 (l.chain q)) e) (omega arith)
 
 -- Finish that fails
-pub good_finish_fail : (plan : Plan) (w : World) (l : Lists) (a : ℕ) (p : Body) (x : Spot) (g : ℕ) → Good plan w l → slice_get w.parts a ≡ Some (hand p (Finishing x g)) → (w.words.state_at x.page x.slot == marked_word g) ≡ false → Good plan (apply w a (finish plan (hand p (Finishing x g)) x g)) l
+pub good_finish_fail : (plan : Plan) (w : World) (l : PutLists) (a : ℕ) (p : Body) (x : Spot) (g : ℕ) → Good plan w l → slice_get w.parts a ≡ Some (hand p (Finishing x g)) → (w.words.state_at x.page x.slot == marked_word g) ≡ false → Good plan (apply w a (finish plan (hand p (Finishing x g)) x g)) l
 unfolding apply
 good_finish_fail plan w l a p x g good at fails =
     rw fails (good_at plan w l l a (hand p (Finishing x g)) (hand p Idle) (write w.words (State x.page x.slot) n) None good at
@@ -160,7 +160,7 @@ good_finish_fail plan w l a p x g good at fails =
 abbrev pub retired : ℕ → Fields
 retired g = record { generation = g; marked = true; present = false; count = 0 }
 
-module _ (plan : Plan) (w : World) (l : Lists) (a : ℕ) (p : Body) (x : Spot) (g : ℕ) (good : Good plan w l) (at : slice_get w.parts a ≡ Some (hand p (Finishing x g))) (is : (w.words.state_at x.page x.slot == marked_word g) ≡ true) where
+module _ (plan : Plan) (w : World) (l : PutLists) (a : ℕ) (p : Body) (x : Spot) (g : ℕ) (good : Good plan w l) (at : slice_get w.parts a ≡ Some (hand p (Finishing x g))) (is : (w.words.state_at x.page x.slot == marked_word g) ≡ true) where
   abbrev st0 : Fields
   st0 = record { generation = g; marked = true; present = true; count = 0 }
 
@@ -208,7 +208,7 @@ unfolding values
 none_crowded a k j = (refl, refl)
 
 -- Enter of a remove that meets no live value of its key
-pub good_remove_gone : (plan : Plan) (w : World) (l : Lists) (a : ℕ) (p : Body) (k : ℕ) (y : Name) → Lawful plan → Good plan w l → slice_get w.parts a ≡ Some (hand p Idle) → plan.keys.unpack k ≡ Some y
+pub good_remove_gone : (plan : Plan) (w : World) (l : PutLists) (a : ℕ) (p : Body) (k : ℕ) (y : Name) → Lawful plan → Good plan w l → slice_get w.parts a ≡ Some (hand p Idle) → plan.keys.unpack k ≡ Some y
     → live_at y.generation (w.words.state_at y.page y.slot) ≡ false → Good plan (apply w a (enter_remove plan (hand p Idle) k y)) l
 unfolding apply
 good_remove_gone plan w l a p k y laws g at name dead =
@@ -220,7 +220,7 @@ good_remove_gone plan w l a p k y laws g at name dead =
     (keys_quiet plan w.words w.log (Gone a k) (spot_of y) (n + 1) g.keys (none_gone a k) (ap (λ (t : Fields). t.generation) add) (ap (λ (t : Fields). t.marked) add) (ap (λ (t : Fields). t.present) add))
     (gone_permitted plan w.log a k y n (value_at w.words y.page y.slot) (g.keys k y name) dead) (refl, λ j. refl) ((g.parts a (hand p Idle) at).0, tt) (λ b q _ _ h. h))
 
-pub good_crowded : (plan : Plan) (w : World) (l : Lists) (a : ℕ) (p : Body) (k : ℕ) (y : Name) → Lawful plan → Good plan w l → slice_get w.parts a ≡ Some (hand p Idle) → plan.keys.unpack k ≡ Some y
+pub good_crowded : (plan : Plan) (w : World) (l : PutLists) (a : ℕ) (p : Body) (k : ℕ) (y : Name) → Lawful plan → Good plan w l → slice_get w.parts a ≡ Some (hand p Idle) → plan.keys.unpack k ≡ Some y
     → live_at y.generation (w.words.state_at y.page y.slot) ≡ true → nat_lt (fields_of (w.words.state_at y.page y.slot)).count plan.keys.guard_max ≡ false → Good plan (apply w a (enter_get plan (hand p Idle) k y)) l
 unfolding apply
 good_crowded plan w l a p k y laws g at name live over =

@@ -9,7 +9,7 @@ use Rattle.sh_step.specs.Plans.{Plan}
 use Rattle.sh_step.specs.Collections.{total}
 use Rattle.sh_step.specs.declared.body.Body.{Body}
 use Rattle.sh_core.specs.Worlds.{World, joined}
-use Rattle.sh_core.specs.Lists.{Lists, times}
+use Rattle.sh_core.specs.Lists.{PutLists, times}
 use Rattle.sh_core.specs.Tallies.{SlotsFine}
 use Rattle.sh_core.specs.Stories.{got_in, released_in, got_by, released_by, KeysFine, HoldsFine, AllHoldsFine}
 use Rattle.sh_history.specs.History.{Legal}
@@ -62,7 +62,7 @@ paid_all ps log a p p' (Some e) old at paid k =
     omega (arith, total_append (got_in k) log (e ∷ []), total_append (released_in k) log (e ∷ []))
 
 -- One pass steps: what is owed of slots, keys, the entry, the holds and the part's own hand
-pub good_at : (plan : Plan) (w : World) (l l' : Lists) (a : ℕ) (p p' : Body) (W : Words) (e : Option Entry) → Good plan w l → slice_get w.parts a ≡ Some p
+pub good_at : (plan : Plan) (w : World) (l l' : PutLists) (a : ℕ) (p p' : Body) (W : Words) (e : Option Entry) → Good plan w l → slice_get w.parts a ≡ Some p
     → SlotsFine plan W (set w.parts a p') l' → KeysFine plan W (joined w.log e) → PermitsNext plan w.log e → Paid a p p' e
     → (length p'.holds ≤ 16) × FillFine W p' p'.hand
     → ((b : ℕ) (q : Body) → b ≢ a → slice_get w.parts b ≡ Some q → FillFine w.words q q.hand → FillFine W q q.hand)

@@ -9,7 +9,7 @@ use Rattle.sh_shape.specs.Classes.{width, slots}
 use Rattle.sh_shape.proofs.ClassLaws.{slot_words_fit_page}
 use Rattle.sh_slots.specs.Slots.{spot_of}
 use Rattle.sh_step.specs.Collections.{if1}
-use Rattle.sh_core.specs.Lists.{Lists}
+use Rattle.sh_core.specs.Lists.{PutLists}
 use Rattle.sh_core.specs.Placed.{All}
 use Rattle.sh_core.specs.Worlds.{World, value_at}
 use Rattle.sh_core.specs.Tallies.{room}
@@ -26,7 +26,7 @@ has_room w x h = go (nat_lt 0 (w.class_at x.page)) (nat_lt x.slot (slots (w.clas
   go true false e f = absurd (let z : room w x ≡ 0 = rw (e, f) refl in omega arith)
   go false c e f = absurd (let z : room w x ≡ 0 = rw e refl in omega arith)
 
-module _ (plan : Plan) (w : World) (l : Lists) (all : All plan w l) (know : AllKnow plan w) where
+module _ (plan : Plan) (w : World) (l : PutLists) (all : All plan w l) (know : AllKnow plan w) where
   pub held : HeldStands plan w
   held a p k at some =
       let n = (know a p at).named k some in

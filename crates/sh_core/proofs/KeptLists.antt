@@ -6,14 +6,14 @@ use Rattle.sh_slots.specs.declared.hand.Hand.TheVariants.{Idle, ToPut, Tying, Ri
 use Rattle.sh_core.specs.Words.{Words, write, put, put2}
 use Rattle.sh_shape.specs.declared.places.Place.TheVariants.{Class, Head, PageLink, State, Link, Length, Payload, Owner, Bell}
 use Rattle.sh_word.specs.Fields.{Fields}
-use Rattle.sh_step.specs.Plans.{Plan, all_pages, home, over_heap, local}
+use Rattle.sh_step.specs.Plans.{Plan, heap_pages, home, over_heap, local}
 use Rattle.sh_shape.specs.Classes.{width}
 use Rattle.sh_slots.specs.Slots.{same_spot}
 use Rattle.sh_step.specs.Collections.{total, if1, has, without, noted, off}
 use Rattle.sh_step.specs.declared.body.Body.{Body}
-use Rattle.sh_core.specs.Lists.{Lists, times, mine_at, in_hand, pushed, taken, bells_taken}
+use Rattle.sh_core.specs.Lists.{PutLists, times, mine_at, in_hand, pushed, taken, bells_taken}
 use Rattle.sh_core.specs.Stacks.{spot}
-use Rattle.sh_step.specs.Plans.{Plan, all_pages, home}
+use Rattle.sh_step.specs.Plans.{Plan, heap_pages, home}
 use Rattle.sh_core.specs.Stacks.{bell_head}
 use Rattle.sh_core.specs.Bells.{rings}
 use Rattle.sh_core.specs.Placed.{HomedPart, RestOf, All}
@@ -60,7 +60,7 @@ write_same w (Owner n) = ap (λ (f : ℕ → ℕ). record w { owner_at = f }) (p
 write_same w (Bell n) = ap (λ (f : ℕ → ℕ). record w { bell_at = f }) (put_id w.bell_at n)
 
 -- a step that writes nothing new, of an idle pass
-pub kept_load : (plan : Plan) (w : World) (l : Lists) (a : ℕ) (p p' : Body) (pl : Place) (n : ℕ) → All plan w l → slice_get w.parts a ≡ Some p → read w.words pl ≡ n → ((y : Spot) (st : Fields) → due plan y st p' ≡ due plan y st p) → p'.holds ≡ p.holds → FillFine w.words p' p'.hand → RestOf plan w.words (set w.parts a p') l
+pub kept_load : (plan : Plan) (w : World) (l : PutLists) (a : ℕ) (p p' : Body) (pl : Place) (n : ℕ) → All plan w l → slice_get w.parts a ≡ Some p → read w.words pl ≡ n → ((y : Spot) (st : Fields) → due plan y st p' ≡ due plan y st p) → p'.holds ≡ p.holds → FillFine w.words p' p'.hand → RestOf plan w.words (set w.parts a p') l
     → All plan (with w (write w.words pl n) a p') l
 kept_load plan w l a p p' pl n old at is same holds fill rest =
     let P : Words → Type 0 = λ W. All plan (with w W a p') l in
@@ -70,7 +70,7 @@ kept_load plan w l a p p' pl n old at is same holds fill rest =
       sound = old.sound;
     })
 
-module _ (plan : Plan) (w : World) (l : Lists) (a : ℕ) (p : Body) (old : All plan w l) (at : slice_get w.parts a ≡ Some (hand p Idle)) where
+module _ (plan : Plan) (w : World) (l : PutLists) (a : ℕ) (p : Body) (old : All plan w l) (at : slice_get w.parts a ≡ Some (hand p Idle)) where
   abbrev h : Body
   h = hand p Idle
 
@@ -92,7 +92,7 @@ module _ (plan : Plan) (w : World) (l : Lists) (a : ℕ) (p : Body) (old : All p
   unfolding apply
   kept_read_word k y c i = kept_load plan w l a h (record h { contents = (k, i, w.words.payload_at y.page (y.slot * width (c - 1) + i)) ∷ p.contents }) (Payload y.page (y.slot * width (c - 1) + i)) (w.words.payload_at y.page (y.slot * width (c - 1) + i)) old at refl (λ y st. refl) refl tt (plain _ refl homed)
 
-  pub kept_read_page : (q : ℕ) → q < all_pages plan → All plan (apply w a (read_page h q)) l
+  pub kept_read_page : (q : ℕ) → q < heap_pages plan → All plan (apply w a (read_page h q)) l
   unfolding apply
   kept_read_page q small = kept_load plan w l a h (record h { classes = (q, w.words.class_at q) ∷ p.classes }) (Class q) (w.words.class_at q) old at refl (λ y st. refl) refl tt (read_page_rest plan w.words w.parts l a h q old.rest at small)
 
@@ -266,7 +266,7 @@ module _ (plan : Plan) (w : World) (l : Lists) (a : ℕ) (p : Body) (old : All p
       sound = old.sound;
     }
 
-pub kept_put : (plan : Plan) (w : World) (l : Lists) (a : ℕ) (p : Body) (x : Spot) → All plan w l → slice_get w.parts a ≡ Some (hand p (ToPut x)) → All plan (apply w a (put_at (hand p (ToPut x)) x)) (pushed l x)
+pub kept_put : (plan : Plan) (w : World) (l : PutLists) (a : ℕ) (p : Body) (x : Spot) → All plan w l → slice_get w.parts a ≡ Some (hand p (ToPut x)) → All plan (apply w a (put_at (hand p (ToPut x)) x)) (pushed l x)
 unfolding apply
 kept_put plan w l a p x old at = record {
   good = good_put plan w l a (hand p (ToPut x)) p x (w.words.head_at x.page / 2 + 1) (w.words.head_at x.page % 2 == 1) (put w.words.head_at x.page ((x.slot + 1) * 2)) old.good at refl (λ y st. refl) (λ y st. (refl, refl, refl, refl));
@@ -285,7 +285,7 @@ kept_put plan w l a p x old at = record {
       let one : if1 (same_spot x x) ≡ 1 = rw e refl in
       let t = total_at (in_hand x) w.parts a (hand p (ToPut x)) at in omega arith
 
-pub kept_tie : (plan : Plan) (w : World) (l : Lists) (a : ℕ) (p : Body) (x : Spot) (n : ℕ) (r : Bool) → All plan w l → slice_get w.parts a ≡ Some (hand p (Tying x n r)) → All plan (apply w a (tie (hand p (Tying x n r)) x n r)) l
+pub kept_tie : (plan : Plan) (w : World) (l : PutLists) (a : ℕ) (p : Body) (x : Spot) (n : ℕ) (r : Bool) → All plan w l → slice_get w.parts a ≡ Some (hand p (Tying x n r)) → All plan (apply w a (tie (hand p (Tying x n r)) x n r)) l
 unfolding apply
 kept_tie plan w l a p x n r old at = record {
   good = good_quiet plan w l l a (hand p (Tying x n r)) (hand p (cond r (Ringing x.page) Idle)) w.words.head_at w.words.page_link_at (put2 w.words.link_at x.page x.slot n) w.words.owner_at w.words.bell_at old.good at (λ y st. same r y st) (λ y. refl) refl (fill r);
@@ -300,7 +300,7 @@ kept_tie plan w l a p x n r old at = record {
   fill true = tt
   fill false = tt
 
-pub kept_ring : (plan : Plan) (w : World) (l : Lists) (a : ℕ) (p : Body) (q : ℕ) → All plan w l → slice_get w.parts a ≡ Some (hand p (Ringing q)) → All plan (apply w a (ring plan (hand p (Ringing q)) q)) (record l { bells = put l.bells (home plan q) (q ∷ l.bells (home plan q)) })
+pub kept_ring : (plan : Plan) (w : World) (l : PutLists) (a : ℕ) (p : Body) (q : ℕ) → All plan w l → slice_get w.parts a ≡ Some (hand p (Ringing q)) → All plan (apply w a (ring plan (hand p (Ringing q)) q)) (record l { bells = put l.bells (home plan q) (q ∷ l.bells (home plan q)) })
 unfolding apply
 kept_ring plan w l a p q old at = record {
   good = good_quiet plan w l (record l { bells = put l.bells (home plan q) (q ∷ l.bells (home plan q)) }) a (hand p (Ringing q)) (hand p (RingTying q (w.words.bell_at (home plan q) + 1))) w.words.head_at w.words.page_link_at w.words.link_at w.words.owner_at (put w.words.bell_at (home plan q) (local plan q + 1)) old.good at (λ y st. refl) (λ y. refl) refl tt;
@@ -308,7 +308,7 @@ kept_ring plan w l a p q old at = record {
   sound = old.sound;
 }
 
-pub kept_ring_tie : (plan : Plan) (w : World) (l : Lists) (a : ℕ) (p : Body) (q n : ℕ) → All plan w l → slice_get w.parts a ≡ Some (hand p (RingTying q n)) → All plan (apply w a (ring_tie (hand p (RingTying q n)) q n)) l
+pub kept_ring_tie : (plan : Plan) (w : World) (l : PutLists) (a : ℕ) (p : Body) (q n : ℕ) → All plan w l → slice_get w.parts a ≡ Some (hand p (RingTying q n)) → All plan (apply w a (ring_tie (hand p (RingTying q n)) q n)) l
 unfolding apply
 kept_ring_tie plan w l a p q n old at = record {
   good = good_quiet plan w l l a (hand p (RingTying q n)) (hand p Idle) w.words.head_at (put w.words.page_link_at q n) w.words.link_at w.words.owner_at w.words.bell_at old.good at (λ y st. refl) (λ y. refl) refl tt;

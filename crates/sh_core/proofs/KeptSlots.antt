@@ -9,19 +9,19 @@ use Rattle.sh_slots.specs.declared.hand.Hand.TheVariants.{Idle, Removing, Leavin
 use Rattle.sh_core.specs.Words.{Words, write}
 use Rattle.sh_shape.specs.declared.places.Place.TheVariants.{State}
 use Rattle.sh_word.specs.Fields.{Fields, fields_of, word_of}
-use Rattle.sh_step.specs.Plans.{Plan, all_pages, Lawful}
+use Rattle.sh_step.specs.Plans.{Plan, heap_pages, Lawful}
 use Rattle.sh_shape.specs.Classes.{width, slots}
 use Rattle.sh_shape.proofs.ClassLaws.{slots_few}
-use Rattle.sh_slots.specs.Slots.{same_spot, spot_of, name_of, live_at, marked_word}
+use Rattle.sh_slots.specs.Slots.{same_spot, spot_of, name_at, live_at, marked_word}
 use Rattle.sh_step.specs.Collections.{total, if1, has, without, noted}
 use Rattle.sh_step.specs.declared.body.Body.{Body}
-use Rattle.sh_core.specs.Lists.{Lists, mine_at, in_hand}
+use Rattle.sh_core.specs.Lists.{PutLists, mine_at, in_hand}
 use Rattle.sh_core.specs.Placed.{SoundOf, HomedPart, All}
-use Rattle.sh_step.specs.Plans.{Plan, all_pages, Lawful}
+use Rattle.sh_step.specs.Plans.{Plan, heap_pages, Lawful}
 use Rattle.sh_step.specs.Operations.{operate}
 use Rattle.sh_step.specs.declared.operation.Operation.{Operation}
 use Rattle.sh_slots.specs.declared.reply.Reply.{Reply}
-use Rattle.sh_step.specs.Rows.{Row, hand, own, freed, class_of, enter_get, enter_remove, mark, drop_hand, drop_key, finish, fill_slot, fill, publish}
+use Rattle.sh_step.specs.Rows.{Row, hand, own, freed, class_word_noted, enter_get, enter_remove, mark, drop_hand, drop_key, finish, fill_slot, fill, publish}
 use Rattle.sh_core.specs.Worlds.{World, apply}
 use Rattle.sh_core.specs.Tallies.{held, room, at_spot}
 use Rattle.sh_core.specs.Good.{Good}
@@ -54,7 +54,7 @@ plain_hand plan class p q true h k x y = x
 plain_hand plan class p q false h k x y = y
 
 -- a step on a state word by a part that shows the same
-pub all_state : (plan : Plan) (w : World) (l : Lists) (a : ℕ) (p : Body) (x : Spot) (operation : Operation) (part : ℕ → Body) (reply : ℕ → Option Reply) → All plan w l → slice_get w.parts a ≡ Some p
+pub all_state : (plan : Plan) (w : World) (l : PutLists) (a : ℕ) (p : Body) (x : Spot) (operation : Operation) (part : ℕ → Body) (reply : ℕ → Option Reply) → All plan w l → slice_get w.parts a ≡ Some p
     → (let m : Row = record { place = State x.page x.slot; operation = operation; part = part; reply = reply } in Good plan (apply w a m) l) → Plain plan w.words.class_at p (part (w.words.state_at x.page x.slot)) → SoundOf plan (write w.words (State x.page x.slot) (operate operation (w.words.state_at x.page x.slot)))
     → All plan (apply w a (record { place = State x.page x.slot; operation = operation; part = part; reply = reply })) l
 unfolding apply
@@ -68,7 +68,7 @@ all_state plan w l a p x operation part reply old at good plain sound = record {
 still : (plan : Plan) (w : Words) (x : Spot) (n : ℕ) (c : ℕ) → SoundOf plan w → fields_of n ≡ record (fields_of (w.state_at x.page x.slot)) { count = c } → SoundOf plan (write w (State x.page x.slot) n)
 still plan w x n c old e = sound_still plan w x n old (ap (λ (t : Fields). t.generation) e) (ap (λ (t : Fields). t.marked) e) (ap (λ (t : Fields). t.present) e)
 
-pub kept_enter_get : (plan : Plan) (w : World) (l : Lists) (a : ℕ) (p : Body) (k : ℕ) (y : Name) → Lawful plan → All plan w l → slice_get w.parts a ≡ Some (hand p Idle) → plan.keys.unpack k ≡ Some y → length p.holds < 16 → All plan (apply w a (enter_get plan (hand p Idle) k y)) l
+pub kept_enter_get : (plan : Plan) (w : World) (l : PutLists) (a : ℕ) (p : Body) (k : ℕ) (y : Name) → Lawful plan → All plan w l → slice_get w.parts a ≡ Some (hand p Idle) → plan.keys.unpack k ≡ Some y → length p.holds < 16 → All plan (apply w a (enter_get plan (hand p Idle) k y)) l
 kept_enter_get plan w l a p k y laws old at name fewer =
     let h = old.rest.homed a (hand p Idle) at in
     all_state plan w l a (hand p Idle) (spot_of y) _ _ _ old at (good (live_at y.generation n) (nat_lt (fields_of n).count plan.keys.guard_max) refl refl)
@@ -82,7 +82,7 @@ kept_enter_get plan w l a p k y laws old at name fewer =
       good true true e f = good_got plan w l a p k y laws old.good at name fewer e f
       good true false e f = good_crowded plan w l a p k y laws old.good at name e f
 
-pub kept_enter_remove : (plan : Plan) (w : World) (l : Lists) (a : ℕ) (p : Body) (k : ℕ) (y : Name) → Lawful plan → All plan w l → slice_get w.parts a ≡ Some (hand p Idle) → plan.keys.unpack k ≡ Some y → All plan (apply w a (enter_remove plan (hand p Idle) k y)) l
+pub kept_enter_remove : (plan : Plan) (w : World) (l : PutLists) (a : ℕ) (p : Body) (k : ℕ) (y : Name) → Lawful plan → All plan w l → slice_get w.parts a ≡ Some (hand p Idle) → plan.keys.unpack k ≡ Some y → All plan (apply w a (enter_remove plan (hand p Idle) k y)) l
 kept_enter_remove plan w l a p k y laws old at name =
     let h = old.rest.homed a (hand p Idle) at in
     all_state plan w l a (hand p Idle) (spot_of y) _ _ _ old at (good (live_at y.generation n) refl)
@@ -95,14 +95,14 @@ kept_enter_remove plan w l a p k y laws old at name =
       good false e = good_remove_gone plan w l a p k y laws old.good at name e
       good true e = good_enter_remove plan w l a p k y laws old.good at name e
 
-pub kept_mark : (plan : Plan) (w : World) (l : Lists) (a : ℕ) (p : Body) (k : ℕ) (y : Name) → Lawful plan → All plan w l → slice_get w.parts a ≡ Some (hand p (Removing k)) → plan.keys.unpack k ≡ Some y → All plan (apply w a (mark (hand p (Removing k)) k y)) l
+pub kept_mark : (plan : Plan) (w : World) (l : PutLists) (a : ℕ) (p : Body) (k : ℕ) (y : Name) → Lawful plan → All plan w l → slice_get w.parts a ≡ Some (hand p (Removing k)) → plan.keys.unpack k ≡ Some y → All plan (apply w a (mark (hand p (Removing k)) k y)) l
 kept_mark plan w l a p k y laws old at name =
     let n : ℕ = w.words.state_at y.page y.slot in
     let c = is_current _ _ (fields_of n) plan w.parts a p k y name at (old.good.slots (spot_of y)) in
     all_state plan w l a (hand p (Removing k)) (spot_of y) _ _ _ old at (good_mark plan w l a p k y laws old.good at name) (refl, old.rest.homed a (hand p (Removing k)) at)
     (sound_state plan w.words (spot_of y) (bit_or n (2 ^ 31)) old.sound (let g = old.sound.generations y.page y.slot in rw (fields_of-or_mark n) g) (λ _. old.sound.lengths y.page y.slot (rw c.0 refl)))
 
-pub kept_drop_hand : (plan : Plan) (w : World) (l : Lists) (a : ℕ) (p : Body) (x : Spot) → All plan w l → slice_get w.parts a ≡ Some (hand p (Leaving x)) → All plan (apply w a (drop_hand (hand p (Leaving x)) x)) l
+pub kept_drop_hand : (plan : Plan) (w : World) (l : PutLists) (a : ℕ) (p : Body) (x : Spot) → All plan w l → slice_get w.parts a ≡ Some (hand p (Leaving x)) → All plan (apply w a (drop_hand (hand p (Leaving x)) x)) l
 kept_drop_hand plan w l a p x old at =
     let n : ℕ = w.words.state_at x.page x.slot in
     let h = old.rest.homed a (hand p (Leaving x)) at in
@@ -113,7 +113,7 @@ kept_drop_hand plan w l a p x old at =
     (plain_hand plan w.words.class_at (hand p (Leaving x)) p ((fields_of n).present && (fields_of n).marked && ((fields_of n).count == 1)) (Finishing x (fields_of n).generation) Idle (refl, h) (refl, h))
     (still plan w.words x (n - 1) _ old.sound (fields_of-sub n some))
 
-pub kept_drop_key : (plan : Plan) (w : World) (l : Lists) (a : ℕ) (p : Body) (k : ℕ) (y : Name) → All plan w l → slice_get w.parts a ≡ Some (hand p Idle) → plan.keys.unpack k ≡ Some y → has (λ j. j == k) p.holds ≡ true → All plan (apply w a (drop_key (hand p Idle) k y)) l
+pub kept_drop_key : (plan : Plan) (w : World) (l : PutLists) (a : ℕ) (p : Body) (k : ℕ) (y : Name) → All plan w l → slice_get w.parts a ≡ Some (hand p Idle) → plan.keys.unpack k ≡ Some y → has (λ j. j == k) p.holds ≡ true → All plan (apply w a (drop_key (hand p Idle) k y)) l
 kept_drop_key plan w l a p k y old at name is =
     let n : ℕ = w.words.state_at y.page y.slot in
     let x : Spot = spot_of y in
@@ -141,7 +141,7 @@ finish_next plan g n = cond (n == marked_word g)
     (cond (g == plan.keys.gen_max) (word_of (record { generation = g; marked = true; present = false; count = 0 })) (word_of (record { generation = g + 1; marked = false; present = false; count = 0 })))
     n
 
-pub kept_finish : (plan : Plan) (w : World) (l : Lists) (a : ℕ) (p : Body) (x : Spot) (g : ℕ) → All plan w l → slice_get w.parts a ≡ Some (hand p (Finishing x g)) → All plan (apply w a (finish plan (hand p (Finishing x g)) x g)) l
+pub kept_finish : (plan : Plan) (w : World) (l : PutLists) (a : ℕ) (p : Body) (x : Spot) (g : ℕ) → All plan w l → slice_get w.parts a ≡ Some (hand p (Finishing x g)) → All plan (apply w a (finish plan (hand p (Finishing x g)) x g)) l
 kept_finish plan w l a p x g old at = go (n == marked_word g) (g == plan.keys.gen_max) (own plan p x.page) refl refl refl where
   n : ℕ
   n = w.words.state_at x.page x.slot
@@ -186,9 +186,9 @@ kept_finish plan w l a p x g old at = go (n == marked_word g) (g == plan.keys.ge
         good false o = good_finish_hand plan w l a p x g old.good at e f o
 
 -- a slot that is somewhere is a place of the shape
-pub place_of : (plan : Plan) (w : Words) (x : Spot) → SoundOf plan w → 0 < room w x → (x.page < all_pages plan) × (x.slot < 48)
+pub place_of : (plan : Plan) (w : Words) (x : Spot) → SoundOf plan w → 0 < room w x → (x.page < heap_pages plan) × (x.slot < 48)
 place_of plan w x sound h = go (nat_lt 0 (w.class_at x.page)) (nat_lt x.slot (slots (w.class_at x.page - 1))) refl refl where
-  go : (b c : Bool) → nat_lt 0 (w.class_at x.page) ≡ b → nat_lt x.slot (slots (w.class_at x.page - 1)) ≡ c → (x.page < all_pages plan) × (x.slot < 48)
+  go : (b c : Bool) → nat_lt 0 (w.class_at x.page) ≡ b → nat_lt x.slot (slots (w.class_at x.page - 1)) ≡ c → (x.page < heap_pages plan) × (x.slot < 48)
   go false c e f = absurd (let z : room w x ≡ 0 = rw e refl in omega arith)
   go true false e f = absurd (let z : room w x ≡ 0 = rw (e, f) refl in omega arith)
   go true true e f =
@@ -198,7 +198,7 @@ place_of plan w x sound h = go (nat_lt 0 (w.class_at x.page)) (nat_lt x.slot (sl
       let b : x.slot < slots (w.class_at x.page - 1) = lt_of x.slot (slots (w.class_at x.page - 1)) f in
       let s = slots_few (w.class_at x.page - 1) in (k.1 a, omega arith)
 
-pub kept_publish : (plan : Plan) (w : World) (l : Lists) (a : ℕ) (p : Body) (x : Spot) (v : List ℕ) (i : ℕ) → Lawful plan → All plan w l → slice_get w.parts a ≡ Some (hand p (Filling x v i)) → length v ≤ i → All plan (apply w a (publish plan (hand p (Filling x v i)) x v)) l
+pub kept_publish : (plan : Plan) (w : World) (l : PutLists) (a : ℕ) (p : Body) (x : Spot) (v : List ℕ) (i : ℕ) → Lawful plan → All plan w l → slice_get w.parts a ≡ Some (hand p (Filling x v i)) → length v ≤ i → All plan (apply w a (publish plan (hand p (Filling x v i)) x v)) l
 kept_publish plan w l a p x v i laws old at all =
     let n : ℕ = w.words.state_at x.page x.slot in
     let f = old.good.slots x in
@@ -208,7 +208,7 @@ kept_publish plan w l a p x v i laws old at all =
     let g = old.sound.generations x.page x.slot in
     let s = place_of plan w.words x old.sound (omega arith) in
     let fill = (old.good.parts a (hand p (Filling x v i)) at).1 in
-    all_state plan w l a (hand p (Filling x v i)) x _ _ _ old at (good_publish plan w l a p x v i laws old.good at all (laws.names (name_of x (fields_of n).generation) g.0 g.1 s.0 s.1)) (refl, old.rest.homed a (hand p (Filling x v i)) at)
+    all_state plan w l a (hand p (Filling x v i)) x _ _ _ old at (good_publish plan w l a p x v i laws old.good at all (laws.names (name_at x (fields_of n).generation) g.0 g.1 s.0 s.1)) (refl, old.rest.homed a (hand p (Filling x v i)) at)
     (sound_state plan w.words x (bit_or n (2 ^ 30)) old.sound (rw (fields_of-or_present n) g) (λ _. rw fill.0 fill.2))
 
 noted_class : (o : Option ℕ) → 0 < (elim o as (λ _. ℕ) [ Some c ↦ c | None ↦ 0 ]) → o ≡ Some (elim o as (λ _. ℕ) [ Some c ↦ c | None ↦ 0 ])
@@ -216,10 +216,10 @@ noted_class (Some c) h = refl
 noted_class None h = absurd (omega arith)
 
 -- the class noted of an own page is the one that it has
-pub class_noted : (plan : Plan) (w : World) (l : Lists) (a : ℕ) (p : Body) (q : ℕ) → All plan w l → slice_get w.parts a ≡ Some p → own plan p q ≡ true → 0 < class_of p q → class_of p q ≡ w.words.class_at q
-class_noted plan w l a p q old at mine some = sym ((old.rest.homed a p at).notes q (class_of p q) mine (noted_class (noted q p.classes) some)).0
+pub class_noted : (plan : Plan) (w : World) (l : PutLists) (a : ℕ) (p : Body) (q : ℕ) → All plan w l → slice_get w.parts a ≡ Some p → own plan p q ≡ true → 0 < class_word_noted p q → class_word_noted p q ≡ w.words.class_at q
+class_noted plan w l a p q old at mine some = sym ((old.rest.homed a p at).notes q (class_word_noted p q) mine (noted_class (noted q p.classes) some)).0
 
-pub kept_fill_slot : (plan : Plan) (w : World) (l : Lists) (a : ℕ) (p : Body) (x : Spot) (v : List ℕ) → All plan w l → slice_get w.parts a ≡ Some (hand p Idle) → own plan p x.page ≡ true → has (same_spot x) p.mine ≡ true → 0 < class_of p x.page → length v ≤ width (class_of p x.page - 1) → All plan (apply w a (fill_slot (hand p Idle) x v)) l
+pub kept_fill_slot : (plan : Plan) (w : World) (l : PutLists) (a : ℕ) (p : Body) (x : Spot) (v : List ℕ) → All plan w l → slice_get w.parts a ≡ Some (hand p Idle) → own plan p x.page ≡ true → has (same_spot x) p.mine ≡ true → 0 < class_word_noted p x.page → length v ≤ width (class_word_noted p x.page - 1) → All plan (apply w a (fill_slot (hand p Idle) x v)) l
 unfolding apply
 kept_fill_slot plan w l a p x v old at mine is some fits =
     let c = class_noted plan w l a (hand p Idle) x.page old at mine some in
@@ -235,7 +235,7 @@ kept_fill_slot plan w l a p x v old at mine is some fits =
       sound = sound_length plan w.words x (length v) old.sound (no_or (fields_of (w.words.state_at x.page x.slot)).present (fields_of (w.words.state_at x.page x.slot)).marked (omega arith));
     }
 
-pub kept_fill : (plan : Plan) (w : World) (l : Lists) (a : ℕ) (p : Body) (x : Spot) (v : List ℕ) (i : ℕ) → All plan w l → slice_get w.parts a ≡ Some (hand p (Filling x v i)) → i < length v → All plan (apply w a (fill (hand p (Filling x v i)) x v i)) l
+pub kept_fill : (plan : Plan) (w : World) (l : PutLists) (a : ℕ) (p : Body) (x : Spot) (v : List ℕ) (i : ℕ) → All plan w l → slice_get w.parts a ≡ Some (hand p (Filling x v i)) → i < length v → All plan (apply w a (fill (hand p (Filling x v i)) x v i)) l
 unfolding apply
 kept_fill plan w l a p x v i old at less = record {
   good = good_fill plan w l a p x v i old.good old.sound at less;

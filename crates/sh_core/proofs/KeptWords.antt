@@ -9,7 +9,7 @@ use Rattle.sh_shape.specs.Shape.{Numbers}
 use Rattle.sh_shape.specs.Places.{IsPlace, number}
 use Rattle.sh_shape.proofs.PlaceLaws.{places_differ, places_are_words}
 use Rattle.sh_core.specs.Words.{Words, read, write}
-use Rattle.sh_core.specs.Kept.{Hold}
+use Rattle.sh_core.specs.Kept.{HoldsWords}
 use Rattle.sh_core.proofs.StateWords.{put2_same, put2_other}
 use Rattle.sh_core.proofs.StackSteps.{put_same, put_other}
 
@@ -43,7 +43,7 @@ read_other w (Bell q) (Bell k) v h = put_other w.bell_at q k v (one_apart k q (�
 read_other w _ _ v h = refl
 
 -- a write at a place's number is the write to the place
-pub hold_write : (shape : Numbers) (ws : List ℕ) (w : Words) (p : Place) (v : ℕ) → Hold shape ws w → IsPlace shape p → Hold shape (set ws (number shape p) v) (write w p v)
+pub hold_write : (shape : Numbers) (ws : List ℕ) (w : Words) (p : Place) (v : ℕ) → HoldsWords shape ws w → IsPlace shape p → HoldsWords shape (set ws (number shape p) v) (write w p v)
 hold_write shape ws w p v old within = record {
   count = length-set ws (number shape p) v ∙ old.count;
   at = λ p' within'.

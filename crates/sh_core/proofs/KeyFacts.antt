@@ -4,14 +4,14 @@ use Rattle.sh_history.specs.History.{is_removed}
 use Rattle.sh_slots.specs.Slots.{spot_of}
 use Rattle.sh_step.specs.Collections.{if1}
 use Rattle.sh_step.specs.Plans.{Plan}
-use Rattle.sh_core.specs.Lists.{Lists, state_of}
+use Rattle.sh_core.specs.Lists.{PutLists, state_of}
 use Rattle.sh_core.specs.Placed.{All}
 use Rattle.sh_core.specs.Refines.{KeysAreTold, HoldsAreTold, PastIsRemoved}
 use Rattle.sh_core.specs.Stories.{removals}
 use Rattle.sh_core.specs.Worlds.{World, value_at}
 use Rattle.sh_core.proofs.Permits.{value_none, value_one, value_some, removed_by, gots_are, releases_are, gots_by_are, releases_by_are}
 
-module _ (plan : Plan) (w : World) (l : Lists) (all : All plan w l) where
+module _ (plan : Plan) (w : World) (l : PutLists) (all : All plan w l) where
   -- how often a key was removed says whether it was
   removed_is : (k : ℕ) (b : Bool) → removals k w.log ≡ if1 b → is_removed w.log k ≡ b
   removed_is k true e = (removed_by k w.log).1 (omega arith)

@@ -17,8 +17,8 @@ use Rattle.sh_step.specs.Plans.{Plan, page_of}
 use Rattle.sh_step.specs.Rows.{Row, row, hand, own, freed}
 use Rattle.sh_word.specs.Fields.{fields_of}
 use Rattle.sh_core.specs.Words.{read}
-use Rattle.sh_core.specs.Worlds.{World, apply, step, open_world, value_at, words_from, joined, entry_of, value_of as value_there}
-use Rattle.sh_core.specs.Lists.{Lists, times}
+use Rattle.sh_core.specs.Worlds.{World, apply, step, open_world, value_at, words_from, joined, entry_of, value_at_place as value_there}
+use Rattle.sh_core.specs.Lists.{PutLists, times}
 use Rattle.sh_core.specs.Placed.{All}
 use Rattle.sh_core.specs.Knows.{AllKnow}
 use Rattle.sh_core.specs.Refines.{NotesAreTrue}
@@ -84,7 +84,7 @@ told_more : (log : List Entry) (o : Option Entry) (holds : List ℕ) (x : Note) 
 told_more log None holds x t = t
 told_more log (Some e) holds x t = (t.0, t.1, value_of-append_some log (e ∷ []) x.0 t.1 t.2, t.3, t.4)
 
-module _ (plan : Plan) (w : World) (l : Lists) (a : ℕ) (p : Body) (all : All plan w l) (know : AllKnow plan w) (old : ToldPart w.log p) (at : slice_get w.parts a ≡ Some p) where
+module _ (plan : Plan) (w : World) (l : PutLists) (a : ℕ) (p : Body) (all : All plan w l) (know : AllKnow plan w) (old : ToldPart w.log p) (at : slice_get w.parts a ≡ Some p) where
   abbrev Tells : Row → Type 0
   Tells m = ToldPart w.log (m.part (read w.words m.place))
 
@@ -181,7 +181,7 @@ told_apply plan w a m old new b u h j x is =
     let o : Option Entry = entry_of a (value_there w.words m.place) (m.reply (read w.words m.place)) in
     told_more w.log o u.holds x (⊎_elim (λ e. (subst (ToldPart w.log) e.1 new) j x is) (λ e. old b u e.1 j x is) (get_set w.parts a b (m.part (read w.words m.place)) u h))
 
-pub told_step : (plan : Plan) (w : World) (l : Lists) (e : Event) → All plan w l → AllKnow plan w → AllTold w → AllTold (step plan w e)
+pub told_step : (plan : Plan) (w : World) (l : PutLists) (e : Event) → All plan w l → AllKnow plan w → AllTold w → AllTold (step plan w e)
 unfolding step
 told_step plan w l e all know old = go (slice_get w.parts e.pass) refl where
   go : (o : Option Body) → slice_get w.parts e.pass ≡ o → AllTold (elim o as (λ _. World) [ Some p ↦ elim (row plan p e.action) [ Some m ↦ apply w e.pass m | None ↦ w ] | None ↦ w ])
@@ -196,7 +196,7 @@ told_open plan a p at = let e = part_new plan.passes a p at in subst (ToldPart [
 
 -- ---- so what a pass noted is true
 
-pub notes : (plan : Plan) (w : World) (l : Lists) → All plan w l → AllKnow plan w → AllTold w → NotesAreTrue plan w
+pub notes : (plan : Plan) (w : World) (l : PutLists) → All plan w l → AllKnow plan w → AllTold w → NotesAreTrue plan w
 unfolding value_at
 notes plan w l all know told a p at = record {
   widths = (know a p at).classed;

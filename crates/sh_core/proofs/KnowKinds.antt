@@ -8,12 +8,12 @@ use Rattle.sh_slots.specs.declared.hand.Hand.TheVariants.{Idle, Removing, Leavin
 use Rattle.sh_core.specs.Words.{Words, write, put, put2}
 use Rattle.sh_shape.specs.declared.places.Place.TheVariants.{Class, State, Length}
 use Rattle.sh_word.specs.Fields.{fields_of}
-use Rattle.sh_step.specs.Plans.{Plan, all_pages, home}
+use Rattle.sh_step.specs.Plans.{Plan, heap_pages, home}
 use Rattle.sh_shape.specs.Classes.{width, slots}
 use Rattle.sh_slots.specs.Slots.{same_spot, spots, live_at, has_room, spot_of, after_drop, is_reusable_after}
 use Rattle.sh_step.specs.Collections.{if1, has, without, noted, off}
 use Rattle.sh_step.specs.declared.body.Body.{Body}
-use Rattle.sh_core.specs.Lists.{Lists, times, mine_at}
+use Rattle.sh_core.specs.Lists.{PutLists, times, mine_at}
 use Rattle.sh_core.specs.Stacks.{spot}
 use Rattle.sh_step.specs.Plans.{over_heap}
 use Rattle.sh_core.specs.Placed.{All}
@@ -69,7 +69,7 @@ knows_apply plan w a p m old owes b u h =
     ⊎_elim (λ e. let P : Body → Type 0 = λ v. KnowsPart plan (write w.words m.place (operate m.operation (read w.words m.place))) v in subst P e.1 owes.part)
     (λ e. knows_words plan w (write w.words m.place (operate m.operation (read w.words m.place))) b u e.1 owes.words (old b u e.1)) (get_set w.parts a b p' u h)
 
-module _ (plan : Plan) (w : World) (l : Lists) (a : ℕ) (p : Body) (all : All plan w l) (old : AllKnow plan w) (at : slice_get w.parts a ≡ Some p) where
+module _ (plan : Plan) (w : World) (l : PutLists) (a : ℕ) (p : Body) (all : All plan w l) (old : AllKnow plan w) (at : slice_get w.parts a ≡ Some p) where
   kept_all : Kept plan w w.words
   kept_all b u k n h s e = (refl, refl)
 
@@ -95,13 +95,13 @@ module _ (plan : Plan) (w : World) (l : Lists) (a : ℕ) (p : Body) (all : All p
   quiet m r e same t = as_row m r e (owes_quiet r same t)
 
   -- one more hold
-  gets : (k : ℕ) (x : Name) → plan.keys.unpack k ≡ Some x → x.page < all_pages plan → x.slot < 48 → (W : Words) → W.class_at ≡ w.words.class_at → W.length_at ≡ w.words.length_at → KnowsPart plan W (record p { holds = k ∷ p.holds })
+  gets : (k : ℕ) (x : Name) → plan.keys.unpack k ≡ Some x → x.page < heap_pages plan → x.slot < 48 → (W : Words) → W.class_at ≡ w.words.class_at → W.length_at ≡ w.words.length_at → KnowsPart plan W (record p { holds = k ∷ p.holds })
   gets k x name page slot W c d = let o = three_knows W p (same_words W c d) (refl, refl, refl) in record {
     named = λ j h. found j (k == j) refl (let t = times_cons j k p.holds in let z : 0 < times j (k ∷ p.holds) = h in z) o;
     classed = λ j v h. let q = o.classed j v h in let t = times_cons j k p.holds in let q0 = q.0 in (omega arith, q.1);
     measured = λ j v h. let q = o.measured j v h in let t = times_cons j k p.holds in let q0 = q.0 in (omega arith, q.1);
   } where
-    found : (j : ℕ) (b : Bool) → (k == j) ≡ b → 0 < times j (k ∷ p.holds) → KnowsPart plan W p → (n : Name) × (plan.keys.unpack j ≡ Some n) × (n.page < all_pages plan) × (n.slot < 48)
+    found : (j : ℕ) (b : Bool) → (k == j) ≡ b → 0 < times j (k ∷ p.holds) → KnowsPart plan W p → (n : Name) × (plan.keys.unpack j ≡ Some n) × (n.page < heap_pages plan) × (n.slot < 48)
     found j true e h o = let i = same_page k j e in (x, ap plan.keys.unpack (sym i) ∙ name, page, slot)
     found j false e h o = let t = times_cons j k p.holds in let z : if1 (k == j) ≡ 0 = rw e refl in o.named j (omega arith)
 
@@ -283,7 +283,7 @@ module _ (plan : Plan) (w : World) (l : Lists) (a : ℕ) (p : Body) (all : All p
       let q : ℕ = h.0 in
       quiet m _ h.3 (refl, refl) (three_cond p (w.words.page_link_at q == 0) p (record p { bell_cursor = link_item (over_heap plan (home plan q) 2 (w.words.page_link_at q)); armed = without (λ x. x == q) p.armed }) (refl, refl, refl) (refl, refl, refl))
 
-pub know_step : (plan : Plan) (w : World) (l : Lists) (e : Event) → All plan w l → AllKnow plan w → AllKnow plan (step plan w e)
+pub know_step : (plan : Plan) (w : World) (l : PutLists) (e : Event) → All plan w l → AllKnow plan w → AllKnow plan (step plan w e)
 unfolding step
 know_step plan w l e all old = go (slice_get w.parts e.pass) refl where
   go : (o : Option Body) → slice_get w.parts e.pass ≡ o → AllKnow plan (elim o as (λ _. World) [ Some p ↦ elim (row plan p e.action) [ Some m ↦ apply w e.pass m | None ↦ w ] | None ↦ w ])

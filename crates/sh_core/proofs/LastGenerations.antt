@@ -22,8 +22,8 @@ use Rattle.sh_step.specs.Operations.{operate}
 use Rattle.sh_step.specs.Plans.{Plan}
 use Rattle.sh_step.specs.Rows.{Row, row, hand}
 use Rattle.sh_core.specs.Words.{Words, read, write}
-use Rattle.sh_core.specs.Worlds.{World, open_world, step, apply, joined, entry, entry_of, value_of}
-use Rattle.sh_core.specs.Lists.{Lists}
+use Rattle.sh_core.specs.Worlds.{World, open_world, step, apply, joined, entry, entry_of, value_at_place}
+use Rattle.sh_core.specs.Lists.{PutLists}
 use Rattle.sh_core.specs.Placed.{All}
 use Rattle.sh_core.specs.Refines.{RetiredIsLast, EntriesAreOurs}
 use Rattle.sh_core.specs.Within.{CountFits, CountsFit}
@@ -82,7 +82,7 @@ finish_writes plan g n old = go (n == marked_word g) (g == plan.keys.gen_max) re
   go true true e = λ p m. ap (λ (f : Fields). f.generation) (fields_of-word_of retired (omega arith)) ∙ (let i : g ≡ plan.keys.gen_max = grind (arith, nat_tests) in i)
   go true false e = λ p m. absurd (let f : (fields_of (reusable_word g)).marked ≡ false = ap (λ (f : Fields). f.marked) (fields_of-word_of reused (omega arith)) in let z : true ≡ false = sym m ∙ f in cc)
 
-module _ (plan : Plan) (w : World) (l : Lists) (all : All plan w l) (counts : CountsFit plan w) (a : ℕ) (p : Body) (at : slice_get w.parts a ≡ Some p) (old : LastWords plan w.words) where
+module _ (plan : Plan) (w : World) (l : PutLists) (all : All plan w l) (counts : CountsFit plan w) (a : ℕ) (p : Body) (at : slice_get w.parts a ≡ Some p) (old : LastWords plan w.words) where
   quiet : (m r : Row) → m ≡ r → RowWrites plan w.words r → RowWrites plan w.words m
   quiet m r e h = subst (RowWrites plan w.words) (sym e) h
 
@@ -154,7 +154,7 @@ pub record Beside (plan : Plan) (w : World) : Type 0 where
   pub retired : RetiredIsLast plan w
   pub entries : EntriesAreOurs plan w
 
-pub beside_step : (plan : Plan) (w : World) (l : Lists) (e : Event) → All plan w l → CountsFit plan w → Beside plan w → Beside plan (step plan w e)
+pub beside_step : (plan : Plan) (w : World) (l : PutLists) (e : Event) → All plan w l → CountsFit plan w → Beside plan w → Beside plan (step plan w e)
 unfolding step apply
 beside_step plan w l e all counts old = go (slice_get w.parts e.pass) refl where
   go : (o : Option Body) → slice_get w.parts e.pass ≡ o → Beside plan (elim o as (λ _. World) [ Some p ↦ elim (row plan p e.action) [ Some m ↦ apply w e.pass m | None ↦ w ] | None ↦ w ])
@@ -167,7 +167,7 @@ beside_step plan w l e all counts old = go (slice_get w.parts e.pass) refl where
         let low = slice_get_within w.parts e.pass p at in
         let same = all.good.passes in record {
           retired = λ x. writes plan w.words m.place (operate m.operation (read w.words m.place)) words (row_writes plan w l all counts e.pass p at words e.action m h) x.page x.slot;
-          entries = joined_ours plan.passes e.pass (value_of w.words m.place) (m.reply (read w.words m.place)) w.log (omega arith) old.entries;
+          entries = joined_ours plan.passes e.pass (value_at_place w.words m.place) (m.reply (read w.words m.place)) w.log (omega arith) old.entries;
         }
 
 pub beside_open : (plan : Plan) → Beside plan (open_world plan)

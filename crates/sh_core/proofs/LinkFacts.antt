@@ -6,7 +6,7 @@ use Rattle.sh_step.specs.Collections.{total, if1}
 use Rattle.sh_step.specs.Plans.{Plan, Lawful, home}
 use Rattle.sh_core.specs.Knows.{AllKnow}
 use Rattle.sh_core.specs.LinkWords.{LinksOn, EachLinked}
-use Rattle.sh_core.specs.Lists.{Lists, times}
+use Rattle.sh_core.specs.Lists.{PutLists, times}
 use Rattle.sh_core.specs.Placed.{All}
 use Rattle.sh_core.specs.Stacks.{Chained, spot, link_to, ties_of, ring_ties, bell_link}
 use Rattle.sh_core.specs.Within.{AllWithin}
@@ -34,7 +34,7 @@ links_on link owed tied (s ∷ xs) chained one none =
     let here = times_cons s s xs in
     (one_link (link s) (owed s) (tied s) (link_to xs) chained.0 (one s (omega arith)) (none s), links_on link owed tied xs chained.1 (λ t some. one t (let more = times_cons t s xs in omega arith)) none)
 
-module _ (plan : Plan) (w : World) (l : Lists) (laws : Lawful plan) (all : All plan w l) (know : AllKnow plan w) (within : AllWithin plan w) where
+module _ (plan : Plan) (w : World) (l : PutLists) (laws : Lawful plan) (all : All plan w l) (know : AllKnow plan w) (within : AllWithin plan w) where
   -- a slot stands once at most on its page
   slot_link : (q s : ℕ) → 0 < times s (l.stack q) + times s (l.chain q) → if1 (not (w.words.link_at q s == 0)) + total (ties_of (spot q s)) w.parts ≡ 1
   slot_link q s some =

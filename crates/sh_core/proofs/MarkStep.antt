@@ -16,7 +16,7 @@ use Rattle.sh_step.specs.Collections.{if1}
 use Rattle.sh_step.specs.declared.body.Body.{Body}
 use Rattle.sh_step.specs.Rows.{hand, mark}
 use Rattle.sh_core.specs.Worlds.{World, apply, value_at}
-use Rattle.sh_core.specs.Lists.{Lists}
+use Rattle.sh_core.specs.Lists.{PutLists}
 use Rattle.sh_core.specs.Tallies.{Fine, tally, lost, SlotsFine, stale}
 use Rattle.sh_core.specs.Stories.{values, removals, Story, KeysFine}
 use Rattle.sh_core.proofs.Permits.{Permits}
@@ -70,7 +70,7 @@ apart_key plan k j y z a b h = go (k == j) refl where
       let s : Some y ≡ Some z = cc in
       let n : y ≡ z = cc in absurd (h (ap (λ (m : Name). m.generation) n))
 
-pub mark_slots : (plan : Plan) (w : Words) (ps : List Body) (l : Lists) (a : ℕ) (p : Body) (k : ℕ) (y : Name) → plan.keys.unpack k ≡ Some y → SlotsFine plan w ps l → slice_get ps a ≡ Some (hand p (Removing k))
+pub mark_slots : (plan : Plan) (w : Words) (ps : List Body) (l : PutLists) (a : ℕ) (p : Body) (k : ℕ) (y : Name) → plan.keys.unpack k ≡ Some y → SlotsFine plan w ps l → slice_get ps a ≡ Some (hand p (Removing k))
     → SlotsFine plan (write w (State y.page y.slot) (bit_or (w.state_at y.page y.slot) (2 ^ 31))) (set ps a (hand p (Leaving (spot_of y)))) l
 mark_slots plan w ps l a p k y name old at =
     let f = old (spot_of y) in
@@ -108,7 +108,7 @@ mark_keys false plan w log a k y laws name old m p gen =
       (rw v (omega arith), omega arith),
     )
 
-good_marked : (b : Bool) (plan : Plan) (w : World) (l : Lists) (a : ℕ) (p : Body) (k : ℕ) (y : Name) → Lawful plan → Good plan w l → slice_get w.parts a ≡ Some (hand p (Removing k)) → plan.keys.unpack k ≡ Some y → (fields_of (w.words.state_at y.page y.slot)).marked ≡ b
+good_marked : (b : Bool) (plan : Plan) (w : World) (l : PutLists) (a : ℕ) (p : Body) (k : ℕ) (y : Name) → Lawful plan → Good plan w l → slice_get w.parts a ≡ Some (hand p (Removing k)) → plan.keys.unpack k ≡ Some y → (fields_of (w.words.state_at y.page y.slot)).marked ≡ b
     → Good plan (apply w a (mark (hand p (Removing k)) k y)) l
 unfolding apply
 good_marked true plan w l a p k y laws g at name m =
@@ -124,6 +124,6 @@ good_marked false plan w l a p k y laws g at name m =
     rw m (good_at plan w l l a (hand p (Removing k)) (hand p (Leaving (spot_of y))) (write w.words (State y.page y.slot) (bit_or n (2 ^ 31))) (Some (Removed a k)) g at
     (mark_slots plan w.words w.parts l a p k y name g.slots at) ks.0 ks.1 (refl, λ j. refl) ((g.parts a (hand p (Removing k)) at).0, tt) (λ b q _ _ h. h))
 
-pub good_mark : (plan : Plan) (w : World) (l : Lists) (a : ℕ) (p : Body) (k : ℕ) (y : Name) → Lawful plan → Good plan w l → slice_get w.parts a ≡ Some (hand p (Removing k)) → plan.keys.unpack k ≡ Some y
+pub good_mark : (plan : Plan) (w : World) (l : PutLists) (a : ℕ) (p : Body) (k : ℕ) (y : Name) → Lawful plan → Good plan w l → slice_get w.parts a ≡ Some (hand p (Removing k)) → plan.keys.unpack k ≡ Some y
     → Good plan (apply w a (mark (hand p (Removing k)) k y)) l
 good_mark plan w l a p k y laws g at name = good_marked (fields_of (w.words.state_at y.page y.slot)).marked plan w l a p k y laws g at name refl

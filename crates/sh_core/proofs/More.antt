@@ -15,7 +15,7 @@ use Rattle.sh_step.specs.declared.body.Body.{Body}
 use Rattle.sh_step.specs.Rows.{hand}
 use Rattle.sh_core.specs.Worlds.{World, value_at}
 use Rattle.std.proofs.lemmas.Bool.{lt-ltb}
-use Rattle.sh_core.specs.Lists.{slots_under, Lists, mine_at, in_hand, times, state_of, accounts}
+use Rattle.sh_core.specs.Lists.{slots_under, PutLists, mine_at, in_hand, times, state_of, accounts}
 use Rattle.sh_core.specs.Tallies.{held, visits, lost, room, SlotsFine, at_spot, stale}
 use Rattle.sh_core.specs.Stories.{values}
 use Rattle.sh_core.proofs.Permits.{Permits}
@@ -63,7 +63,7 @@ on_key plan st k y laws name gen j = go (plan.keys.unpack j) refl where
     by true false d h f = omega arith
     by false c d h f = omega arith
 
-pub crowded_permitted : (plan : Plan) (w : World) (l : Lists) (a : ℕ) (p : Body) (k : ℕ) (y : Name) → Lawful plan → Good plan w l → slice_get w.parts a ≡ Some (hand p Idle) → plan.keys.unpack k ≡ Some y
+pub crowded_permitted : (plan : Plan) (w : World) (l : PutLists) (a : ℕ) (p : Body) (k : ℕ) (y : Name) → Lawful plan → Good plan w l → slice_get w.parts a ≡ Some (hand p Idle) → plan.keys.unpack k ≡ Some y
     → live_at y.generation (w.words.state_at y.page y.slot) ≡ true → nat_lt (fields_of (w.words.state_at y.page y.slot)).count plan.keys.guard_max ≡ false → Permits plan w.log (Crowded a k)
 crowded_permitted plan w l a p k y laws g at name live under =
     let x : Spot = spot_of y in
@@ -88,7 +88,7 @@ crowded_permitted plan w l a p k y laws g at name live under =
           let q = total_plus (λ (j : ℕ). if1 (j == k)) (λ j. stale st (spot_of y) (plan.keys.unpack j)) u.holds in omega arith
 
 -- Six kinds fill a page: each slot of the class is one of them
-abbrev six : World → Lists → Spot → ℕ
+abbrev six : World → PutLists → Spot → ℕ
 six w l x =
     if1 ((state_of w x).present && not (state_of w x).marked)
     + (if1 ((state_of w x).present && (state_of w x).marked)
@@ -105,7 +105,7 @@ unfolding total spots
 each_one f q s zero h = refl
 each_one f q s (suc n) h = let one = h s (omega arith) (omega arith) in let rest = each_one f q (s + 1) n (λ t a b. h t (omega arith) (omega arith)) in omega arith
 
-pub accounts_fill : (plan : Plan) (w : World) (l : Lists) (q c : ℕ) → SlotsFine plan w.words w.parts l → w.words.class_at q ≡ c + 1
+pub accounts_fill : (plan : Plan) (w : World) (l : PutLists) (q c : ℕ) → SlotsFine plan w.words w.parts l → w.words.class_at q ≡ c + 1
     → let a = accounts w l q in a.live + (a.marked + (a.retired + (a.mine + (a.hand + a.queued)))) ≡ slots c
 unfolding accounts
 accounts_fill plan w l q c fine is =

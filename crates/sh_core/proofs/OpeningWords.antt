@@ -10,7 +10,7 @@ use Rattle.sh_shape.specs.Places.{IsPlace, number, words_of, all_pages, page_wor
 use Rattle.sh_shape.proofs.PlaceLaws.{places_are_words}
 use Rattle.sh_core.specs.Words.{opening, read}
 use Rattle.sh_core.specs.Opening.{opening_word, opening_words}
-use Rattle.sh_core.specs.Kept.{Hold}
+use Rattle.sh_core.specs.Kept.{HoldsWords}
 
 pub opening_none : (pages : ℕ) → opening_words pages 0 ≡ []
 unfolding opening_words
@@ -82,7 +82,7 @@ opening_reads shape (Payload q i) h = let a = h.0 in let b = h.1 in late (all_pa
 opening_reads shape (Owner n) h = behind (all_pages shape) (number shape (Owner n)) (omega arith)
 opening_reads shape (Bell n) h = behind (all_pages shape) (number shape (Bell n)) (omega arith)
 
-pub opening_holds : (shape : Numbers) → Hold shape (opening_words (all_pages shape) (words_of shape)) opening
+pub opening_holds : (shape : Numbers) → HoldsWords shape (opening_words (all_pages shape) (words_of shape)) opening
 opening_holds shape = record {
   count = opening_length (all_pages shape) (words_of shape);
   at = λ p within. opening_at (all_pages shape) (words_of shape) (number shape p) (places_are_words shape p within) ∙ opening_reads shape p within;

@@ -4,11 +4,11 @@ use Rattle.std.proofs.lemmas.Bool.Decides.{nat_tests}
 use Rattle.sh_slots.specs.declared.hand.Spot.{Spot}
 use Rattle.sh_step.specs.Collections.{total, if1, noted}
 use Rattle.sh_step.specs.declared.body.Body.{Body}
-use Rattle.sh_step.specs.Plans.{Plan, Lawful, all_pages, home}
+use Rattle.sh_step.specs.Plans.{Plan, Lawful, heap_pages, home}
 use Rattle.sh_step.specs.Rows.{own, owned_by, unpoint}
 use Rattle.sh_core.specs.Bells.{armed_at, owns}
 use Rattle.sh_core.specs.Knows.{AllKnow}
-use Rattle.sh_core.specs.Lists.{Lists, times, mine_at, slots_under}
+use Rattle.sh_core.specs.Lists.{PutLists, times, mine_at, slots_under}
 use Rattle.sh_core.specs.Placed.{All}
 use Rattle.sh_core.specs.Refines.{OneOwner, ShardlessHaveNothing, OwnStands}
 use Rattle.sh_core.specs.Stacks.{spot, cursor_at, bell_cursor_at, is_at, first_is}
@@ -40,7 +40,7 @@ owns_is n p some = go p.owned refl some where
 
 -- ---- one owner a shard
 
-module _ (plan : Plan) (w : World) (l : Lists) (all : All plan w l) where
+module _ (plan : Plan) (w : World) (l : PutLists) (all : All plan w l) where
   alone : (a b : ℕ) (p r : Body) (n : ℕ) → slice_get w.parts a ≡ Some p → slice_get w.parts b ≡ Some r → p.owned ≡ Some n → r.owned ≡ Some n → a ≡ b
   alone a b p r n at at' mine mine' = go (a == b) refl where
     go : (c : Bool) → (a == b) ≡ c → a ≡ b
@@ -78,17 +78,17 @@ module _ (plan : Plan) (w : World) (l : Lists) (all : All plan w l) where
 
 -- ---- what one pass has
 
-module _ (plan : Plan) (w : World) (l : Lists) (laws : Lawful plan) (all : All plan w l) (know : AllKnow plan w) (within : AllWithin plan w) (a : ℕ) (p : Body) (at : slice_get w.parts a ≡ Some p) where
+module _ (plan : Plan) (w : World) (l : PutLists) (laws : Lawful plan) (all : All plan w l) (know : AllKnow plan w) (within : AllWithin plan w) (a : ℕ) (p : Body) (at : slice_get w.parts a ≡ Some p) where
   -- what is not zero is not that of another's page
   own_or : (b : Bool) (n : ℕ) → 0 < n → (b ≡ false → n ≡ 0) → b ≡ true
   own_or true n some h = refl
   own_or false n some h = let z = h refl in absurd (omega arith)
 
   -- a slot that has room is one of a page of the heap
-  placed : (x : Spot) → 0 < room w.words x → (x.page < all_pages plan) × (x.slot < slots_under (w.words.class_at x.page))
+  placed : (x : Spot) → 0 < room w.words x → (x.page < heap_pages plan) × (x.slot < slots_under (w.words.class_at x.page))
   placed x some = let r = room_under w.words x some in let c = all.sound.classes x.page in (c.1 r.0, r.1)
 
-  own_mine : (x : Spot) → 0 < mine_at x p → (mine_at x p ≡ 1) × (own plan p x.page ≡ true) × (x.page < all_pages plan) × (x.slot < slots_under (w.words.class_at x.page))
+  own_mine : (x : Spot) → 0 < mine_at x p → (mine_at x p ≡ 1) × (own plan p x.page ≡ true) × (x.page < heap_pages plan) × (x.slot < slots_under (w.words.class_at x.page))
   own_mine x some =
       let t = total_at (mine_at x) w.parts a p at in
       let fine = all.good.slots x in
@@ -100,7 +100,7 @@ module _ (plan : Plan) (w : World) (l : Lists) (laws : Lawful plan) (all : All p
   first : (q s : ℕ) → cursor_at q s p ≤ first_is (l.chain q) s
   first q s = let t = total_at (cursor_at q s) w.parts a p at in let c = all.rest.stacks.cursors q s in omega arith
 
-  own_cursor : (q s : ℕ) → noted q p.cursors ≡ Some s → (own plan p q ≡ true) × (q < all_pages plan) × (s < slots_under (w.words.class_at q)) × (mine_at (spot q s) p ≡ 0)
+  own_cursor : (q s : ℕ) → noted q p.cursors ≡ Some s → (own plan p q ≡ true) × (q < heap_pages plan) × (s < slots_under (w.words.class_at q)) × (mine_at (spot q s) p ≡ 0)
   own_cursor q s is =
       let here = noted_at q s p.cursors is in
       let f = first q s in
@@ -122,7 +122,7 @@ module _ (plan : Plan) (w : World) (l : Lists) (laws : Lawful plan) (all : All p
   armed_here : (q : ℕ) → own plan p q ≡ true → total (armed_at q) w.parts ≡ times q p.armed
   armed_here q mine = alone_armed plan w.words.class_at w.words.head_at w.words.page_link_at w.words.bell_at w.words.owner_at w.words.link_at w.parts l a p all.rest at q mine
 
-  own_armed : (q : ℕ) → 0 < times q p.armed → (times q p.armed ≡ 1) × (own plan p q ≡ true) × (q < all_pages plan)
+  own_armed : (q : ℕ) → 0 < times q p.armed → (times q p.armed ≡ 1) × (own plan p q ≡ true) × (q < heap_pages plan)
   own_armed q some =
       let t = total_at (armed_at q) w.parts a p at in
       let few = (all.rest.duty q).1 in
@@ -131,9 +131,9 @@ module _ (plan : Plan) (w : World) (l : Lists) (laws : Lawful plan) (all : All p
   unarmed : (q : ℕ) → own plan p q ≡ true → times q p.armed ≡ 0 → w.words.head_at q % 2 ≡ 0
   unarmed q mine none = let here = armed_here q mine in let duty = (all.rest.duty q).0 in omega arith
 
-  own_bell : (q : ℕ) → p.bell_cursor ≡ Some q → (own plan p q ≡ true) × (q < all_pages plan) × (times q p.armed ≡ 1)
+  own_bell : (q : ℕ) → p.bell_cursor ≡ Some q → (own plan p q ≡ true) × (q < heap_pages plan) × (times q p.armed ≡ 1)
   own_bell q is = go p.owned refl where
-    go : (o : Option ℕ) → p.owned ≡ o → (own plan p q ≡ true) × (q < all_pages plan) × (times q p.armed ≡ 1)
+    go : (o : Option ℕ) → p.owned ≡ o → (own plan p q ≡ true) × (q < heap_pages plan) × (times q p.armed ≡ 1)
     go None none = absurd (let z : None ≡ Some q = sym ((all.rest.homed a p at).bell none) ∙ is in cc)
     go (Some n) owned =
         let here : bell_cursor_at n q p ≡ 1 = owned_at n n p.owned (is_at p.bell_cursor q) owned ∙ rw (page_same n, is, page_same q) refl in

@@ -4,12 +4,12 @@ use Rattle.std.proofs.lemmas.Bool.Decides.{nat_tests}
 use Rattle.sh_slots.specs.declared.hand.Spot.{Spot}
 use Rattle.sh_core.specs.Words.{Words, write, put}
 use Rattle.sh_shape.specs.declared.places.Place.TheVariants.{Class, Owner}
-use Rattle.sh_step.specs.Plans.{Plan, all_pages}
+use Rattle.sh_step.specs.Plans.{Plan, heap_pages}
 use Rattle.sh_shape.specs.Classes.{slots}
 use Rattle.sh_slots.specs.Slots.{same_spot, spots}
 use Rattle.sh_step.specs.Collections.{total, if1, noted, off}
 use Rattle.sh_step.specs.declared.body.Body.{Body}
-use Rattle.sh_core.specs.Lists.{Lists}
+use Rattle.sh_core.specs.Lists.{PutLists}
 use Rattle.sh_core.specs.Stacks.{spot, tying, ties_of, cursor_at, ring_tying, ring_ties, is_at, bell_cursor_at}
 use Rattle.sh_core.specs.Bells.{rings, armed_at, owns}
 use Rattle.sh_core.specs.Placed.{HomedPart, RestOf}
@@ -19,7 +19,7 @@ use Rattle.sh_core.proofs.StackSteps.{put_same, put_other, same_page, page_same,
 use Rattle.sh_core.proofs.RestSteps.{homed_set, rest_frame, other_owner}
 
 -- the owner changes, and with it what it has
-pub rest_owner : (plan : Plan) (w : Words) (ps : List Body) (l : Lists) (a : ℕ) (p p' : Body) (n m : ℕ) → RestOf plan w ps l → slice_get ps a ≡ Some p → p'.hand ≡ p.hand
+pub rest_owner : (plan : Plan) (w : Words) (ps : List Body) (l : PutLists) (a : ℕ) (p p' : Body) (n m : ℕ) → RestOf plan w ps l → slice_get ps a ≡ Some p → p'.hand ≡ p.hand
     → ((q s : ℕ) → cursor_at q s p' ≡ cursor_at q s p) → ((k q : ℕ) → bell_cursor_at k q p' ≡ bell_cursor_at k q p) → ((q : ℕ) → armed_at q p' ≡ armed_at q p)
     → ((k : ℕ) → (put w.owner_at n m k + owns k p ≡ w.owner_at k + owns k p') × (put w.owner_at n m k ≤ 1)) → HomedPart plan w.class_at p' → RestOf plan (write w (Owner n) m) (set ps a p') l
 rest_owner plan w ps l a p p' n m r at same cs bs arms own mine = record {
@@ -54,7 +54,7 @@ bell_none k q None b e = refl
 pub owns_nobody : (k : ℕ) (o : Option ℕ) → o ≡ None → (elim o as (λ _. ℕ) [ Some n ↦ if1 (n == k) | None ↦ 0 ]) ≡ 0
 owns_nobody k o e = rw e refl
 
-pub adopt_rest : (plan : Plan) (w : Words) (ps : List Body) (l : Lists) (a : ℕ) (p : Body) (n : ℕ) → RestOf plan w ps l → slice_get ps a ≡ Some p → p.owned ≡ None → w.owner_at n ≡ 0 → RestOf plan (write w (Owner n) 1) (set ps a (adopted p n)) l
+pub adopt_rest : (plan : Plan) (w : Words) (ps : List Body) (l : PutLists) (a : ℕ) (p : Body) (n : ℕ) → RestOf plan w ps l → slice_get ps a ≡ Some p → p.owned ≡ None → w.owner_at n ≡ 0 → RestOf plan (write w (Owner n) 1) (set ps a (adopted p n)) l
 unfolding total noted
 adopt_rest plan w ps l a p n r at none free =
     let o = r.homed a p at in
@@ -78,7 +78,7 @@ nil_of : {A : Type 0} (xs : List A) → (length xs == 0) ≡ true → xs ≡ []
 nil_of [] h = refl
 nil_of (x ∷ xs) h = absurd (let z : suc (length xs) ≡ 0 = grind (arith, nat_tests) in omega arith)
 
-pub leave_rest : (plan : Plan) (w : Words) (ps : List Body) (l : Lists) (a : ℕ) (p : Body) (n : ℕ) → RestOf plan w ps l → slice_get ps a ≡ Some p → p.owned ≡ Some n → (length p.mine == 0) ≡ true → (length p.cursors == 0) ≡ true → (length p.armed == 0) ≡ true → p.bell_cursor ≡ None
+pub leave_rest : (plan : Plan) (w : Words) (ps : List Body) (l : PutLists) (a : ℕ) (p : Body) (n : ℕ) → RestOf plan w ps l → slice_get ps a ≡ Some p → p.owned ≡ Some n → (length p.mine == 0) ≡ true → (length p.cursors == 0) ≡ true → (length p.armed == 0) ≡ true → p.bell_cursor ≡ None
     → RestOf plan (write w (Owner n) 0) (set ps a (left p)) l
 unfolding total
 leave_rest plan w ps l a p n r at mine no_mine no_cursors no_armed no_bell =
@@ -101,7 +101,7 @@ leave_rest plan w ps l a p n r at mine no_mine no_cursors no_armed no_bell =
           let v : if1 (n == k) ≡ 0 = rw (eq_sym n k, e) refl in (omega arith, omega arith)
 
 -- Adopt that finds the shard taken
-pub taken_rest_owner : (plan : Plan) (w : Words) (ps : List Body) (l : Lists) (a : ℕ) (p : Body) (n : ℕ) → RestOf plan w ps l → slice_get ps a ≡ Some p → (w.owner_at n == 0) ≡ false → RestOf plan (write w (Owner n) 1) (set ps a p) l
+pub taken_rest_owner : (plan : Plan) (w : Words) (ps : List Body) (l : PutLists) (a : ℕ) (p : Body) (n : ℕ) → RestOf plan w ps l → slice_get ps a ≡ Some p → (w.owner_at n == 0) ≡ false → RestOf plan (write w (Owner n) 1) (set ps a p) l
 taken_rest_owner plan w ps l a p n r at some = rest_owner plan w ps l a p p n 1 r at refl (λ q s. refl) (λ k q. refl) (λ q. refl) (λ k. let d = r.owned k in let d1 = d.1 in go k d1 (k == n) refl) (r.homed a p at) where
   go : (k : ℕ) → w.owner_at k ≤ 1 → (b : Bool) → (k == n) ≡ b → (put w.owner_at n 1 k + owns k p ≡ w.owner_at k + owns k p) × (put w.owner_at n 1 k ≤ 1)
   go k d true e =
@@ -112,12 +112,12 @@ taken_rest_owner plan w ps l a p n r at some = rest_owner plan w ps l a p p n 1 
   go k d false e = let x = put_other w.owner_at n k 1 e in (omega arith, omega arith)
 
 -- ReadPage notes the class that stands
-pub read_page_rest : (plan : Plan) (w : Words) (ps : List Body) (l : Lists) (a : ℕ) (p : Body) (q : ℕ) → RestOf plan w ps l → slice_get ps a ≡ Some p → q < all_pages plan → RestOf plan w (set ps a (record p { classes = (q, w.class_at q) ∷ p.classes })) l
+pub read_page_rest : (plan : Plan) (w : Words) (ps : List Body) (l : PutLists) (a : ℕ) (p : Body) (q : ℕ) → RestOf plan w ps l → slice_get ps a ≡ Some p → q < heap_pages plan → RestOf plan w (set ps a (record p { classes = (q, w.class_at q) ∷ p.classes })) l
 unfolding noted
 read_page_rest plan w ps l a p q r at small =
     let o = r.homed a p at in
     rest_frame plan _ _ _ _ _ _ ps l a p (record p { classes = (q, w.class_at q) ∷ p.classes }) r at refl (record { mines = o.mines; points = o.points; arms = o.arms; bell = o.bell; notes = λ k c e h. go k c e (q == k) refl h }) where
-      go : (k c : ℕ) → own plan p k ≡ true → (b : Bool) → (q == k) ≡ b → cond b (Some (w.class_at q)) (noted k p.classes) ≡ Some c → (w.class_at k ≡ c) × (k < all_pages plan)
+      go : (k c : ℕ) → own plan p k ≡ true → (b : Bool) → (q == k) ≡ b → cond b (Some (w.class_at q)) (noted k p.classes) ≡ Some c → (w.class_at k ≡ c) × (k < heap_pages plan)
       go k c e true f h = let i = same_page q k f in let z : w.class_at q ≡ c = cc in (ap w.class_at (sym i) ∙ z, omega arith)
       go k c e false f h = (r.homed a p at).notes k c e h
 
@@ -148,7 +148,7 @@ unfolding total spots
 spots_else x q s zero h = refl
 spots_else x q s (suc n) h = let r = spots_else x q (s + 1) n h in let z : if1 (same_spot x (record { page = q; slot = s })) ≡ 0 = rw h refl in omega arith
 
-pub set_class_rest : (plan : Plan) (w : Words) (ps : List Body) (l : Lists) (a : ℕ) (p : Body) (q c : ℕ) → RestOf plan w ps l → slice_get ps a ≡ Some p → own plan p q ≡ true → q < all_pages plan → RestOf plan (write w (Class q) (c + 1)) (set ps a (classed p q c)) l
+pub set_class_rest : (plan : Plan) (w : Words) (ps : List Body) (l : PutLists) (a : ℕ) (p : Body) (q c : ℕ) → RestOf plan w ps l → slice_get ps a ≡ Some p → own plan p q ≡ true → q < heap_pages plan → RestOf plan (write w (Class q) (c + 1)) (set ps a (classed p q c)) l
 unfolding total noted
 set_class_rest plan w ps l a p q c r at mine small =
     record {
@@ -184,7 +184,7 @@ set_class_rest plan w ps l a p q c r at mine small =
         bell = o.bell;
         notes = λ k d e h. go k d e (q == k) refl h;
       } where
-        go : (k d : ℕ) → own plan p k ≡ true → (b : Bool) → (q == k) ≡ b → cond b (Some (c + 1)) (noted k p.classes) ≡ Some d → (put w.class_at q (c + 1) k ≡ d) × (k < all_pages plan)
+        go : (k d : ℕ) → own plan p k ≡ true → (b : Bool) → (q == k) ≡ b → cond b (Some (c + 1)) (noted k p.classes) ≡ Some d → (put w.class_at q (c + 1) k ≡ d) × (k < heap_pages plan)
         go k d e true f h = let i = same_page q k f in let z : c + 1 ≡ d = cc in (rw (← i) (put_same w.class_at q (c + 1)) ∙ z, omega arith)
         go k d e false f h = let n = o.notes k d e h in (put_other w.class_at q k (c + 1) (eq_sym k q ∙ f) ∙ n.0, n.1)
 

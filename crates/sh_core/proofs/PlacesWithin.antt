@@ -14,11 +14,11 @@ use Rattle.sh_step.specs.declared.body.Body.{Body}
 use Rattle.sh_step.specs.declared.action.Action.{Action}
 use Rattle.sh_step.specs.declared.action.Action.TheVariants.{EnterGet, EnterRemove, Mark, Drop, DropHold, Finish, FillSlot, Fill, Publish, ReadClass, ReadLength, ReadWord, ReadPage, SetClass, Take, Follow, Put, PutSlot, Tie, Adopt, Leave, Arm, Ring, RingTie, TakeBell, FollowBell}
 use Rattle.sh_step.specs.Collections.{total, if1, has, noted}
-use Rattle.sh_step.specs.Plans.{Plan, Lawful, all_pages, home, page_of}
-use Rattle.sh_step.specs.Rows.{Row, class_of}
+use Rattle.sh_step.specs.Plans.{Plan, Lawful, heap_pages, home, page_of}
+use Rattle.sh_step.specs.Rows.{Row, class_word_noted}
 use Rattle.sh_core.specs.Words.{read}
 use Rattle.sh_core.specs.Worlds.{World}
-use Rattle.sh_core.specs.Lists.{Lists, times, in_hand}
+use Rattle.sh_core.specs.Lists.{PutLists, times, in_hand}
 use Rattle.sh_core.specs.Tallies.{room, visits, held, at_spot}
 use Rattle.sh_core.specs.Stacks.{spot, first_is, cursor_at, bell_cursor_at, bell_link, is_at}
 use Rattle.sh_core.specs.Bells.{armed_at}
@@ -54,9 +54,9 @@ noted_at q s (c ∷ cs) h = go (c.0 == q) h (λ k. noted_at q s cs k) where
   go true e rest = let i : c.1 ≡ s = cc in let t : (c.1 == s) ≡ true = rw i (page_same s) in rw t (omega arith)
   go false e rest = let r = rest e in omega arith
 
-module _ (plan : Plan) (w : World) (l : Lists) (laws : Lawful plan) (all : All plan w l) (know : AllKnow plan w) (within : AllWithin plan w) where
+module _ (plan : Plan) (w : World) (l : PutLists) (laws : Lawful plan) (all : All plan w l) (know : AllKnow plan w) (within : AllWithin plan w) where
   -- a slot that has room is one of a page of the heap
-  pub roomy : (x : Spot) → 0 < room w.words x → (x.page < all_pages plan) × (x.slot < slots (w.words.class_at x.page - 1)) × (w.words.class_at x.page - 1 < 8)
+  pub roomy : (x : Spot) → 0 < room w.words x → (x.page < heap_pages plan) × (x.slot < slots (w.words.class_at x.page - 1)) × (w.words.class_at x.page - 1 < 8)
   roomy x some =
       let r = has_room w.words x some in
       let c = all.sound.classes x.page in
@@ -79,7 +79,7 @@ module _ (plan : Plan) (w : World) (l : Lists) (laws : Lawful plan) (all : All p
       let r1 = r.1 in omega arith
 
   -- where a value is being filled in
-  filling : (a : ℕ) (p : Body) (x : Spot) (v : List ℕ) (i : ℕ) → slice_get w.parts a ≡ Some p → p.hand ≡ Filling x v i → i < length v → x.slot * width (class_of p x.page - 1) + i < 48
+  filling : (a : ℕ) (p : Body) (x : Spot) (v : List ℕ) (i : ℕ) → slice_get w.parts a ≡ Some p → p.hand ≡ Filling x v i → i < length v → x.slot * width (class_word_noted p x.page - 1) + i < 48
   filling a p x v i at is less =
       let P : Hand → Type 0 = λ h. Rattle.sh_core.specs.Good.FillFine w.words p h in
       let fine = subst P is (all.good.parts a p at).1 in
@@ -92,9 +92,9 @@ module _ (plan : Plan) (w : World) (l : Lists) (laws : Lawful plan) (all : All p
       rw fine.4 (slot_words_fit_page (w.words.class_at x.page - 1) x.slot i r.1 (omega arith))
 
   -- a page that stands on a bell, or on its chain, is one of the heap
-  pub belled : (n q : ℕ) → 0 < times q (l.bells n) + times q (l.bell_chain n) → q < all_pages plan
+  pub belled : (n q : ℕ) → 0 < times q (l.bells n) + times q (l.bell_chain n) → q < heap_pages plan
   belled n q some = go (n == home plan q) refl where
-    go : (b : Bool) → (n == home plan q) ≡ b → q < all_pages plan
+    go : (b : Bool) → (n == home plan q) ≡ b → q < heap_pages plan
     go true e =
         let i : n ≡ home plan q = same_page n (home plan q) e in
         let s : times q (l.bells (home plan q)) + times q (l.bell_chain (home plan q)) ≡ times q (l.bells n) + times q (l.bell_chain n) = ap (λ (k : ℕ). times q (l.bells k) + times q (l.bell_chain k)) (sym i) in
@@ -106,9 +106,9 @@ module _ (plan : Plan) (w : World) (l : Lists) (laws : Lawful plan) (all : All p
         let y : if1 (not (bell_link plan w.words.page_link_at n q == 0)) ≡ 0 = rw e refl in absurd (omega arith)
 
   -- the page at a bell's cursor
-  pub rung : (a : ℕ) (p : Body) (q : ℕ) → slice_get w.parts a ≡ Some p → p.bell_cursor ≡ Some q → q < all_pages plan
+  pub rung : (a : ℕ) (p : Body) (q : ℕ) → slice_get w.parts a ≡ Some p → p.bell_cursor ≡ Some q → q < heap_pages plan
   rung a p q at is = go p.owned refl where
-    go : (o : Option ℕ) → p.owned ≡ o → q < all_pages plan
+    go : (o : Option ℕ) → p.owned ≡ o → q < heap_pages plan
     go (Some n) mine =
         let u : bell_cursor_at n q p ≡ 1 = owned_at n n p.owned (is_at p.bell_cursor q) mine ∙ rw (page_same n, is, page_same q) refl in
         let t = total_at (bell_cursor_at n q) w.parts a p at in
@@ -119,7 +119,7 @@ module _ (plan : Plan) (w : World) (l : Lists) (laws : Lawful plan) (all : All p
         let two : if1 (q == q) ≡ 1 = rw (page_same q) refl in belled n q (omega arith)
     go None mine = absurd (let z : None ≡ Some q = sym ((all.rest.homed a p at).bell mine) ∙ is in cc)
 
-  home_lt : (q : ℕ) → q < all_pages plan → home plan q < plan.shards
+  home_lt : (q : ℕ) → q < heap_pages plan → home plan q < plan.shards
   unfolding home
   home_lt q small = go plan.pages refl where
     go : (n : ℕ) → plan.pages ≡ n → q / plan.pages < plan.shards

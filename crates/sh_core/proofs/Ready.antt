@@ -22,7 +22,7 @@ use Rattle.sh_core.specs.Worlds.{World, run}
 use Rattle.sh_core.specs.Lists.{lists_of}
 use Rattle.sh_core.specs.Refines.{Refines}
 use Rattle.sh_core.specs.Within.{PlansHaveShapesPlaces, CountFits, BellsAreSmall, ValuesFit}
-use Rattle.sh_core.specs.Kept.{Kept, Stands, Reached, IsReady, HasValue, KeepsValue, word_at}
+use Rattle.sh_core.specs.Kept.{KeptWorld, StandsFor, FromEvents, IsReady, SlotHasValue, KeepsValue, word_at}
 use Rattle.sh_step.specs.Conditions.{Meets}
 use Rattle.sh_step.proofs.ConditionLaws.{meets}
 use Rattle.sh_step.proofs.Truths.{and3}
@@ -111,7 +111,7 @@ word_fits plan w h (PageLink q) = h.1 q
 word_fits plan w h _ = tt
 
 -- where a slot has a value in the world, one stands in the list
-keeps : (layout : Layout) (k : Kept) (w : World) (q s : ℕ) → Stands k w → ValuesFit (plan_of layout k.shape) w → (fields_of (w.words.state_at q s)).present ≡ true → HasValue k.shape k.words (record { page = q; slot = s })
+keeps : (layout : Layout) (k : KeptWorld) (w : World) (q s : ℕ) → StandsFor k w → ValuesFit (plan_of layout k.shape) w → (fields_of (w.words.state_at q s)).present ≡ true → SlotHasValue k.shape k.words (record { page = q; slot = s })
 keeps layout k w q s st fits there =
     let v = fits (record { page = q; slot = s }) (rw there refl) in
     let c : word_at k.shape k.words (Class q) ≡ w.words.class_at q = st.words.at (Class q) v.2 in
@@ -127,11 +127,11 @@ keeps layout k w q s st fits there =
     }
 
 -- where the condition of an action holds, its row may be done
-pub ready : (layout : Layout) (k : Kept) (a : ℕ) (p : Body) (x : Action) (r : Row) → Reached layout k → slice_get k.parts a ≡ Some p → row (plan_of layout k.shape) p x ≡ Some r → IsReady layout k.shape k.words r
+pub ready : (layout : Layout) (k : KeptWorld) (a : ℕ) (p : Body) (x : Action) (r : Row) → FromEvents layout k → slice_get k.parts a ≡ Some p → row (plan_of layout k.shape) p x ≡ Some r → IsReady layout k.shape k.words r
 ready layout k a p x r reached at e =
     let plan : Plan = plan_of layout k.shape in
     let w : World = run plan reached.events in
-    let st : Stands k w = reached.stands in
+    let st : StandsFor k w = reached.stands in
     let f : Refines plan w (lists_of plan reached.events) = theorem layout k.shape reached.is_layout reached.is_shape reached.fits reached.events in
     let here : slice_get w.parts a ≡ Some p = rw (← st.parts) at in
     let place : IsPlace k.shape r.place = is_place layout k.shape r.place (f.places a p x r here e) in

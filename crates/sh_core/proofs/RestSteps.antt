@@ -9,7 +9,7 @@ use Rattle.sh_step.specs.Plans.{Plan, home}
 use Rattle.sh_slots.specs.Slots.{same_spot}
 use Rattle.sh_step.specs.Collections.{total, if1, without, noted}
 use Rattle.sh_step.specs.declared.body.Body.{Body}
-use Rattle.sh_core.specs.Lists.{Lists}
+use Rattle.sh_core.specs.Lists.{PutLists}
 use Rattle.sh_step.specs.Plans.{over_heap}
 use Rattle.sh_core.specs.Stacks.{spot, top, link_to, first_is, tying, ties_of, cursor_at, ring_tying, ring_ties, is_at, bell_cursor_at}
 use Rattle.sh_core.specs.Bells.{rings, armed_at, owns}
@@ -46,7 +46,7 @@ face plan p = record {
 pub homed_set : (plan : Plan) (class : ℕ → ℕ) (ps : List Body) (a : ℕ) (p' : Body) → ((b : ℕ) (u : Body) → slice_get ps b ≡ Some u → HomedPart plan class u) → HomedPart plan class p' → (b : ℕ) (u : Body) → slice_get (set ps a p') b ≡ Some u → HomedPart plan class u
 homed_set plan class ps a p' old new b u at = ⊎_elim (λ h. let P : Body → Type 0 = λ v. HomedPart plan class v in subst P h.1 new) (λ h. old b u h.1) (get_set ps a b p' u at)
 
-pub rest_frame : (plan : Plan) (class head page_link bell owner : ℕ → ℕ) (link : ℕ → ℕ → ℕ) (ps : List Body) (l : Lists) (a : ℕ) (p p' : Body) → Rest plan class head page_link bell owner link ps l → slice_get ps a ≡ Some p → face plan p' ≡ face plan p → HomedPart plan class p'
+pub rest_frame : (plan : Plan) (class head page_link bell owner : ℕ → ℕ) (link : ℕ → ℕ → ℕ) (ps : List Body) (l : PutLists) (a : ℕ) (p p' : Body) → Rest plan class head page_link bell owner link ps l → slice_get ps a ≡ Some p → face plan p' ≡ face plan p → HomedPart plan class p'
     → Rest plan class head page_link bell owner link (set ps a p') l
 rest_frame plan class head page_link bell owner link ps l a p p' r at same mine = record {
   stacks = chains_same _ _ _ _ _ _ _ _ _ _ _ _ _ _ r.stacks (λ q. refl) (λ q s. refl)
@@ -100,7 +100,7 @@ owns_none plan (Some k) q h = go (k == home plan q) h where
   go false e = refl
 owns_none plan None q h = refl
 
-module _ (plan : Plan) (class head page_link bell owner : ℕ → ℕ) (link : ℕ → ℕ → ℕ) (ps : List Body) (l : Lists) (a : ℕ) (p : Body) (r : Rest plan class head page_link bell owner link ps l) (at : slice_get ps a ≡ Some p) where
+module _ (plan : Plan) (class head page_link bell owner : ℕ → ℕ) (link : ℕ → ℕ → ℕ) (ps : List Body) (l : PutLists) (a : ℕ) (p : Body) (r : Rest plan class head page_link bell owner link ps l) (at : slice_get ps a ≡ Some p) where
   one_owner : (n : ℕ) → total (owns n) ps ≤ 1
   one_owner n = let d = r.owned n in let d0 = d.0 in let d1 = d.1 in omega arith
 

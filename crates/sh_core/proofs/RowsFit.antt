@@ -11,11 +11,11 @@ use Rattle.sh_slots.specs.declared.hand.Hand.{Hand}
 use Rattle.sh_slots.specs.declared.hand.Hand.TheVariants.{Finishing, ToPut, Ringing, Filling}
 use Rattle.sh_slots.specs.declared.reply.Reply.{Reply}
 use Rattle.sh_slots.specs.declared.reply.Reply.TheVariants as reply
-use Rattle.sh_slots.specs.Slots.{live_at, name_of, reusable_word, retired_word}
+use Rattle.sh_slots.specs.Slots.{live_at, name_at, reusable_word, retired_word}
 use Rattle.sh_step.specs.declared.action.Action.TheVariants.{EnterGet, EnterRemove, Mark, Drop, DropHold, Finish, FillSlot, Fill, Publish, ReadClass, ReadLength, ReadWord, ReadPage, SetClass, Take, Follow, Put, PutSlot, Tie, Adopt, Leave, Arm, Ring, RingTie, TakeBell, FollowBell}
 use Rattle.sh_step.specs.declared.body.Body.{Body}
 use Rattle.sh_step.specs.Operations.{StoresWord}
-use Rattle.sh_step.specs.Plans.{Plan, Lawful, all_pages, local, slot_of}
+use Rattle.sh_step.specs.Plans.{Plan, Lawful, heap_pages, local, slot_of}
 use Rattle.sh_step.specs.Rows.{Row, publish}
 use Rattle.sh_core.specs.Words.{read}
 use Rattle.sh_core.specs.Worlds.{World}
@@ -67,7 +67,7 @@ module _ (plan : Plan) (w : World) (laws : Lawful plan) (fills : FillsAreKeys pl
   names_slot : (x : Spot) → x.slot < 48 → (x.slot + 1) * 2 < 2 ^ 64
   names_slot x h = omega arith
 
-  names_page : (q : ℕ) → q < all_pages plan → local plan q + 1 < 2 ^ 64
+  names_page : (q : ℕ) → q < heap_pages plan → local plan q + 1 < 2 ^ 64
   names_page q h = let a = local_small plan q in let b = laws.few_pages in omega arith
 
   -- the next generation is not past the last
@@ -117,15 +117,15 @@ module _ (plan : Plan) (w : World) (laws : Lawful plan) (fills : FillsAreKeys pl
     g : ℕ
     g = (fields_of (w.words.state_at x.page x.slot)).generation
 
-    name_is : (y z : ℕ) → x.page ≡ y → x.slot ≡ z → ◌≡◌ {A = Name} (name_of x g) (record { page = y; slot = z; generation = g })
+    name_is : (y z : ℕ) → x.page ≡ y → x.slot ≡ z → ◌≡◌ {A = Name} (name_at x g) (record { page = y; slot = z; generation = g })
     name_is y z a b = λ i. record { page = a i; slot = b i; generation = g }
 
-    go : Some (reply.Insert (plan.keys.pack (name_of x g)) v) ≡ Some (reply.Insert k u) → State x.page x.slot ≡ State q s → plan.keys.unpack k ≡ Some (record { page = q; slot = s; generation = g })
+    go : Some (reply.Insert (plan.keys.pack (name_at x g)) v) ≡ Some (reply.Insert k u) → State x.page x.slot ≡ State q s → plan.keys.unpack k ≡ Some (record { page = q; slot = s; generation = g })
     go reply place =
-        let key : plan.keys.pack (name_of x g) ≡ k = cc in
+        let key : plan.keys.pack (name_at x g) ≡ k = cc in
         let page : x.page ≡ q = cc in
         let slot : x.slot ≡ s = cc in
-        let f : plan.keys.unpack (plan.keys.pack (name_of x g)) ≡ Some (name_of x g) = fills a p x v i at is in
+        let f : plan.keys.unpack (plan.keys.pack (name_at x g)) ≡ Some (name_at x g) = fills a p x v i at is in
         ap plan.keys.unpack (sym key) ∙ (f ∙ ap (λ (n : Name). Some n) (name_is q s page slot))
 
   pub issues_keys : IssuesKeys plan w

@@ -16,19 +16,19 @@ use Rattle.sh_step.proofs.ConditionLaws.{meets, is_own, is_no_cursor, is_empty, 
 use Rattle.sh_step.proofs.PageLaws.{page_within}
 use Rattle.sh_core.specs.Words.{read, put}
 use Rattle.sh_core.specs.Worlds.{World, step, apply, run_from}
-use Rattle.sh_core.specs.Lists.{Lists, pushed, taken, bells_taken, chain_followed, listed, list_step, lists_from}
+use Rattle.sh_core.specs.Lists.{PutLists, pushed, taken, bells_taken, chain_followed, listed, list_step, lists_from}
 use Rattle.sh_core.specs.Placed.{All}
 use Rattle.sh_core.proofs.KeptSlots.{kept_enter_get, kept_enter_remove, kept_mark, kept_drop_hand, kept_drop_key, kept_finish, kept_fill_slot, kept_fill, kept_publish}
 use Rattle.sh_core.proofs.KeptLists.{kept_read_class, kept_read_length, kept_read_word, kept_read_page, kept_set_class, kept_take, kept_arm, kept_follow, kept_put, kept_put_slot, kept_tie, kept_adopt, kept_leave, kept_ring, kept_ring_tie, kept_take_bell, kept_follow_bell}
 
 -- one kind after the other
-module _ (plan : Plan) (w : World) (l : Lists) (a : ℕ) (p : Body) (laws : Lawful plan) (old : All plan w l) (at : slice_get w.parts a ≡ Some p) where
+module _ (plan : Plan) (w : World) (l : PutLists) (a : ℕ) (p : Body) (laws : Lawful plan) (old : All plan w l) (at : slice_get w.parts a ≡ Some p) where
   -- what holds of the part with the hand that it has, holds of it
   handed : (h : Hand) → p.hand ≡ h → (P : Body → Type 0) → (slice_get w.parts a ≡ Some (hand p h) → P (hand p h)) → P p
   handed h is P f = let e : p ≡ hand p h = λ i. record p { hand = is i } in subst P (sym e) (f (at ∙ ap (λ (u : Body). Some u) e))
 
   -- a row that is this one, and leaves these lists
-  as_row : (k : Lists) (m r : Row) → m ≡ r → All plan (apply w a r) k → All plan (apply w a m) k
+  as_row : (k : PutLists) (m r : Row) → m ≡ r → All plan (apply w a r) k → All plan (apply w a m) k
   as_row k m r e h = let P : Row → Type 0 = λ u. All plan (apply w a u) k in subst P (sym e) h
 
   kinds : (x : Action) (m : Row) → row plan p x ≡ Some m → All plan (apply w a m) (listed plan p x (read w.words m.place) l)
@@ -92,29 +92,29 @@ module _ (plan : Plan) (w : World) (l : Lists) (a : ℕ) (p : Body) (laws : Lawf
   kinds RingTie m e = let h = meets plan p RingTie m e in
       as_row l m _ h.3 (handed (RingTying h.0 h.1) h.2 (λ u. All plan (apply w a (ring_tie u h.0 h.1)) l) (λ i. kept_ring_tie plan w l a p h.0 h.1 old i))
   kinds TakeBell m e = let h = meets plan p TakeBell m e in
-      let lists : Option ℕ → Lists = λ o. elim o as (λ _. Lists) [ Some k ↦ bells_taken l k | None ↦ l ] in
-      let P : Lists → Type 0 = λ k. All plan (apply w a m) k in
+      let lists : Option ℕ → PutLists = λ o. elim o as (λ _. PutLists) [ Some k ↦ bells_taken l k | None ↦ l ] in
+      let P : PutLists → Type 0 = λ k. All plan (apply w a m) k in
       subst P (ap lists (sym h.1)) (as_row (bells_taken l h.0) m _ h.4 (handed Idle h.2 (λ u. All plan (apply w a (take_bell plan u h.0)) (bells_taken l h.0)) (λ i. kept_take_bell plan w l a p old i h.0 h.1 h.3)))
   kinds FollowBell m e = let h = meets plan p FollowBell m e in go p.owned refl h.0 h.1 h.2 h.3 where
     go : (o : Option ℕ) → p.owned ≡ o → (q : ℕ) → p.bell_cursor ≡ Some q → p.hand ≡ Idle → m ≡ follow_bell plan p q
-        → All plan (apply w a m) (elim o as (λ _. Lists) [ Some k ↦ cond (read w.words m.place == 0) l (record l { bell_chain = put l.bell_chain k (drop 1 (l.bell_chain k)) }) | None ↦ l ])
+        → All plan (apply w a m) (elim o as (λ _. PutLists) [ Some k ↦ cond (read w.words m.place == 0) l (record l { bell_chain = put l.bell_chain k (drop 1 (l.bell_chain k)) }) | None ↦ l ])
     go (Some n) is q at_bell idle e =
         let P : Row → Type 0 = λ u. All plan (apply w a u) (cond (read w.words u.place == 0) l (record l { bell_chain = put l.bell_chain n (drop 1 (l.bell_chain n)) })) in
         subst P (sym e) (handed Idle idle (λ u. All plan (apply w a (follow_bell plan u q)) (cond (w.words.page_link_at q == 0) l (record l { bell_chain = put l.bell_chain n (drop 1 (l.bell_chain n)) }))) (λ i. kept_follow_bell plan w l a p old i n q is at_bell))
     go None is q at_bell idle e = let z : None ≡ Some q = sym ((old.rest.homed a p at).bell is) ∙ at_bell in absurd (cc)
 
-pub all_step : (plan : Plan) (w : World) (l : Lists) (e : Event) → Lawful plan → All plan w l → All plan (step plan w e) (list_step plan w e l)
+pub all_step : (plan : Plan) (w : World) (l : PutLists) (e : Event) → Lawful plan → All plan w l → All plan (step plan w e) (list_step plan w e l)
 unfolding step list_step
 all_step plan w l e laws g = go (slice_get w.parts e.pass) refl where
   go : (o : Option Body) → slice_get w.parts e.pass ≡ o → All plan (elim o as (λ _. World) [ Some p ↦ elim (row plan p e.action) [ Some m ↦ apply w e.pass m | None ↦ w ] | None ↦ w ])
-      (elim o as (λ _. Lists) [ Some p ↦ elim (row plan p e.action) [ Some m ↦ listed plan p e.action (read w.words m.place) l | None ↦ l ] | None ↦ l ])
+      (elim o as (λ _. PutLists) [ Some p ↦ elim (row plan p e.action) [ Some m ↦ listed plan p e.action (read w.words m.place) l | None ↦ l ] | None ↦ l ])
   go None at = g
   go (Some p) at = by (row plan p e.action) refl where
-    by : (o : Option Row) → row plan p e.action ≡ o → All plan (elim o as (λ _. World) [ Some m ↦ apply w e.pass m | None ↦ w ]) (elim o as (λ _. Lists) [ Some m ↦ listed plan p e.action (read w.words m.place) l | None ↦ l ])
+    by : (o : Option Row) → row plan p e.action ≡ o → All plan (elim o as (λ _. World) [ Some m ↦ apply w e.pass m | None ↦ w ]) (elim o as (λ _. PutLists) [ Some m ↦ listed plan p e.action (read w.words m.place) l | None ↦ l ])
     by None h = g
     by (Some m) h = kinds plan w l e.pass p laws g at e.action m h
 
-pub all_from : (plan : Plan) (w : World) (l : Lists) (es : List Event) → Lawful plan → All plan w l → All plan (run_from plan w es) (lists_from plan w l es)
+pub all_from : (plan : Plan) (w : World) (l : PutLists) (es : List Event) → Lawful plan → All plan w l → All plan (run_from plan w es) (lists_from plan w l es)
 unfolding run_from lists_from
 all_from plan w l [] laws g = g
 all_from plan w l (e ∷ es) laws g = all_from plan (step plan w e) (list_step plan w e l) es laws (all_step plan w l e laws g)

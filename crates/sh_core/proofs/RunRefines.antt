@@ -9,7 +9,7 @@ use Rattle.sh_step.specs.Plans.{Plan, home, Lawful, over_heap}
 use Rattle.sh_slots.specs.Slots.{spot_of, spots}
 use Rattle.sh_step.specs.Collections.{total, if1}
 use Rattle.sh_step.specs.declared.body.Body.{Body}
-use Rattle.sh_core.specs.Lists.{Lists, times, mine_at}
+use Rattle.sh_core.specs.Lists.{PutLists, times, mine_at}
 use Rattle.sh_core.specs.Stacks.{spot, ties_of, cursor_at, ring_ties, bell_cursor_at}
 use Rattle.sh_core.specs.Bells.{rings, armed_at, owns}
 use Rattle.sh_core.specs.Placed.{HomedPart, All}
@@ -49,11 +49,11 @@ all_open plan laws = record {
   no_link n q false = refl
 
 -- a blank page has no slots to count
-blank_fills : (w : World) (l : Lists) (q : ℕ) → w.words.class_at q ≡ 0 → let a = accounts w l q in a.live + (a.marked + (a.retired + (a.mine + (a.hand + a.queued)))) ≡ slots_under (w.words.class_at q)
+blank_fills : (w : World) (l : PutLists) (q : ℕ) → w.words.class_at q ≡ 0 → let a = accounts w l q in a.live + (a.marked + (a.retired + (a.mine + (a.hand + a.queued)))) ≡ slots_under (w.words.class_at q)
 unfolding accounts total spots
 blank_fills w l q e = rw e refl
 
-module _ (plan : Plan) (w : World) (l : Lists) (all : All plan w l) where
+module _ (plan : Plan) (w : World) (l : PutLists) (all : All plan w l) where
   pub kinds_add_up : KindsAddUp w l
   kinds_add_up x =
       let fine = all.good.slots x in

@@ -6,7 +6,7 @@ use Rattle.sh_history.specs.History.{Legal}
 use Rattle.sh_step.specs.Plans.{Plan, Lawful, keys_of}
 use Rattle.sh_step.specs.Collections.{total, if1, noted}
 use Rattle.sh_step.specs.declared.body.Body.{Body}
-use Rattle.sh_core.specs.Lists.{Lists}
+use Rattle.sh_core.specs.Lists.{PutLists}
 use Rattle.sh_core.specs.Placed.{All}
 use Rattle.sh_step.specs.declared.action.Event.{Event}
 use Rattle.sh_core.specs.Worlds.{World, step, run, run_from, open_world}
@@ -22,8 +22,8 @@ use Rattle.sh_core.proofs.LinkFacts.{each_linked}
 use Rattle.sh_core.proofs.OwnerFacts.{one_owner, shardless, own_stands}
 use Rattle.sh_key.specs.Layout.{Layout, IsLayout}
 use Rattle.sh_shape.specs.Shape.{Numbers, IsShape, Fits}
-use Rattle.sh_slots.specs.Slots.{name_of}
-use Rattle.sh_step.specs.Plans.{plan_of, all_pages}
+use Rattle.sh_slots.specs.Slots.{name_at}
+use Rattle.sh_step.specs.Plans.{plan_of, heap_pages}
 use Rattle.sh_core.specs.Refines.{ClassesAreKnown, FillsAreKeys, Refines, CountIsFew}
 use Rattle.sh_core.specs.Within.{AllWithin, ValuesFit}
 use Rattle.sh_core.proofs.BellWords.{bells_are_small}
@@ -45,7 +45,7 @@ know_open plan a p at =
     subst P e (record { named = λ k h. absurd (omega arith); classed = λ k c h. absurd (let z : None ≡ Some c = h in cc); measured = λ k c h. absurd (let z : None ≡ Some c = h in cc) })
 
 -- all six are kept along a run
-pub record Kept (plan : Plan) (w : World) (l : Lists) : Type 0 where
+pub record Kept (plan : Plan) (w : World) (l : PutLists) : Type 0 where
   pub all : All plan w l
   pub know : AllKnow plan w
   pub within : AllWithin plan w
@@ -53,12 +53,12 @@ pub record Kept (plan : Plan) (w : World) (l : Lists) : Type 0 where
   pub told : AllTold w
   pub beside : Beside plan w
 
-kept_from : (plan : Plan) (w : World) (l : Lists) (es : List Event) → Lawful plan → Kept plan w l → Kept plan (run_from plan w es) (lists_from plan w l es)
+kept_from : (plan : Plan) (w : World) (l : PutLists) (es : List Event) → Lawful plan → Kept plan w l → Kept plan (run_from plan w es) (lists_from plan w l es)
 unfolding run_from lists_from
 kept_from plan w l [] laws k = k
 kept_from plan w l (e ∷ es) laws k = kept_from plan (step plan w e) (list_step plan w e l) es laws (record { all = all_step plan w l e laws k.all; know = know_step plan w l e k.all k.know; within = within_step plan w e (λ q s. (k.all.sound.generations q s).1) k.within; few = few_step plan w l e k.all.good k.few; told = told_step plan w l e k.all k.know k.told; beside = beside_step plan w l e k.all (counts_fit plan w l laws k.all k.know k.within) k.beside })
 
-module _ (plan : Plan) (w : World) (l : Lists) (laws : Lawful plan) (kept : Kept plan w l) where
+module _ (plan : Plan) (w : World) (l : PutLists) (laws : Lawful plan) (kept : Kept plan w l) where
   abbrev all : All plan w l
   all = kept.all
 
@@ -71,10 +71,10 @@ module _ (plan : Plan) (w : World) (l : Lists) (laws : Lawful plan) (kept : Kept
   -- class words are small, and 0 past the last page
   classes : ClassesAreKnown plan w
   classes q = (bounds.0, λ past. none (w.words.class_at q) refl past) where
-    bounds : (w.words.class_at q ≤ 8) × (0 < w.words.class_at q → q < all_pages plan)
+    bounds : (w.words.class_at q ≤ 8) × (0 < w.words.class_at q → q < heap_pages plan)
     bounds = all.sound.classes q
 
-    none : (n : ℕ) → w.words.class_at q ≡ n → all_pages plan ≤ q → n ≡ 0
+    none : (n : ℕ) → w.words.class_at q ≡ n → heap_pages plan ≤ q → n ≡ 0
     none zero e past = refl
     none (suc n) e past = absurd (let inside = bounds.1 (omega arith) in omega arith)
 
@@ -89,7 +89,7 @@ module _ (plan : Plan) (w : World) (l : Lists) (laws : Lawful plan) (kept : Kept
   fills a p x v i at is =
       let P : Hand → Type 0 = λ h. Rattle.sh_core.specs.Within.HandWithin plan h in
       let h : Rattle.sh_core.specs.Within.HandWithin plan (Filling x v i) = subst P is (kept.within a p at).hand in
-      let g = all.sound.generations x.page x.slot in laws.names (name_of x (state_of w x).generation) g.0 g.1 h.0 h.1
+      let g = all.sound.generations x.page x.slot in laws.names (name_at x (state_of w x).generation) g.0 g.1 h.0 h.1
 
   pub refines : Refines plan w l
   refines = record {

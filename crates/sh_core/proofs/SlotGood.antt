@@ -14,12 +14,12 @@ use Rattle.sh_shape.specs.declared.places.Place.TheVariants.{State}
 use Rattle.sh_word.specs.Fields.{Fields, fields_of}
 use Rattle.sh_step.specs.Plans.{Plan, Lawful}
 use Rattle.sh_shape.specs.Classes.{width, slots}
-use Rattle.sh_slots.specs.Slots.{same_spot, spot_of, name_of, live_at, after_drop}
+use Rattle.sh_slots.specs.Slots.{same_spot, spot_of, name_at, live_at, after_drop}
 use Rattle.sh_step.specs.Collections.{total, if1}
 use Rattle.sh_step.specs.declared.body.Body.{Body}
 use Rattle.sh_step.specs.Rows.{hand, drop_hand, enter_get, publish}
 use Rattle.sh_core.specs.Worlds.{World, apply, value_at, words_from}
-use Rattle.sh_core.specs.Lists.{Lists, in_hand}
+use Rattle.sh_core.specs.Lists.{PutLists, in_hand}
 use Rattle.sh_core.specs.Tallies.{Fine, tally, due, held, visits, room, queued, at_spot, current}
 use Rattle.sh_core.specs.Stories.{values, removals, removed_in, Story, KeysFine}
 use Rattle.sh_core.specs.Good.{Good, FillFine}
@@ -46,7 +46,7 @@ fill_none w p true x g = tt
 fill_none w p false x g = tt
 
 -- Drop of a visit
-pub good_drop : (plan : Plan) (w : World) (l : Lists) (a : ℕ) (p : Body) (x : Spot) → Good plan w l → slice_get w.parts a ≡ Some (hand p (Leaving x)) → Good plan (apply w a (drop_hand (hand p (Leaving x)) x)) l
+pub good_drop : (plan : Plan) (w : World) (l : PutLists) (a : ℕ) (p : Body) (x : Spot) → Good plan w l → slice_get w.parts a ≡ Some (hand p (Leaving x)) → Good plan (apply w a (drop_hand (hand p (Leaving x)) x)) l
 unfolding apply
 good_drop plan w l a p x g at =
     let f = g.slots x in
@@ -79,7 +79,7 @@ visits_few plan x p (Removing k) = if1_few (at_spot x (plan.keys.unpack k))
 visits_few plan x p (Leaving y) = if1_few (same_spot x y)
 visits_few plan x p _ = omega arith
 
-pub room_to_enter : (plan : Plan) (w : World) (l : Lists) (x : Spot) → Lawful plan → Good plan w l → (fields_of (w.words.state_at x.page x.slot)).count + 1 < 2 ^ 30
+pub room_to_enter : (plan : Plan) (w : World) (l : PutLists) (x : Spot) → Lawful plan → Good plan w l → (fields_of (w.words.state_at x.page x.slot)).count + 1 < 2 ^ 30
 room_to_enter plan w l x laws g =
     let f = g.slots x in
     let h = total_few (held plan x) 16 w.parts (λ a p at. let n = total_length (λ k. if1 (at_spot x (plan.keys.unpack k))) (λ k. if1_few (at_spot x (plan.keys.unpack k))) p.holds in let m = (g.parts a p at).0 in omega arith) in
@@ -96,7 +96,7 @@ unfolding values
 none_got a k v j = (refl, refl)
 
 -- Enter of a get that meets no live value of its key
-pub good_gone : (plan : Plan) (w : World) (l : Lists) (a : ℕ) (p : Body) (k : ℕ) (y : Name) → Lawful plan → Good plan w l → slice_get w.parts a ≡ Some (hand p Idle) → plan.keys.unpack k ≡ Some y
+pub good_gone : (plan : Plan) (w : World) (l : PutLists) (a : ℕ) (p : Body) (k : ℕ) (y : Name) → Lawful plan → Good plan w l → slice_get w.parts a ≡ Some (hand p Idle) → plan.keys.unpack k ≡ Some y
     → live_at y.generation (w.words.state_at y.page y.slot) ≡ false → Good plan (apply w a (enter_get plan (hand p Idle) k y)) l
 unfolding apply
 good_gone plan w l a p k y laws g at name dead =
@@ -110,7 +110,7 @@ good_gone plan w l a p k y laws g at name dead =
       n = w.words.state_at y.page y.slot
 
 -- Enter of a get that takes a hold
-pub good_got : (plan : Plan) (w : World) (l : Lists) (a : ℕ) (p : Body) (k : ℕ) (y : Name) → Lawful plan → Good plan w l → slice_get w.parts a ≡ Some (hand p Idle) → plan.keys.unpack k ≡ Some y → length p.holds < 16
+pub good_got : (plan : Plan) (w : World) (l : PutLists) (a : ℕ) (p : Body) (k : ℕ) (y : Name) → Lawful plan → Good plan w l → slice_get w.parts a ≡ Some (hand p Idle) → plan.keys.unpack k ≡ Some y → length p.holds < 16
     → live_at y.generation (w.words.state_at y.page y.slot) ≡ true → nat_lt (fields_of (w.words.state_at y.page y.slot)).count plan.keys.guard_max ≡ true → Good plan (apply w a (enter_get plan (hand p Idle) k y)) l
 unfolding apply total
 good_got plan w l a p k y laws g at name fewer live under =
@@ -188,8 +188,8 @@ publish_keys plan w log a k v x y laws name old is gen m p now =
     (λ e. rw now (values_one a k v j (same_tests k j (same_key plan k j y z laws name u (h ∙ sym is) (e ∙ sym gen)))))
     (λ e. values_zero a k v j (apart_tests k j (apart_key plan k j y z name u (λ c. e (sym c ∙ gen)))))))
 
-pub good_publish : (plan : Plan) (w : World) (l : Lists) (a : ℕ) (p : Body) (x : Spot) (v : List ℕ) (i : ℕ) → Lawful plan → Good plan w l → slice_get w.parts a ≡ Some (hand p (Filling x v i)) → length v ≤ i
-    → plan.keys.unpack (plan.keys.pack (name_of x (fields_of (w.words.state_at x.page x.slot)).generation)) ≡ Some (name_of x (fields_of (w.words.state_at x.page x.slot)).generation) → Good plan (apply w a (publish plan (hand p (Filling x v i)) x v)) l
+pub good_publish : (plan : Plan) (w : World) (l : PutLists) (a : ℕ) (p : Body) (x : Spot) (v : List ℕ) (i : ℕ) → Lawful plan → Good plan w l → slice_get w.parts a ≡ Some (hand p (Filling x v i)) → length v ≤ i
+    → plan.keys.unpack (plan.keys.pack (name_at x (fields_of (w.words.state_at x.page x.slot)).generation)) ≡ Some (name_at x (fields_of (w.words.state_at x.page x.slot)).generation) → Good plan (apply w a (publish plan (hand p (Filling x v i)) x v)) l
 unfolding apply
 good_publish plan w l a p x v i laws g at all name =
     let f = g.slots x in
@@ -199,13 +199,13 @@ good_publish plan w l a p x v i laws g at all name =
     good_at plan w l l a (hand p (Filling x v i)) (hand p Idle) (write w.words (State x.page x.slot) (bit_or n (2 ^ 30))) (Some (Insert a k v)) g at
     (slots_state plan w.words w.parts l a (hand p (Filling x v i)) (hand p Idle) x (bit_or n (2 ^ 30)) g.slots at (λ y st h. publish_due plan p x y v i st h) (rw pub_at (publish_fine _ _ (fields_of n) plan w.parts a p x v i (room_few w.words x) at f)))
     (publish_keys plan w.words w.log a k v x y laws name g.keys refl refl c.1 c.0 now)
-    ((g.keys k (name_of x (fields_of n).generation) name).fresh refl (rw (c.0, c.1) refl))
+    ((g.keys k (name_at x (fields_of n).generation) name).fresh refl (rw (c.0, c.1) refl))
     (refl, λ j. refl) ((g.parts a (hand p (Filling x v i)) at).0, tt) (λ b q _ _ h. h) where
       n : ℕ
       n = w.words.state_at x.page x.slot
 
       y : Name
-      y = name_of x (fields_of n).generation
+      y = name_at x (fields_of n).generation
 
       k : ℕ
       k = plan.keys.pack y

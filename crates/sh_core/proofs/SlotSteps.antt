@@ -11,7 +11,7 @@ use Rattle.sh_step.specs.Plans.{Plan}
 use Rattle.sh_slots.specs.Slots.{same_spot, after_drop, spot_of}
 use Rattle.sh_step.specs.Collections.{total, if1, without, has}
 use Rattle.sh_step.specs.declared.body.Body.{Body}
-use Rattle.sh_core.specs.Lists.{Lists, in_hand}
+use Rattle.sh_core.specs.Lists.{PutLists, in_hand}
 use Rattle.sh_step.specs.Rows.{hand, freed}
 use Rattle.sh_core.specs.Tallies.{Fine, tally, due, visits, SlotsFine, at_spot, current, stale}
 use Rattle.sh_core.proofs.Totals.{total_at, total_without}
@@ -47,7 +47,7 @@ drop_due false g plan p x y st h = rw h refl
 pub leaving : (plan : Plan) (ps : List Body) (a : ℕ) (p : Body) (x : Spot) → slice_get ps a ≡ Some (hand p (Leaving x)) → 0 < total (visits plan x) ps
 leaving plan ps a p x at = let e = same_spot-refl x in let here : if1 (same_spot x x) ≡ 1 = rw e refl in let t = total_at (visits plan x) ps a (hand p (Leaving x)) at in omega arith
 
-pub drop_slots : (plan : Plan) (w : Words) (ps : List Body) (l : Lists) (a : ℕ) (p : Body) (x : Spot) → SlotsFine plan w ps l → slice_get ps a ≡ Some (hand p (Leaving x))
+pub drop_slots : (plan : Plan) (w : Words) (ps : List Body) (l : PutLists) (a : ℕ) (p : Body) (x : Spot) → SlotsFine plan w ps l → slice_get ps a ≡ Some (hand p (Leaving x))
     → SlotsFine plan (write w (State x.page x.slot) (w.state_at x.page x.slot - 1)) (set ps a (hand p (after_drop x (w.state_at x.page x.slot)))) l
 drop_slots plan w ps l a p x old at = let f = old x in let v = leaving plan ps a p x at in let some : 0 < (fields_of n).count = omega arith in
     slots_state plan w ps l a (hand p (Leaving x)) (hand p (after_drop x n)) x (n - 1) old at (λ y st h. drop_due b (fields_of n).generation plan p x y st h) (rw (fields_of-sub n some) (drop_fine b _ _ (fields_of n) plan ps a p x at f some refl)) where
@@ -66,7 +66,7 @@ enter_fine r q st plan ps a p x at f =
     let here : if1 (same_spot x x) ≡ 1 = rw e refl in
     record { kinds = omega arith; counts = omega arith; none_lost = omega arith; owed = λ c d n. absurd (omega arith) }
 
-pub enter_slots : (plan : Plan) (w : Words) (ps : List Body) (l : Lists) (a : ℕ) (p : Body) (x : Spot) → SlotsFine plan w ps l → slice_get ps a ≡ Some (hand p Idle) → (fields_of (w.state_at x.page x.slot)).count + 1 < 2 ^ 30
+pub enter_slots : (plan : Plan) (w : Words) (ps : List Body) (l : PutLists) (a : ℕ) (p : Body) (x : Spot) → SlotsFine plan w ps l → slice_get ps a ≡ Some (hand p Idle) → (fields_of (w.state_at x.page x.slot)).count + 1 < 2 ^ 30
     → SlotsFine plan (write w (State x.page x.slot) (w.state_at x.page x.slot + 1)) (set ps a (hand p (Leaving x))) l
 enter_slots plan w ps l a p x old at few = let f = old x in
     slots_state plan w ps l a (hand p Idle) (hand p (Leaving x)) x (n + 1) old at (λ y st h. rw h refl) (rw (fields_of-entered n few) (enter_fine _ _ (fields_of n) plan ps a p x at f)) where

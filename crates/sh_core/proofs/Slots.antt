@@ -9,7 +9,7 @@ use Rattle.sh_step.specs.Plans.{Plan}
 use Rattle.sh_slots.specs.Slots.{same_spot}
 use Rattle.sh_step.specs.Collections.{total, if1}
 use Rattle.sh_step.specs.declared.body.Body.{Body}
-use Rattle.sh_core.specs.Lists.{Lists, mine_at, in_hand}
+use Rattle.sh_core.specs.Lists.{PutLists, mine_at, in_hand}
 use Rattle.sh_core.specs.Tallies.{Fine, Tally, tally, due, held, visits, lost, finishing, room, queued, SlotsFine}
 use Rattle.sh_slots.specs.declared.hand.Hand.{Hand}
 use Rattle.sh_slots.specs.declared.hand.Hand.TheVariants.{Removing}
@@ -94,7 +94,7 @@ pub lost_most : (plan : Plan) (x : Spot) (st st' : Fields) (ps : List Body) → 
 lost_most plan x st st' ps e = total_le (lost plan x st') (lost plan x st) (λ p. lost_most1 plan x st st' e p (p.hand)) ps
 
 -- a step on the state word of x, by the pass a: what is kept of x is owed, and the other slots must mean to p' what they meant to p
-pub slots_state : (plan : Plan) (w : Words) (ps : List Body) (l : Lists) (a : ℕ) (p p' : Body) (x : Spot) (n : ℕ) → SlotsFine plan w ps l → slice_get ps a ≡ Some p
+pub slots_state : (plan : Plan) (w : Words) (ps : List Body) (l : PutLists) (a : ℕ) (p p' : Body) (x : Spot) (n : ℕ) → SlotsFine plan w ps l → slice_get ps a ≡ Some p
     → ((y : Spot) (st : Fields) → same_spot y x ≡ false → due plan y st p' ≡ due plan y st p)
     → Fine (room w x) (queued l x) (fields_of n) (tally plan x (fields_of n) (set ps a p'))
     → SlotsFine plan (write w (State x.page x.slot) n) (set ps a p') l
@@ -107,7 +107,7 @@ slots_state plan w ps l a p p' x n old at others this y = go (same_spot y x) ref
   go false h = rw (put2_other w.state_at x.page x.slot n y.page y.slot h, tally_same plan y (fields_of (w.state_at y.page y.slot)) ps a p p' at (others y (fields_of (w.state_at y.page y.slot)) h)) (old y)
 
 -- a step that leaves the state words and the classes
-pub slots_part : (plan : Plan) (w : Words) (ps : List Body) (l l' : Lists) (a : ℕ) (p p' : Body) (x : Spot) → SlotsFine plan w ps l → slice_get ps a ≡ Some p
+pub slots_part : (plan : Plan) (w : Words) (ps : List Body) (l l' : PutLists) (a : ℕ) (p p' : Body) (x : Spot) → SlotsFine plan w ps l → slice_get ps a ≡ Some p
     → ((y : Spot) (st : Fields) → same_spot y x ≡ false → due plan y st p' ≡ due plan y st p)
     → ((y : Spot) → same_spot y x ≡ false → queued l' y ≡ queued l y)
     → Fine (room w x) (queued l' x) (fields_of (w.state_at x.page x.slot)) (tally plan x (fields_of (w.state_at x.page x.slot)) (set ps a p'))

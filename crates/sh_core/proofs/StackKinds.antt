@@ -8,7 +8,7 @@ use Rattle.sh_step.specs.Plans.{Plan, home}
 use Rattle.sh_slots.specs.Slots.{same_spot}
 use Rattle.sh_step.specs.Collections.{total, if1, noted}
 use Rattle.sh_step.specs.declared.body.Body.{Body}
-use Rattle.sh_core.specs.Lists.{Lists, times, pushed, taken}
+use Rattle.sh_core.specs.Lists.{PutLists, times, pushed, taken}
 use Rattle.sh_core.specs.Stacks.{spot, link_to, first_is, tying, ties_of, cursor_at, ring_tying, ring_ties, bell_cursor_at}
 use Rattle.sh_core.specs.Bells.{rings, armed_at, owns, Duty}
 use Rattle.sh_core.specs.Placed.{RestOf}
@@ -33,7 +33,7 @@ no_flag true c h = rw h refl
 no_flag false c h = refl
 
 -- Put takes the flag over, and owes the link to the old top
-module _ (plan : Plan) (w : Words) (ps : List Body) (l : Lists) (a : ℕ) (p : Body) (x : Spot) (old : RestOf plan w ps l) (at : slice_get ps a ≡ Some (hand p Idle)) (none : queued l x ≡ 0) where
+module _ (plan : Plan) (w : Words) (ps : List Body) (l : PutLists) (a : ℕ) (p : Body) (x : Spot) (old : RestOf plan w ps l) (at : slice_get ps a ≡ Some (hand p Idle)) (none : queued l x ≡ 0) where
   abbrev n : ℕ
   n = (x.slot + 1) * 2
 
@@ -96,7 +96,7 @@ module _ (plan : Plan) (w : Words) (ps : List Body) (l : Lists) (a : ℕ) (p : B
   }
 
 -- Tie stores the link, and hands the duty on to the hand that rings
-module _ (plan : Plan) (w : Words) (ps : List Body) (l : Lists) (a : ℕ) (p : Body) (x : Spot) (n : ℕ) (r : Bool) (old : RestOf plan w ps l) (at : slice_get ps a ≡ Some (hand p (Tying x n r))) (once : queued l x ≤ 1) where
+module _ (plan : Plan) (w : Words) (ps : List Body) (l : PutLists) (a : ℕ) (p : Body) (x : Spot) (n : ℕ) (r : Bool) (old : RestOf plan w ps l) (at : slice_get ps a ≡ Some (hand p (Tying x n r))) (once : queued l x ≤ 1) where
   abbrev before2 : Body
   before2 = hand p (Tying x n r)
 
@@ -171,7 +171,7 @@ no_cursor_none None h = refl
 no_cursor_none (Some x) h = absurd (let z : false ≡ true = h in cc)
 
 -- Take and Arm: the stack becomes the chain; of the page's flag and of what is armed the duty speaks
-module _ (plan : Plan) (w : Words) (ps : List Body) (l : Lists) (a : ℕ) (p : Body) (q m : ℕ) (arms : List ℕ) (old : RestOf plan w ps l) (at : slice_get ps a ≡ Some p) (mine : own plan p q ≡ true) (no : no_cursor p q ≡ true) (small : m < 2)
+module _ (plan : Plan) (w : Words) (ps : List Body) (l : PutLists) (a : ℕ) (p : Body) (q m : ℕ) (arms : List ℕ) (old : RestOf plan w ps l) (at : slice_get ps a ≡ Some p) (mine : own plan p q ≡ true) (no : no_cursor p q ≡ true) (small : m < 2)
     (homes : (k : ℕ) → own plan p k ≡ false → times k arms ≡ 0)
     (here : times q arms + w.head_at q % 2 ≡ times q p.armed + m) (there : (k : ℕ) → (k == q) ≡ false → times k arms ≡ times k p.armed) (one : times q arms ≤ 1) where
   abbrev after3 : Body
@@ -235,7 +235,7 @@ module _ (plan : Plan) (w : Words) (ps : List Body) (l : Lists) (a : ℕ) (p : B
   }
 
 -- Follow that finds a link
-module _ (plan : Plan) (w : Words) (ps : List Body) (l : Lists) (a : ℕ) (p : Body) (q s : ℕ) (old : RestOf plan w ps l) (at : slice_get ps a ≡ Some p) (mine : own plan p q ≡ true) (has_cursor : noted q p.cursors ≡ Some s) where
+module _ (plan : Plan) (w : Words) (ps : List Body) (l : PutLists) (a : ℕ) (p : Body) (q s : ℕ) (old : RestOf plan w ps l) (at : slice_get ps a ≡ Some p) (mine : own plan p q ≡ true) (has_cursor : noted q p.cursors ≡ Some s) where
   cursor_one : 0 < total (cursor_at q s) ps
   cursor_one =
       let u = unpoint_total (cursor_test q s) q s p.cursors has_cursor in

@@ -12,7 +12,7 @@ use Rattle.sh_step.specs.declared.action.Action.{Action}
 use Rattle.sh_step.specs.declared.action.Action.TheVariants.{EnterGet, EnterRemove, Mark, Drop, DropHold, Finish, FillSlot, Fill, Publish, ReadClass, ReadLength, ReadWord, ReadPage, SetClass, Take, Follow, Put, PutSlot, Tie, Adopt, Leave, Arm, Ring, RingTie, TakeBell, FollowBell}
 use Rattle.sh_step.specs.declared.action.Event.{Event}
 use Rattle.sh_step.specs.Collections.{total, if1, without}
-use Rattle.sh_step.specs.Plans.{Plan, all_pages, page_of}
+use Rattle.sh_step.specs.Plans.{Plan, heap_pages, page_of}
 use Rattle.sh_step.specs.Rows.{Row, row, own, hand as in_hand}
 use Rattle.sh_core.specs.Worlds.{World, step, apply, open_world}
 use Rattle.sh_core.specs.Lists.{times}
@@ -90,7 +90,7 @@ module _ (plan : Plan) (p : Body) (old : Within plan p) where
   within_row (SetClass y c) m e = let h = meets plan p (SetClass y c) m e in quiet m _ h.7 (λ n f. record { hand = old.hand; owned = old.owned; armed = old.armed })
   within_row (Take y) m e = let h = meets plan p (Take y) m e in
       quiet m _ h.5 (λ n f. record { hand = old.hand; owned = old.owned; armed = go (page_of plan y) (n % 2 == 1) }) where
-        go : (q : ℕ) (b : Bool) (k : ℕ) → 0 < times k (cond b (without (λ x. x == q) p.armed) p.armed) → k < all_pages plan
+        go : (q : ℕ) (b : Bool) (k : ℕ) → 0 < times k (cond b (without (λ x. x == q) p.armed) p.armed) → k < heap_pages plan
         go q true k some = let l = times_less q k p.armed in old.armed k (omega arith)
         go q false k some = old.armed k some
   within_row (Follow y) m e = let h = meets plan p (Follow y) m e in
@@ -98,7 +98,7 @@ module _ (plan : Plan) (p : Body) (old : Within plan p) where
   within_row Put m e = let h = meets plan p Put m e in quiet m _ h.2 (λ n f. record { hand = handed (ToPut h.0) h.1; owned = old.owned; armed = old.armed })
   within_row (PutSlot y) m e = let h = meets plan p (PutSlot y) m e in quiet m _ h.5 (λ n f. record { hand = (page_within plan (its_page y) h.0, h.1); owned = old.owned; armed = old.armed })
   within_row Tie m e = let h = meets plan p Tie m e in quiet m _ h.4 (λ n f. go h.0 h.2 (handed (Tying h.0 h.1 h.2) h.3).0) where
-    go : (x : Spot) (b : Bool) → x.page < all_pages plan → Within plan (in_hand p (cond b (Ringing x.page) Idle))
+    go : (x : Spot) (b : Bool) → x.page < heap_pages plan → Within plan (in_hand p (cond b (Ringing x.page) Idle))
     go x true w = record { hand = w; owned = old.owned; armed = old.armed }
     go x false w = record { hand = tt; owned = old.owned; armed = old.armed }
   within_row (Adopt k) m e = let h = meets plan p (Adopt k) m e in
@@ -112,7 +112,7 @@ module _ (plan : Plan) (p : Body) (old : Within plan p) where
   within_row Leave m e = let h = meets plan p Leave m e in quiet m _ h.7 (λ n f. record { hand = old.hand; owned = λ j is. absurd (let z : None ≡ Some j = is in cc); armed = old.armed })
   within_row (Arm y) m e = let h = meets plan p (Arm y) m e in
       quiet m _ h.6 (λ n f. record { hand = old.hand; owned = old.owned; armed = λ k some. go (page_of plan y) k (page_within plan y h.0) (page_of plan y == k) refl (let t = times_cons k (page_of plan y) p.armed in let z : 0 < times k (page_of plan y ∷ p.armed) = some in omega arith) }) where
-        go : (q k : ℕ) → q < all_pages plan → (b : Bool) → (q == k) ≡ b → 0 < if1 (q == k) + times k p.armed → k < all_pages plan
+        go : (q k : ℕ) → q < heap_pages plan → (b : Bool) → (q == k) ≡ b → 0 < if1 (q == k) + times k p.armed → k < heap_pages plan
         go q k small true e some = let i = same_page q k e in omega arith
         go q k small false e some = old.armed k (let z : if1 (q == k) ≡ 0 = rw e refl in omega arith)
   within_row Ring m e = let h = meets plan p Ring m e in quiet m _ h.2 (λ n f. record { hand = handed (Ringing h.0) h.1; owned = old.owned; armed = old.armed })

@@ -7,7 +7,7 @@ use Rattle.sh_step.specs.declared.body.Body.{Body}
 use Rattle.sh_step.specs.Rows.{Row, row}
 use Rattle.sh_step.specs.declared.footstep.Footstep.{Footstep}
 use Rattle.sh_step.specs.Footsteps.{footstep_of}
-use Rattle.sh_core.specs.Outcomes.{row_of}
+use Rattle.sh_core.specs.Outcomes.{row_of_event}
 use Rattle.sh_core.specs.Trails.{trodden, trail_from, trail_of, TrailGrows, OthersTrailsStay, SkipsLeaveTrails}
 use Rattle.sh_core.specs.Words.{read}
 use Rattle.sh_core.specs.Worlds.{World, step, apply, run, run_from, open_world}
@@ -48,12 +48,12 @@ trail_snoc plan w a steps (d ∷ es) e = trail_snoc plan (step plan w d) a (trod
 adds : World → Event → ℕ → List Footstep → Option Row → List Footstep
 adds w e a steps o = elim o [ Some m ↦ cond (e.pass == a) (steps ++ footstep_of e.action m (read w.words m.place) ∷ []) steps | None ↦ steps ]
 
-one_more : (plan : Plan) (es : List Event) (e : Event) (a : ℕ) → trail_of plan (es ++ e ∷ []) a ≡ adds (run plan es) e a (trail_of plan es a) (row_of plan (run plan es) e)
+one_more : (plan : Plan) (es : List Event) (e : Event) (a : ℕ) → trail_of plan (es ++ e ∷ []) a ≡ adds (run plan es) e a (trail_of plan es a) (row_of_event plan (run plan es) e)
 unfolding adds
 one_more plan es e a = trail_snoc plan (open_world plan) a [] es e
 
-pub row_of_at : (plan : Plan) (w : World) (e : Event) (p : Body) → slice_get w.parts e.pass ≡ Some p → row_of plan w e ≡ row plan p e.action
-unfolding row_of
+pub row_of_at : (plan : Plan) (w : World) (e : Event) (p : Body) → slice_get w.parts e.pass ≡ Some p → row_of_event plan w e ≡ row plan p e.action
+unfolding row_of_event
 row_of_at plan w e p at = ap (λ (o : Option Body). elim o as (λ _. Option Row) [ Some p ↦ row plan p e.action | None ↦ None ]) at
 
 pub trail_grows : TrailGrows
@@ -74,7 +74,7 @@ others_stay w e a steps (Some m) other =
 others_stay w e a steps None other = refl
 
 pub others_trails_stay : OthersTrailsStay
-others_trails_stay plan es e a other = one_more plan es e a ∙ others_stay (run plan es) e a (trail_of plan es a) (row_of plan (run plan es) e) other
+others_trails_stay plan es e a other = one_more plan es e a ∙ others_stay (run plan es) e a (trail_of plan es a) (row_of_event plan (run plan es) e) other
 
 pub skips_leave_trails : SkipsLeaveTrails
 unfolding adds

@@ -18,7 +18,7 @@ use Rattle.sh_core.specs.declared.accounts.Accounts.{Accounts}
 use Rattle.sh_core.specs.Lists.{accounts, lists_of, listed, list_step, lists_from}
 use Rattle.sh_core.specs.declared.outcome.Outcome.{Outcome}
 use Rattle.sh_core.specs.declared.outcome.Outcome.TheVariants.{Moved, Replied, Skipped}
-use Rattle.sh_core.specs.Outcomes.{row_of, outcome_of, outcomes_from, outcomes}
+use Rattle.sh_core.specs.Outcomes.{row_of_event, outcome_of, outcomes_from, outcomes}
 
 abbrev pub small : ℕ → Plan
 small n = plan_of tiny (record { shards = 1; segments = 1; passes = n })
@@ -53,7 +53,7 @@ abbrev words : ℕ → List Event → Words
 words n es = (run (small n) es).words
 
 unfoldable pub everything : ℕ
-unfolding fields_of word_of put put2 total without has noted off every home spots row apply step run_from value_at keys_of page_number local over_heap accounts listed list_step lists_from row_of outcome_of outcomes_from
+unfolding fields_of word_of put put2 total without has noted off every home spots row apply step run_from value_at keys_of page_number local over_heap accounts listed list_step lists_from row_of_event outcome_of outcomes_from
 everything = 0
 
 -- a page of three slots, with the value 5 in the first

@@ -12,7 +12,7 @@ use Rattle.sh_step.specs.Plans.{Plan, plan_of, keys_of}
 use Rattle.sh_step.specs.Rows.{row}
 use Rattle.sh_core.specs.Worlds.{World, step, run_from, run, open_world}
 use Rattle.sh_step.specs.Parts.{newcomer}
-use Rattle.sh_core.specs.Lists.{Lists, list_step, lists_from, lists_of, no_lists, state_of, times}
+use Rattle.sh_core.specs.Lists.{PutLists, list_step, lists_from, lists_of, no_lists, state_of, times}
 use Rattle.sh_core.specs.Stacks.{spot}
 use Rattle.sh_core.specs.Refines.{Always, OneKind, HeldStands, NotesAreTrue, Counted, GenerationsEnd, Finished, Armed, LeftEmpty, Linked, OwnPartsStand, ClassesAreKnown}
 use Rattle.sh_core.specs.Variants.{Table, step_by, run_from_by, run_by, list_step_by, lists_from_by, lists_by, AlwaysBy}
@@ -22,7 +22,7 @@ use Rattle.sh_core.proofs.Worked.{small, ev, at, page, everything}
 
 -- ---- over the right table it is the run
 
-same_from : (plan : Plan) (w : World) (l : Lists) (es : List Event) → (run_from_by row plan w es ≡ run_from plan w es) × (lists_from_by row plan w l es ≡ lists_from plan w l es)
+same_from : (plan : Plan) (w : World) (l : PutLists) (es : List Event) → (run_from_by row plan w es ≡ run_from plan w es) × (lists_from_by row plan w l es ≡ lists_from plan w l es)
 unfolding step_by step run_from_by run_from list_step_by list_step lists_from_by lists_from
 same_from plan w l [] = (refl, refl)
 same_from plan w l (e ∷ es) = same_from plan (step plan w e) (list_step plan w e l) es
@@ -31,17 +31,17 @@ pub same_run : (plan : Plan) (es : List Event) → (run_by row plan es ≡ run p
 same_run plan es = same_from plan (open_world plan) no_lists es
 
 -- so what always holds holds of it
-pub same_always : (P : Plan → World → Lists → Type 0) → Always P → AlwaysBy row P
+pub same_always : (P : Plan → World → PutLists → Type 0) → Always P → AlwaysBy row P
 same_always P always layout shape a b c es =
     let plan : Plan = plan_of layout shape in
     let s = same_run plan es in rw (s.0, s.1) (always layout shape a b c es)
 
 -- ---- one list of events in a tiny heap refutes what should always hold
 
-abbrev pub IsLegal : Plan → World → Lists → Type 0
+abbrev pub IsLegal : Plan → World → PutLists → Type 0
 IsLegal plan w l = Legal plan.passes plan.keys.guard_max w.log
 
-refuted : (rows : Table) (P : Plan → World → Lists → Type 0) (n : ℕ) → 1 ≤ n → n ≤ 64 → (es : List Event) → ¬ P (small n) (run_by rows (small n) es) (lists_by rows (small n) es) → ¬ AlwaysBy rows P
+refuted : (rows : Table) (P : Plan → World → PutLists → Type 0) (n : ℕ) → 1 ≤ n → n ≤ 64 → (es : List Event) → ¬ P (small n) (run_by rows (small n) es) (lists_by rows (small n) es) → ¬ AlwaysBy rows P
 refuted rows P n some few es fails always = fails (always tiny (record { shards = 1; segments = 1; passes = n }) tiny_numbers.lawful (record { some_shard = omega arith; some_segment = omega arith; few_segments = omega arith; some_pass = some; few_passes = few }) (record { shards_fit = omega arith; pages_fit = omega arith }) es)
 
 -- a page of three slots; a value in one of its slots; a key that pass a removes, up to the end of its generation, and up to its slot's place on the stack

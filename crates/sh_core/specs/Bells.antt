@@ -4,7 +4,7 @@ use Rattle.sh_slots.specs.declared.hand.Hand.TheVariants.{Tying, Ringing}
 use Rattle.sh_step.specs.Plans.{Plan, home}
 use Rattle.sh_step.specs.Collections.{total, if1}
 use Rattle.sh_step.specs.declared.body.Body.{Body}
-use Rattle.sh_core.specs.Lists.{Lists, times}
+use Rattle.sh_core.specs.Lists.{PutLists, times}
 
 abbrev pub rings : ℕ → Body → ℕ
 rings q p = elim (p.hand) [ Tying y l r ↦ cond r (if1 (y.page == q)) 0 | Ringing k ↦ if1 (k == q) | _ ↦ 0 ]
@@ -19,5 +19,5 @@ owns n p = elim (p.owned) [ Some k ↦ if1 (k == n) | None ↦ 0 ]
 abbrev pub Owned : (ℕ → ℕ) → List Body → Type 0
 Owned owner ps = (n : ℕ) → (owner n ≡ total (owns n) ps) × (owner n ≤ 1)
 
-abbrev pub Duty : Plan → (ℕ → ℕ) → List Body → Lists → Type 0
+abbrev pub Duty : Plan → (ℕ → ℕ) → List Body → PutLists → Type 0
 Duty plan head ps l = (q : ℕ) → (total (armed_at q) ps ≡ head q % 2 + total (rings q) ps + times q (l.bells (home plan q)) + times q (l.bell_chain (home plan q))) × (total (armed_at q) ps ≤ 1)

@@ -6,21 +6,21 @@ use Rattle.sh_core.specs.Words.{Words}
 use Rattle.sh_step.specs.Plans.{Plan}
 use Rattle.sh_shape.specs.Classes.{width}
 use Rattle.sh_step.specs.declared.body.Body.{Body}
-use Rattle.sh_step.specs.Rows.{class_of}
+use Rattle.sh_step.specs.Rows.{class_word_noted}
 use Rattle.sh_core.specs.Worlds.{World, words_from}
-use Rattle.sh_core.specs.Lists.{Lists}
+use Rattle.sh_core.specs.Lists.{PutLists}
 use Rattle.sh_core.specs.Tallies.{SlotsFine}
 use Rattle.sh_core.specs.Stories.{KeysFine, HoldsFine, AllHoldsFine}
 use Rattle.sh_history.specs.History.{Legal}
 
 abbrev pub FillFine : Words → Body → Hand → Type 0
-FillFine w p (Filling x v i) = (w.length_at x.page x.slot ≡ length v) × (i ≤ length v) × (length v ≤ width (w.class_at x.page - 1)) × (words_from (w.payload_at x.page) (x.slot * width (w.class_at x.page - 1)) i ≡ take i v) × (class_of p x.page ≡ w.class_at x.page)
+FillFine w p (Filling x v i) = (w.length_at x.page x.slot ≡ length v) × (i ≤ length v) × (length v ≤ width (w.class_at x.page - 1)) × (words_from (w.payload_at x.page) (x.slot * width (w.class_at x.page - 1)) i ≡ take i v) × (class_word_noted p x.page ≡ w.class_at x.page)
 FillFine w p _ = Unit {0}
 
 abbrev pub PartsFine : Words → List Body → Type 0
 PartsFine w ps = (a : ℕ) (p : Body) → slice_get ps a ≡ Some p → (length p.holds ≤ 16) × FillFine w p p.hand
 
-pub record Good (plan : Plan) (w : World) (l : Lists) : Type 0 where
+pub record Good (plan : Plan) (w : World) (l : PutLists) : Type 0 where
   pub legal : Legal plan.passes plan.keys.guard_max w.log
   pub slots : SlotsFine plan w.words w.parts l
   pub keys : KeysFine plan w.words w.log

@@ -12,7 +12,7 @@ use Rattle.sh_slots.specs.declared.reply.Reply.TheVariants.{Got}
 use Rattle.sh_step.specs.Operations.{operate}
 use Rattle.sh_step.specs.Parts.{ListGrows}
 use Rattle.sh_step.specs.Rows.{Row, row}
-use Rattle.sh_step.specs.Fits.{Fits as RowFits}
+use Rattle.sh_step.specs.Fits.{RowFits}
 use Rattle.sh_step.specs.declared.action.Event.{Event}
 use Rattle.sh_step.specs.declared.body.Body.{Body}
 use Rattle.sh_step.specs.Plans.{plan_of}
@@ -26,14 +26,14 @@ use Rattle.sh_core.specs.Outcomes.{outcome_of, done}
 use Rattle.sh_core.specs.Within.{CountFits}
 
 -- what contracts see of a world
-pub record Kept : Type 0 where
+pub record KeptWorld : Type 0 where
   pub shape : Numbers
   pub words : List ℕ
   pub parts : List Body
   pub log : List Entry
 
 -- each place of the shape has its word in the list, at the place's number
-pub record Hold (shape : Numbers) (list : List ℕ) (words : Words) : Type 0 where
+pub record HoldsWords (shape : Numbers) (list : List ℕ) (words : Words) : Type 0 where
   pub count : length list ≡ words_of shape
   pub at : (p : Place) → IsPlace shape p → get_or list (number shape p) 0 ≡ read words p
 
@@ -45,7 +45,7 @@ word_at shape list place = get_or list (number shape place) 0
 abbrev pub value_in : Numbers → List ℕ → Spot → List ℕ
 value_in shape list x = words_from (λ i. word_at shape list (Payload x.page i)) (x.slot * width (word_at shape list (Class x.page) - 1)) (word_at shape list (Length x.page x.slot))
 
-pub record HasValue (shape : Numbers) (list : List ℕ) (x : Spot) : Type 0 where
+pub record SlotHasValue (shape : Numbers) (list : List ℕ) (x : Spot) : Type 0 where
   pub page : x.page < all_pages shape
   pub has_class : 0 < word_at shape list (Class x.page)
   pub is_class : word_at shape list (Class x.page) ≤ 8
@@ -58,7 +58,7 @@ value_kept shape list (State q s) = value_in shape list (record { page = q; slot
 value_kept shape list _ = []
 
 abbrev pub KeepsValue : Numbers → List ℕ → Place → Type 0
-KeepsValue shape list (State q s) = HasValue shape list (record { page = q; slot = s })
+KeepsValue shape list (State q s) = SlotHasValue shape list (record { page = q; slot = s })
 KeepsValue shape list _ = ⊥
 
 -- a row may be done on the list: its place is one of the shape, the count of a slot has room, and where it gets a value one stands there
@@ -73,7 +73,7 @@ abbrev pub AsksMemory : Row → Body → ℕ → Type 0
 AsksMemory r p n = IsSome (r.reply n) ⊎ ListGrows p (r.part n)
 
 -- the event has such a row
-abbrev pub NeedsMemory : Layout → Kept → Event → Type 0
+abbrev pub NeedsMemory : Layout → KeptWorld → Event → Type 0
 NeedsMemory layout k e = (p : Body) × (r : Row) × (slice_get k.parts e.pass ≡ Some p) × (row (plan_of layout k.shape) p e.action ≡ Some r) × AsksMemory r p (word_at k.shape k.words r.place)
 
 -- what joins the log where a pass does the row
@@ -81,46 +81,46 @@ abbrev pub new_entry : Numbers → List ℕ → ℕ → Row → Option Entry
 new_entry shape list a r = entry_of a (value_kept shape list r.place) (r.reply (word_at shape list r.place))
 
 -- what it leaves of the list, the pass's part and the log, and what came of it
-pub record Does (shape : Numbers) (a : ℕ) (r : Row) (list : List ℕ) (entries : List Entry) (came : Outcome) (list' : List ℕ) (part' : Body) (entries' : List Entry) : Type 0 where
+pub record DoesRow (shape : Numbers) (a : ℕ) (r : Row) (list : List ℕ) (entries : List Entry) (came : Outcome) (list' : List ℕ) (part' : Body) (entries' : List Entry) : Type 0 where
   pub words : list' ≡ slice_set list (number shape r.place) (operate r.operation (word_at shape list r.place))
   pub part : part' ≡ r.part (word_at shape list r.place)
   pub log : entries' ≡ joined entries (new_entry shape list a r)
   pub outcome : came ≡ done (new_entry shape list a r)
 
 -- it stands for this world
-pub record Stands (k : Kept) (w : World) : Type 0 where
-  pub words : Hold k.shape k.words w.words
+pub record StandsFor (k : KeptWorld) (w : World) : Type 0 where
+  pub words : HoldsWords k.shape k.words w.words
   pub parts : k.parts ≡ w.parts
   pub log : k.log ≡ w.log
 
 -- some list of events leads to it
-pub record Reached (layout : Layout) (k : Kept) : Type 0 where
+pub record FromEvents (layout : Layout) (k : KeptWorld) : Type 0 where
   pub is_layout : IsLayout layout
   pub is_shape : IsShape k.shape
   pub fits : Fits layout k.shape
   pub events : List Event
-  pub stands : Stands k (run (plan_of layout k.shape) events)
+  pub stands : StandsFor k (run (plan_of layout k.shape) events)
 
 -- what an event leaves, and what came of it
-pub record Steps (layout : Layout) (before : Kept) (e : Event) (outcome : Outcome) (after : Kept) : Type 0 where
+pub record StepsWorld (layout : Layout) (before : KeptWorld) (e : Event) (outcome : Outcome) (after : KeptWorld) : Type 0 where
   pub shape : after.shape ≡ before.shape
-  pub world : (w : World) → Stands before w → Stands after (step (plan_of layout before.shape) w e)
-  pub outcome_is : (w : World) → Stands before w → outcome ≡ outcome_of (plan_of layout before.shape) w e
+  pub world : (w : World) → StandsFor before w → StandsFor after (step (plan_of layout before.shape) w e)
+  pub outcome_is : (w : World) → StandsFor before w → outcome ≡ outcome_of (plan_of layout before.shape) w e
 
 -- the event is not skipped
-abbrev pub IsDone : Layout → Kept → Event → Type 0
-IsDone layout k e = (w : World) → Stands k w → outcome_of (plan_of layout k.shape) w e ≢ Skipped
+abbrev pub IsDone : Layout → KeptWorld → Event → Type 0
+IsDone layout k e = (w : World) → StandsFor k w → outcome_of (plan_of layout k.shape) w e ≢ Skipped
 
 -- a heap of this shape is opened, unless the shape does not fit the layout or memory is refused
-abbrev pub Opens : Layout → Numbers → Result Kept Refusal → Type 0
-Opens layout shape (Ok k) = Fits layout shape × (k.shape ≡ shape) × Stands k (open_world (plan_of layout shape))
+abbrev pub Opens : Layout → Numbers → Result KeptWorld Refusal → Type 0
+Opens layout shape (Ok k) = Fits layout shape × (k.shape ≡ shape) × StandsFor k (open_world (plan_of layout shape))
 Opens layout shape (Err BadShape) = ¬ Fits layout shape
 Opens layout shape (Err Memory) = Fits layout shape
 Opens layout shape (Err _) = ⊥
 
 -- a heap of this shape after these events, unless the shape does not fit the layout or memory is refused
-abbrev pub Runs : Layout → Numbers → List Event → Result Kept Refusal → Type 0
-Runs layout shape es (Ok k) = Fits layout shape × (k.shape ≡ shape) × Stands k (run (plan_of layout shape) es)
-Runs layout shape es (Err BadShape) = ¬ Fits layout shape
-Runs layout shape es (Err Memory) = Fits layout shape
-Runs layout shape es (Err _) = ⊥
+abbrev pub RunsWorld : Layout → Numbers → List Event → Result KeptWorld Refusal → Type 0
+RunsWorld layout shape es (Ok k) = Fits layout shape × (k.shape ≡ shape) × StandsFor k (run (plan_of layout shape) es)
+RunsWorld layout shape es (Err BadShape) = ¬ Fits layout shape
+RunsWorld layout shape es (Err Memory) = Fits layout shape
+RunsWorld layout shape es (Err _) = ⊥

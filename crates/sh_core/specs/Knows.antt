@@ -2,7 +2,7 @@
 use Rattle.std.specs.Prelude.{ℕ, ◌≡◌, ◌<◌, List, Some, slice_get}
 use Rattle.sh_slots.specs.declared.hand.Name.{Name}
 use Rattle.sh_core.specs.Words.{Words}
-use Rattle.sh_step.specs.Plans.{Plan, all_pages}
+use Rattle.sh_step.specs.Plans.{Plan, heap_pages}
 use Rattle.sh_step.specs.Collections.{noted}
 use Rattle.sh_step.specs.declared.body.Body.{Body}
 use Rattle.sh_core.specs.Lists.{times}
@@ -10,7 +10,7 @@ use Rattle.sh_core.specs.Worlds.{World}
 
 -- each held key names a place of the shape; what was read of a key is of a held one, and true
 pub record Knows (plan : Plan) (class : ℕ → ℕ) (length : ℕ → ℕ → ℕ) (holds : List ℕ) (widths lengths : List (ℕ × ℕ)) : Type 0 where
-  pub named : (k : ℕ) → 0 < times k holds → (n : Name) × (plan.keys.unpack k ≡ Some n) × (n.page < all_pages plan) × (n.slot < 48)
+  pub named : (k : ℕ) → 0 < times k holds → (n : Name) × (plan.keys.unpack k ≡ Some n) × (n.page < heap_pages plan) × (n.slot < 48)
   pub classed : (k c : ℕ) → noted k widths ≡ Some c → (0 < times k holds) × ((n : Name) → plan.keys.unpack k ≡ Some n → class n.page ≡ c)
   pub measured : (k c : ℕ) → noted k lengths ≡ Some c → (0 < times k holds) × ((n : Name) → plan.keys.unpack k ≡ Some n → length n.page n.slot ≡ c)
 

@@ -1,8 +1,8 @@
 -- What the links of stacks, chains and bells say, in words: what follows from the sums that are kept.
 use Rattle.std.specs.Prelude.{ℕ, ◌+◌, ◌≡◌, ◌<◌, ◌⊎◌, List, [], ◌∷◌}
 use Rattle.sh_step.specs.Collections.{total}
-use Rattle.sh_step.specs.Plans.{Plan, all_pages, home}
-use Rattle.sh_core.specs.Lists.{Lists, times}
+use Rattle.sh_step.specs.Plans.{Plan, heap_pages, home}
+use Rattle.sh_core.specs.Lists.{PutLists, times}
 use Rattle.sh_core.specs.Stacks.{spot, link_to, ties_of, ring_ties, bell_link}
 use Rattle.sh_core.specs.Worlds.{World}
 
@@ -14,9 +14,9 @@ LinksOn link tied (s ∷ xs) =
     (((link s ≡ 0) × (tied s ≡ 1)) ⊎ ((link s ≡ link_to xs) × (tied s ≡ 0))) × LinksOn link tied xs
 
 -- so it is along each page's stack and chain, of slots, and along each shard's bell and its chain, which are of its pages
-pub record EachLinked (plan : Plan) (w : World) (l : Lists) : Type 0 where
+pub record EachLinked (plan : Plan) (w : World) (l : PutLists) : Type 0 where
   pub stack : (q : ℕ) → LinksOn (w.words.link_at q) (λ s. total (ties_of (spot q s)) w.parts) (l.stack q)
   pub chain : (q : ℕ) → LinksOn (w.words.link_at q) (λ s. total (ties_of (spot q s)) w.parts) (l.chain q)
   pub bell : (n : ℕ) → LinksOn (bell_link plan w.words.page_link_at n) (λ q. total (ring_ties plan n q) w.parts) (l.bells n)
   pub bell_chain : (n : ℕ) → LinksOn (bell_link plan w.words.page_link_at n) (λ q. total (ring_ties plan n q) w.parts) (l.bell_chain n)
-  pub home_pages : (n q : ℕ) → 0 < times q (l.bells n) + times q (l.bell_chain n) → (home plan q ≡ n) × (q < all_pages plan)
+  pub home_pages : (n q : ℕ) → 0 < times q (l.bells n) + times q (l.bell_chain n) → (home plan q ≡ n) × (q < heap_pages plan)

@@ -17,26 +17,26 @@ use Rattle.sh_step.specs.Rows.{row}
 use Rattle.sh_core.specs.Worlds.{World, step, open_world}
 
 -- Of page q: what was put since its last Take or Arm, newest first, and what its owner's cursor has yet to follow. Of shard n the same of pages
-pub record Lists : Type 0 where
+pub record PutLists : Type 0 where
   pub stack : ℕ → List ℕ
   pub chain : ℕ → List ℕ
   pub bells : ℕ → List ℕ
   pub bell_chain : ℕ → List ℕ
 
-abbrev pub pushed : Lists → Spot → Lists
+abbrev pub pushed : PutLists → Spot → PutLists
 pushed l x = record l { stack = put l.stack x.page (x.slot ∷ l.stack x.page) }
 
-abbrev pub taken : Lists → ℕ → Lists
+abbrev pub taken : PutLists → ℕ → PutLists
 taken l q = record l { stack = put l.stack q []; chain = put l.chain q (l.stack q) }
 
-abbrev pub chain_followed : Lists → ℕ → Lists
+abbrev pub chain_followed : PutLists → ℕ → PutLists
 chain_followed l q = record l { chain = put l.chain q (drop 1 (l.chain q)) }
 
-abbrev pub bells_taken : Lists → ℕ → Lists
+abbrev pub bells_taken : PutLists → ℕ → PutLists
 bells_taken l n = record l { bells = put l.bells n []; bell_chain = put l.bell_chain n (l.bells n) }
 
 -- what an action that was done, and found n, leaves of them
-unfoldable pub listed : Plan → Body → Action → ℕ → Lists → Lists
+unfoldable pub listed : Plan → Body → Action → ℕ → PutLists → PutLists
 listed plan p Put n l = elim (p.hand) [ ToPut x ↦ pushed l x | _ ↦ l ]
 listed plan p (PutSlot x) n l = pushed l (slot_of plan x)
 listed plan p (Take x) n l = taken l (page_of plan x)
@@ -47,20 +47,20 @@ listed plan p TakeBell n l = elim (p.owned) [ Some k ↦ bells_taken l k | None 
 listed plan p FollowBell n l = elim (p.owned) [ Some k ↦ cond (n == 0) l (record l { bell_chain = put l.bell_chain k (drop 1 (l.bell_chain k)) }) | None ↦ l ]
 listed plan p _ n l = l
 
-unfoldable pub list_step : Plan → World → Event → Lists → Lists
+unfoldable pub list_step : Plan → World → Event → PutLists → PutLists
 list_step plan w e l = elim (slice_get w.parts e.pass) [
   | Some p ↦ elim (row plan p e.action) [ Some m ↦ listed plan p e.action (read w.words m.place) l | None ↦ l ]
   | None ↦ l
 ]
 
-abbrev pub no_lists : Lists
+abbrev pub no_lists : PutLists
 no_lists = record { stack = λ _. []; chain = λ _. []; bells = λ _. []; bell_chain = λ _. [] }
 
-unfoldable pub lists_from : Plan → World → Lists → List Event → Lists
+unfoldable pub lists_from : Plan → World → PutLists → List Event → PutLists
 lists_from plan w l [] = l
 lists_from plan w l (e ∷ es) = lists_from plan (step plan w e) (list_step plan w e l) es
 
-abbrev pub lists_of : Plan → List Event → Lists
+abbrev pub lists_of : Plan → List Event → PutLists
 lists_of plan es = lists_from plan (open_world plan) no_lists es
 
 -- What one slot is to a pass: once in `mine`, or in the hand
@@ -88,7 +88,7 @@ abbrev pub slots_under : ℕ → ℕ
 slots_under n = cond (n == 0) 0 (slots (n - 1))
 
 -- the accounts of page q over the whole heap
-unfoldable pub accounts : World → Lists → ℕ → Accounts
+unfoldable pub accounts : World → PutLists → ℕ → Accounts
 accounts w l q = let n = slots_under (w.words.class_at q) in record {
   class = class_named (w.words.class_at q);
   live = among q (λ x. if1 ((state_of w x).present && not (state_of w x).marked)) n;

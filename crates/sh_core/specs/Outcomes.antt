@@ -7,11 +7,11 @@ use Rattle.sh_step.specs.Rows.{Row, row}
 use Rattle.sh_core.specs.declared.outcome.Outcome.{Outcome}
 use Rattle.sh_core.specs.declared.outcome.Outcome.TheVariants.{Moved, Replied, Skipped}
 use Rattle.sh_core.specs.Words.{read}
-use Rattle.sh_core.specs.Worlds.{World, step, open_world, value_of, entry_of}
+use Rattle.sh_core.specs.Worlds.{World, step, open_world, value_at_place, entry_of}
 
 -- the row of an event, where there is such a pass and its condition holds
-unfoldable pub row_of : Plan → World → Event → Option Row
-row_of plan w e = elim (slice_get w.parts e.pass) [ Some p ↦ row plan p e.action | None ↦ None ]
+unfoldable pub row_of_event : Plan → World → Event → Option Row
+row_of_event plan w e = elim (slice_get w.parts e.pass) [ Some p ↦ row plan p e.action | None ↦ None ]
 
 -- a step that was done replied what joined the log
 abbrev pub done : Option Entry → Outcome
@@ -19,9 +19,9 @@ done (Some entry) = Replied entry
 done None = Moved
 
 unfoldable pub outcome_of : Plan → World → Event → Outcome
-unfolding row_of
-outcome_of plan w e = elim (row_of plan w e) [
-  | Some m ↦ done (entry_of e.pass (value_of w.words m.place) (m.reply (read w.words m.place)))
+unfolding row_of_event
+outcome_of plan w e = elim (row_of_event plan w e) [
+  | Some m ↦ done (entry_of e.pass (value_at_place w.words m.place) (m.reply (read w.words m.place)))
   | None ↦ Skipped
 ]
 

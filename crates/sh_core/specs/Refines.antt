@@ -9,14 +9,14 @@ use Rattle.sh_shape.specs.Shape.{Numbers, IsShape, Fits}
 use Rattle.sh_step.specs.Rows.{own, unpoint}
 use Rattle.sh_core.specs.Within.{StepsWithin, CountsFit, BellsAreSmall, ValuesFit, StoresWords, IssuesKeys}
 use Rattle.sh_slots.specs.declared.hand.Hand.TheVariants.{Filling}
-use Rattle.sh_slots.specs.Slots.{name_of}
-use Rattle.sh_step.specs.Plans.{plan_of, Plan, all_pages, home}
+use Rattle.sh_slots.specs.Slots.{name_at}
+use Rattle.sh_step.specs.Plans.{plan_of, Plan, heap_pages, home}
 use Rattle.sh_shape.specs.Classes.{class_count, slots, width}
 use Rattle.sh_slots.specs.Slots.{spot_of}
 use Rattle.sh_step.specs.Collections.{total, if1, noted}
 use Rattle.sh_step.specs.declared.body.Body.{Body}
 use Rattle.sh_core.specs.Worlds.{World, run, value_at}
-use Rattle.sh_core.specs.Lists.{Lists, accounts, lists_of, slots_under, times, mine_at, in_hand, state_of}
+use Rattle.sh_core.specs.Lists.{PutLists, accounts, lists_of, slots_under, times, mine_at, in_hand, state_of}
 use Rattle.sh_core.specs.LinkWords.{EachLinked}
 use Rattle.sh_core.specs.Tallies.{at_spot, current, visits, finishing}
 use Rattle.sh_history.specs.declared.entry.Entry.{Entry}
@@ -41,44 +41,44 @@ mine w x = total (mine_at x) w.parts
 abbrev pub in_hands : World → Spot → ℕ
 in_hands w x = total (in_hand x) w.parts
 
-abbrev pub queue : Lists → Spot → ℕ
-queue l x = times x.slot (l.stack x.page) + times x.slot (l.chain x.page)
+abbrev pub queued_at : PutLists → Spot → ℕ
+queued_at l x = times x.slot (l.stack x.page) + times x.slot (l.chain x.page)
 
 -- how often the six kinds count a slot, together
-abbrev pub kind_count : World → Lists → Spot → ℕ
-kind_count w l x = live (state_of w x) + marked (state_of w x) + retired (state_of w x) + mine w x + in_hands w x + queue l x
+abbrev pub kind_count : World → PutLists → Spot → ℕ
+kind_count w l x = live (state_of w x) + marked (state_of w x) + retired (state_of w x) + mine w x + in_hands w x + queued_at l x
 
 -- a slot of its page's class has one kind, and only one; another has none
-abbrev pub OneKind : World → Lists → Type 0
+abbrev pub OneKind : World → PutLists → Type 0
 OneKind w l = (x : Spot) (c : ℕ) → w.words.class_at x.page ≡ c + 1
     → (x.slot < slots c → kind_count w l x ≡ 1) × (slots c ≤ x.slot → kind_count w l x ≡ 0)
 
 -- the same as one equation for every spot: 1 below the slots of the page's class, and else 0; a blank page has no slots
-abbrev pub KindsAddUp : World → Lists → Type 0
+abbrev pub KindsAddUp : World → PutLists → Type 0
 KindsAddUp w l = (x : Spot) → kind_count w l x ≡ if1 (nat_lt x.slot (slots_under (w.words.class_at x.page)))
 
 -- the accounts of a page add up to the slots of its class, and those of a blank page to 0
-abbrev pub Filled : World → Lists → Type 0
+abbrev pub Filled : World → PutLists → Type 0
 Filled w l = (q : ℕ) → let a = accounts w l q in
     a.live + (a.marked + (a.retired + (a.mine + (a.hand + a.queued)))) ≡ slots_under (w.words.class_at q)
 
 -- a class word names a class or says 0, and only pages of the heap have a class
 abbrev pub ClassesAreKnown : Plan → World → Type 0
 ClassesAreKnown plan w = (q : ℕ) →
-    (w.words.class_at q ≤ class_count) × (all_pages plan ≤ q → w.words.class_at q ≡ 0)
+    (w.words.class_at q ≤ class_count) × (heap_pages plan ≤ q → w.words.class_at q ≡ 0)
 
 -- while a pass holds k, k names a slot of the heap, which is present in k's generation, and its words are the value that k was issued with
-pub record Stands (plan : Plan) (w : World) (k : ℕ) : Type 0 where
+pub record KeyStands (plan : Plan) (w : World) (k : ℕ) : Type 0 where
   pub name : Name
   pub unpacks : plan.keys.unpack k ≡ Some name
-  pub page : name.page < all_pages plan
+  pub page : name.page < heap_pages plan
   pub slot : name.slot < 48
   pub present : (state_of w (spot_of name)).present ≡ true
   pub generation : (state_of w (spot_of name)).generation ≡ name.generation
   pub value : value_of w.log k ≡ Some (value_at w.words name.page name.slot)
 
 abbrev pub HeldStands : Plan → World → Type 0
-HeldStands plan w = (a : ℕ) (p : Body) (k : ℕ) → slice_get w.parts a ≡ Some p → 0 < times k p.holds → Stands plan w k
+HeldStands plan w = (a : ℕ) (p : Body) (k : ℕ) → slice_get w.parts a ≡ Some p → 0 < times k p.holds → KeyStands plan w k
 
 -- a payload word that a pass may read of a key is one of the key's value, in its page
 abbrev pub ReadsWithin : Plan → World → Type 0
@@ -146,7 +146,7 @@ abbrev pub Finished : Plan → World → Type 0
 Finished plan w = (x : Spot) → (state_of w x).present ≡ true → (state_of w x).marked ≡ true → (state_of w x).count ≡ 0 → 0 < total (finishing x (state_of w x).generation) w.parts
 
 -- an armed page has one of: its flag, a pass that must ring, a place on the bell or on its chain; another has none
-abbrev pub Armed : Plan → World → Lists → Type 0
+abbrev pub Armed : Plan → World → PutLists → Type 0
 Armed plan w l = (q : ℕ) → (total (armed_at q) w.parts ≡ w.words.head_at q % 2 + total (rings q) w.parts + times q (l.bells (home plan q)) + times q (l.bell_chain (home plan q))) × (total (armed_at q) w.parts ≤ 1)
 
 -- a shard's owner word is 1 where a pass owns it, and then one pass alone; else it is 0
@@ -171,7 +171,7 @@ ShardlessHaveNothing w = (a : ℕ) (p : Body) → slice_get w.parts a ≡ Some p
 
 -- what EachLinked says in words, as sums: along each list an item's link and what the pass that ties it will store are together what
 -- names the rest; a head names the first of its stack, and a cursor is at the first of its chain
-abbrev pub Linked : Plan → World → Lists → Type 0
+abbrev pub Linked : Plan → World → PutLists → Type 0
 Linked plan w l =
     Chains (λ q. w.words.head_at q / 2) w.words.link_at (λ q s. total (tying (spot q s)) w.parts) (λ q s. total (ties_of (spot q s)) w.parts) (λ q s. total (cursor_at q s) w.parts) l.stack l.chain
     × Chains (bell_head plan w.words.bell_at) (bell_link plan w.words.page_link_at) (λ n q. total (ring_tying plan n q) w.parts) (λ n q. total (ring_ties plan n q) w.parts) (λ n q. total (bell_cursor_at n q) w.parts) l.bells l.bell_chain
@@ -183,13 +183,13 @@ pub record OwnStands (plan : Plan) (w : World) (p : Body) : Type 0 where
   pub few_holds : length p.holds ≤ 16
   pub owned : (n : ℕ) → p.owned ≡ Some n → n < plan.shards
   pub mine : (x : Spot) → 0 < mine_at x p
-      → (mine_at x p ≡ 1) × (own plan p x.page ≡ true) × (x.page < all_pages plan) × (x.slot < slots_under (w.words.class_at x.page))
+      → (mine_at x p ≡ 1) × (own plan p x.page ≡ true) × (x.page < heap_pages plan) × (x.slot < slots_under (w.words.class_at x.page))
   pub cursors : (q s : ℕ) → noted q p.cursors ≡ Some s
-      → (own plan p q ≡ true) × (q < all_pages plan) × (s < slots_under (w.words.class_at q)) × (mine_at (spot q s) p ≡ 0)
+      → (own plan p q ≡ true) × (q < heap_pages plan) × (s < slots_under (w.words.class_at q)) × (mine_at (spot q s) p ≡ 0)
   pub one_cursor : (q : ℕ) → noted q (unpoint q p.cursors) ≡ None
-  pub armed : (q : ℕ) → 0 < times q p.armed → (times q p.armed ≡ 1) × (own plan p q ≡ true) × (q < all_pages plan)
+  pub armed : (q : ℕ) → 0 < times q p.armed → (times q p.armed ≡ 1) × (own plan p q ≡ true) × (q < heap_pages plan)
   pub unarmed : (q : ℕ) → own plan p q ≡ true → times q p.armed ≡ 0 → w.words.head_at q % 2 ≡ 0
-  pub bell : (q : ℕ) → p.bell_cursor ≡ Some q → (own plan p q ≡ true) × (q < all_pages plan) × (times q p.armed ≡ 1)
+  pub bell : (q : ℕ) → p.bell_cursor ≡ Some q → (own plan p q ≡ true) × (q < heap_pages plan) × (times q p.armed ≡ 1)
   pub notes : (q c : ℕ) → own plan p q ≡ true → noted q p.classes ≡ Some c → w.words.class_at q ≡ c
 
 abbrev pub OwnPartsStand : Plan → World → Type 0
@@ -197,10 +197,10 @@ OwnPartsStand plan w = (a : ℕ) (p : Body) → slice_get w.parts a ≡ Some p �
 
 -- a slot that is being filled is one of the heap, and the key that it will be published under is one of the layout
 abbrev pub FillsAreKeys : Plan → World → Type 0
-FillsAreKeys plan w = (a : ℕ) (p : Body) (x : Spot) (v : List ℕ) (i : ℕ) → slice_get w.parts a ≡ Some p → p.hand ≡ Filling x v i → plan.keys.unpack (plan.keys.pack (name_of x (state_of w x).generation)) ≡ Some (name_of x (state_of w x).generation)
+FillsAreKeys plan w = (a : ℕ) (p : Body) (x : Spot) (v : List ℕ) (i : ℕ) → slice_get w.parts a ≡ Some p → p.hand ≡ Filling x v i → plan.keys.unpack (plan.keys.pack (name_at x (state_of w x).generation)) ≡ Some (name_at x (state_of w x).generation)
 
 -- all of it
-pub record Refines (plan : Plan) (w : World) (l : Lists) : Type 0 where
+pub record Refines (plan : Plan) (w : World) (l : PutLists) : Type 0 where
   pub legal : Legal plan.passes plan.keys.guard_max w.log
   pub entries : EntriesAreOurs plan w
   pub one_kind : OneKind w l
@@ -235,5 +235,5 @@ pub record Refines (plan : Plan) (w : World) (l : Lists) : Type 0 where
   pub passes : length w.parts ≡ plan.passes
 
 -- P holds after every list of events, in every heap whose shape fits its layout
-abbrev pub Always : (Plan → World → Lists → Type 0) → Type 0
+abbrev pub Always : (Plan → World → PutLists → Type 0) → Type 0
 Always P = (layout : Layout) (shape : Numbers) → IsLayout layout → IsShape shape → Fits layout shape → (es : List Event) → P (plan_of layout shape) (run (plan_of layout shape) es) (lists_of (plan_of layout shape) es)

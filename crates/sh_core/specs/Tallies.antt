@@ -10,7 +10,7 @@ use Rattle.sh_shape.specs.Classes.{slots}
 use Rattle.sh_slots.specs.Slots.{same_spot, spot_of}
 use Rattle.sh_step.specs.Collections.{total, if1}
 use Rattle.sh_step.specs.declared.body.Body.{Body}
-use Rattle.sh_core.specs.Lists.{Lists, mine_at, in_hand, times}
+use Rattle.sh_core.specs.Lists.{PutLists, mine_at, in_hand, times}
 
 -- the key names this slot
 abbrev pub at_spot : Spot → Option Name → Bool
@@ -78,8 +78,8 @@ pub record Fine (room queued : ℕ) (st : Fields) (t : Tally) : Type 0 where
 abbrev pub room : Words → Spot → ℕ
 room w x = cond (nat_lt 0 (w.class_at x.page) && nat_lt x.slot (slots (w.class_at x.page - 1))) 1 0
 
-abbrev pub queued : Lists → Spot → ℕ
+abbrev pub queued : PutLists → Spot → ℕ
 queued l x = times x.slot (l.stack x.page) + times x.slot (l.chain x.page)
 
-abbrev pub SlotsFine : Plan → Words → List Body → Lists → Type 0
+abbrev pub SlotsFine : Plan → Words → List Body → PutLists → Type 0
 SlotsFine plan w ps l = (x : Spot) → Fine (room w x) (queued l x) (fields_of (w.state_at x.page x.slot)) (tally plan x (fields_of (w.state_at x.page x.slot)) ps)

@@ -11,11 +11,11 @@ use Rattle.sh_step.specs.Plans.{Plan}
 use Rattle.sh_step.specs.Rows.{Row, row}
 use Rattle.sh_core.specs.Words.{read}
 use Rattle.sh_core.specs.Worlds.{World, step, run, open_world}
-use Rattle.sh_core.specs.Outcomes.{row_of}
+use Rattle.sh_core.specs.Outcomes.{row_of_event}
 
 -- what the event adds to the trail of pass a
 abbrev pub trodden : Plan → World → Event → ℕ → List Footstep → List Footstep
-trodden plan w e a steps = elim (row_of plan w e) [
+trodden plan w e a steps = elim (row_of_event plan w e) [
   | Some m ↦ cond (e.pass == a) (steps ++ footstep_of e.action m (read w.words m.place) ∷ []) steps
   | None ↦ steps
 ]
@@ -43,4 +43,4 @@ OthersTrailsStay = (plan : Plan) (es : List Event) (e : Event) (a : ℕ) → e.p
 
 -- and an event that is skipped leaves all of them
 abbrev pub SkipsLeaveTrails : Type 0
-SkipsLeaveTrails = (plan : Plan) (es : List Event) (e : Event) (a : ℕ) → row_of plan (run plan es) e ≡ None → trail_of plan (es ++ e ∷ []) a ≡ trail_of plan es a
+SkipsLeaveTrails = (plan : Plan) (es : List Event) (e : Event) (a : ℕ) → row_of_event plan (run plan es) e ≡ None → trail_of plan (es ++ e ∷ []) a ≡ trail_of plan es a

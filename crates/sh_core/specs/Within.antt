@@ -10,7 +10,7 @@ use Rattle.sh_slots.specs.declared.hand.Hand.TheVariants.{Leaving, Finishing, To
 use Rattle.sh_slots.specs.declared.hand.Spot.{Spot}
 use Rattle.sh_step.specs.declared.action.Action.{Action}
 use Rattle.sh_step.specs.declared.body.Body.{Body}
-use Rattle.sh_step.specs.Plans.{Plan, plan_of, all_pages}
+use Rattle.sh_step.specs.Plans.{Plan, plan_of, heap_pages}
 use Rattle.sh_step.specs.Rows.{Row, row}
 use Rattle.sh_shape.specs.Classes.{width, slots}
 use Rattle.sh_word.specs.Fields.{fields_of}
@@ -24,15 +24,15 @@ use Rattle.sh_core.specs.Lists.{times}
 
 -- the slot of a page of the heap, and for an end of a generation one that there is
 abbrev pub SpotWithin : Plan → Spot → Type 0
-SpotWithin plan x = (x.page < all_pages plan) × (x.slot < 48)
+SpotWithin plan x = (x.page < heap_pages plan) × (x.slot < 48)
 
 abbrev pub HandWithin : Plan → Hand → Type 0
 HandWithin plan (Leaving x) = SpotWithin plan x
 HandWithin plan (Finishing x g) = SpotWithin plan x × (g ≤ plan.keys.gen_max)
 HandWithin plan (ToPut x) = SpotWithin plan x
 HandWithin plan (Tying x l r) = SpotWithin plan x
-HandWithin plan (Ringing q) = q < all_pages plan
-HandWithin plan (RingTying q l) = q < all_pages plan
+HandWithin plan (Ringing q) = q < heap_pages plan
+HandWithin plan (RingTying q l) = q < heap_pages plan
 HandWithin plan (Filling x v i) = SpotWithin plan x
 HandWithin plan _ = Unit {0}
 
@@ -40,20 +40,20 @@ HandWithin plan _ = Unit {0}
 pub record Within (plan : Plan) (p : Body) : Type 0 where
   pub hand : HandWithin plan p.hand
   pub owned : (n : ℕ) → p.owned ≡ Some n → n < plan.shards
-  pub armed : (q : ℕ) → 0 < times q p.armed → q < all_pages plan
+  pub armed : (q : ℕ) → 0 < times q p.armed → q < heap_pages plan
 
 abbrev pub AllWithin : Plan → World → Type 0
 AllWithin plan w = (a : ℕ) (p : Body) → slice_get w.parts a ≡ Some p → Within plan p
 
 -- the heap has this place
 abbrev pub HasPlace : Plan → Place → Type 0
-HasPlace plan (Class q) = q < all_pages plan
-HasPlace plan (Head q) = q < all_pages plan
-HasPlace plan (PageLink q) = q < all_pages plan
-HasPlace plan (State q s) = (q < all_pages plan) × (s < 48)
-HasPlace plan (Link q s) = (q < all_pages plan) × (s < 48)
-HasPlace plan (Length q s) = (q < all_pages plan) × (s < 48)
-HasPlace plan (Payload q i) = (q < all_pages plan) × (i < 48)
+HasPlace plan (Class q) = q < heap_pages plan
+HasPlace plan (Head q) = q < heap_pages plan
+HasPlace plan (PageLink q) = q < heap_pages plan
+HasPlace plan (State q s) = (q < heap_pages plan) × (s < 48)
+HasPlace plan (Link q s) = (q < heap_pages plan) × (s < 48)
+HasPlace plan (Length q s) = (q < heap_pages plan) × (s < 48)
+HasPlace plan (Payload q i) = (q < heap_pages plan) × (i < 48)
 HasPlace plan (Owner n) = n < plan.shards
 HasPlace plan (Bell n) = n < plan.shards
 
@@ -89,9 +89,9 @@ IssuesKeys plan w = (a : ℕ) (p : Body) (x : Action) (r : Row) (k : ℕ) (v : L
 
 -- bells and the links of pages name pages of the heap
 abbrev pub BellsAreSmall : Plan → World → Type 0
-BellsAreSmall plan w = ((n : ℕ) → w.words.bell_at n ≤ all_pages plan) × ((q : ℕ) → w.words.page_link_at q ≤ all_pages plan + 1)
+BellsAreSmall plan w = ((n : ℕ) → w.words.bell_at n ≤ heap_pages plan) × ((q : ℕ) → w.words.page_link_at q ≤ heap_pages plan + 1)
 
 -- a value stands in a slot of its page's class, and is no longer than it
 abbrev pub ValuesFit : Plan → World → Type 0
 ValuesFit plan w = (x : Spot) → ((fields_of (w.words.state_at x.page x.slot)).present || (fields_of (w.words.state_at x.page x.slot)).marked) ≡ true
-    → (0 < w.words.class_at x.page) × (w.words.class_at x.page ≤ 8) × (x.page < all_pages plan) × (x.slot < slots (w.words.class_at x.page - 1)) × (w.words.length_at x.page x.slot ≤ width (w.words.class_at x.page - 1))
+    → (0 < w.words.class_at x.page) × (w.words.class_at x.page ≤ 8) × (x.page < heap_pages plan) × (x.slot < slots (w.words.class_at x.page - 1)) × (w.words.length_at x.page x.slot ≤ width (w.words.class_at x.page - 1))

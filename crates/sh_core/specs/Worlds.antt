@@ -28,9 +28,9 @@ words_from f i (suc n) = f i ∷ words_from f (i + 1) n
 unfoldable pub value_at : Words → ℕ → ℕ → List ℕ
 value_at w q s = words_from (w.payload_at q) (s * width (w.class_at q - 1)) (w.length_at q s)
 
-abbrev pub value_of : Words → Place → List ℕ
-value_of w (State q s) = value_at w q s
-value_of w _ = []
+abbrev pub value_at_place : Words → Place → List ℕ
+value_at_place w (State q s) = value_at w q s
+value_at_place w _ = []
 
 -- what joins the log: the reply to this pass, with the value that stands in the slot where it is got
 abbrev pub entry : ℕ → List ℕ → Reply → Entry
@@ -54,7 +54,7 @@ unfoldable pub apply : World → ℕ → Row → World
 apply w a m = let n = read w.words m.place in record {
   words = write w.words m.place (operate m.operation n);
   parts = slice_set w.parts a (m.part n);
-  log = joined w.log (entry_of a (value_of w.words m.place) (m.reply n));
+  log = joined w.log (entry_of a (value_at_place w.words m.place) (m.reply n));
 }
 
 unfoldable pub step : Plan → World → Event → World

@@ -3,7 +3,7 @@ ghost use Rattle.std.specs.Prelude.{ℕ, ◌≡◌, length};
 ghost use Rattle.sh_shape.specs.Places.{IsPlace, words_of};
 ghost use Rattle.sh_slots.specs.declared.reply.Reply.TheVariants.{Got};
 ghost use Rattle.sh_core.specs.Worlds.{entry};
-ghost use Rattle.sh_core.specs.Kept.{word_at, HasValue, value_in, KeepsValue, value_kept};
+ghost use Rattle.sh_core.specs.Kept.{word_at, SlotHasValue, value_in, KeepsValue, value_kept};
 
 use sh_history::Entry;
 use sh_shape::{Place, Shape, classes};
@@ -23,7 +23,7 @@ pub fn word_at(shape: &Shape, words: &[u64], place: Place) -> u64
 #[tactic(auto, using(crate::proofs::KeptValues::payload_range, crate::proofs::KeptValues::row_begins, crate::proofs::KeptValues::row_within))]
 fn value_in(shape: &Shape, words: &[u64], spot: Spot) -> Value
     requires count { length words.now ≡ words_of shape.now }
-    requires value { HasValue shape.now words.now spot }
+    requires value { SlotHasValue shape.now words.now spot }
     ensures { result ≡ value_in shape.now words.now spot }
 {
     let class = word_at(shape, words, Place::Class(spot.page)) - 1;

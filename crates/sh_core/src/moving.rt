@@ -5,7 +5,7 @@ ghost use Rattle.sh_step.specs.Plans.{Plan, plan_of};
 ghost use Rattle.sh_step.specs.Moves.{row_of};
 ghost use Rattle.sh_core.specs.Worlds.{joined};
 ghost use Rattle.sh_core.specs.Outcomes.{done};
-ghost use Rattle.sh_core.specs.Kept.{IsReady, Does, AsksMemory, word_at};
+ghost use Rattle.sh_core.specs.Kept.{IsReady, DoesRow, AsksMemory, word_at};
 
 use crate::Outcome;
 use crate::entry::{entry, word_at};
@@ -66,7 +66,7 @@ pub fn do_move<L: KeyLayout>(
     the_move: &Move,
 ) -> Result<Outcome, Refusal>
     requires { IsReady L.layout shape.now words.old.items (row_of (plan_of L.layout shape.now) part.old the_move.now) }
-    ensures ok { IfOk result (λ outcome. Does shape.now pass (row_of (plan_of L.layout shape.now) part.old the_move.now)
+    ensures ok { IfOk result (λ outcome. DoesRow shape.now pass (row_of (plan_of L.layout shape.now) part.old the_move.now)
         words.old.items log.old.items outcome words.new.items part.new log.new.items) }
     ensures words { OnErr result (words.new.items ≡ words.old.items) }
     ensures part { OnErr result (part.new ≡ part.old) }

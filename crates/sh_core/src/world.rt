@@ -7,7 +7,7 @@ ghost use Rattle.sh_core.specs.Worlds.{open_world, run};
 ghost use Rattle.sh_step.specs.Parts.{newcomer};
 ghost use Rattle.sh_core.specs.Lists.{lists_of};
 ghost use Rattle.sh_core.specs.Refines.{Refines};
-ghost use Rattle.sh_core.specs.Kept.{Stands, Reached, Opens, Runs, Steps, IsDone, NeedsMemory};
+ghost use Rattle.sh_core.specs.Kept.{StandsFor, FromEvents, Opens, RunsWorld, StepsWorld, IsDone, NeedsMemory};
 
 use crate::Outcome;
 use crate::moving::do_move;
@@ -45,13 +45,13 @@ pub struct World<L: KeyLayout> {
 }
 
 impl<L: KeyLayout> Model for World<L> {
-    ghost use Rattle.sh_core.specs.Kept.{Kept, Reached};
+    ghost use Rattle.sh_core.specs.Kept.{KeptWorld, FromEvents};
 
-    ghost Value = { Kept };
+    ghost Value = { KeptWorld };
 
     ghost view = { λ w. record { shape = w.shape; words = w.words.items; parts = w.parts.items; log = w.log.items } };
 
-    ghost invariant = { λ w. Reached L.layout (record { shape = w.shape; words = w.words.items; parts = w.parts.items; log = w.log.items }) };
+    ghost invariant = { λ w. FromEvents L.layout (record { shape = w.shape; words = w.words.items; parts = w.parts.items; log = w.log.items }) };
 }
 
 impl<L: KeyLayout> World<L> {
@@ -59,7 +59,7 @@ impl<L: KeyLayout> World<L> {
     /// where memory for the words and parts is refused.
     pub fn new(alloc: Global, shape: Shape) -> Result<World<L>, Refusal>
         ensures opens { Opens L.layout shape result }
-        ensures reached { IfOk result (Reached L.layout) }
+        ensures reached { IfOk result (FromEvents L.layout) }
     {
         if !fits::<L>(&shape) {
             return Err(Refusal::BadShape);
@@ -91,7 +91,7 @@ impl<L: KeyLayout> World<L> {
     /// The words, each at the number of its place. Some list of events leads from the heap as it opens to them.
     pub fn words(&self) -> &[u64]
         ensures is { result.now ≡ self.now.words }
-        ensures reached { Reached L.layout self.now }
+        ensures reached { FromEvents L.layout self.now }
     {
         &self.words
     }
@@ -106,7 +106,7 @@ impl<L: KeyLayout> World<L> {
     /// The shape. Some list of events leads from the heap as it opens to this world.
     pub fn shape(&self) -> Shape
         ensures is { result ≡ self.now.shape }
-        ensures reached { Reached L.layout self.now }
+        ensures reached { FromEvents L.layout self.now }
     {
         self.shape
     }
@@ -115,7 +115,7 @@ impl<L: KeyLayout> World<L> {
     /// part, and else nothing, which is `Skipped`. Only a step that is not skipped, and by which an entry joins the log or a
     /// list of the pass's own part grows, may be refused, as `Memory`, and then nothing changed.
     pub fn step(&mut self, event: &Event) -> Result<Outcome, Refusal>
-        ensures ok { IfOk result (λ outcome. Steps L.layout self.old event.now outcome self.new) }
+        ensures ok { IfOk result (λ outcome. StepsWorld L.layout self.old event.now outcome self.new) }
         ensures err { OnErr result (self.new ≡ self.old) }
         ensures done { OnErr result (IsDone L.layout self.old event.now) }
         ensures needs { OnErr result (NeedsMemory L.layout self.old event.now) }
@@ -143,7 +143,7 @@ impl<L: KeyLayout> World<L> {
 /// The heap of this shape after these events, one after the other. Refused as `BadShape` where the shape does not fit the
 /// layout, and as `Memory` where memory is refused to the heap or to one of its steps.
 pub fn run<L: KeyLayout>(alloc: Global, shape: Shape, events: &[Event]) -> Result<World<L>, Refusal>
-    ensures runs { Runs L.layout shape events.now result }
+    ensures runs { RunsWorld L.layout shape events.now result }
     // What holds of every run holds of this one.
     ensures refines { OnOk result (Refines (plan_of L.layout shape) (run (plan_of L.layout shape) events.now) (lists_of (plan_of L.layout shape) events.now)) }
     ensures legal { IfOk result (λ world. Legal shape.passes L.layout.guard_max world.log) }

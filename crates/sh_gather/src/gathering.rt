@@ -1,7 +1,7 @@
 //! How passes meet.
 ghost use Rattle.std.specs.Prelude.{◌≡◌, MatchResult};
 ghost use Rattle.sh_table.specs.Tales.{ViewStands};
-ghost use Rattle.sh_table.specs.Views.{joined};
+ghost use Rattle.sh_table.specs.Views.{joined_view};
 ghost use Rattle.sh_table.specs.Whole.{IsWhole};
 
 use crate::view::Whole;
@@ -14,7 +14,7 @@ use sh_pass::{Pass, merge};
 pub fn join<'a, L: KeyLayout>(one: Pass<'a, L>, other: Pass<'a, L>) -> Pass<'a, L>
     requires { other.heap ≡ one.heap }
     ensures heap { result.heap ≡ one.entry.heap }
-    ensures tale { result.view ≡ joined one.entry.view other.entry.view }
+    ensures tale { result.view ≡ joined_view one.entry.view other.entry.view }
     ensures stands { ViewStands L.layout result.view }
 {
     merge(one, other)

@@ -18,7 +18,7 @@ use Rattle.sh_step.specs.declared.body.Body.{Body}
 use Rattle.sh_step.specs.declared.moves.Move.{Move}
 use Rattle.sh_step.specs.Collections.{has, without}
 use Rattle.sh_step.specs.Conditions.{Meets}
-use Rattle.sh_step.specs.Kinds.{kind_of}
+use Rattle.sh_step.specs.Kinds.{kind_of_action}
 use Rattle.sh_step.specs.Moves.{place_named}
 use Rattle.sh_step.specs.Plans.{Plan, plan_of}
 use Rattle.sh_step.specs.Rows.{Row, row, hand}
@@ -129,7 +129,7 @@ module _ (layout : Layout) (v : View) where
 
 -- ---- what a step leaves
 
-pub done : {layout : Layout} {heap : Heap} {n : ℕ} {t u : Seat (Unit {0}) View} (x : Action) (m : Move) → is_by_hand (kind_of x) ≡ true → MayDo layout t.me.0 x m → Did layout heap x m n t u → Acts layout x t.me.0 true u.me.0
+pub done : {layout : Layout} {heap : Heap} {n : ℕ} {t u : Seat (Unit {0}) View} (x : Action) (m : Move) → is_by_hand (kind_of_action x) ≡ true → MayDo layout t.me.0 x m → Did layout heap x m n t u → Acts layout x t.me.0 true u.me.0
 done {n = n} x m by may d = (by, (m, n, may, d.view))
 
 -- a step that leaves this body leaves what is kept of it

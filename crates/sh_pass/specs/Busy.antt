@@ -5,10 +5,10 @@ use Rattle.sh_key.specs.Layout.{Layout}
 use Rattle.sh_slots.specs.declared.hand.Hand.{Hand}
 use Rattle.sh_slots.specs.declared.hand.Hand.TheVariants.{Idle}
 use Rattle.sh_step.specs.declared.action.Action.{Action}
-use Rattle.sh_step.specs.declared.kind.Kind.{Kind}
-use Rattle.sh_step.specs.declared.kind.Kind.TheVariants as kind
+use Rattle.sh_step.specs.declared.kind.ActionKind.{ActionKind}
+use Rattle.sh_step.specs.declared.kind.ActionKind.TheVariants as kind
 use Rattle.sh_step.specs.declared.moves.Move.{Move}
-use Rattle.sh_step.specs.Kinds.{kind_of}
+use Rattle.sh_step.specs.Kinds.{kind_of_action}
 use Rattle.sh_step.specs.Plans.{plan_of}
 use Rattle.sh_step.specs.Rows.{row}
 use Rattle.sh_core.specs.Lists.{times}
@@ -18,7 +18,7 @@ use Rattle.sh_table.specs.Steps.{MayDo, did}
 use Rattle.sh_pass.specs.Passes.{Caller, IsTally}
 
 -- the kinds of step that a pass does by hand
-abbrev pub is_by_hand : Kind → Bool
+abbrev pub is_by_hand : ActionKind → Bool
 is_by_hand kind.Enter = true
 is_by_hand kind.Mark = true
 is_by_hand kind.Drop = true
@@ -31,8 +31,8 @@ is_by_hand _ = false
 
 -- The call answers whether the action is of such a kind and its condition holds. Then it was that one event, for the word that it found; and else nothing
 abbrev pub Acts : Layout → Action → View → Bool → View → Type 0
-Acts layout x v true w = (is_by_hand (kind_of x) ≡ true) × ((m : Move) × (n : ℕ) × MayDo layout v x m × (w ≡ did layout x m v n))
-Acts layout x v false w = (is_by_hand (kind_of x) ≡ true → row (plan_of layout v.shape) v.own.body x ≡ None) × (w ≡ v)
+Acts layout x v true w = (is_by_hand (kind_of_action x) ≡ true) × ((m : Move) × (n : ℕ) × MayDo layout v x m × (w ≡ did layout x m v n))
+Acts layout x v false w = (is_by_hand (kind_of_action x) ≡ true → row (plan_of layout v.shape) v.own.body x ≡ None) × (w ≡ v)
 
 -- the pass comes back exactly where its hand is idle, and in either case as it was
 abbrev pub Ends : Caller → Result Caller Caller → Type 0

@@ -11,7 +11,7 @@ use Rattle.sh_history.specs.declared.entry.Entry.TheVariants.{Got, Gone, Crowded
 use Rattle.sh_history.specs.declared.log.LogEntry.TheVariants.{Known}
 use Rattle.sh_history.specs.History.{Legal, value_of, present_value, holds_by, holds_on, hold_count}
 use Rattle.sh_history.proofs.LogLaws.{known_holds, known_filled, gets_have_value}
-use Rattle.sh_plain.specs.Plain.{Plain, Reply, Replied, refused, got_reply, get_reply, removed_reply, remove_reply, read_answer, with_added, plain_book, plain_setting}
+use Rattle.sh_plain.specs.Plain.{Plain, PlainReply, Replied, refused, got_reply, get_reply, removed_reply, remove_reply, read_answer, with_added, plain_book, plain_setting}
 use Rattle.sh_plain.specs.Store.{GetLeaves, ReadLeaves, RemoveLeaves}
 use Rattle.sh_plain.proofs.Held.{held_has_value, got_is_held}
 
@@ -20,7 +20,7 @@ added_setting : (layout : Layout) (s : Plain) (adds : Option Entry) → plain_se
 added_setting layout s None = refl
 added_setting layout s (Some e) = refl
 
-pub setting_stays : {A : Type 0} (layout : Layout) (reply : Reply A) (s t : Plain) (result : Result A Refusal) → Replied reply s result t
+pub setting_stays : {A : Type 0} (layout : Layout) (reply : PlainReply A) (s t : Plain) (result : Result A Refusal) → Replied reply s result t
     → plain_setting layout t ≡ plain_setting layout s
 setting_stays layout reply s t (Ok x) h = rw h.1 (added_setting layout s reply.adds)
 setting_stays layout reply s t (Err refusal.Memory) h = rw h.1 refl
@@ -32,18 +32,18 @@ book_added s e = map-append Known s.entries (e ∷ [])
 
 module _ (layout : Layout) (s : Plain) (key : ℕ) where
   -- what a remove with this reply leaves
-  abbrev LeftRemoved : Reply (Unit {0}) → Type 0
+  abbrev LeftRemoved : PlainReply (Unit {0}) → Type 0
   LeftRemoved reply = RemoveLeaves (plain_setting layout s) key (plain_book s) reply.answer (plain_book (with_added s reply.adds))
 
   removed_left : (present : Option (List ℕ)) → LeftRemoved (removed_reply s key present)
   removed_left None = book_added s (Gone s.pass key)
   removed_left (Some value) = book_added s (Removed s.pass key)
 
-  remove_left : (b : Bool) (present : Reply (Unit {0})) → LeftRemoved present → LeftRemoved (cond b (refused refusal.BadKey) present)
+  remove_left : (b : Bool) (present : PlainReply (Unit {0})) → LeftRemoved present → LeftRemoved (cond b (refused refusal.BadKey) present)
   remove_left true present h = refl
   remove_left false present h = h
 
-  by_removed : (reply : Reply (Unit {0})) (result : Result (Unit {0}) Refusal) (t : Plain) → LeftRemoved reply → Replied reply s result t
+  by_removed : (reply : PlainReply (Unit {0})) (result : Result (Unit {0}) Refusal) (t : Plain) → LeftRemoved reply → Replied reply s result t
       → RemoveLeaves (plain_setting layout s) key (plain_book s) result (plain_book t)
   by_removed reply (Err refusal.Memory) t left h = ap plain_book h.1
   by_removed reply result t left h =
@@ -59,18 +59,18 @@ module _ (layout : Layout) (s : Plain) (key : ℕ) where
 
 module _ (layout : Layout) (s : Plain) (key : ℕ) (legal : Legal s.passes layout.guard_max s.entries) where
   -- what a get with this reply leaves
-  abbrev Left : Reply Hold → Type 0
+  abbrev Left : PlainReply Hold → Type 0
   Left reply = GetLeaves (plain_setting layout s) key (plain_book s) reply.answer (plain_book (with_added s reply.adds))
 
-  left_either : (b : Bool) (x y : Reply Hold) → Left x → Left y → Left (cond b x y)
+  left_either : (b : Bool) (x y : PlainReply Hold) → Left x → Left y → Left (cond b x y)
   left_either true x y h k = h
   left_either false x y h k = k
 
   got_left : (present : Option (List ℕ)) → Left (got_reply layout s key present)
   got_left None = book_added s (Gone s.pass key)
   got_left (Some value) =
-      let crowded : Reply Hold = record { answer = Err refusal.Crowded; adds = Some (Crowded s.pass key) } in
-      let got : Reply Hold = record { answer = Ok (record { key = key }); adds = Some (Got s.pass key value) } in
+      let crowded : PlainReply Hold = record { answer = Err refusal.Crowded; adds = Some (Crowded s.pass key) } in
+      let got : PlainReply Hold = record { answer = Ok (record { key = key }); adds = Some (Got s.pass key value) } in
       left_either (nat_le layout.guard_max (holds_on s.entries key)) crowded got (book_added s (Crowded s.pass key))
       (refl, (Known (Got s.pass key value), (refl, refl), book_added s (Got s.pass key value)), got_is_held s.passes layout.guard_max s.entries s.pass key legal value)
 
@@ -81,13 +81,13 @@ module _ (layout : Layout) (s : Plain) (key : ℕ) (legal : Legal s.passes layou
       left_either (not (is_some (unpacked layout key))) (refused refusal.BadKey) (cond full (refused refusal.HoldsFull) present) refl
       (left_either full (refused refusal.HoldsFull) present refl (got_left (present_value s.entries key)))
 
-  by_answer : (reply : Reply Hold) (result : Result Hold Refusal) (t : Plain) → Left reply → reply.answer ≡ result
+  by_answer : (reply : PlainReply Hold) (result : Result Hold Refusal) (t : Plain) → Left reply → reply.answer ≡ result
       → t ≡ with_added s reply.adds → GetLeaves (plain_setting layout s) key (plain_book s) result (plain_book t)
   by_answer reply result t left is now =
       let P : Result Hold Refusal → Type 0 = λ r. GetLeaves (plain_setting layout s) key (plain_book s) r (plain_book t) in
       subst P is (rw now left)
 
-  by_reply : (reply : Reply Hold) (result : Result Hold Refusal) (t : Plain) → Left reply → Replied reply s result t
+  by_reply : (reply : PlainReply Hold) (result : Result Hold Refusal) (t : Plain) → Left reply → Replied reply s result t
       → GetLeaves (plain_setting layout s) key (plain_book s) result (plain_book t)
   by_reply reply (Ok hold) t left h = by_answer reply (Ok hold) t left h.0 h.1
   by_reply reply (Err refusal.Memory) t left h = ap plain_book h.1

@@ -10,9 +10,9 @@ use Rattle.sh_history.specs.History.{insert_count}
 use Rattle.sh_plain.specs.declared.index.Issued.{Issued}
 use Rattle.sh_plain.specs.declared.index.Held.{Held}
 use Rattle.sh_plain.proofs.Sound.{fresh}
-use Rattle.sh_plain.specs.Plain.{Plain, Reply, Replied, refused, insert_reply, IsNewKey, IsSound}
+use Rattle.sh_plain.specs.Plain.{Plain, PlainReply, Replied, refused, insert_reply, IsNewKey, IsSound}
 
-chosen_reply : (b : Bool) (issued : Reply ℕ) (key : ℕ) → (cond b issued (refused refusal.Full)).answer ≡ Ok key → (b ≡ true) × (issued.answer ≡ Ok key)
+chosen_reply : (b : Bool) (issued : PlainReply ℕ) (key : ℕ) → (cond b issued (refused refusal.Full)).answer ≡ Ok key → (b ≡ true) × (issued.answer ≡ Ok key)
 chosen_reply true issued key is = (refl, is)
 chosen_reply false issued key is = absurd (let h : ⊥ = cc in h)
 
@@ -28,7 +28,7 @@ module _ (layout : Layout) (issued : List Issued) (holds : List Held) (s : Plain
       → IfOk result (IsNewKey layout s.entries)
   new_key value (Ok key) t h =
       let n = insert_count s.entries in
-      let issued : Reply ℕ = record { answer = Ok (first_key layout + n); adds = Some (Insert s.pass (first_key layout + n) value) } in
+      let issued : PlainReply ℕ = record { answer = Ok (first_key layout + n); adds = Some (Insert s.pass (first_key layout + n) value) } in
       let c = chosen_reply (nat_lt n (key_count layout)) issued key h.0 in
       let same : first_key layout + n ≡ key = cc in
       let P : ℕ → Type 0 = λ k. IsNewKey layout s.entries k in

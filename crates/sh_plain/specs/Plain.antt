@@ -32,15 +32,15 @@ plain_setting layout s =
 -- ---- what each call answers
 
 -- what a call answers, and the entry that it adds, where it adds one
-pub record Reply (A : Type 0) : Type 0 where
+pub record PlainReply (A : Type 0) : Type 0 where
   pub answer : Result A Refusal
   pub adds : Option Entry
 
-abbrev pub refused : {A : Type 0} → Refusal → Reply A
+abbrev pub refused : {A : Type 0} → Refusal → PlainReply A
 refused r = record { answer = Err r; adds = None }
 
 -- the n-th insert, from 0, gives the n-th key, and none is past the last
-abbrev pub insert_reply : Layout → Plain → List ℕ → Reply ℕ
+abbrev pub insert_reply : Layout → Plain → List ℕ → PlainReply ℕ
 insert_reply layout s value =
     let n = insert_count s.entries in
     if nat_lt n (key_count layout)
@@ -48,14 +48,14 @@ insert_reply layout s value =
     else refused refusal.Full
 
 -- a get of a key by a pass that has room for a hold, where this is the key's present value
-abbrev pub got_reply : Layout → Plain → ℕ → Option (List ℕ) → Reply Hold
+abbrev pub got_reply : Layout → Plain → ℕ → Option (List ℕ) → PlainReply Hold
 got_reply layout s key None = record { answer = Err refusal.Gone; adds = Some (Gone s.pass key) }
 got_reply layout s key (Some value) =
     if nat_le layout.guard_max (holds_on s.entries key)
     then record { answer = Err refusal.Crowded; adds = Some (Crowded s.pass key) }
     else record { answer = Ok (record { key = key }); adds = Some (Got s.pass key value) }
 
-abbrev pub get_reply : Layout → Plain → ℕ → Reply Hold
+abbrev pub get_reply : Layout → Plain → ℕ → PlainReply Hold
 get_reply layout s key =
     if not (is_some (unpacked layout key)) then refused refusal.BadKey
     else if nat_le 16 (hold_count s.entries s.pass) then refused refusal.HoldsFull
@@ -69,16 +69,16 @@ abbrev pub read_answer : Plain → ℕ → Result (List ℕ) Refusal
 read_answer s key = ok_or (held_value s key) refusal.NotHeld
 
 -- a remove of a key, where this is the key's present value
-abbrev pub removed_reply : Plain → ℕ → Option (List ℕ) → Reply (Unit {0})
+abbrev pub removed_reply : Plain → ℕ → Option (List ℕ) → PlainReply (Unit {0})
 removed_reply s key None = record { answer = Err refusal.Gone; adds = Some (Gone s.pass key) }
 removed_reply s key (Some value) = record { answer = Ok tt; adds = Some (Removed s.pass key) }
 
-abbrev pub remove_reply : Layout → Plain → ℕ → Reply (Unit {0})
+abbrev pub remove_reply : Layout → Plain → ℕ → PlainReply (Unit {0})
 remove_reply layout s key =
     if not (is_some (unpacked layout key)) then refused refusal.BadKey
     else removed_reply s key (present_value s.entries key)
 
-abbrev pub release_reply : Plain → ℕ → Reply (Unit {0})
+abbrev pub release_reply : Plain → ℕ → PlainReply (Unit {0})
 release_reply s key =
     if nat_lt 0 (holds_by s.entries s.pass key) then record { answer = Ok tt; adds = Some (Released s.pass key) }
     else refused refusal.NotHeld
@@ -91,7 +91,7 @@ with_added s None = s
 with_added s (Some entry) = record s { entries = s.entries ++ entry ∷ [] }
 
 -- the call answered so and added its entry; or it had an entry to add, its memory was refused, and nothing changed
-abbrev pub Replied : {A : Type 0} → Reply A → Plain → Result A Refusal → Plain → Type 0
+abbrev pub Replied : {A : Type 0} → PlainReply A → Plain → Result A Refusal → Plain → Type 0
 Replied reply old (Ok x) new = (reply.answer ≡ Ok x) × (new ≡ with_added old reply.adds)
 Replied reply old (Err refusal.Memory) new = IsSome reply.adds × (new ≡ old)
 Replied reply old (Err r) new = (reply.answer ≡ Err r) × (new ≡ with_added old reply.adds)

@@ -5,19 +5,19 @@ use Rattle.std.proofs.lemmas.Bool.{cases_eq, cases_lt, lt-ltb, le-ltb, ltb-true}
 use Rattle.std.proofs.lemmas.List.{length-replicate}
 use Rattle.sh_lists.specs.Numbers.{Distinct, upward}
 use Rattle.sh_lists.proofs.Distincts.{upward-push, Misses-upward}
-use Rattle.sh_queue.specs.Numbers.{has, put_before, RisesFrom}
-use Rattle.sh_queue.specs.Queues.{PageQueues, one_more_segment, none_opened, run, queue, marks, queues_from, class_queues, shown, Kept}
-use Rattle.sh_queue.proofs.Numbers.{has-put_before_other, has-put_before_same, RisesFrom-more, put_before-nil, put_before-push}
-use Rattle.sh_queue.proofs.Sections.{run-put_before_other, queue-put_before_same, queue-put_before_other, marks-put_before, has-queue, has-mark}
+use Rattle.sh_queue.specs.Numbers.{has_number, put_before, RisesFrom}
+use Rattle.sh_queue.specs.Queues.{PageQueues, one_more_segment, none_opened, pages_to_mark, pages_behind, marks, queues_from, class_queues, queues_shown, KeepsQueues}
+use Rattle.sh_queue.proofs.Numbers.{has_number-put_before_other, has_number-put_before_same, RisesFrom-more, put_before-nil, put_before-push}
+use Rattle.sh_queue.proofs.Sections.{run-put_before_other, queue-put_before_same, queue-put_before_other, marks-put_before, has_number-queue, has_number-mark}
 use Rattle.sh_queue.proofs.Moves.{Leaves}
 
 -- n pages, from this one on, stand behind the blank ones
 record Opened (w w' : List ℕ) (first n : ℕ) : Type 0 where
-  blank : queue 9 w' ≡ queue 9 w ++ upward first n
-  others : (k : ℕ) → k < 11 → k ≢ 9 → queue k w' ≡ queue k w
+  blank : pages_behind 9 w' ≡ pages_behind 9 w ++ upward first n
+  others : (k : ℕ) → k < 11 → k ≢ 9 → pages_behind k w' ≡ pages_behind k w
   marked : marks w' ≡ upward 0 11
-  none_ahead : run w' ≡ run w
-  pages : (q : ℕ) → has (11 + q) w' ≡ nat_lt q (first + n)
+  none_ahead : pages_to_mark w' ≡ pages_to_mark w
+  pages : (q : ℕ) → has_number (11 + q) w' ≡ nat_lt q (first + n)
 
 less_or_same : (q n : ℕ) → q ≢ n → nat_lt q (suc n) ≡ nat_lt q n
 less_or_same q n other = ⊎_elim
@@ -25,11 +25,11 @@ less_or_same q n other = ⊎_elim
     (λ (from : n ≤ q). let beyond : suc n ≤ q = omega arith in le-ltb q (suc n) beyond ∙ sym (le-ltb q n from))
     (cases_lt q n)
 
-opened_none : (w : List ℕ) (first : ℕ) → marks w ≡ upward 0 11 → ((q : ℕ) → has (11 + q) w ≡ nat_lt q first) → Opened w w first 0
+opened_none : (w : List ℕ) (first : ℕ) → marks w ≡ upward 0 11 → ((q : ℕ) → has_number (11 + q) w ≡ nat_lt q first) → Opened w w first 0
 opened_none w first marked pages =
     let none : first + 0 ≡ first = omega arith in
     record {
-      blank = sym (append-nil (queue 9 w));
+      blank = sym (append-nil (pages_behind 9 w));
       others = λ k mark other. refl;
       marked = marked;
       none_ahead = refl;
@@ -40,23 +40,23 @@ opened_more : (w v : List ℕ) (first n : ℕ) → Opened w v first n → Opened
 opened_more w v first n h =
     let p = first + n in
     let next : first + suc n ≡ suc p = omega arith in
-    let here : has 10 v ≡ true = has-mark 10 v h.marked (omega arith) in
+    let here : has_number 10 v ≡ true = has_number-mark 10 v h.marked (omega arith) in
     record {
       blank = queue-put_before_same 9 p 0 11 v h.marked (omega arith) (omega arith) (omega arith)
           ∙ ap (λ xs. xs ++ p ∷ []) h.blank
-          ∙ append_assoc (queue 9 w) (upward first n) (p ∷ [])
-          ∙ ap (λ xs. queue 9 w ++ xs) (sym (upward-push first n));
+          ∙ append_assoc (pages_behind 9 w) (upward first n) (p ∷ [])
+          ∙ ap (λ xs. pages_behind 9 w ++ xs) (sym (upward-push first n));
       others = λ k mark other. queue-put_before_other k 10 p 0 11 v h.marked mark (omega arith) (λ same. other (omega arith)) ∙ h.others k mark other;
       marked = marks-put_before 10 p v ∙ h.marked;
       none_ahead = run-put_before_other 10 p 0 11 v h.marked (omega arith) (λ same. omega arith) ∙ h.none_ahead;
       pages = λ q. ⊎_elim
           (λ (is : p ≡ q).
-          let P : ℕ → Type 0 = λ k. has (11 + k) (put_before 10 ((11 + p) ∷ []) v) ≡ nat_lt k (first + suc n) in
+          let P : ℕ → Type 0 = λ k. has_number (11 + k) (put_before 10 ((11 + p) ∷ []) v) ≡ nat_lt k (first + suc n) in
           let less : p < first + suc n = omega arith in
-          let at : P p = has-put_before_same 10 (11 + p) v here ∙ sym (lt-ltb p (first + suc n) less) in
+          let at : P p = has_number-put_before_same 10 (11 + p) v here ∙ sym (lt-ltb p (first + suc n) less) in
           subst P is at)
           (λ (other : p ≢ q).
-          has-put_before_other (11 + q) 10 (11 + p) v (λ same. other (omega arith))
+          has_number-put_before_other (11 + q) 10 (11 + p) v (λ same. other (omega arith))
           ∙ h.pages q
           ∙ sym (ap (nat_lt q) next ∙ less_or_same q p (λ same. other (sym same))))
           (cases_eq p q);
@@ -64,7 +64,7 @@ opened_more w v first n h =
 
 opened_all
     : (w : List ℕ) (first n : ℕ)
-    → marks w ≡ upward 0 11 → ((q : ℕ) → has (11 + q) w ≡ nat_lt q first)
+    → marks w ≡ upward 0 11 → ((q : ℕ) → has_number (11 + q) w ≡ nat_lt q first)
     → Opened w (put_before 10 (upward (11 + first) n) w) first n
 opened_all w first zero marked pages =
     subst (λ z. Opened w z first 0) (sym (put_before-nil 10 w)) (opened_none w first marked pages)
@@ -90,28 +90,28 @@ get_or-more [] n i = get_or-replicate_same n i
 get_or-more (b ∷ notes) n zero = refl
 get_or-more (b ∷ notes) n (suc i) = get_or-more notes n i
 
-classes_same : (n k : ℕ) (w w' : List ℕ) → ((i : ℕ) → i < k + n → queue i w' ≡ queue i w) → queues_from n k w' ≡ queues_from n k w
+classes_same : (n k : ℕ) (w w' : List ℕ) → ((i : ℕ) → i < k + n → pages_behind i w' ≡ pages_behind i w) → queues_from n k w' ≡ queues_from n k w
 classes_same zero k w w' others = refl
 classes_same (suc n) k w w' others =
     ap (λ x. x ∷ queues_from n (suc k) w') (others k (omega arith))
-    ∙ ap (λ xs. queue k w ∷ xs) (classes_same n (suc k) w w' (λ i upto. others i (omega arith)))
+    ∙ ap (λ xs. pages_behind k w ∷ xs) (classes_same n (suc k) w w' (λ i upto. others i (omega arith)))
 
-class_queues_same : (w w' : List ℕ) → ((i : ℕ) → i < 8 → queue i w' ≡ queue i w) → class_queues w' ≡ class_queues w
+class_queues_same : (w w' : List ℕ) → ((i : ℕ) → i < 8 → pages_behind i w' ≡ pages_behind i w) → class_queues w' ≡ class_queues w
 unfolding class_queues
 class_queues_same w w' others = classes_same 8 0 w w' (λ i upto. others i (omega arith))
 
 pub leaves_opened
     : (w w' : List ℕ) (size size' opened unopened : ℕ) (notes notes' : List Bool) (v : PageQueues)
-    → shown w opened unopened ≡ v → Kept w size opened unopened notes → v.unopened ≢ 0
+    → queues_shown w opened unopened ≡ v → KeepsQueues w size opened unopened notes → v.unopened ≢ 0
     → w' ≡ put_before 10 (upward (11 + opened) 8) w → Distinct w' → 11 + (opened + 8) ≤ size'
     → notes' ≡ notes ++ replicate (opened + 8 - length notes) false
     → Leaves w' size' (opened + 8) (unopened - 1) notes' (one_more_segment v)
 leaves_opened w w' size size' opened unopened notes notes' v is h some new distinct room noted =
     let P : PageQueues → Type 0 = λ v. v.unopened ≢ 0 → Leaves w' size' (opened + 8) (unopened - 1) notes' (one_more_segment v) in
-    let at : P (shown w opened unopened) = λ some.
+    let at : P (queues_shown w opened unopened) = λ some.
     let o : Opened w w' opened 8 = subst (λ z. Opened w z opened 8) (sym new) (opened_all w opened 8 h.marked h.pages) in
     let left : opened + 8 + 8 * (unopened - 1) ≡ opened + 8 * unopened = omega arith in
-    let full : queue 8 w' ≡ queue 8 w = o.others 8 (omega arith) (λ same. omega arith) in
+    let full : pages_behind 8 w' ≡ pages_behind 8 w = o.others 8 (omega arith) (λ same. omega arith) in
     let long : length notes' ≡ length notes + (opened + 8 - length notes) =
     ap length noted
     ∙ length-append notes (replicate (opened + 8 - length notes) false)
@@ -126,13 +126,13 @@ leaves_opened w w' size size' opened unopened notes notes' v is h some new disti
         none_ahead = o.none_ahead ∙ h.none_ahead;
         none_behind = o.others 10 (omega arith) (λ same. omega arith) ∙ h.none_behind;
         pages = o.pages;
-        rising = subst (RisesFrom 0) (sym o.blank) (RisesFrom-more 0 opened 8 (queue 9 w) (omega arith) h.rising
-            (λ k here. ltb-true k opened (sym (h.pages k) ∙ has-queue 9 k w here)));
+        rising = subst (RisesFrom 0) (sym o.blank) (RisesFrom-more 0 opened 8 (pages_behind 9 w) (omega arith) h.rising
+            (λ k here. ltb-true k opened (sym (h.pages k) ∙ has_number-queue 9 k w here)));
         each_noted = omega arith;
         noted = λ q. ap (λ xs. get_or xs q false) noted
             ∙ get_or-more notes (opened + 8 - length notes) q
             ∙ h.noted q
-            ∙ ap (has q) (sym full);
+            ∙ ap (has_number q) (sym full);
       };
       shows = λ i. record {
         opened = opened + 8;
@@ -145,15 +145,15 @@ leaves_opened w w' size size' opened unopened notes notes' v is h some new disti
     subst P is at some
 
 -- the marks alone have no page behind them
-pub shows_none : (segments : ℕ) → shown (upward 0 11) 0 segments ≡ none_opened segments
+pub shows_none : (segments : ℕ) → queues_shown (upward 0 11) 0 segments ≡ none_opened segments
 unfolding class_queues
 shows_none segments = refl
 
 -- the pages that come next do not stand in the chain
 pub next_are_new
     : (w : List ℕ) (size opened unopened : ℕ) (notes : List Bool)
-    → Kept w size opened unopened notes → (k : ℕ) → 11 + opened ≤ k → has k w ≡ false
+    → KeepsQueues w size opened unopened notes → (k : ℕ) → 11 + opened ≤ k → has_number k w ≡ false
 next_are_new w size opened unopened notes h k from =
     let is : k ≡ 11 + (k - 11) = omega arith in
     let beyond : opened ≤ k - 11 = omega arith in
-    ap (λ n. has n w) is ∙ h.pages (k - 11) ∙ le-ltb (k - 11) opened beyond
+    ap (λ n. has_number n w) is ∙ h.pages (k - 11) ∙ le-ltb (k - 11) opened beyond

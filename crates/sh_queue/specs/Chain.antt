@@ -4,19 +4,19 @@ use Rattle.sh_lists.specs.Numbers.{Distinct, AllBelow}
 use Rattle.sh_lists.specs.Lists.{LastFrom}
 
 -- what a contract sees of a chain: its numbers in order, and below which number each has to be
-pub record Chained : Type 0 where
+pub record ChainNumbers : Type 0 where
   pub numbers : List ℕ
   pub size : ℕ
 
 -- each number leads to the next one and back, from a on
-abbrev pub Linked : List ℕ → List ℕ → ℕ → List ℕ → Type 0
-Linked next prev a [] = Unit {0}
-Linked next prev a (b ∷ rest) = (get_or next a 0 ≡ b) × (get_or prev b 0 ≡ a) × Linked next prev b rest
+abbrev pub ChainLinked : List ℕ → List ℕ → ℕ → List ℕ → Type 0
+ChainLinked next prev a [] = Unit {0}
+ChainLinked next prev a (b ∷ rest) = (get_or next a 0 ≡ b) × (get_or prev b 0 ≡ a) × ChainLinked next prev b rest
 
 -- the links hold 0 and these numbers behind it, none twice, and the last is 10
 pub record Links (next prev rest : List ℕ) : Type 0 where
   pub size : length next ≤ length prev
   pub small : AllBelow (length next) (0 ∷ rest)
   pub distinct : Distinct (0 ∷ rest)
-  pub linked : Linked next prev 0 rest
+  pub linked : ChainLinked next prev 0 rest
   pub last : LastFrom 0 rest 10

@@ -2,14 +2,14 @@
 use Rattle.std.specs.Prelude.{ℕ, ◌==◌, ◌≤◌, suc, Bool, false, cond, ◌||◌, List, [], ◌∷◌, ◌++◌, get_or}
 
 -- whether k is one of the numbers
-abbrev pub has : ℕ → List ℕ → Bool
-has k [] = false
-has k (x ∷ xs) = (x == k) || has k xs
+abbrev pub has_number : ℕ → List ℕ → Bool
+has_number k [] = false
+has_number k (x ∷ xs) = (x == k) || has_number k xs
 
 -- the numbers but for the first that is k
-abbrev pub without : ℕ → List ℕ → List ℕ
-without k [] = []
-without k (x ∷ xs) = cond (x == k) xs (x ∷ without k xs)
+abbrev pub without_number : ℕ → List ℕ → List ℕ
+without_number k [] = []
+without_number k (x ∷ xs) = cond (x == k) xs (x ∷ without_number k xs)
 
 -- x stands behind the first s
 abbrev pub put_after : ℕ → ℕ → List ℕ → List ℕ

@@ -2,10 +2,10 @@
 use Rattle.std.specs.Prelude.{◌≡◌, ◌↔◌, ℕ, zero, suc, ◌+◌, ◌-◌, ◌*◌, ◌<◌, ◌≤◌, ◌==◌, nat_lt, Bool, true, false, cond, List, [], ◌∷◌, ◌++◌, map, replicate, length, get_or, slice_set, Option, Some, None}
 use Rattle.std.specs.List.{concat}
 use Rattle.sh_lists.specs.Numbers.{Distinct, upward}
-use Rattle.sh_queue.specs.Numbers.{has, without, RisesFrom}
+use Rattle.sh_queue.specs.Numbers.{has_number, without_number, RisesFrom}
 
--- how many pages are opened, the first ones; how many segments are not; the pages that stand in the queue of each of the
--- 8 classes, in the full queue, and the blank pages, each list from its front
+-- how many pages are opened, the first ones; how many segments are not; the pages that stand in the pages_behind of each of the
+-- 8 classes, in the full pages_behind, and the blank pages, each list from its front
 pub record PageQueues : Type 0 where
   pub opened : ℕ
   pub unopened : ℕ
@@ -13,19 +13,19 @@ pub record PageQueues : Type 0 where
   pub full : List ℕ
   pub blank : List ℕ
 
--- the pages in the queue of class c
-abbrev pub class_of : PageQueues → ℕ → List ℕ
-class_of q c = get_or q.classes c []
+-- the pages in the pages_behind of class c
+abbrev pub class_queue : PageQueues → ℕ → List ℕ
+class_queue q c = get_or q.classes c []
 
 -- the queues one after the other
-abbrev pub all_pages : PageQueues → List ℕ
-all_pages q = concat q.classes ++ (q.full ++ q.blank)
+abbrev pub queued_pages : PageQueues → List ℕ
+queued_pages q = concat q.classes ++ (q.full ++ q.blank)
 
 -- each opened page, and no other, stands in exactly one of the queues, and there once
 pub record EachOnce (q : PageQueues) : Type 0 where
   pub classes : length q.classes ≡ 8
-  pub once : Distinct (all_pages q)
-  pub opened : (page : ℕ) → (has page (all_pages q) ≡ true) ↔ (page < q.opened)
+  pub once : Distinct (queued_pages q)
+  pub opened : (page : ℕ) → (has_number page (queued_pages q) ≡ true) ↔ (page < q.opened)
 
 -- ---- what the calls leave
 
@@ -36,23 +36,23 @@ none_opened segments = record { opened = 0; unopened = segments; classes = repli
 -- the page stands nowhere
 abbrev pub taken_out : ℕ → PageQueues → PageQueues
 taken_out page q =
-    record q { classes = map (without page) q.classes; full = without page q.full; blank = without page q.blank }
+    record q { classes = map (without_number page) q.classes; full = without_number page q.full; blank = without_number page q.blank }
 
--- the queue of class c becomes this one
+-- the pages_behind of class c becomes this one
 abbrev pub with_class : ℕ → List ℕ → PageQueues → PageQueues
 with_class c pages q = record q { classes = slice_set q.classes c pages }
 
 -- the page, taken from where it stands, is the front of class c
 abbrev pub at_front : ℕ → ℕ → PageQueues → PageQueues
-at_front c page q = with_class c (page ∷ without page (class_of q c)) (taken_out page q)
+at_front c page q = with_class c (page ∷ without_number page (class_queue q c)) (taken_out page q)
 
 -- the page, taken from where it stands, is the last of class c
 abbrev pub at_back : ℕ → ℕ → PageQueues → PageQueues
-at_back c page q = with_class c (without page (class_of q c) ++ page ∷ []) (taken_out page q)
+at_back c page q = with_class c (without_number page (class_queue q c) ++ page ∷ []) (taken_out page q)
 
--- the page, taken from where it stands, is the last of the full queue
+-- the page, taken from where it stands, is the last of the full pages_behind
 abbrev pub among_full : ℕ → PageQueues → PageQueues
-among_full page q = record (taken_out page q) { full = without page q.full ++ page ∷ [] }
+among_full page q = record (taken_out page q) { full = without_number page q.full ++ page ∷ [] }
 
 -- the next 8 pages are opened, and blank
 abbrev pub one_more_segment : PageQueues → PageQueues
@@ -61,22 +61,22 @@ one_more_segment q =
 
 -- ---- how one chain of numbers holds the queues
 
--- The numbers below 11 are marks: 0 to 7 stand ahead of the queues of the classes, 8 ahead of the full queue, 9 ahead of
+-- The numbers below 11 are marks: 0 to 7 stand ahead of the queues of the classes, 8 ahead of the full pages_behind, 9 ahead of
 -- the blank pages, 10 at the end. Page p is the number 11 + p.
 
 -- the page that a number stands for; a mark stands for none
-abbrev pub page_of : ℕ → Option ℕ
-page_of x = cond (nat_lt x 11) None (Some (x - 11))
+abbrev pub page_numbered : ℕ → Option ℕ
+page_numbered x = cond (nat_lt x 11) None (Some (x - 11))
 
 -- the pages up to the next mark
-abbrev pub run : List ℕ → List ℕ
-run [] = []
-run (x ∷ xs) = cond (nat_lt x 11) [] ((x - 11) ∷ run xs)
+abbrev pub pages_to_mark : List ℕ → List ℕ
+pages_to_mark [] = []
+pages_to_mark (x ∷ xs) = cond (nat_lt x 11) [] ((x - 11) ∷ pages_to_mark xs)
 
 -- the pages behind this mark
-abbrev pub queue : ℕ → List ℕ → List ℕ
-queue mark [] = []
-queue mark (x ∷ xs) = cond (x == mark) (run xs) (queue mark xs)
+abbrev pub pages_behind : ℕ → List ℕ → List ℕ
+pages_behind mark [] = []
+pages_behind mark (x ∷ xs) = cond (x == mark) (pages_to_mark xs) (pages_behind mark xs)
 
 -- the marks among the numbers
 abbrev pub marks : List ℕ → List ℕ
@@ -86,32 +86,32 @@ marks (x ∷ xs) = cond (nat_lt x 11) (x ∷ marks xs) (marks xs)
 -- the queues behind the n marks from k on
 abbrev pub queues_from : ℕ → ℕ → List ℕ → List (List ℕ)
 queues_from zero k numbers = []
-queues_from (suc n) k numbers = queue k numbers ∷ queues_from n (suc k) numbers
+queues_from (suc n) k numbers = pages_behind k numbers ∷ queues_from n (suc k) numbers
 
 -- the queues of the classes
 unfoldable pub class_queues : List ℕ → List (List ℕ)
 class_queues numbers = queues_from 8 0 numbers
 
 -- what the chain says of the queues
-abbrev pub shown : List ℕ → ℕ → ℕ → PageQueues
-shown numbers opened unopened = record {
+abbrev pub queues_shown : List ℕ → ℕ → ℕ → PageQueues
+queues_shown numbers opened unopened = record {
   opened = opened;
   unopened = unopened;
   classes = class_queues numbers;
-  full = queue 8 numbers;
-  blank = queue 9 numbers;
+  full = pages_behind 8 numbers;
+  blank = pages_behind 9 numbers;
 }
 
--- what is true of the chain: it has the marks in ascending order, the opened pages between them, and the blank pages rise;
--- the notes tell which pages are in the full queue
-pub record Kept (numbers : List ℕ) (size opened unopened : ℕ) (notes : List Bool) : Type 0 where
+-- what is true of the chain: it has_number the marks in ascending order, the opened pages between them, and the blank pages rise;
+-- the notes tell which pages are in the full pages_behind
+pub record KeepsQueues (numbers : List ℕ) (size opened unopened : ℕ) (notes : List Bool) : Type 0 where
   pub room : 11 + opened ≤ size
   pub few : opened + 8 * unopened ≤ 2048
   pub distinct : Distinct numbers
   pub marked : marks numbers ≡ upward 0 11
-  pub none_ahead : run numbers ≡ []
-  pub none_behind : queue 10 numbers ≡ []
-  pub pages : (page : ℕ) → has (11 + page) numbers ≡ nat_lt page opened
-  pub rising : RisesFrom 0 (queue 9 numbers)
+  pub none_ahead : pages_to_mark numbers ≡ []
+  pub none_behind : pages_behind 10 numbers ≡ []
+  pub pages : (page : ℕ) → has_number (11 + page) numbers ≡ nat_lt page opened
+  pub rising : RisesFrom 0 (pages_behind 9 numbers)
   pub each_noted : length notes ≡ opened
-  pub noted : (page : ℕ) → get_or notes page false ≡ has page (queue 8 numbers)
+  pub noted : (page : ℕ) → get_or notes page false ≡ has_number page (pages_behind 8 numbers)

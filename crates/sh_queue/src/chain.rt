@@ -1,8 +1,8 @@
 // One list of numbers, linked both ways.
 ghost use Rattle.std.specs.Prelude.{◌≡◌, ◌≢◌, ℕ, ◌+◌, ◌-◌, ◌^◌, ◌<◌, ◌≤◌, [], ◌∷◌, ◌++◌, length, replicate, true, false, IfOk, OnOk, OnErr};
 ghost use Rattle.sh_lists.specs.Numbers.{Distinct, upward};
-ghost use Rattle.sh_queue.specs.Numbers.{has, without, put_after, put_before, following, preceding};
-ghost use Rattle.sh_queue.specs.Chain.{Chained};
+ghost use Rattle.sh_queue.specs.Numbers.{has_number, without_number, put_after, put_before, following, preceding};
+ghost use Rattle.sh_queue.specs.Chain.{ChainNumbers};
 
 use std::alloc::{AllocError, Global};
 use std::marker::Model;
@@ -24,9 +24,9 @@ pub struct Chain {
 impl Model for Chain {
     ghost use Rattle.std.specs.Prelude.{◌∷◌, length, get_or};
     ghost use Rattle.sh_lists.specs.Lists.{walk};
-    ghost use Rattle.sh_queue.specs.Chain.{Chained, Links};
+    ghost use Rattle.sh_queue.specs.Chain.{ChainNumbers, Links};
 
-    ghost Value = { Chained };
+    ghost Value = { ChainNumbers };
 
     ghost view = { λ c. record { numbers = 0 ∷ walk c.next.items (get_or c.next.items 0 0) c.count; size = length c.next.items } };
 
@@ -59,7 +59,7 @@ impl Chain {
 
     // The number behind s.
     pub fn following(&self, s: u32) -> u32
-        requires here { has s self.now.numbers ≡ true }
+        requires here { has_number s self.now.numbers ≡ true }
         requires inner { s ≢ 10 }
         ensures { result ≡ following s self.now.numbers }
     {
@@ -68,7 +68,7 @@ impl Chain {
 
     // The number ahead of m.
     pub fn preceding(&self, m: u32) -> u32
-        requires here { has m self.now.numbers ≡ true }
+        requires here { has_number m self.now.numbers ≡ true }
         requires inner { m ≢ 0 }
         ensures { result ≡ preceding m self.now.numbers }
     {
@@ -77,10 +77,10 @@ impl Chain {
 
     // Takes x out.
     pub fn unlink(&mut self, x: u32)
-        requires here { has x self.old.numbers ≡ true }
+        requires here { has_number x self.old.numbers ≡ true }
         requires inner { (x ≢ 0) × (x ≢ 10) }
-        ensures out { self.new ≡ record self.old { numbers = without x self.old.numbers } }
-        ensures gone { has x self.new.numbers ≡ false }
+        ensures out { self.new ≡ record self.old { numbers = without_number x self.old.numbers } }
+        ensures gone { has_number x self.new.numbers ≡ false }
     {
         let before = self.prev[x as usize];
         let behind = self.next[x as usize];
@@ -91,9 +91,9 @@ impl Chain {
 
     // Puts x behind s.
     pub fn put_after(&mut self, s: u32, x: u32)
-        requires here { has s self.old.numbers ≡ true }
+        requires here { has_number s self.old.numbers ≡ true }
         requires inner { s ≢ 10 }
-        requires apart { has x self.old.numbers ≡ false }
+        requires apart { has_number x self.old.numbers ≡ false }
         requires inside { x < self.old.size }
         ensures put { self.new ≡ record self.old { numbers = put_after s x self.old.numbers } }
         ensures distinct { Distinct self.new.numbers }
@@ -108,9 +108,9 @@ impl Chain {
 
     // Puts x ahead of m.
     pub fn put_before(&mut self, m: u32, x: u32)
-        requires here { has m self.old.numbers ≡ true }
+        requires here { has_number m self.old.numbers ≡ true }
         requires inner { m ≢ 0 }
-        requires apart { has x self.old.numbers ≡ false }
+        requires apart { has_number x self.old.numbers ≡ false }
         requires inside { x < self.old.size }
         ensures put { self.new ≡ record self.old { numbers = put_before m (x ∷ []) self.old.numbers } }
         ensures distinct { Distinct self.new.numbers }
@@ -121,8 +121,8 @@ impl Chain {
 
     // Puts the numbers from `first` on, this many, ahead of `END`.
     pub fn append(&mut self, first: u32, count: u32)
-        requires here { has 10 self.old.numbers ≡ true }
-        requires apart { (k : ℕ) → first ≤ k → k < first + count → has k self.old.numbers ≡ false }
+        requires here { has_number 10 self.old.numbers ≡ true }
+        requires apart { (k : ℕ) → first ≤ k → k < first + count → has_number k self.old.numbers ≡ false }
         requires inside { first + count ≤ self.old.size }
         requires few { first + count < 2 ^ 32 }
         ensures put { self.new ≡ record self.old { numbers = put_before 10 (upward first count) self.old.numbers } }

@@ -2,9 +2,9 @@
 ghost use Rattle.std.specs.Prelude.{◌≡◌, ◌≢◌, ℕ, ◌+◌, ◌-◌, ◌*◌, ◌<◌, ◌≤◌, ◌++◌, true, false, length, replicate, None, slice_get, IfSome, IfOk, IfErr, OnOk, OnErr};
 ghost use Rattle.std.specs.List.{last_or};
 ghost use Rattle.sh_lists.specs.Numbers.{upward};
-ghost use Rattle.sh_queue.specs.Numbers.{has};
-ghost use Rattle.sh_queue.specs.Chain.{Chained};
-ghost use Rattle.sh_queue.specs.Queues.{EachOnce, page_of, class_of, none_opened, at_front, at_back, among_full, one_more_segment};
+ghost use Rattle.sh_queue.specs.Numbers.{has_number};
+ghost use Rattle.sh_queue.specs.Chain.{ChainNumbers};
+ghost use Rattle.sh_queue.specs.Queues.{EachOnce, page_numbered, class_queue, none_opened, at_front, at_back, among_full, one_more_segment};
 
 use crate::chain::Chain;
 use sh_value::Refusal;
@@ -37,13 +37,13 @@ pub struct Queues {
 }
 
 impl Model for Queues {
-    ghost use Rattle.sh_queue.specs.Queues.{PageQueues, shown, Kept};
+    ghost use Rattle.sh_queue.specs.Queues.{PageQueues, queues_shown, KeepsQueues};
 
     ghost Value = { PageQueues };
 
-    ghost view = { λ q. shown q.chain.numbers q.opened q.unopened };
+    ghost view = { λ q. queues_shown q.chain.numbers q.opened q.unopened };
 
-    ghost invariant = { λ q. Kept q.chain.numbers q.chain.size q.opened q.unopened q.full.items };
+    ghost invariant = { λ q. KeepsQueues q.chain.numbers q.chain.size q.opened q.unopened q.full.items };
 }
 
 impl Queues {
@@ -104,7 +104,7 @@ impl Queues {
     /// The lowest blank page.
     pub fn blank(&self) -> Option<u32>
         ensures front { result ≡ slice_get self.now.blank 0 }
-        ensures lowest { IfSome result (λ page. (other : ℕ) → has other self.now.blank ≡ true → page ≤ other) }
+        ensures lowest { IfSome result (λ page. (other : ℕ) → has_number other self.now.blank ≡ true → page ≤ other) }
         ensures opened { IfSome result (λ page. page < self.now.opened) }
     {
         page_of(self.chain.following(BLANK))
@@ -113,7 +113,7 @@ impl Queues {
     /// The front page of a class.
     pub fn front(&self, c: u32) -> Option<u32>
         requires { c < 8 }
-        ensures front { result ≡ slice_get (class_of self.now c) 0 }
+        ensures front { result ≡ slice_get (class_queue self.now c) 0 }
         ensures opened { IfSome result (λ page. page < self.now.opened) }
     {
         page_of(self.chain.following(c))
@@ -122,7 +122,7 @@ impl Queues {
     /// The last page of a class.
     pub fn last(&self, c: u32) -> Option<u32>
         requires { c < 8 }
-        ensures last { result ≡ last_or None (class_of self.now c) }
+        ensures last { result ≡ last_or None (class_queue self.now c) }
         ensures opened { IfSome result (λ page. page < self.now.opened) }
     {
         page_of(self.chain.preceding(c + 1))
@@ -131,7 +131,7 @@ impl Queues {
     /// Whether an opened page stands in the full queue.
     pub fn in_full(&self, page: u32) -> bool
         requires { page < self.now.opened }
-        ensures { result ≡ has page self.now.full }
+        ensures { result ≡ has_number page self.now.full }
     {
         self.full[page as usize]
     }
@@ -197,7 +197,7 @@ fn make_room(chain: &mut Chain, full: &mut Vec<bool>, pages: u32) -> Result<(), 
 
 // The page that a number of the chain stands for. A mark stands for none.
 fn page_of(number: u32) -> Option<u32>
-    ensures { result ≡ page_of number }
+    ensures { result ≡ page_numbered number }
 {
     if number < FIRST_PAGE {
         None

@@ -11,7 +11,7 @@ use Rattle.sh_script.specs.declared.fault.Fault.TheVariants as fault
 use Rattle.sh_replay.specs.Ends.{IsEndFault}
 use Rattle.sh_replay.specs.declared.answer.Answer.{Answer}
 use Rattle.sh_replay.specs.Replies.{reply_line, replies_text}
-use Rattle.sh_replay.specs.PlainRun.{Run, Steps, Ran}
+use Rattle.sh_replay.specs.PlainRun.{Run, TakesLine, Ran}
 use Rattle.sh_replay.specs.Output.{Writes}
 
 record OneMore (layout : Layout) (before : Run) (lines : List CallLine) (answers : List Answer) (l : CallLine) (a : Answer) (next : Run) : Type 0 where
@@ -19,9 +19,9 @@ record OneMore (layout : Layout) (before : Run) (lines : List CallLine) (answers
   text : replies_text (lines ++ l ∷ []) (answers ++ a ∷ []) ≡ replies_text lines answers ++ reply_line l a
 
 one_more : (layout : Layout) (before mid next : Run) (lines : List CallLine) (answers : List Answer) (l : CallLine) (a : Answer)
-    → Ran layout before lines answers mid → Steps layout mid l a next → OneMore layout before lines answers l a next
+    → Ran layout before lines answers mid → TakesLine layout mid l a next → OneMore layout before lines answers l a next
 one_more layout before mid next [] [] l a h s =
-    let P : Run → Type 0 = λ r. Steps layout r l a next in
+    let P : Run → Type 0 = λ r. TakesLine layout r l a next in
     record { ran = (next, subst P h s, refl); text = append-nil (reply_line l a) }
 one_more layout before mid next [] (b ∷ bs) l a h s = absurd h
 one_more layout before mid next (k ∷ ks) [] l a h s = absurd h
@@ -34,7 +34,7 @@ one_more layout before mid next (k ∷ ks) (b ∷ bs) l a h s =
 
 -- the lines up to the one at i, and that one
 pub writes_more : (layout : Layout) (before mid next : Run) (lines : List CallLine) (i : ℕ) (l : CallLine) (a : Answer) (old new : List ℕ)
-    → i < length lines → l ≡ get_or lines i l → Writes layout before (take i lines) mid old → Steps layout mid l a next
+    → i < length lines → l ≡ get_or lines i l → Writes layout before (take i lines) mid old → TakesLine layout mid l a next
     → new ≡ old ++ reply_line l a → Writes layout before (take (i + 1) lines) next new
 writes_more layout before mid next lines i l a old new lt is w s e =
     let more = one_more layout before mid next (take i lines) w.answers l a w.ran s in

@@ -17,7 +17,7 @@ use Rattle.sh_step.specs.Rows.{Row, row}
 use Rattle.sh_core.specs.declared.outcome.Outcome.{Outcome}
 use Rattle.sh_core.specs.declared.outcome.Outcome.TheVariants.{Skipped}
 use Rattle.sh_core.specs.Words.{read}
-use Rattle.sh_core.specs.Worlds.{World, entry_of, value_of}
+use Rattle.sh_core.specs.Worlds.{World, entry_of, value_at_place}
 use Rattle.sh_core.specs.Outcomes.{outcome_of, done}
 use Rattle.sh_core.specs.Refines.{FillsAreKeys}
 use Rattle.sh_step.specs.Conditions.{Meets}
@@ -102,7 +102,7 @@ module _ (bound : ℕ) (plan : Plan) (w : World) (below : (k : ℕ) (n : Name) �
     by o is h = subst (λ (o : Outcome). KeysWithin bound o) (sym is) h
 
     done_within : (p : Body) (r : Option Row) → slice_get w.parts e.pass ≡ Some p → row plan p e.action ≡ r → KeysWithin bound (outcome_of plan w e)
-    done_within p (Some m) at is = by _ (outcome_done plan w e m (row_of_at plan w e p at ∙ is)) (joins bound e.pass (value_of w.words m.place) (m.reply (read w.words m.place)) (row_within e.pass p e.action m at (meets plan p e.action m is)))
+    done_within p (Some m) at is = by _ (outcome_done plan w e m (row_of_at plan w e p at ∙ is)) (joins bound e.pass (value_at_place w.words m.place) (m.reply (read w.words m.place)) (row_within e.pass p e.action m at (meets plan p e.action m is)))
     done_within p None at is = by Skipped (outcome_skipped plan w e (row_of_at plan w e p at ∙ is)) tt
 
     part : (o : Option Body) → slice_get w.parts e.pass ≡ o → KeysWithin bound (outcome_of plan w e)

@@ -4,15 +4,15 @@ use Rattle.std.proofs.lemmas.List.Elements.{filter_map-append}
 use Rattle.sh_key.specs.Layout.{Layout}
 use Rattle.sh_shape.specs.Shape.{Numbers}
 use Rattle.sh_step.specs.declared.action.Event.{Event}
-use Rattle.sh_step.specs.Kinds.{kind_of}
+use Rattle.sh_step.specs.Kinds.{kind_of_action}
 use Rattle.sh_step.specs.Plans.{Plan, plan_of}
 use Rattle.sh_core.specs.declared.outcome.Outcome.{Outcome}
 use Rattle.sh_core.specs.declared.outcome.Outcome.TheVariants.{Skipped}
-use Rattle.sh_core.specs.Kept.{Kept, Stands}
+use Rattle.sh_core.specs.Kept.{KeptWorld, StandsFor}
 use Rattle.sh_core.specs.Outcomes.{outcome_of, outcomes_from, outcomes}
 use Rattle.sh_core.specs.Worlds.{World, step, run, run_from, open_world}
 use Rattle.sh_core.proofs.Steps.{run_snoc}
-use Rattle.sh_replay.specs.StepsKeys.{Does}
+use Rattle.sh_replay.specs.StepsKeys.{DoesEvent}
 use Rattle.sh_replay.specs.StepsOutput.{event_shown, events_shown, event_line, event_lines}
 
 -- what comes of a line, and what it leaves
@@ -35,7 +35,7 @@ before_is tag e es = go (event_shown tag e) refl where
   go None is = rw is refl
 
 abbrev line_of : Option ℕ → Event → Outcome → List ℕ
-line_of tag e o = event_line tag e.pass (kind_of e.action) o
+line_of tag e o = event_line tag e.pass (kind_of_action e.action) o
 
 -- the lines of an event and of those behind it
 abbrev line_at : Option ℕ → Event → Option Event → List Event → List Outcome → List ℕ
@@ -80,38 +80,38 @@ shown_more tag es e = filter_map-append (event_shown tag) es (e ∷ []) ∙ ap (
   go None = refl
 
 -- what is kept after one line more
-stands_more : (layout : Layout) (k next : Kept) (es : List Event) (s : Option Event) (o : Outcome) → let plan = plan_of layout k.shape in Stands k (run plan es) → Does layout k s o next
-    → (next.shape ≡ k.shape) × Stands next (run plan (es ++ one s)) × (o ≡ outcome_at plan (run plan es) s)
+stands_more : (layout : Layout) (k next : KeptWorld) (es : List Event) (s : Option Event) (o : Outcome) → let plan = plan_of layout k.shape in StandsFor k (run plan es) → DoesEvent layout k s o next
+    → (next.shape ≡ k.shape) × StandsFor next (run plan (es ++ one s)) × (o ≡ outcome_at plan (run plan es) s)
 stands_more layout k next es (Some m) o stands does =
     let plan : Plan = plan_of layout k.shape in
-    (does.shape, subst (λ (w : World). Stands next w) (sym (run_snoc plan (open_world plan) es m)) (does.world (run plan es) stands), does.outcome_is (run plan es) stands)
+    (does.shape, subst (λ (w : World). StandsFor next w) (sym (run_snoc plan (open_world plan) es m)) (does.world (run plan es) stands), does.outcome_is (run plan es) stands)
 stands_more layout k next es None o stands does =
     let plan : Plan = plan_of layout k.shape in
     let all : es ++ [] ≡ es = append-nil es in
-    let kept : Stands next (run plan es) = subst (λ (n : Kept). Stands n (run plan es)) (sym does.1) stands in
-    (ap (λ (n : Kept). n.shape) does.1, subst (λ (xs : List Event). Stands next (run plan xs)) (sym all) kept, does.0)
+    let kept : StandsFor next (run plan es) = subst (λ (n : KeptWorld). StandsFor n (run plan es)) (sym does.1) stands in
+    (ap (λ (n : KeptWorld). n.shape) does.1, subst (λ (xs : List Event). StandsFor next (run plan xs)) (sym all) kept, does.0)
 
 -- a run so far: which world, and which lines
-pub record Ran (layout : Layout) (shape : Numbers) (tag : Option ℕ) (es : List Event) (k : Kept) (text : List ℕ) : Type 0 where
+pub record Ran (layout : Layout) (shape : Numbers) (tag : Option ℕ) (es : List Event) (k : KeptWorld) (text : List ℕ) : Type 0 where
   pub shape_is : k.shape ≡ shape
-  pub stands : Stands k (run (plan_of layout shape) (events_shown tag es))
+  pub stands : StandsFor k (run (plan_of layout shape) (events_shown tag es))
   pub is : text ≡ event_lines tag es (outcomes (plan_of layout shape) (events_shown tag es))
 
-pub ran_none : (layout : Layout) (shape : Numbers) (tag : Option ℕ) (k : Kept) (text : List ℕ) → k.shape ≡ shape → Stands k (open_world (plan_of layout shape)) → text ≡ [] → Ran layout shape tag [] k text
+pub ran_none : (layout : Layout) (shape : Numbers) (tag : Option ℕ) (k : KeptWorld) (text : List ℕ) → k.shape ≡ shape → StandsFor k (open_world (plan_of layout shape)) → text ≡ [] → Ran layout shape tag [] k text
 unfolding event_lines run_from
 ran_none layout shape tag k text same stands none = record { shape_is = same; stands = stands; is = none }
 
-pub ran_more : (layout : Layout) (shape : Numbers) (tag : Option ℕ) (es : List Event) (e : Event) (k next : Kept) (o : Outcome) (old new : List ℕ) → Ran layout shape tag es k old → Does layout k (event_shown tag e) o next
-    → new ≡ old ++ event_line tag e.pass (kind_of e.action) o → Ran layout shape tag (es ++ e ∷ []) next new
+pub ran_more : (layout : Layout) (shape : Numbers) (tag : Option ℕ) (es : List Event) (e : Event) (k next : KeptWorld) (o : Outcome) (old new : List ℕ) → Ran layout shape tag es k old → DoesEvent layout k (event_shown tag e) o next
+    → new ≡ old ++ event_line tag e.pass (kind_of_action e.action) o → Ran layout shape tag (es ++ e ∷ []) next new
 ran_more layout shape tag es e k next o old new ran does is =
     let plan : Plan = plan_of layout shape in
-    let stands : Stands k (run (plan_of layout k.shape) (events_shown tag es)) = subst (λ n. Stands k (run (plan_of layout n) (events_shown tag es))) (sym ran.shape_is) ran.stands in
+    let stands : StandsFor k (run (plan_of layout k.shape) (events_shown tag es)) = subst (λ n. StandsFor k (run (plan_of layout n) (events_shown tag es))) (sym ran.shape_is) ran.stands in
     let more = stands_more layout k next (events_shown tag es) (event_shown tag e) o stands does in
-    let kept : Stands next (run plan (events_shown tag es ++ one (event_shown tag e))) = subst (λ n. Stands next (run (plan_of layout n) (events_shown tag es ++ one (event_shown tag e)))) ran.shape_is more.1 in
+    let kept : StandsFor next (run plan (events_shown tag es ++ one (event_shown tag e))) = subst (λ n. StandsFor next (run (plan_of layout n) (events_shown tag es ++ one (event_shown tag e)))) ran.shape_is more.1 in
     let came : o ≡ outcome_at plan (run plan (events_shown tag es)) (event_shown tag e) = subst (λ n. o ≡ outcome_at (plan_of layout n) (run (plan_of layout n) (events_shown tag es)) (event_shown tag e)) ran.shape_is more.2 in
     record {
       shape_is = more.0 ∙ ran.shape_is;
-      stands = subst (λ (xs : List Event). Stands next (run plan xs)) (sym (shown_more tag es e)) kept;
+      stands = subst (λ (xs : List Event). StandsFor next (run plan xs)) (sym (shown_more tag es e)) kept;
       is = is ∙ ap (λ t. t ++ line_of tag e o) ran.is ∙ ap (λ (x : Outcome). event_lines tag es (outcomes plan (events_shown tag es)) ++ line_of tag e x) came
           ∙ sym (lines_more plan (open_world plan) tag es e);
     }

@@ -14,6 +14,6 @@ key_shown None number = Some number
 key_shown (Some tag) number = if number / 2 ^ 52 == tag * 16 then Some (number % 2 ^ 52) else None
 
 -- where there is a tag, the layout's keys leave room for it
-abbrev pub HasRoom : Layout → Option ℕ → Type 0
-HasRoom layout None = Unit {0}
-HasRoom layout (Some tag) = first_key layout + key_count layout ≤ 2 ^ 52
+abbrev pub HasTagRoom : Layout → Option ℕ → Type 0
+HasTagRoom layout None = Unit {0}
+HasTagRoom layout (Some tag) = first_key layout + key_count layout ≤ 2 ^ 52

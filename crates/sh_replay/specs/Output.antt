@@ -14,7 +14,7 @@ use Rattle.sh_replay.specs.declared.answer.Answer.{Answer}
 use Rattle.sh_replay.specs.declared.mode.Mode.{Mode}
 use Rattle.sh_replay.specs.declared.mode.Mode.TheVariants as mode
 use Rattle.sh_replay.specs.Replies.{replies_text}
-use Rattle.sh_replay.specs.PlainRun.{Run, Ran, opening}
+use Rattle.sh_replay.specs.PlainRun.{Run, Ran, opening_run}
 use Rattle.sh_replay.specs.StepsOutput.{steps_output}
 use Rattle.sh_replay.specs.Ends.{WroteBeginning}
 
@@ -29,7 +29,7 @@ pub record Writes (layout : Layout) (before : Run) (lines : List CallLine) (afte
 -- the output is what mode plain may write for these lines; it is one text alone unless memory is refused
 abbrev pub IsPlainOutput : Layout → Numbers → Option ℕ → List CallLine → List ℕ → Type 0
 IsPlainOutput layout shape tag lines output =
-    (after : Run) × Writes layout (opening shape.shards shape.passes tag) lines after output
+    (after : Run) × Writes layout (opening_run shape.shards shape.passes tag) lines after output
 
 -- the text is a script of calls, and this is what mode plain may write for it
 pub record IsPlain (text output : List ℕ) : Type 0 where
@@ -65,7 +65,7 @@ IsScriptFault mode.Plain text f = IsCallsFault text f
 IsScriptFault mode.Steps text f = IsEventsFault text f
 
 -- the text is a script, and the whole output of its run was written
-pub record Runs (mode : Mode) (accounts : Bool) (text : List ℕ) (old new : Option (List ℕ)) : Type 0 where
+pub record WritesOutput (mode : Mode) (accounts : Bool) (text : List ℕ) (old new : Option (List ℕ)) : Type 0 where
   pub output : List ℕ
   pub is_output : IsOutput mode accounts text output
   pub written : Appends old new output

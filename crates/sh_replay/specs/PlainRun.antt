@@ -4,7 +4,7 @@ use Rattle.std.specs.Result.{result_ok}
 use Rattle.sh_value.specs.declared.refusal.Refusal.{Refusal}
 use Rattle.sh_value.specs.declared.refusal.Refusal.TheVariants as refusal
 use Rattle.sh_key.specs.Layout.{Layout}
-use Rattle.sh_plain.specs.Plain.{Plain, Reply, Replied, refused, with_added, insert_reply, get_reply, read_answer, remove_reply, release_reply}
+use Rattle.sh_plain.specs.Plain.{Plain, PlainReply, Replied, refused, with_added, insert_reply, get_reply, read_answer, remove_reply, release_reply}
 use Rattle.sh_script.specs.declared.calls.Reference.{Reference}
 use Rattle.sh_script.specs.declared.calls.Reference.TheVariants as reference
 use Rattle.sh_script.specs.declared.calls.Call.{Call}
@@ -27,8 +27,8 @@ abbrev pub run_of : ℕ → Option ℕ → Plain → List Bool → List (Option 
 run_of shards tag store owners keys = record { shards = shards; tag = tag; store = store; owners = owners; keys = keys }
 
 -- no pass has a shard, and no name is bound
-abbrev pub opening : (shards passes : ℕ) → Option ℕ → Run
-opening shards passes tag =
+abbrev pub opening_run : (shards passes : ℕ) → Option ℕ → Run
+opening_run shards passes tag =
     run_of shards tag (record { entries = []; pass = 0; passes = passes }) (replicate 64 false) []
 
 -- the pass whose call is run
@@ -64,7 +64,7 @@ leaves run = if has_shard run then record run { owners = slice_set run.owners ru
 -- ---- insert
 
 -- what the store answers, once the words fit a value and the pass has a shard
-abbrev pub insert_attempt : Layout → Run → List ℕ → Reply ℕ
+abbrev pub insert_attempt : Layout → Run → List ℕ → PlainReply ℕ
 insert_attempt layout run words =
     if nat_lt 16 (length words) then refused refusal.TooLong
     else if not (has_shard run) then refused refusal.NoShard
@@ -102,14 +102,14 @@ value_answer (Ok words) = answer.Read words
 value_answer (Err r) = answer.Refused r
 
 -- the call on a key has this reply, whose entry the store gains
-abbrev pub Tells : {A : Type 0} → (Plain → ℕ → Reply A) → Run → Result ℕ Answer → Answer → Run → Type 0
+abbrev pub Tells : {A : Type 0} → (Plain → ℕ → PlainReply A) → Run → Result ℕ Answer → Answer → Run → Type 0
 Tells reply run (Err a) told next = (told ≡ a) × (next ≡ run)
 Tells reply run (Ok key) told next =
     (told ≡ done_answer (reply run.store key).answer)
     × (next ≡ record run { store = with_added run.store (reply run.store key).adds })
 
 -- the call has an entry, for which memory may be refused
-abbrev pub MayEnd : {A : Type 0} → (Plain → ℕ → Reply A) → Run → Result ℕ Answer → Type 0
+abbrev pub MayEnd : {A : Type 0} → (Plain → ℕ → PlainReply A) → Run → Result ℕ Answer → Type 0
 MayEnd reply run (Err a) = ⊥
 MayEnd reply run (Ok key) = IsSome (reply run.store key).adds
 
@@ -119,19 +119,19 @@ Reads run (Ok key) told next = (told ≡ value_answer (read_answer run.store key
 
 -- ---- a line, and lines
 
-abbrev pub Calls : Layout → Run → Call → Answer → Run → Type 0
-Calls layout run (call.Adopt shard) told next = (told ≡ adopt_answer run shard) × (next ≡ adopts run shard)
-Calls layout run (call.Insert words) told next = Inserts layout run words told next
-Calls layout run call.Leave told next = (told ≡ leave_answer run) × (next ≡ leaves run)
-Calls layout run (call.Get r) told next = Tells (get_reply layout) run (key_of run r) told next
-Calls layout run (call.Read r) told next = Reads run (key_of run r) told next
-Calls layout run (call.Remove r) told next = Tells (remove_reply layout) run (key_of run r) told next
-Calls layout run (call.Release r) told next = Tells release_reply run (key_of run r) told next
-Calls layout run call.Post told next = (told ≡ answer.Done) × (next ≡ record run { keys = run.keys ++ None ∷ [] })
-Calls layout run (call.Wait name) told next = (told ≡ answer.Done) × (next ≡ run)
+abbrev pub CallDoes : Layout → Run → Call → Answer → Run → Type 0
+CallDoes layout run (call.Adopt shard) told next = (told ≡ adopt_answer run shard) × (next ≡ adopts run shard)
+CallDoes layout run (call.Insert words) told next = Inserts layout run words told next
+CallDoes layout run call.Leave told next = (told ≡ leave_answer run) × (next ≡ leaves run)
+CallDoes layout run (call.Get r) told next = Tells (get_reply layout) run (key_of run r) told next
+CallDoes layout run (call.Read r) told next = Reads run (key_of run r) told next
+CallDoes layout run (call.Remove r) told next = Tells (remove_reply layout) run (key_of run r) told next
+CallDoes layout run (call.Release r) told next = Tells release_reply run (key_of run r) told next
+CallDoes layout run call.Post told next = (told ≡ answer.Done) × (next ≡ record run { keys = run.keys ++ None ∷ [] })
+CallDoes layout run (call.Wait name) told next = (told ≡ answer.Done) × (next ≡ run)
 
-abbrev pub Steps : Layout → Run → CallLine → Answer → Run → Type 0
-Steps layout run line told next = Calls layout (at_turn run line.pass) line.call told next
+abbrev pub TakesLine : Layout → Run → CallLine → Answer → Run → Type 0
+TakesLine layout run line told next = CallDoes layout (at_turn run line.pass) line.call told next
 
 -- the calls that end a run where memory for their entry is refused; an insert is answered then
 abbrev pub CallEnds : Layout → Run → Call → Type 0
@@ -149,4 +149,4 @@ Ran layout run [] [] after = after ≡ run
 Ran layout run [] (a ∷ answers) after = ⊥
 Ran layout run (l ∷ lines) [] after = ⊥
 Ran layout run (l ∷ lines) (a ∷ answers) after =
-    (next : Run) × Steps layout run l a next × Ran layout next lines answers after
+    (next : Run) × TakesLine layout run l a next × Ran layout next lines answers after

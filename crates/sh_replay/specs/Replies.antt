@@ -1,6 +1,6 @@
 -- Reply lines: `a COMMAND RESULT` and a newline.
 use Rattle.std.specs.Prelude.{ℕ, List, [], ◌∷◌, ◌++◌, codes, decimal}
-use Rattle.sh_value.specs.Refusal.{number_of, name_of}
+use Rattle.sh_value.specs.Refusal.{refusal_number, refusal_name}
 use Rattle.sh_script.specs.declared.calls.Call.{Call}
 use Rattle.sh_script.specs.declared.calls.Call.TheVariants as call
 use Rattle.sh_script.specs.declared.calls.CallLine.{CallLine}
@@ -25,7 +25,7 @@ abbrev pub answer_text : Answer → List ℕ
 answer_text answer.Done = codes "ok"
 answer_text (answer.Key key) = decimal key
 answer_text (answer.Read words) = value_text words
-answer_text (answer.Refused r) = codes "refused " ++ decimal (number_of r) ++ codes " " ++ name_of r
+answer_text (answer.Refused r) = codes "refused " ++ decimal (refusal_number r) ++ codes " " ++ refusal_name r
 answer_text answer.Unbound = codes "unbound"
 
 abbrev pub reply_line : CallLine → Answer → List ℕ

@@ -4,7 +4,7 @@ use Rattle.sh_key.specs.Layout.{Layout}
 use Rattle.sh_step.specs.declared.action.Event.{Event}
 use Rattle.sh_core.specs.declared.outcome.Outcome.{Outcome}
 use Rattle.sh_core.specs.declared.outcome.Outcome.TheVariants.{Replied, Skipped}
-use Rattle.sh_core.specs.Kept.{Kept, Steps}
+use Rattle.sh_core.specs.Kept.{KeptWorld, StepsWorld}
 use Rattle.sh_replay.specs.StepsOutput.{entry_key}
 
 -- a key that was replied is below this number
@@ -13,6 +13,6 @@ KeysWithin bound (Replied e) = entry_key e < bound
 KeysWithin bound _ = Unit {0}
 
 -- an event of the heap is done, and what is none is skipped
-abbrev pub Does : Layout → Kept → Option Event → Outcome → Kept → Type 0
-Does layout before (Some e) outcome after = Steps layout before e outcome after
-Does layout before None outcome after = (outcome ≡ Skipped) × (after ≡ before)
+abbrev pub DoesEvent : Layout → KeptWorld → Option Event → Outcome → KeptWorld → Type 0
+DoesEvent layout before (Some e) outcome after = StepsWorld layout before e outcome after
+DoesEvent layout before None outcome after = (outcome ≡ Skipped) × (after ≡ before)

@@ -10,8 +10,8 @@ use Rattle.sh_shape.specs.Places.{page_number, pages_of}
 use Rattle.sh_step.specs.declared.action.Action.{Action}
 use Rattle.sh_step.specs.declared.action.Action.TheVariants as action
 use Rattle.sh_step.specs.declared.action.Event.{Event}
-use Rattle.sh_step.specs.declared.kind.Kind.{Kind}
-use Rattle.sh_step.specs.Kinds.{kind_of, name_of}
+use Rattle.sh_step.specs.declared.kind.ActionKind.{ActionKind}
+use Rattle.sh_step.specs.Kinds.{kind_of_action, kind_name}
 use Rattle.sh_step.specs.Plans.{plan_of}
 use Rattle.sh_core.specs.declared.accounts.Accounts.{Accounts}
 use Rattle.sh_core.specs.declared.outcome.Outcome.{Outcome}
@@ -70,16 +70,16 @@ outcome_text tag Moved = codes "moved"
 outcome_text tag Skipped = codes "skipped"
 outcome_text tag (Replied e) = entry_name e ++ codes " " ++ decimal (shown tag (entry_key e)) ++ entry_value e
 
-abbrev pub event_line : Option ℕ → (pass : ℕ) → Kind → Outcome → List ℕ
+abbrev pub event_line : Option ℕ → (pass : ℕ) → ActionKind → Outcome → List ℕ
 event_line tag pass kind outcome =
-    decimal pass ++ codes " " ++ name_of kind ++ codes " " ++ outcome_text tag outcome ++ codes "\n"
+    decimal pass ++ codes " " ++ kind_name kind ++ codes " " ++ outcome_text tag outcome ++ codes "\n"
 
 -- a line for each event of the script: for an event of the heap by what came of it, which is next, and any other is skipped
 unfoldable pub event_lines : Option ℕ → List Event → List Outcome → List ℕ
 event_lines tag [] outcomes = []
 event_lines tag (e ∷ lines) outcomes = elim (event_shown tag e) [
-  | Some _ ↦ elim outcomes [ o ∷ rest ↦ event_line tag e.pass (kind_of e.action) o ++ event_lines tag lines rest | [] ↦ [] ]
-  | None ↦ event_line tag e.pass (kind_of e.action) Skipped ++ event_lines tag lines outcomes
+  | Some _ ↦ elim outcomes [ o ∷ rest ↦ event_line tag e.pass (kind_of_action e.action) o ++ event_lines tag lines rest | [] ↦ [] ]
+  | None ↦ event_line tag e.pass (kind_of_action e.action) Skipped ++ event_lines tag lines outcomes
 ]
 
 -- ---- account lines: `page S.P class C live A marked B retired D mine E hand F queued G`, and a newline

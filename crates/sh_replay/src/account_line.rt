@@ -4,7 +4,7 @@ ghost use Rattle.sh_shape.specs.Shape.{Fits};
 ghost use Rattle.sh_shape.specs.Places.{page_number, pages_of};
 ghost use Rattle.sh_step.specs.declared.action.Event.{Event};
 ghost use Rattle.sh_step.specs.Plans.{plan_of};
-ghost use Rattle.sh_core.specs.Kept.{Stands};
+ghost use Rattle.sh_core.specs.Kept.{StandsFor};
 ghost use Rattle.sh_core.specs.Lists.{accounts, lists_of};
 ghost use Rattle.sh_core.specs.Worlds.{run};
 ghost use Rattle.sh_replay.specs.StepsOutput.{page_name, used_text, empty_text, account_line, page_text, shard_text, accounts_text};
@@ -72,7 +72,7 @@ fn push_page<L: KeyLayout>(
     requires fits { Fits L.layout world.now.shape }
     requires shard { shard < world.now.shape.shards }
     requires page { number < pages_of world.now.shape }
-    ensures { (es : List Event) → let plan = plan_of L.layout world.now.shape in Stands world.now (run plan es)
+    ensures { (es : List Event) → let plan = plan_of L.layout world.now.shape in StandsFor world.now (run plan es)
         → OnOk result (out.new.items ≡ out.old.items
         ++ page_text shard number (accounts (run plan es) (lists_of plan es) (page_number world.now.shape shard number))) }
 {
@@ -92,7 +92,7 @@ fn push_shard<L: KeyLayout>(
 ) -> Result<(), AllocError>
     requires fits { Fits L.layout world.now.shape }
     requires within { shard < world.now.shape.shards }
-    ensures { (es : List Event) → let plan = plan_of L.layout world.now.shape in Stands world.now (run plan es)
+    ensures { (es : List Event) → let plan = plan_of L.layout world.now.shape in StandsFor world.now (run plan es)
         → OnOk result (out.new.items ≡ out.old.items
         ++ shard_text world.now.shape (accounts (run plan es) (lists_of plan es)) shard) }
 {
@@ -106,7 +106,7 @@ fn push_shard<L: KeyLayout>(
 /// list of events that leads to this world.
 pub fn push_accounts<L: KeyLayout>(out: &mut Vec<u8>, world: &World<L>) -> Result<(), AllocError>
     requires fits { Fits L.layout world.now.shape }
-    ensures { (es : List Event) → let plan = plan_of L.layout world.now.shape in Stands world.now (run plan es)
+    ensures { (es : List Event) → let plan = plan_of L.layout world.now.shape in StandsFor world.now (run plan es)
         → OnOk result (out.new.items ≡ out.old.items
         ++ accounts_text world.now.shape (accounts (run plan es) (lists_of plan es))) }
 {

@@ -7,7 +7,7 @@ use crate::keys::shown;
 use crate::numbers::{push_number, push_value};
 use sh_core::Outcome;
 use sh_history::Entry;
-use sh_step::Kind;
+use sh_step::ActionKind;
 use std::alloc::AllocError;
 
 fn entry_name(entry: &Entry) -> &'static str
@@ -70,7 +70,7 @@ pub fn push_event(
     out: &mut Vec<u8>,
     tag: Option<u8>,
     pass: u32,
-    kind: Kind,
+    kind: ActionKind,
     outcome: &Outcome,
 ) -> Result<(), AllocError>
     requires small { IfSome tag (λ _. KeysWithin (2 ^ 52) outcome.now) }

@@ -2,9 +2,9 @@
 ghost use Rattle.std.specs.Prelude.{◌≡◌, ◌+◌, ◌<◌, ◌≤◌, ◌++◌, ◌∷◌, [], None, IfOk, IfErr, IsSome};
 ghost use Rattle.std.specs.Vec.{vec_capacity, vec_len};
 ghost use Rattle.sh_key.specs.Layout.{Layout, first_key, key_count};
-ghost use Rattle.sh_plain.specs.Plain.{Plain, Reply, Replied, with_added, get_reply, remove_reply, release_reply};
-ghost use Rattle.sh_replay.specs.Keys.{HasRoom};
-ghost use Rattle.sh_replay.specs.PlainRun.{run_of, at_turn, has_shard, adopt_answer, adopts, opening, leave_answer, leaves, insert_attempt, Inserts, key_of, done_answer, Tells, MayEnd, Reads, EndsAt, Steps};
+ghost use Rattle.sh_plain.specs.Plain.{Plain, PlainReply, Replied, with_added, get_reply, remove_reply, release_reply};
+ghost use Rattle.sh_replay.specs.Keys.{HasTagRoom};
+ghost use Rattle.sh_replay.specs.PlainRun.{run_of, at_turn, has_shard, adopt_answer, adopts, opening_run, leave_answer, leaves, insert_attempt, Inserts, key_of, done_answer, Tells, MayEnd, Reads, EndsAt, TakesLine};
 
 use crate::Answer;
 use crate::keys::{key_shown, shown};
@@ -39,7 +39,7 @@ impl<L: KeyLayout> PlainRun<L> {
     ) -> Result<Self, AllocError>
         requires some { 1 ≤ passes }
         requires few { passes ≤ 64 }
-        ensures opens { IfOk result (λ run. run_of run.shards run.tag run.store run.owners run.keys.items ≡ opening shards passes tag) }
+        ensures opens { IfOk result (λ run. run_of run.shards run.tag run.store run.owners run.keys.items ≡ opening_run shards passes tag) }
         ensures names { IfOk result (λ run. names ≤ vec_capacity run.keys) }
     {
         let keys = Vec::with_capacity(alloc, names)?;
@@ -57,9 +57,9 @@ impl<L: KeyLayout> PlainRun<L> {
     pub fn step(&mut self, line: &CallLine) -> Result<Answer, Fault>
         requires pass { line.now.pass < self.old.store.passes }
         requires few { self.old.store.passes ≤ 64 }
-        requires room { HasRoom L.layout self.old.tag }
+        requires room { HasTagRoom L.layout self.old.tag }
         requires name { vec_len self.old.keys < vec_capacity self.old.keys }
-        ensures steps { IfOk result (λ answer. Steps L.layout
+        ensures steps { IfOk result (λ answer. TakesLine L.layout
             (run_of self.old.shards self.old.tag self.old.store self.old.owners self.old.keys.items) line.now answer
             (run_of self.new.shards self.new.tag self.new.store self.new.owners self.new.keys.items)) }
         ensures memory { IfErr result (λ fault. (fault ≡ Fault.Memory) × EndsAt L.layout
@@ -136,7 +136,7 @@ impl<L: KeyLayout> PlainRun<L> {
     fn insert(&mut self, pass: u32, words: &[u64]) -> Answer
         requires own { pass ≡ self.old.store.pass }
         requires few { pass < 64 }
-        requires room { HasRoom L.layout self.old.tag }
+        requires room { HasTagRoom L.layout self.old.tag }
         requires name { vec_len self.old.keys < vec_capacity self.old.keys }
         ensures inserts { Inserts L.layout
             (run_of self.old.shards self.old.tag self.old.store self.old.owners self.old.keys.items) words.now result
@@ -269,10 +269,10 @@ impl<L: KeyLayout> PlainRun<L> {
 
 // What a call is answered that tells nothing but its refusal. Where memory for its entry was refused, the run ends.
 fn told<T: Drop>(replied: Result<T, Refusal>) -> Result<Answer, Fault>
-    ensures tells { IfOk result (λ answer. (reply : Reply T) (old new : Plain) → Replied reply old replied new
+    ensures tells { IfOk result (λ answer. (reply : PlainReply T) (old new : Plain) → Replied reply old replied new
         → (answer ≡ done_answer reply.answer) × (new ≡ with_added old reply.adds)) }
     ensures memory { IfErr result (λ fault. (fault ≡ Fault.Memory)
-        × ((reply : Reply T) (old new : Plain) → Replied reply old replied new → IsSome reply.adds)) }
+        × ((reply : PlainReply T) (old new : Plain) → Replied reply old replied new → IsSome reply.adds)) }
 {
     match replied {
         Ok(_) => Ok(Answer::Done),

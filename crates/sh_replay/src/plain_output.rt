@@ -3,7 +3,7 @@ ghost use Rattle.std.specs.Prelude.{◌≡◌, ◌<◌, IfOk, IfErr};
 ghost use Rattle.std.specs.List.{All};
 ghost use Rattle.sh_script.specs.declared.calls.CallLine.{CallLine};
 ghost use Rattle.sh_replay.specs.Ends.{IsEndFault};
-ghost use Rattle.sh_replay.specs.Keys.{HasRoom};
+ghost use Rattle.sh_replay.specs.Keys.{HasTagRoom};
 ghost use Rattle.sh_replay.specs.Output.{IsPlainOutput, IsPlain, IsScriptOf, IsFaultOf};
 
 use crate::Mode;
@@ -21,7 +21,7 @@ fn plain_lines<L: KeyLayout>(
     tag: Option<u8>,
     lines: &[CallLine],
 ) -> Result<Vec<u8>, Fault>
-    requires room { HasRoom L.layout tag }
+    requires room { HasTagRoom L.layout tag }
     requires passes { All (λ (l : CallLine). l.pass < shape.passes) lines.now }
     ensures output { IfOk result (λ output. IsPlainOutput L.layout shape tag lines.now output.items) }
     ensures memory { IfErr result (λ fault. fault ≡ Fault.Memory) }

@@ -1,7 +1,7 @@
 //! A whole run: read, parsed, run and written.
 ghost use Rattle.std.specs.Prelude.{◌≡◌, ℕ, List, IfOk, IfErr, OnOk, OnErr, Some, take};
 ghost use Rattle.sh_replay.specs.Ends.{IsEndFault, ReadsAtMostBytes};
-ghost use Rattle.sh_replay.specs.Output.{IsOutput, IsScriptOf, Runs, Stops, IsFaultOf};
+ghost use Rattle.sh_replay.specs.Output.{IsOutput, IsScriptOf, WritesOutput, Stops, IsFaultOf};
 
 use crate::Mode;
 use crate::ends::{read_text, write_text};
@@ -31,7 +31,7 @@ fn run<W: Write>(
     mode: Mode,
     accounts: bool,
 ) -> Result<(), Fault>
-    ensures ok { OnOk result (Runs mode accounts text.now (W.contents writer.old) (W.contents writer.new)) }
+    ensures ok { OnOk result (WritesOutput mode accounts text.now (W.contents writer.old) (W.contents writer.new)) }
     ensures fault { IfErr result (IsFaultOf mode text.now) }
     ensures answers { IsScriptOf mode text.now → IfErr result IsEndFault }
     ensures stops { OnErr result (Stops mode accounts text.now (W.contents writer.old) (W.contents writer.new)) }
@@ -54,7 +54,7 @@ pub fn replay_alone<R: Read, W: Write>(
 ) -> Result<(), Fault>
     // Where the run ends well, what was read is a script, and the output of its run was written.
     ensures ok { (input : List ℕ) → R.remaining reader.old ≡ Some input
-        → OnOk result (Runs mode accounts (take 1048577 input) (W.contents writer.old) (W.contents writer.new)) }
+        → OnOk result (WritesOutput mode accounts (take 1048577 input) (W.contents writer.old) (W.contents writer.new)) }
 
     // Else it ends with a fault of the script, or, at a script too, with want of memory or a failed end.
     ensures fault { (input : List ℕ) → R.remaining reader.old ≡ Some input

@@ -4,10 +4,10 @@ ghost use Rattle.sh_key.specs.Layout.{first_key, key_count};
 ghost use Rattle.sh_shape.specs.Shape.{IsShape, Fits};
 ghost use Rattle.sh_step.specs.declared.action.Event.{Event};
 ghost use Rattle.sh_step.specs.Plans.{plan_of};
-ghost use Rattle.sh_core.specs.Kept.{Stands, Steps, Opens};
+ghost use Rattle.sh_core.specs.Kept.{StandsFor, StepsWorld, Opens};
 ghost use Rattle.sh_core.specs.Worlds.{run};
 ghost use Rattle.sh_replay.specs.StepsOutput.{action_shown, event_shown};
-ghost use Rattle.sh_replay.specs.StepsKeys.{KeysWithin, Does};
+ghost use Rattle.sh_replay.specs.StepsKeys.{KeysWithin, DoesEvent};
 
 use crate::keys::key_shown;
 use sh_core::{Outcome, World, refines_map};
@@ -59,8 +59,8 @@ pub fn open<L: KeyLayout>(alloc: Global, shape: Shape) -> Result<World<L>, Fault
 fn step<L: KeyLayout>(world: &mut World<L>, event: &Event) -> Result<Outcome, Fault>
     requires shape { IsShape world.old.shape }
     requires fits { Fits L.layout world.old.shape }
-    ensures steps { IfOk result (λ outcome. Steps L.layout world.old event.now outcome world.new) }
-    ensures keys { (es : List Event) → Stands world.old (run (plan_of L.layout world.old.shape) es)
+    ensures steps { IfOk result (λ outcome. StepsWorld L.layout world.old event.now outcome world.new) }
+    ensures keys { (es : List Event) → StandsFor world.old (run (plan_of L.layout world.old.shape) es)
         → IfOk result (KeysWithin (first_key L.layout + key_count L.layout)) }
     ensures memory { IfErr result (λ fault. fault ≡ Fault.Memory) }
 {
@@ -76,8 +76,8 @@ fn step<L: KeyLayout>(world: &mut World<L>, event: &Event) -> Result<Outcome, Fa
 pub fn do_event<L: KeyLayout>(world: &mut World<L>, event: Option<Event>) -> Result<Outcome, Fault>
     requires shape { IsShape world.old.shape }
     requires fits { Fits L.layout world.old.shape }
-    ensures does { IfOk result (λ outcome. Does L.layout world.old event outcome world.new) }
-    ensures keys { (es : List Event) → Stands world.old (run (plan_of L.layout world.old.shape) es)
+    ensures does { IfOk result (λ outcome. DoesEvent L.layout world.old event outcome world.new) }
+    ensures keys { (es : List Event) → StandsFor world.old (run (plan_of L.layout world.old.shape) es)
         → IfOk result (KeysWithin (first_key L.layout + key_count L.layout)) }
     ensures memory { IfErr result (λ fault. fault ≡ Fault.Memory) }
 {

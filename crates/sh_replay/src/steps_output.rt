@@ -2,7 +2,7 @@
 ghost use Rattle.std.specs.Prelude.{◌≡◌, IfOk, IfErr};
 ghost use Rattle.sh_shape.specs.Shape.{IsShape, Fits};
 ghost use Rattle.sh_replay.specs.Ends.{IsEndFault};
-ghost use Rattle.sh_replay.specs.Keys.{HasRoom};
+ghost use Rattle.sh_replay.specs.Keys.{HasTagRoom};
 ghost use Rattle.sh_replay.specs.Output.{IsSteps, IsScriptOf, IsFaultOf};
 ghost use Rattle.sh_replay.specs.StepsOutput.{steps_output};
 
@@ -26,7 +26,7 @@ fn steps_lines<L: KeyLayout>(
 ) -> Result<Vec<u8>, Fault>
     requires shape { IsShape shape }
     requires fits { Fits L.layout shape }
-    requires room { HasRoom L.layout tag }
+    requires room { HasTagRoom L.layout tag }
     ensures output { IfOk result (λ output. output.items ≡ steps_output L.layout shape tag lines.items asked) }
     ensures memory { IfErr result (λ fault. fault ≡ Fault.Memory) }
 {

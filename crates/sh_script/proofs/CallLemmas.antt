@@ -5,7 +5,7 @@ use Rattle.std.specs.Str.{bytes_eq}
 use Rattle.std.proofs.lemmas.Slice.Eq.{bytes_eq-Decides}
 use Rattle.sh_script.specs.Words.{Word, is_name}
 use Rattle.sh_script.specs.Names.{Binding, names_of}
-use Rattle.sh_script.specs.CallLines.{found_of, has_key, key_of, keyed_of, reference_of, new_name, command_of, about_of, call_of, line_of, CallsSoFar, with_call, call_added}
+use Rattle.sh_script.specs.CallLines.{found_of, has_key, key_from, keyed_of, reference_of, new_name, command_of, about_of, call_of, line_of, CallsSoFar, with_call, call_added}
 use Rattle.sh_script.specs.Meaning.{IsName}
 use Rattle.sh_script.specs.CallMeaning.{IsNewName, IsBoundName, IsReference, IsAbout, IsCall, IsCallLine, SaysCall}
 use Rattle.sh_script.specs.declared.calls.Reference.{Reference}
@@ -55,7 +55,7 @@ has_key_is binder.Post e = cc
 pub reference_is : (names : List Binding) (word : Word) (r : Reference) → reference_of names word ≡ Ok r → IsReference names word r
 unfolding reference_of
 reference_is names word r e =
-    elim (if_cases (slice_index word 0 == 35) (key_of word) (keyed_of names word) (Ok r) e) [
+    elim (if_cases (slice_index word 0 == 35) (key_from word) (keyed_of names word) (Ok r) e) [
       | inl h ↦
           let a = bind_ok _ _ r h.1 in
           let same : reference.Key a.0 ≡ r = ok_is (reference.Key a.0) r a.2 in

@@ -4,18 +4,18 @@ use Rattle.std.specs.List.{find}
 use Rattle.std.specs.Str.{bytes_eq}
 use Rattle.std.proofs.lemmas.List.{length-map}
 use Rattle.std.proofs.lemmas.Slice.Eq.{bytes_eq-Decides}
-use Rattle.sh_step.specs.Kinds.{name_of}
+use Rattle.sh_step.specs.Kinds.{kind_name}
 use Rattle.sh_step.specs.declared.action.Action.{Action}
 use Rattle.sh_step.specs.declared.action.Action.TheVariants as action
 use Rattle.sh_step.specs.declared.action.Event.{Event}
 use Rattle.sh_step.specs.declared.action.PageName.{PageName}
-use Rattle.sh_step.specs.declared.kind.Kind.{Kind}
-use Rattle.sh_step.specs.declared.kind.Kind.TheVariants as kind
+use Rattle.sh_step.specs.declared.kind.ActionKind.{ActionKind}
+use Rattle.sh_step.specs.declared.kind.ActionKind.TheVariants as kind
 use Rattle.sh_script.specs.Words.{Word}
 use Rattle.sh_script.specs.Trouble.{◌>>=◌}
 use Rattle.sh_script.specs.Arguments.{two_of}
 use Rattle.sh_script.specs.Meaning.{IsPage}
-use Rattle.sh_script.specs.EventLines.{kinds, kind_of, number_alone, page_alone, bare, enter_of, drop_of, put_of, fill_of, part_of, read_by, read_of, set_class_of, action_of, event_of, event_added}
+use Rattle.sh_script.specs.EventLines.{kinds, kind_named, number_alone, page_alone, bare, enter_of, drop_of, put_of, fill_of, part_of, read_by, read_of, set_class_of, action_of, event_of, event_added}
 use Rattle.sh_script.specs.EventMeaning.{IsWithNumber, IsReadKey, IsAction, IsEventLine, SaysEvent}
 use Rattle.sh_script.proofs.NumberLemmas.{number_is, number_gives, number_of_decimal}
 use Rattle.sh_script.proofs.ArgumentLemmas.{numbers_are, numbers_give}
@@ -24,21 +24,21 @@ use Rattle.sh_script.proofs.Steps.{bind_ok, or_ok, ok_is, ok_of, if_cases, if_re
 
 -- ---- the kind
 
-found_passes : (p : Kind → Bool) (ks : List Kind) (k : Kind) → find p ks ≡ Some k → p k ≡ true
+found_passes : (p : ActionKind → Bool) (ks : List ActionKind) (k : ActionKind) → find p ks ≡ Some k → p k ≡ true
 found_passes p [] k e = cc
 found_passes p (x ∷ xs) k e = by (found_passes p xs k) (p x) refl e
   where
     by : (find p xs ≡ Some k → p k ≡ true) → (t : Bool) → p x ≡ t → cond t (Some x) (find p xs) ≡ Some k → p k ≡ true
-    by next true h e = let P : Kind → Type 0 = λ y. p y ≡ true in subst P (same x k e) h
+    by next true h e = let P : ActionKind → Type 0 = λ y. p y ≡ true in subst P (same x k e) h
       where
-        same : (x k : Kind) → Some x ≡ Some k → x ≡ k
+        same : (x k : ActionKind) → Some x ≡ Some k → x ≡ k
         same x k e = cc
     by next false h e = next e
 
-kind_is : (w : Word) (k : Kind) → kind_of w ≡ Some k → w ≡ name_of k
-kind_is w k e = sym ((bytes_eq-Decides (name_of k) w).0 (found_passes (λ k. bytes_eq (name_of k) w) kinds k e))
+kind_is : (w : Word) (k : ActionKind) → kind_named w ≡ Some k → w ≡ kind_name k
+kind_is w k e = sym ((bytes_eq-Decides (kind_name k) w).0 (found_passes (λ k. bytes_eq (kind_name k) w) kinds k e))
 
-kind_gives : (k : Kind) → kind_of (name_of k) ≡ Some k
+kind_gives : (k : ActionKind) → kind_named (kind_name k) ≡ Some k
 kind_gives kind.Enter = refl
 kind_gives kind.Mark = refl
 kind_gives kind.Drop = refl
@@ -202,7 +202,7 @@ page_action name ws f a means e =
 
 -- ---- the action
 
-action_is : (k : Kind) (ws : List Word) (a : Action) → action_of k ws ≡ Ok a → IsAction (name_of k ∷ ws) a
+action_is : (k : ActionKind) (ws : List Word) (a : Action) → action_of k ws ≡ Ok a → IsAction (kind_name k ∷ ws) a
 unfolding action_of
 action_is kind.Enter ws a e = enter_is ws a e
 action_is kind.Mark ws a e = let x = bare_is (codes "Mark") ws action.Mark a e in subst (IsAction (codes "Mark" ∷ ws)) x.1 x.0
@@ -225,9 +225,9 @@ action_is kind.TakeBell ws a e = let x = bare_is (codes "TakeBell") ws action.Ta
 action_is kind.FollowBell ws a e = let x = bare_is (codes "FollowBell") ws action.FollowBell a e in subst (IsAction (codes "FollowBell" ∷ ws)) x.1 x.0
 
 record IsActionRead (words : List Word) (a : Action) : Type 0 where
-  kind : Kind
+  kind : ActionKind
   others : List Word
-  says : words ≡ name_of kind ∷ others
+  says : words ≡ kind_name kind ∷ others
   reads : action_of kind others ≡ Ok a
 
 action_gives : (words : List Word) (a : Action) → IsAction words a → IsActionRead words a
@@ -281,7 +281,7 @@ event_is passes ws event e =
     let d = bind_ok _ _ event c.2 in
     let f = bind_ok _ _ event d.2 in
     let pass = pass_at_ok passes ws a.0 a.1 in
-    let spoken : (a.0).1 ≡ name_of d.0 ∷ (c.0).1 = next_ok _ (a.0).1 c.0 c.1 ∙ ap (λ x. x ∷ (c.0).1) (kind_is (c.0).0 d.0 (or_ok _ _ _ d.1)) in
+    let spoken : (a.0).1 ≡ kind_name d.0 ∷ (c.0).1 = next_ok _ (a.0).1 c.0 c.1 ∙ ap (λ x. x ∷ (c.0).1) (kind_is (c.0).0 d.0 (or_ok _ _ _ d.1)) in
     subst (IsEventLine passes ws) (ok_is _ event f.2) (record {
       first = pass.first.word;
       others = (a.0).1;

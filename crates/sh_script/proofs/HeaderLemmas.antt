@@ -12,7 +12,7 @@ use Rattle.sh_script.specs.Trouble.{◌>>=◌, or_trouble, or_cause}
 use Rattle.sh_script.specs.Arguments.{two_of}
 use Rattle.sh_script.specs.declared.fault.Cause.TheVariants as cause
 use Rattle.sh_script.specs.declared.trouble.Trouble.TheVariants as trouble
-use Rattle.sh_script.specs.HeaderMeaning.{name_of, layout_of, HasLayout, IsTag, AreTag, IsHeader, IsVersionLine}
+use Rattle.sh_script.specs.HeaderMeaning.{layout_name, layout_of, HasLayout, IsTag, AreTag, IsHeader, IsVersionLine}
 use Rattle.sh_script.specs.declared.header.Header.{Header}
 use Rattle.sh_script.specs.declared.header.Layout.{Layout as LayoutName}
 use Rattle.sh_script.specs.declared.header.Layout.TheVariants as layout
@@ -76,7 +76,7 @@ tag_gives ws t x =
 -- ---- the layout
 
 record IsNamed (v : Version) (name : Word) (ws : List Word) (x : LayoutName × Option ℕ) : Type 0 where
-  named : name ≡ name_of x.0
+  named : name ≡ layout_name x.0
   has_layout : HasLayout v x.0
   is_tag : AreTag x.0 ws x.1
 
@@ -122,7 +122,7 @@ layout_is v name ws x e =
           plain_is v name ws x (empty_is ws (not_false _ k.0)) k.1
     ]
 
-layout_gives : (v : Version) (l : LayoutName) (ws : List Word) (t : Option ℕ) → HasLayout v l → AreTag l ws t → layout_and_tag v (name_of l) ws ≡ Some (l, t)
+layout_gives : (v : Version) (l : LayoutName) (ws : List Word) (t : Option ℕ) → HasLayout v l → AreTag l ws t → layout_and_tag v (layout_name l) ws ≡ Some (l, t)
 layout_gives v layout.Tiny ws t h x = rw (x.0, x.1) refl
 layout_gives v layout.Wide ws t h x = rw (x.0, x.1) refl
 layout_gives version.One layout.Tagged ws t h x = absurd h
@@ -215,4 +215,4 @@ heap_opens_none false w = refl
 pub header_no_version : (v : Version) (ws : List Word) (h : Header) → IsHeader v ws h → is_version_line ws ≡ false
 header_no_version v ws h x =
     let left = decimal h.shape.shards ∷ decimal h.shape.segments ∷ decimal h.shape.passes ∷ x.behind in
-    ap is_version_line x.says ∙ heap_opens_none (length left == 0) (name_of h.layout)
+    ap is_version_line x.says ∙ heap_opens_none (length left == 0) (layout_name h.layout)

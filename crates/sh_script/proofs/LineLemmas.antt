@@ -4,7 +4,7 @@ use Rattle.std.specs.Bool.{Decides}
 use Rattle.std.specs.List.{All, list_all}
 use Rattle.std.specs.Int.{is_in_range}
 use Rattle.std.proofs.lemmas.Bool.Decides.{Decides-and, Decides-like, Decides-by_and}
-use Rattle.sh_script.specs.Words.{Word, words_of}
+use Rattle.sh_script.specs.Words.{Word, words_in}
 use Rattle.sh_script.specs.Headers.{is_version_line}
 use Rattle.sh_script.specs.Script.{Adds, with_opening, with_body, whole_line, said, says, after_line}
 use Rattle.sh_script.specs.Grammar.{Means, SaysNext, Mean, IsPrinted, Says}
@@ -83,9 +83,9 @@ line_means adds means agree before line now e =
     record {
       short = ltb-false _ _ b.0;
       printed = (all_printed line).0 c.0;
-      words = words_of line;
+      words = words_in line;
       are_words = words_are line;
-      mean = mean_is adds means agree before (words_of line) now (ap (λ ws. says adds before ws) c.1 ∙ a.2);
+      mean = mean_is adds means agree before (words_in line) now (ap (λ ws. says adds before ws) c.1 ∙ a.2);
     }
 
 pub line_is_read : {S : Type 0} (adds : Adds S) (means : Means S) (agree : Agrees adds means) (before : Read S) (line : List ℕ) (now : Read S) → Says means before line now → after_line adds before line ≡ Ok now

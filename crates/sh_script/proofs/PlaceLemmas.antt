@@ -13,7 +13,7 @@ use Rattle.sh_step.specs.declared.action.PageName.{PageName}
 use Rattle.sh_step.specs.declared.action.SlotName.{SlotName}
 use Rattle.sh_script.specs.Words.{Word, is_dot, split_dot}
 use Rattle.sh_script.specs.Meaning.{IsPage, IsSlot}
-use Rattle.sh_script.specs.EventLines.{page_of, slot_of}
+use Rattle.sh_script.specs.EventLines.{page_from, slot_from}
 use Rattle.sh_script.proofs.NumberLemmas.{own, both_true, number_is, number_of_decimal}
 use Rattle.sh_script.proofs.Steps.{bind_ok, or_ok, ok_is, some_is}
 
@@ -68,8 +68,8 @@ decimal_first n y small = split_gives (decimal n) y (no_dots (decimal n) (digits
 
 -- ---- places
 
-pub page_is : (w : Word) (page : PageName) → page_of w ≡ Ok page → IsPage w page
-unfolding page_of
+pub page_is : (w : Word) (page : PageName) → page_from w ≡ Ok page → IsPage w page
+unfolding page_from
 page_is w page e =
     let p = bind_ok _ _ page e in
     let s = bind_ok _ _ page p.2 in
@@ -82,13 +82,13 @@ page_is w page e =
       page_small = number.small;
     })
 
-pub page_gives : (w : Word) (page : PageName) → IsPage w page → page_of w ≡ Ok page
-unfolding page_of
+pub page_gives : (w : Word) (page : PageName) → IsPage w page → page_from w ≡ Ok page
+unfolding page_from
 page_gives w page x =
     rw (x.joined, decimal_first page.shard (decimal page.page) x.shard_small, number_of_decimal page.shard x.shard_small, number_of_decimal page.page x.page_small) refl
 
-pub slot_is : (w : Word) (slot : SlotName) → slot_of w ≡ Ok slot → IsSlot w slot
-unfolding slot_of
+pub slot_is : (w : Word) (slot : SlotName) → slot_from w ≡ Ok slot → IsSlot w slot
+unfolding slot_from
 slot_is w slot e =
     let p = bind_ok _ _ slot e in
     let q = bind_ok _ _ slot p.2 in
@@ -106,8 +106,8 @@ slot_is w slot e =
       slot_small = number.small;
     })
 
-pub slot_gives : (w : Word) (slot : SlotName) → IsSlot w slot → slot_of w ≡ Ok slot
-unfolding slot_of
+pub slot_gives : (w : Word) (slot : SlotName) → IsSlot w slot → slot_from w ≡ Ok slot
+unfolding slot_from
 slot_gives w slot x =
     rw
     (x.joined, decimal_first slot.shard (decimal slot.page ++ 46 ∷ decimal slot.slot) x.shard_small, decimal_first slot.page (decimal slot.slot) x.page_small, number_of_decimal slot.shard x.shard_small, number_of_decimal slot.page x.page_small, number_of_decimal slot.slot x.slot_small)

@@ -4,7 +4,7 @@ use Rattle.std.specs.List.{All, slice_split, filter}
 use Rattle.std.proofs.lemmas.List.{append-nil}
 use Rattle.std.proofs.lemmas.List.Elements.{All-nil, All-cons, All-head, All-tail, All-weaker}
 use Rattle.std.proofs.lemmas.List.Splits.{slice_split-cons_yes, slice_split_none, slice_split_at}
-use Rattle.sh_script.specs.Words.{Word, is_space, words_of}
+use Rattle.sh_script.specs.Words.{Word, is_space, words_in}
 use Rattle.sh_script.specs.Meaning.{IsWord, EndsWord, AreWords}
 use Rattle.sh_script.proofs.Steps.{not_both}
 
@@ -19,10 +19,10 @@ is_some_word w = not (length w == 0)
 
 -- ---- what is read
 
-skips : (b : ℕ) (bs : List ℕ) → b ≡ 32 → words_of (b ∷ bs) ≡ words_of bs
+skips : (b : ℕ) (bs : List ℕ) → b ≡ 32 → words_in (b ∷ bs) ≡ words_in bs
 skips b bs e = ap (filter is_some_word) (slice_split-cons_yes is_space b bs (eq-eqb b 32 e))
 
-skips_all : (spaces rest : List ℕ) → All IsSpace spaces → words_of (spaces ++ rest) ≡ words_of rest
+skips_all : (spaces rest : List ℕ) → All IsSpace spaces → words_in (spaces ++ rest) ≡ words_in rest
 skips_all [] rest h = refl
 skips_all (b ∷ bs) rest h = skips b (bs ++ rest) (All-head IsSpace b bs h) ∙ skips_all bs rest (All-tail IsSpace b bs h)
 
@@ -33,18 +33,18 @@ keeps (b ∷ bs) ws some = let e : (length (b ∷ bs) == 0) ≡ false = ne_eqb (
 others : (w : Word) → All IsOther w → All (λ b. is_space b ≡ false) w
 others w h = All-weaker IsOther (λ b. is_space b ≡ false) (λ b ne. ne_eqb b 32 ne) w h
 
-takes : (w : Word) (behind : List ℕ) → IsWord w → EndsWord behind → words_of (w ++ behind) ≡ w ∷ words_of behind
+takes : (w : Word) (behind : List ℕ) → IsWord w → EndsWord behind → words_in (w ++ behind) ≡ w ∷ words_in behind
 takes w [] h ends =
-    ap words_of (append-nil w) ∙ ap (filter is_some_word) (slice_split_none is_space w (others w h.no_space)) ∙ keeps w [] h.some
+    ap words_in (append-nil w) ∙ ap (filter is_some_word) (slice_split_none is_space w (others w h.no_space)) ∙ keeps w [] h.some
 takes w (b ∷ bs) h ends =
     ap (filter is_some_word) (slice_split_at is_space w b bs (others w h.no_space) (eq-eqb b 32 ends)) ∙ keeps w (slice_split is_space bs) h.some ∙ ap (λ ws. w ∷ ws) (sym (skips b bs ends))
 
-pub words_give : (line : List ℕ) (ws : List Word) → AreWords line ws → words_of line ≡ ws
-words_give line [] h = ap words_of (sym (append-nil line)) ∙ skips_all line [] h
+pub words_give : (line : List ℕ) (ws : List Word) → AreWords line ws → words_in line ≡ ws
+words_give line [] h = ap words_in (sym (append-nil line)) ∙ skips_all line [] h
 words_give line (w ∷ ws) h =
     let x = h.1 in
     let there : line ≡ x.spaces ++ (w ++ h.0) = x.spelled ∙ append_assoc x.spaces w h.0 in
-    ap words_of there ∙ skips_all x.spaces (w ++ h.0) x.spaces_are ∙ takes w h.0 x.is_word x.ends ∙ ap (λ xs. w ∷ xs) (words_give h.0 ws h.2)
+    ap words_in there ∙ skips_all x.spaces (w ++ h.0) x.spaces_are ∙ takes w h.0 x.is_word x.ends ∙ ap (λ xs. w ∷ xs) (words_give h.0 ws h.2)
 
 -- ---- each line has words
 
@@ -102,5 +102,5 @@ has_words : (line : List ℕ) → HasWords line
 has_words [] = record { words = []; are = All-nil IsSpace }
 has_words (b ∷ bs) = by_first b bs (is_space b) refl (has_words bs)
 
-pub words_are : (line : List ℕ) → AreWords line (words_of line)
+pub words_are : (line : List ℕ) → AreWords line (words_in line)
 words_are line = let h = has_words line in subst (AreWords line) (sym (words_give line h.words h.are)) h.are

@@ -33,15 +33,15 @@ has_key binder.Insert = true
 has_key binder.Post = false
 
 -- # and a key
-abbrev pub key_of : Word → Result Reference Trouble
-key_of word = or_cause cause.Number (number_of (drop 1 word)) >>= λ k. Ok (reference.Key k)
+abbrev pub key_from : Word → Result Reference Trouble
+key_from word = or_cause cause.Number (number_of (drop 1 word)) >>= λ k. Ok (reference.Key k)
 
 -- a name bound before to a key
 abbrev pub keyed_of : List Binding → Word → Result Reference Trouble
 keyed_of names word = found_of names word >>= λ f. if has_key f.by then Ok (reference.Name f.place) else Err (trouble.Because cause.Unbound)
 
 unfoldable pub reference_of : List Binding → Word → Result Reference Trouble
-reference_of names word = if slice_index word 0 == 35 then key_of word else keyed_of names word
+reference_of names word = if slice_index word 0 == 35 then key_from word else keyed_of names word
 
 -- a name that isn't bound yet
 unfoldable pub new_name : List Binding → Word → Result Word Trouble

@@ -2,14 +2,14 @@
 use Rattle.std.specs.Prelude.{ℕ, ◌-◌, ◌==◌, nat_lt, List, [], ◌∷◌, ◌++◌, length, Option, Some, None, Result, Ok, Err, codes, if◌then◌else◌}
 use Rattle.std.specs.Str.{bytes_eq}
 use Rattle.std.specs.List.{find}
-use Rattle.sh_step.specs.Kinds.{name_of}
+use Rattle.sh_step.specs.Kinds.{kind_name}
 use Rattle.sh_step.specs.declared.action.Action.{Action}
 use Rattle.sh_step.specs.declared.action.Action.TheVariants as action
 use Rattle.sh_step.specs.declared.action.Event.{Event}
 use Rattle.sh_step.specs.declared.action.PageName.{PageName}
 use Rattle.sh_step.specs.declared.action.SlotName.{SlotName}
-use Rattle.sh_step.specs.declared.kind.Kind.{Kind}
-use Rattle.sh_step.specs.declared.kind.Kind.TheVariants as kind
+use Rattle.sh_step.specs.declared.kind.ActionKind.{ActionKind}
+use Rattle.sh_step.specs.declared.kind.ActionKind.TheVariants as kind
 use Rattle.sh_script.specs.Words.{Word, number_of, split_dot}
 use Rattle.sh_script.specs.Trouble.{◌>>=◌, or_cause}
 use Rattle.sh_script.specs.Arguments.{next_of, pass_at, only_of, two_of, none_of, numbers_from}
@@ -19,14 +19,14 @@ use Rattle.sh_script.specs.declared.trouble.Trouble.TheVariants as trouble
 
 -- ---- the kind
 
-abbrev pub kinds : List Kind
+abbrev pub kinds : List ActionKind
 kinds =
     kind.Enter ∷ kind.Mark ∷ kind.Drop ∷ kind.Finish ∷ kind.Fill ∷ kind.Publish ∷ kind.Read ∷ kind.SetClass ∷ kind.Take ∷ kind.Follow
     ∷ kind.Put ∷ kind.Tie ∷ kind.Adopt ∷ kind.Leave ∷ kind.Arm ∷ kind.Ring ∷ kind.RingTie ∷ kind.TakeBell ∷ kind.FollowBell ∷ []
 
 -- the kind that the word names
-abbrev pub kind_of : Word → Option Kind
-kind_of word = find (λ k. bytes_eq (name_of k) word) kinds
+abbrev pub kind_named : Word → Option ActionKind
+kind_named word = find (λ k. bytes_eq (kind_name k) word) kinds
 
 -- ---- the arguments
 
@@ -35,15 +35,15 @@ abbrev pub number_alone : List Word → Result ℕ Trouble
 number_alone ws = only_of ws >>= λ w. or_cause cause.Number (number_of w)
 
 -- the two or three numbers that dots join
-unfoldable pub page_of : Word → Result PageName Trouble
-page_of word = do
+unfoldable pub page_from : Word → Result PageName Trouble
+page_from word = do
   p ← or_cause cause.Number (split_dot word)
   shard ← or_cause cause.Number (number_of p.0)
   page ← or_cause cause.Number (number_of p.1)
   Ok (record { shard = shard; page = page })
 
-unfoldable pub slot_of : Word → Result SlotName Trouble
-slot_of word = do
+unfoldable pub slot_from : Word → Result SlotName Trouble
+slot_from word = do
   p ← or_cause cause.Number (split_dot word)
   q ← or_cause cause.Number (split_dot p.1)
   shard ← or_cause cause.Number (number_of p.0)
@@ -52,7 +52,7 @@ slot_of word = do
   Ok (record { shard = shard; page = page; slot = slot })
 
 abbrev pub page_alone : List Word → Result PageName Trouble
-page_alone ws = only_of ws >>= λ w. page_of w
+page_alone ws = only_of ws >>= λ w. page_from w
 
 -- ---- the kinds that have arguments
 
@@ -73,14 +73,14 @@ drop_of ws = if length ws == 0 then Ok action.Drop else number_alone ws >>= λ k
 
 -- a slot, or nothing
 unfoldable pub put_of : List Word → Result Action Trouble
-put_of ws = if length ws == 0 then Ok action.Put else only_of ws >>= λ w. slot_of w >>= λ s. Ok (action.PutSlot s)
+put_of ws = if length ws == 0 then Ok action.Put else only_of ws >>= λ w. slot_from w >>= λ s. Ok (action.PutSlot s)
 
 -- a slot and at most 16 words, or nothing
 unfoldable pub fill_of : List Word → Result Action Trouble
 fill_of [] = Ok action.Fill
 fill_of (w ∷ ws) =
     if nat_lt 16 (length ws) then Err (trouble.Because cause.Count)
-    else slot_of w >>= λ s. numbers_from [] ws >>= λ v. Ok (action.FillSlot s v)
+    else slot_from w >>= λ s. numbers_from [] ws >>= λ v. Ok (action.FillSlot s v)
 
 -- number 0 reads the class of a key, number 1 its length, and the others its words from 0
 abbrev pub part_of : ℕ → ℕ → Action
@@ -104,11 +104,11 @@ read_of ws = read_by (two_of ws) ws
 unfoldable pub set_class_of : List Word → Result Action Trouble
 set_class_of ws = do
   p ← or_cause cause.Count (two_of ws)
-  page ← page_of p.0
+  page ← page_from p.0
   class ← or_cause cause.Number (number_of p.1)
   Ok (action.SetClass page class)
 
-unfoldable pub action_of : Kind → List Word → Result Action Trouble
+unfoldable pub action_of : ActionKind → List Word → Result Action Trouble
 action_of kind.Enter ws = enter_of ws
 action_of kind.Mark ws = bare action.Mark ws
 action_of kind.Drop ws = drop_of ws
@@ -135,7 +135,7 @@ unfoldable pub event_of : ℕ → List Word → Result Event Trouble
 event_of passes ws = do
   pass ← pass_at passes ws
   word ← next_of cause.Count pass.1
-  k ← or_cause cause.Command (kind_of word.0)
+  k ← or_cause cause.Command (kind_named word.0)
   a ← action_of k word.1
   Ok (record { pass = pass.0; action = a })
 

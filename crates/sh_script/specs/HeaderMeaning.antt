@@ -11,10 +11,10 @@ use Rattle.sh_script.specs.declared.header.Version.{Version}
 use Rattle.sh_script.specs.declared.header.Version.TheVariants as version
 
 -- what a layout is called, and which one it is
-abbrev pub name_of : LayoutName → Word
-name_of layout.Tiny = codes "tiny"
-name_of layout.Wide = codes "wide"
-name_of layout.Tagged = codes "tagged"
+abbrev pub layout_name : LayoutName → Word
+layout_name layout.Tiny = codes "tiny"
+layout_name layout.Wide = codes "wide"
+layout_name layout.Tagged = codes "tagged"
 
 abbrev pub layout_of : LayoutName → Layout
 layout_of layout.Tiny = tiny
@@ -48,7 +48,7 @@ HasTag layout.Wide tag = tag ≡ None
 -- the words are `heap`, the name of a layout of the version, the numbers of a shape that fits the layout, and the tag
 pub record IsHeader (version : Version) (words : List Word) (header : Header) : Type 0 where
   pub behind : List Word
-  pub says : words ≡ codes "heap" ∷ name_of header.layout ∷ decimal header.shape.shards ∷ decimal header.shape.segments ∷ decimal header.shape.passes ∷ behind
+  pub says : words ≡ codes "heap" ∷ layout_name header.layout ∷ decimal header.shape.shards ∷ decimal header.shape.segments ∷ decimal header.shape.passes ∷ behind
   pub has_layout : HasLayout version header.layout
   pub is_tag : AreTag header.layout behind header.tag
   pub is_shape : IsShape header.shape

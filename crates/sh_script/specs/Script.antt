@@ -3,7 +3,7 @@
 use Rattle.std.specs.Prelude.{ℕ, ◌+◌, ◌==◌, nat_lt, List, [], ◌∷◌, length, Result, Ok, Err, slice_index, if◌then◌else◌}
 use Rattle.std.specs.List.{slice_split, list_all}
 use Rattle.std.specs.Int.{is_in_range}
-use Rattle.sh_script.specs.Words.{Word, words_of, is_newline}
+use Rattle.sh_script.specs.Words.{Word, words_in, is_newline}
 use Rattle.sh_script.specs.Trouble.{◌>>=◌, placed}
 use Rattle.sh_script.specs.Headers.{header_of, opening_of}
 use Rattle.sh_script.specs.declared.fault.Cause.TheVariants as cause
@@ -36,7 +36,7 @@ with_body before b = record before { body = b }
 abbrev pub whole_line : List ℕ → Result (List Word) Trouble
 whole_line line =
     if nat_lt 512 (length line) then Err (trouble.Because cause.Size)
-    else if list_all (is_in_range 32 126) line then Ok (words_of line)
+    else if list_all (is_in_range 32 126) line then Ok (words_in line)
     else Err (trouble.Because cause.Byte)
 
 -- a line that says something is the header, perhaps after a version line, or one that adds to the body

@@ -19,8 +19,8 @@ abbrev pub is_small_letter : ℕ → Bool
 is_small_letter b = nat_le 97 b && nat_le b 122
 
 -- the runs of bytes other than space
-abbrev pub words_of : List ℕ → List Word
-words_of line = filter (λ w. not (length w == 0)) (slice_split is_space line)
+abbrev pub words_in : List ℕ → List Word
+words_in line = filter (λ w. not (length w == 0)) (slice_split is_space line)
 
 -- what stands before the first dot, and behind it
 abbrev pub is_dot : ℕ → Bool

@@ -9,7 +9,7 @@ use crate::calls::{Call, CallLine, Reference};
 use crate::fault::Cause;
 use crate::names::{Binder, Bound, Found, Names};
 use crate::numbers::read_numbers;
-use crate::reader::Body;
+use crate::reader::ScriptBody;
 use crate::trouble::Trouble;
 use crate::words::is_name;
 use std::alloc::Global;
@@ -211,7 +211,7 @@ impl<'a> CallsRead<'a> {
     }
 }
 
-impl<'a> Body<'a> for CallsRead<'a> {
+impl<'a> ScriptBody<'a> for CallsRead<'a> {
     ghost adds = { call_added };
 
     fn add(&mut self, alloc: Global, passes: u32, words: &[&'a [u8]]) -> Result<(), Trouble> {

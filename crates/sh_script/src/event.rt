@@ -1,16 +1,16 @@
 //! A line with an event, read from its words.
 ghost use Rattle.std.specs.Prelude.{◌≡◌, map};
 ghost use Rattle.sh_script.specs.Trouble.{Gives};
-ghost use Rattle.sh_script.specs.EventLines.{kinds, kind_of, number_alone, page_alone, bare, enter_of, drop_of, fill_of, part_of, read_of, set_class_of, put_of, action_of, event_of, event_added};
+ghost use Rattle.sh_script.specs.EventLines.{kinds, kind_named, number_alone, page_alone, bare, enter_of, drop_of, fill_of, part_of, read_of, set_class_of, put_of, action_of, event_of, event_added};
 
 use crate::arguments::{next, next_pass, none, number_or_cause, only, two};
 use crate::fault::Cause;
 use crate::header::Header;
 use crate::numbers::read_numbers;
 use crate::place::{page, slot};
-use crate::reader::Body;
+use crate::reader::ScriptBody;
 use crate::trouble::Trouble;
-use sh_step::{Action, Event, Kind, PageName};
+use sh_step::{Action, Event, ActionKind, PageName};
 use sh_value::Value;
 use std::alloc::Global;
 use std::marker::Model;
@@ -22,30 +22,30 @@ pub struct Events {
     pub lines: Vec<Event>,
 }
 
-const KINDS: [Kind; 19] = [
-    Kind::Enter,
-    Kind::Mark,
-    Kind::Drop,
-    Kind::Finish,
-    Kind::Fill,
-    Kind::Publish,
-    Kind::Read,
-    Kind::SetClass,
-    Kind::Take,
-    Kind::Follow,
-    Kind::Put,
-    Kind::Tie,
-    Kind::Adopt,
-    Kind::Leave,
-    Kind::Arm,
-    Kind::Ring,
-    Kind::RingTie,
-    Kind::TakeBell,
-    Kind::FollowBell,
+const KINDS: [ActionKind; 19] = [
+    ActionKind::Enter,
+    ActionKind::Mark,
+    ActionKind::Drop,
+    ActionKind::Finish,
+    ActionKind::Fill,
+    ActionKind::Publish,
+    ActionKind::Read,
+    ActionKind::SetClass,
+    ActionKind::Take,
+    ActionKind::Follow,
+    ActionKind::Put,
+    ActionKind::Tie,
+    ActionKind::Adopt,
+    ActionKind::Leave,
+    ActionKind::Arm,
+    ActionKind::Ring,
+    ActionKind::RingTie,
+    ActionKind::TakeBell,
+    ActionKind::FollowBell,
 ];
 
-fn kind_named(word: &[u8]) -> Option<Kind>
-    ensures { result ≡ kind_of word.now }
+fn kind_named(word: &[u8]) -> Option<ActionKind>
+    ensures { result ≡ kind_named word.now }
 {
     KINDS
         .iter()
@@ -159,29 +159,29 @@ fn set_class(words: &[&[u8]]) -> Result<Action, Trouble>
 }
 
 #[tactic(auto, unfolding(crate::specs::EventLines::action_of))]
-fn action(alloc: Global, kind: Kind, words: &[&[u8]]) -> Result<Action, Trouble>
+fn action(alloc: Global, kind: ActionKind, words: &[&[u8]]) -> Result<Action, Trouble>
     ensures { Gives (λ a. a) result (action_of kind (map (λ w. w.now) words.now)) }
 {
     match kind {
-        Kind::Enter => enter(words),
-        Kind::Mark => bare(Action::Mark, words),
-        Kind::Drop => drop(words),
-        Kind::Finish => bare(Action::Finish, words),
-        Kind::Fill => fill(alloc, words),
-        Kind::Publish => bare(Action::Publish, words),
-        Kind::Read => read(words),
-        Kind::SetClass => set_class(words),
-        Kind::Take => Ok(Action::Take(page_alone(words)?)),
-        Kind::Follow => Ok(Action::Follow(page_alone(words)?)),
-        Kind::Put => put(words),
-        Kind::Tie => bare(Action::Tie, words),
-        Kind::Adopt => Ok(Action::Adopt(number_alone(words)?)),
-        Kind::Leave => bare(Action::Leave, words),
-        Kind::Arm => Ok(Action::Arm(page_alone(words)?)),
-        Kind::Ring => bare(Action::Ring, words),
-        Kind::RingTie => bare(Action::RingTie, words),
-        Kind::TakeBell => bare(Action::TakeBell, words),
-        Kind::FollowBell => bare(Action::FollowBell, words),
+        ActionKind::Enter => enter(words),
+        ActionKind::Mark => bare(Action::Mark, words),
+        ActionKind::Drop => drop(words),
+        ActionKind::Finish => bare(Action::Finish, words),
+        ActionKind::Fill => fill(alloc, words),
+        ActionKind::Publish => bare(Action::Publish, words),
+        ActionKind::Read => read(words),
+        ActionKind::SetClass => set_class(words),
+        ActionKind::Take => Ok(Action::Take(page_alone(words)?)),
+        ActionKind::Follow => Ok(Action::Follow(page_alone(words)?)),
+        ActionKind::Put => put(words),
+        ActionKind::Tie => bare(Action::Tie, words),
+        ActionKind::Adopt => Ok(Action::Adopt(number_alone(words)?)),
+        ActionKind::Leave => bare(Action::Leave, words),
+        ActionKind::Arm => Ok(Action::Arm(page_alone(words)?)),
+        ActionKind::Ring => bare(Action::Ring, words),
+        ActionKind::RingTie => bare(Action::RingTie, words),
+        ActionKind::TakeBell => bare(Action::TakeBell, words),
+        ActionKind::FollowBell => bare(Action::FollowBell, words),
     }
 }
 
@@ -234,7 +234,7 @@ impl EventsRead {
     }
 }
 
-impl<'a> Body<'a> for EventsRead {
+impl<'a> ScriptBody<'a> for EventsRead {
     ghost adds = { event_added };
 
     fn add(&mut self, alloc: Global, passes: u32, words: &[&'a [u8]]) -> Result<(), Trouble> {

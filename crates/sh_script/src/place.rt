@@ -3,7 +3,7 @@ ghost use Rattle.std.specs.Prelude.{◌≡◌, ◌<◌, IfSome, length, option_m
 ghost use Rattle.std.specs.List.{position};
 ghost use Rattle.sh_script.specs.Words.{is_dot, split_dot};
 ghost use Rattle.sh_script.specs.Trouble.{Gives, or_cause};
-ghost use Rattle.sh_script.specs.EventLines.{page_of, slot_of};
+ghost use Rattle.sh_script.specs.EventLines.{page_from, slot_from};
 
 use crate::arguments::number_or_cause;
 use crate::fault::Cause;
@@ -35,9 +35,9 @@ fn at_dot(word: &[u8]) -> Result<(&[u8], &[u8]), Trouble>
 }
 
 /// The page that a word `S.P` names.
-#[tactic(auto, unfolding(crate::specs::EventLines::page_of))]
+#[tactic(auto, unfolding(crate::specs::EventLines::page_from))]
 pub fn page(word: &[u8]) -> Result<PageName, Trouble>
-    ensures { Gives (λ p. p) result (page_of word.now) }
+    ensures { Gives (λ p. p) result (page_from word.now) }
 {
     let (shard, page) = at_dot(word)?;
     let shard = number_or_cause(shard)?;
@@ -46,9 +46,9 @@ pub fn page(word: &[u8]) -> Result<PageName, Trouble>
 }
 
 /// The slot that a word `S.P.s` names.
-#[tactic(auto, unfolding(crate::specs::EventLines::slot_of))]
+#[tactic(auto, unfolding(crate::specs::EventLines::slot_from))]
 pub fn slot(word: &[u8]) -> Result<SlotName, Trouble>
-    ensures { Gives (λ s. s) result (slot_of word.now) }
+    ensures { Gives (λ s. s) result (slot_from word.now) }
 {
     let (shard, rest) = at_dot(word)?;
     let (page, slot) = at_dot(rest)?;

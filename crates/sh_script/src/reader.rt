@@ -14,7 +14,7 @@ use crate::words::words;
 use std::alloc::Global;
 
 /// What the lines behind the header add up to.
-pub trait Body<'a>: Drop {
+pub trait ScriptBody<'a>: Drop {
     // What there is after a line with these words, where the header has so many passes.
     ghost adds: { ℕ → Self → List Word → Result Self Trouble };
 
@@ -48,7 +48,7 @@ fn words_of_line(alloc: Global, line: &[u8]) -> Result<Vec<&[u8]>, Trouble>
     Ok(words(alloc, line)?)
 }
 
-fn read_words<'a, B: Body<'a>>(
+fn read_words<'a, B: ScriptBody<'a>>(
     read: &mut Read<B>,
     alloc: Global,
     words: &[&'a [u8]],
@@ -69,7 +69,7 @@ fn read_words<'a, B: Body<'a>>(
     Ok(())
 }
 
-fn read_line<'a, B: Body<'a>>(
+fn read_line<'a, B: ScriptBody<'a>>(
     read: &mut Read<B>,
     alloc: Global,
     number: u64,
@@ -128,7 +128,7 @@ fn newline_in(text: &[u8]) -> Option<usize>
 }
 
 /// The header of a script, and what its other lines add up to, from what there is before them.
-pub fn parse<'a, B: Body<'a>>(alloc: Global, text: &'a [u8], start: B) -> Result<(Header, B), Fault>
+pub fn parse<'a, B: ScriptBody<'a>>(alloc: Global, text: &'a [u8], start: B) -> Result<(Header, B), Fault>
     ensures { GivesScript (λ x. x) result (script_of B.adds start text.entry.now) }
 {
     if text.len() > 1_048_576 {

@@ -1,13 +1,13 @@
 //! Words, numbers and names.
 ghost use Rattle.std.specs.Prelude.{◌≡◌, IfOk, map};
 ghost use Rattle.std.specs.List.{list_all};
-ghost use Rattle.sh_script.specs.Words.{words_of, number_of, number_from, is_digit, is_small_letter, is_name_byte, is_name};
+ghost use Rattle.sh_script.specs.Words.{words_in, number_of, number_from, is_digit, is_small_letter, is_name_byte, is_name};
 
 use std::alloc::{AllocError, Global};
 
 /// The words of a line: its runs of bytes other than space.
 pub fn words(alloc: Global, line: &[u8]) -> Result<Vec<&[u8]>, AllocError>
-    ensures { IfOk result (λ words. map (λ w. w.now) words.items ≡ words_of line.now) }
+    ensures { IfOk result (λ words. map (λ w. w.now) words.items ≡ words_in line.now) }
 {
     line.split(|b| *b == b' ')
         .filter(|w| !w.is_empty())

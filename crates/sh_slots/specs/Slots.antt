@@ -27,8 +27,8 @@ after_drop x n = cond ((fields_of n).present && (fields_of n).marked && ((fields
 abbrev pub spot_of : Name → Spot
 spot_of n = record { page = n.page; slot = n.slot }
 
-abbrev pub name_of : Spot → ℕ → Name
-name_of x g = record { page = x.page; slot = x.slot; generation = g }
+abbrev pub name_at : Spot → ℕ → Name
+name_at x g = record { page = x.page; slot = x.slot; generation = g }
 
 -- the word of a marked slot that nobody is on, and what ends its generation: the slot is empty, in the next one, or retired
 abbrev pub marked_word : ℕ → ℕ
@@ -65,4 +65,4 @@ is_reusable_after g gen_max n = (n == marked_word g) && not (g == gen_max)
 
 -- what the key of a value names that becomes present where this word is found
 abbrev pub published_name : Spot → ℕ → Name
-published_name x n = name_of x (fields_of n).generation
+published_name x n = name_at x (fields_of n).generation

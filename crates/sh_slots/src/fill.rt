@@ -1,6 +1,6 @@
 //! How a value comes into its slot.
 ghost use Rattle.std.specs.Prelude.{◌≡◌};
-ghost use Rattle.sh_slots.specs.Slots.{name_of, same_spot, published_name};
+ghost use Rattle.sh_slots.specs.Slots.{name_at, same_spot, published_name};
 
 use crate::{Name, Spot};
 use sh_word::State;
@@ -8,7 +8,7 @@ use sh_word::State;
 impl Spot {
     /// What a key of this generation names.
     pub fn name(&self, generation: u32) -> Name
-        ensures { result ≡ name_of self.now generation }
+        ensures { result ≡ name_at self.now generation }
     {
         Name {
             page: self.page,

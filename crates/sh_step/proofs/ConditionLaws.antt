@@ -15,8 +15,8 @@ use Rattle.sh_step.specs.declared.action.Action.{Action}
 use Rattle.sh_step.specs.declared.action.Action.TheVariants.{EnterGet, EnterRemove, Mark, Drop, DropHold, Finish, FillSlot, Fill, Publish, ReadClass, ReadLength, ReadWord, ReadPage, SetClass, Take, Follow, Put, PutSlot, Tie, Adopt, Leave, Arm, Ring, RingTie, TakeBell, FollowBell}
 use Rattle.sh_step.specs.Collections.{has, noted, without}
 use Rattle.sh_step.specs.Conditions.{Named, HasPage, Owns, Holds, its_page, Meets, RowsMeet, WhoMeetsHasRow}
-use Rattle.sh_step.specs.Plans.{Plan, all_pages, home, page_of, slot_of}
-use Rattle.sh_step.specs.Rows.{Row, row, named, paged, slotted, when, idle, own, owned_by, class_of, no_cursor, all_mine, mark, drop_hand, drop_key, enter_get, enter_remove, finish, fill_slot, fill, publish, read_class, read_length, read_word, read_page, set_class, take_page, follow, put_at, tie, adopt, leave, arm, ring, ring_tie, take_bell, follow_bell}
+use Rattle.sh_step.specs.Plans.{Plan, heap_pages, home, page_of, slot_of}
+use Rattle.sh_step.specs.Rows.{Row, row, named, paged, slotted, when, idle, own, owned_by, class_word_noted, no_cursor, all_mine, mark, drop_hand, drop_key, enter_get, enter_remove, finish, fill_slot, fill, publish, read_class, read_length, read_word, read_page, set_class, take_page, follow, put_at, tie, adopt, leave, arm, ring, ring_tie, take_bell, follow_bell}
 use Rattle.sh_step.proofs.Truths.{and2, and3, and4, and5, lt_of, le_of, lt_true, le_true, not_of, no_bool, no_row, by_when, by_some}
 
 -- ---- what a test of the part says
@@ -92,19 +92,19 @@ not_true b e = ap not e
 
 pub named_of : (plan : Plan) (k : ℕ) (f : Name → Option Row) (m : Row) → named plan k f ≡ Some m → (x : Name) × Named plan k x × (f x ≡ Some m)
 named_of plan k f m h = go (plan.keys.unpack k) refl h where
-  inside : (x : Name) (b c : Bool) → plan.keys.unpack k ≡ Some x → nat_lt x.page (all_pages plan) ≡ b → nat_lt x.slot 48 ≡ c → cond (b && c) (f x) None ≡ Some m → (x : Name) × Named plan k x × (f x ≡ Some m)
-  inside x true true e i j h = (x, record { unpacks = e; page = lt_of x.page (all_pages plan) i; slot = lt_of x.slot 48 j }, h)
+  inside : (x : Name) (b c : Bool) → plan.keys.unpack k ≡ Some x → nat_lt x.page (heap_pages plan) ≡ b → nat_lt x.slot 48 ≡ c → cond (b && c) (f x) None ≡ Some m → (x : Name) × Named plan k x × (f x ≡ Some m)
+  inside x true true e i j h = (x, record { unpacks = e; page = lt_of x.page (heap_pages plan) i; slot = lt_of x.slot 48 j }, h)
   inside x true false e i j h = no_row m h
   inside x false c e i j h = no_row m h
 
-  go : (o : Option Name) → plan.keys.unpack k ≡ o → (elim o as (λ _. Option Row) [ Some x ↦ cond (nat_lt x.page (all_pages plan) && nat_lt x.slot 48) (f x) None | None ↦ None ]) ≡ Some m → (x : Name) × Named plan k x × (f x ≡ Some m)
-  go (Some x) e h = inside x (nat_lt x.page (all_pages plan)) (nat_lt x.slot 48) e refl refl h
+  go : (o : Option Name) → plan.keys.unpack k ≡ o → (elim o as (λ _. Option Row) [ Some x ↦ cond (nat_lt x.page (heap_pages plan) && nat_lt x.slot 48) (f x) None | None ↦ None ]) ≡ Some m → (x : Name) × Named plan k x × (f x ≡ Some m)
+  go (Some x) e h = inside x (nat_lt x.page (heap_pages plan)) (nat_lt x.slot 48) e refl refl h
   go None e h = no_row m h
 
 is_named : (plan : Plan) (k : ℕ) (f : Name → Option Row) (x : Name) → Named plan k x → named plan k f ≡ f x
 is_named plan k f x n =
-    ap (λ (o : Option Name). elim o as (λ _. Option Row) [ Some x ↦ cond (nat_lt x.page (all_pages plan) && nat_lt x.slot 48) (f x) None | None ↦ None ]) n.unpacks
-    ∙ (ap (λ b. cond (b && nat_lt x.slot 48) (f x) None) (lt_true x.page (all_pages plan) n.page)
+    ap (λ (o : Option Name). elim o as (λ _. Option Row) [ Some x ↦ cond (nat_lt x.page (heap_pages plan) && nat_lt x.slot 48) (f x) None | None ↦ None ]) n.unpacks
+    ∙ (ap (λ b. cond (b && nat_lt x.slot 48) (f x) None) (lt_true x.page (heap_pages plan) n.page)
     ∙ ap (λ b. cond b (f x) None) (lt_true x.slot 48 n.slot))
 
 paged_of : (plan : Plan) (y : PageName) (f : ℕ → Option Row) (m : Row) → paged plan y f ≡ Some m → HasPage plan y × (f (page_of plan y) ≡ Some m)
@@ -251,10 +251,10 @@ module _ (plan : Plan) (p : Body) where
   met Finish m e = finishes p.hand m refl e
   met (FillSlot y v) m e =
       let x : Spot = slot_of plan y in
-      let n = slotted_of plan y (λ x. when (idle p && own plan p x.page && has (same_spot x) p.mine && nat_lt 0 (class_of p x.page) && nat_le (length v) (width (class_of p x.page - 1))) (fill_slot p x v)) m e in
-      let t = by_when (idle p && own plan p x.page && has (same_spot x) p.mine && nat_lt 0 (class_of p x.page) && nat_le (length v) (width (class_of p x.page - 1))) (fill_slot p x v) m n.2 in
-      let d = and5 (idle p) (own plan p x.page) (has (same_spot x) p.mine) (nat_lt 0 (class_of p x.page)) (nat_le (length v) (width (class_of p x.page - 1))) t.0 in
-      (n.0, n.1, idle_is p d.0, owns_is plan p x.page d.1, d.2, lt_of 0 (class_of p x.page) d.3, le_of (length v) (width (class_of p x.page - 1)) d.4, t.1)
+      let n = slotted_of plan y (λ x. when (idle p && own plan p x.page && has (same_spot x) p.mine && nat_lt 0 (class_word_noted p x.page) && nat_le (length v) (width (class_word_noted p x.page - 1))) (fill_slot p x v)) m e in
+      let t = by_when (idle p && own plan p x.page && has (same_spot x) p.mine && nat_lt 0 (class_word_noted p x.page) && nat_le (length v) (width (class_word_noted p x.page - 1))) (fill_slot p x v) m n.2 in
+      let d = and5 (idle p) (own plan p x.page) (has (same_spot x) p.mine) (nat_lt 0 (class_word_noted p x.page)) (nat_le (length v) (width (class_word_noted p x.page - 1))) t.0 in
+      (n.0, n.1, idle_is p d.0, owns_is plan p x.page d.1, d.2, lt_of 0 (class_word_noted p x.page) d.3, le_of (length v) (width (class_word_noted p x.page - 1)) d.4, t.1)
   met Fill m e = fills p.hand m refl e
   met Publish m e = publishes p.hand m refl e
   met (ReadClass k) m e =
@@ -277,9 +277,9 @@ module _ (plan : Plan) (p : Body) where
       set_classes y c m (noted (page_of plan y) p.classes) n.0 refl n.1
   met (Take y) m e =
       let q : ℕ = page_of plan y in
-      let n = paged_of plan y (λ q. when (idle p && own plan p q && nat_lt 0 (class_of p q) && no_cursor p q) (take_page p q)) m e in
-      let t = by_when (idle p && own plan p q && nat_lt 0 (class_of p q) && no_cursor p q) (take_page p q) m n.1 in
-      let d = and4 (idle p) (own plan p q) (nat_lt 0 (class_of p q)) (no_cursor p q) t.0 in (n.0, idle_is p d.0, owns_is plan p q d.1, lt_of 0 (class_of p q) d.2, no_cursor_is p q d.3, t.1)
+      let n = paged_of plan y (λ q. when (idle p && own plan p q && nat_lt 0 (class_word_noted p q) && no_cursor p q) (take_page p q)) m e in
+      let t = by_when (idle p && own plan p q && nat_lt 0 (class_word_noted p q) && no_cursor p q) (take_page p q) m n.1 in
+      let d = and4 (idle p) (own plan p q) (nat_lt 0 (class_word_noted p q)) (no_cursor p q) t.0 in (n.0, idle_is p d.0, owns_is plan p q d.1, lt_of 0 (class_word_noted p q) d.2, no_cursor_is p q d.3, t.1)
   met (Follow y) m e =
       let n = paged_of plan y (λ q. elim (noted q p.cursors) as (λ _. Option Row) [ Some s ↦ when (idle p && own plan p q) (follow p q s) | None ↦ None ]) m e in
       follows y m (noted (page_of plan y) p.cursors) n.0 refl n.1
@@ -294,9 +294,9 @@ module _ (plan : Plan) (p : Body) where
   met Leave m e = leaves m p.owned refl e
   met (Arm y) m e =
       let q : ℕ = page_of plan y in
-      let n = paged_of plan y (λ q. when (idle p && own plan p q && nat_lt 0 (class_of p q) && no_cursor p q && not (has (λ x. x == q) p.armed)) (arm p q)) m e in
-      let t = by_when (idle p && own plan p q && nat_lt 0 (class_of p q) && no_cursor p q && not (has (λ x. x == q) p.armed)) (arm p q) m n.1 in
-      let d = and5 (idle p) (own plan p q) (nat_lt 0 (class_of p q)) (no_cursor p q) (not (has (λ x. x == q) p.armed)) t.0 in (n.0, idle_is p d.0, owns_is plan p q d.1, lt_of 0 (class_of p q) d.2, no_cursor_is p q d.3, not_of (has (λ x. x == q) p.armed) d.4, t.1)
+      let n = paged_of plan y (λ q. when (idle p && own plan p q && nat_lt 0 (class_word_noted p q) && no_cursor p q && not (has (λ x. x == q) p.armed)) (arm p q)) m e in
+      let t = by_when (idle p && own plan p q && nat_lt 0 (class_word_noted p q) && no_cursor p q && not (has (λ x. x == q) p.armed)) (arm p q) m n.1 in
+      let d = and5 (idle p) (own plan p q) (nat_lt 0 (class_word_noted p q)) (no_cursor p q) (not (has (λ x. x == q) p.armed)) t.0 in (n.0, idle_is p d.0, owns_is plan p q d.1, lt_of 0 (class_word_noted p q) d.2, no_cursor_is p q d.3, not_of (has (λ x. x == q) p.armed) d.4, t.1)
   met Ring m e = rings p.hand m refl e
   met RingTie m e = ring_ties p.hand m refl e
   met TakeBell m e = take_bells m p.owned refl e
@@ -341,9 +341,9 @@ module _ (plan : Plan) (p : Body) where
   has_row Finish m h = by_hand (λ u. elim u as (λ _. Option Row) [ Finishing x g ↦ Some (finish plan p x g) | _ ↦ None ]) (Finishing h.0 h.1) _ m h.2 refl h.3
   has_row (FillSlot y v) m h =
       let x : Spot = slot_of plan y in
-      is_slotted plan y (λ x. when (idle p && own plan p x.page && has (same_spot x) p.mine && nat_lt 0 (class_of p x.page) && nat_le (length v) (width (class_of p x.page - 1))) (fill_slot p x v)) h.0 h.1
-      ∙ by_true (idle p && own plan p x.page && has (same_spot x) p.mine && nat_lt 0 (class_of p x.page) && nat_le (length v) (width (class_of p x.page - 1))) _ m
-      (five (idle p) (own plan p x.page) (has (same_spot x) p.mine) (nat_lt 0 (class_of p x.page)) (nat_le (length v) (width (class_of p x.page - 1))) (is_idle p h.2) (is_own plan p x.page h.3) h.4 (lt_true 0 (class_of p x.page) h.5) (le_true (length v) (width (class_of p x.page - 1)) h.6)) h.7
+      is_slotted plan y (λ x. when (idle p && own plan p x.page && has (same_spot x) p.mine && nat_lt 0 (class_word_noted p x.page) && nat_le (length v) (width (class_word_noted p x.page - 1))) (fill_slot p x v)) h.0 h.1
+      ∙ by_true (idle p && own plan p x.page && has (same_spot x) p.mine && nat_lt 0 (class_word_noted p x.page) && nat_le (length v) (width (class_word_noted p x.page - 1))) _ m
+      (five (idle p) (own plan p x.page) (has (same_spot x) p.mine) (nat_lt 0 (class_word_noted p x.page)) (nat_le (length v) (width (class_word_noted p x.page - 1))) (is_idle p h.2) (is_own plan p x.page h.3) h.4 (lt_true 0 (class_word_noted p x.page) h.5) (le_true (length v) (width (class_word_noted p x.page - 1)) h.6)) h.7
   has_row Fill m h = by_hand (λ u. elim u as (λ _. Option Row) [ Filling x v n ↦ when (nat_lt n (length v)) (fill p x v n) | _ ↦ None ]) (Filling h.0 h.1 h.2) _ m h.3 (by_true (nat_lt h.2 (length h.1)) _ _ (lt_true h.2 (length h.1) h.4) refl) h.5
   has_row Publish m h = by_hand (λ u. elim u as (λ _. Option Row) [ Filling x v n ↦ when (nat_le (length v) n) (publish plan p x v) | _ ↦ None ]) (Filling h.0 h.1 h.2) _ m h.3 (by_true (nat_le (length h.1) h.2) _ _ (le_true (length h.1) h.2 h.4) refl) h.5
   has_row (ReadClass k) m h = is_named plan k (λ x. when (idle p && has (λ j. j == k) p.holds) (read_class p k x)) h.0 h.1 ∙ by_true (idle p && has (λ j. j == k) p.holds) _ m (held k h.2 h.3) h.4
@@ -363,8 +363,8 @@ module _ (plan : Plan) (p : Body) where
       (four (idle p) (own plan p q) ((h.0 == 0) || all_mine p q h.0) (nat_lt c 8) (is_idle p h.3) (is_own plan p q h.4) (zero_or h.0 (all_mine p q h.0) h.5) (lt_true c 8 h.6)) h.7)
   has_row (Take y) m h =
       let q : ℕ = page_of plan y in
-      is_paged plan y (λ q. when (idle p && own plan p q && nat_lt 0 (class_of p q) && no_cursor p q) (take_page p q)) h.0
-      ∙ by_true (idle p && own plan p q && nat_lt 0 (class_of p q) && no_cursor p q) _ m (four (idle p) (own plan p q) (nat_lt 0 (class_of p q)) (no_cursor p q) (is_idle p h.1) (is_own plan p q h.2) (lt_true 0 (class_of p q) h.3) (is_no_cursor p q h.4)) h.5
+      is_paged plan y (λ q. when (idle p && own plan p q && nat_lt 0 (class_word_noted p q) && no_cursor p q) (take_page p q)) h.0
+      ∙ by_true (idle p && own plan p q && nat_lt 0 (class_word_noted p q) && no_cursor p q) _ m (four (idle p) (own plan p q) (nat_lt 0 (class_word_noted p q)) (no_cursor p q) (is_idle p h.1) (is_own plan p q h.2) (lt_true 0 (class_word_noted p q) h.3) (is_no_cursor p q h.4)) h.5
   has_row (Follow y) m h =
       let q : ℕ = page_of plan y in
       is_paged plan y (λ q. elim (noted q p.cursors) as (λ _. Option Row) [ Some s ↦ when (idle p && own plan p q) (follow p q s) | None ↦ None ]) h.1
@@ -384,9 +384,9 @@ module _ (plan : Plan) (p : Body) where
       (five (idle p) (length p.mine == 0) (length p.cursors == 0) (length p.armed == 0) (elim (p.bell_cursor) as (λ _. Bool) [ None ↦ true | _ ↦ false ]) (is_idle p h.2) (is_empty p.mine h.3) (is_empty p.cursors h.4) (is_empty p.armed h.5) (is_none p.bell_cursor h.6)) h.7
   has_row (Arm y) m h =
       let q : ℕ = page_of plan y in
-      is_paged plan y (λ q. when (idle p && own plan p q && nat_lt 0 (class_of p q) && no_cursor p q && not (has (λ x. x == q) p.armed)) (arm p q)) h.0
-      ∙ by_true (idle p && own plan p q && nat_lt 0 (class_of p q) && no_cursor p q && not (has (λ x. x == q) p.armed)) _ m
-      (five (idle p) (own plan p q) (nat_lt 0 (class_of p q)) (no_cursor p q) (not (has (λ x. x == q) p.armed)) (is_idle p h.1) (is_own plan p q h.2) (lt_true 0 (class_of p q) h.3) (is_no_cursor p q h.4) (not_true (has (λ x. x == q) p.armed) h.5)) h.6
+      is_paged plan y (λ q. when (idle p && own plan p q && nat_lt 0 (class_word_noted p q) && no_cursor p q && not (has (λ x. x == q) p.armed)) (arm p q)) h.0
+      ∙ by_true (idle p && own plan p q && nat_lt 0 (class_word_noted p q) && no_cursor p q && not (has (λ x. x == q) p.armed)) _ m
+      (five (idle p) (own plan p q) (nat_lt 0 (class_word_noted p q)) (no_cursor p q) (not (has (λ x. x == q) p.armed)) (is_idle p h.1) (is_own plan p q h.2) (lt_true 0 (class_word_noted p q) h.3) (is_no_cursor p q h.4) (not_true (has (λ x. x == q) p.armed) h.5)) h.6
   has_row Ring m h = by_hand (λ u. elim u as (λ _. Option Row) [ Ringing q ↦ Some (ring plan p q) | _ ↦ None ]) (Ringing h.0) _ m h.1 refl h.2
   has_row RingTie m h = by_hand (λ u. elim u as (λ _. Option Row) [ RingTying q l ↦ Some (ring_tie p q l) | _ ↦ None ]) (RingTying h.0 h.1) _ m h.2 refl h.3
   has_row TakeBell m h =

@@ -15,8 +15,8 @@ use Rattle.sh_step.specs.declared.action.SlotName.{SlotName}
 use Rattle.sh_step.specs.declared.body.Body.{Body}
 use Rattle.sh_step.specs.declared.moves.Move.{Move}
 use Rattle.sh_step.specs.Collections.{has, noted, without}
-use Rattle.sh_step.specs.Plans.{Plan, all_pages, page_of, slot_of}
-use Rattle.sh_step.specs.Rows.{Row, row, when, named, paged, slotted, idle, own, class_of, no_cursor, all_mine, enter_get, enter_remove, mark, drop_key, fill_slot, read_class, read_length, read_word, read_page, set_class, take_page, follow, put_at, arm}
+use Rattle.sh_step.specs.Plans.{Plan, heap_pages, page_of, slot_of}
+use Rattle.sh_step.specs.Rows.{Row, row, when, named, paged, slotted, idle, own, class_word_noted, no_cursor, all_mine, enter_get, enter_remove, mark, drop_key, fill_slot, read_class, read_length, read_word, read_page, set_class, take_page, follow, put_at, arm}
 use Rattle.sh_step.specs.Moves.{row_of, place_named, page_named, slot_named}
 
 -- ---- what is named
@@ -27,10 +27,10 @@ named_none plan k f e = go (plan.keys.unpack k) e where
   guarded true x e = absurd (let no_some : ⊥ = cc in no_some)
   guarded false x e = refl
 
-  go : (o : Option Name) → ◌≡◌ {A = Option Name} (elim o [ Some x ↦ cond (nat_lt x.page (all_pages plan) && nat_lt x.slot 48) (Some x) None | None ↦ None ]) None
-      → ◌≡◌ {A = Option Row} (elim o [ Some x ↦ cond (nat_lt x.page (all_pages plan) && nat_lt x.slot 48) (f x) None | None ↦ None ]) None
+  go : (o : Option Name) → ◌≡◌ {A = Option Name} (elim o [ Some x ↦ cond (nat_lt x.page (heap_pages plan) && nat_lt x.slot 48) (Some x) None | None ↦ None ]) None
+      → ◌≡◌ {A = Option Row} (elim o [ Some x ↦ cond (nat_lt x.page (heap_pages plan) && nat_lt x.slot 48) (f x) None | None ↦ None ]) None
   go None e = refl
-  go (Some x) e = guarded (nat_lt x.page (all_pages plan) && nat_lt x.slot 48) x e
+  go (Some x) e = guarded (nat_lt x.page (heap_pages plan) && nat_lt x.slot 48) x e
 
 named_some : (plan : Plan) (k : ℕ) (f : Name → Option Row) (y : Name) → place_named plan k ≡ Some y → named plan k f ≡ f y
 named_some plan k f y e = go (plan.keys.unpack k) e where
@@ -38,10 +38,10 @@ named_some plan k f y e = go (plan.keys.unpack k) e where
   guarded true x e = let same : x ≡ y = cc in ap f same
   guarded false x e = absurd (let no_none : ⊥ = cc in no_none)
 
-  go : (o : Option Name) → ◌≡◌ {A = Option Name} (elim o [ Some x ↦ cond (nat_lt x.page (all_pages plan) && nat_lt x.slot 48) (Some x) None | None ↦ None ]) (Some y)
-      → ◌≡◌ {A = Option Row} (elim o [ Some x ↦ cond (nat_lt x.page (all_pages plan) && nat_lt x.slot 48) (f x) None | None ↦ None ]) (f y)
+  go : (o : Option Name) → ◌≡◌ {A = Option Name} (elim o [ Some x ↦ cond (nat_lt x.page (heap_pages plan) && nat_lt x.slot 48) (Some x) None | None ↦ None ]) (Some y)
+      → ◌≡◌ {A = Option Row} (elim o [ Some x ↦ cond (nat_lt x.page (heap_pages plan) && nat_lt x.slot 48) (f x) None | None ↦ None ]) (f y)
   go None e = absurd (let no_none : ⊥ = cc in no_none)
-  go (Some x) e = guarded (nat_lt x.page (all_pages plan) && nat_lt x.slot 48) x e
+  go (Some x) e = guarded (nat_lt x.page (heap_pages plan) && nat_lt x.slot 48) x e
 
 guarded_none : {A : Type 0} (b : Bool) (a : A) (o : Option Row) → cond b (Some a) None ≡ None → cond b o None ≡ None
 guarded_none true a o e = absurd (let no_some : ⊥ = cc in no_some)
@@ -122,19 +122,19 @@ ReadPage_some plan p y q e = paged_some plan y (λ q. when (idle p && own plan p
 
 pub Take_none : (plan : Plan) (p : Body) (y : PageName) → page_named plan y ≡ None → row plan p (action.Take y) ≡ None
 unfolding row
-Take_none plan p y e = paged_none plan y (λ q. when (idle p && own plan p q && nat_lt 0 (class_of p q) && no_cursor p q) (take_page p q)) e
+Take_none plan p y e = paged_none plan y (λ q. when (idle p && own plan p q && nat_lt 0 (class_word_noted p q) && no_cursor p q) (take_page p q)) e
 
-pub Take_some : (plan : Plan) (p : Body) (y : PageName) (q : ℕ) → page_named plan y ≡ Some q → row plan p (action.Take y) ≡ when (idle p && own plan p q && nat_lt 0 (class_of p q) && no_cursor p q) (take_page p q)
+pub Take_some : (plan : Plan) (p : Body) (y : PageName) (q : ℕ) → page_named plan y ≡ Some q → row plan p (action.Take y) ≡ when (idle p && own plan p q && nat_lt 0 (class_word_noted p q) && no_cursor p q) (take_page p q)
 unfolding row
-Take_some plan p y q e = paged_some plan y (λ q. when (idle p && own plan p q && nat_lt 0 (class_of p q) && no_cursor p q) (take_page p q)) q e
+Take_some plan p y q e = paged_some plan y (λ q. when (idle p && own plan p q && nat_lt 0 (class_word_noted p q) && no_cursor p q) (take_page p q)) q e
 
 pub Arm_none : (plan : Plan) (p : Body) (y : PageName) → page_named plan y ≡ None → row plan p (action.Arm y) ≡ None
 unfolding row
-Arm_none plan p y e = paged_none plan y (λ q. when (idle p && own plan p q && nat_lt 0 (class_of p q) && no_cursor p q && not (has (λ x. x == q) p.armed)) (arm p q)) e
+Arm_none plan p y e = paged_none plan y (λ q. when (idle p && own plan p q && nat_lt 0 (class_word_noted p q) && no_cursor p q && not (has (λ x. x == q) p.armed)) (arm p q)) e
 
-pub Arm_some : (plan : Plan) (p : Body) (y : PageName) (q : ℕ) → page_named plan y ≡ Some q → row plan p (action.Arm y) ≡ when (idle p && own plan p q && nat_lt 0 (class_of p q) && no_cursor p q && not (has (λ x. x == q) p.armed)) (arm p q)
+pub Arm_some : (plan : Plan) (p : Body) (y : PageName) (q : ℕ) → page_named plan y ≡ Some q → row plan p (action.Arm y) ≡ when (idle p && own plan p q && nat_lt 0 (class_word_noted p q) && no_cursor p q && not (has (λ x. x == q) p.armed)) (arm p q)
 unfolding row
-Arm_some plan p y q e = paged_some plan y (λ q. when (idle p && own plan p q && nat_lt 0 (class_of p q) && no_cursor p q && not (has (λ x. x == q) p.armed)) (arm p q)) q e
+Arm_some plan p y q e = paged_some plan y (λ q. when (idle p && own plan p q && nat_lt 0 (class_word_noted p q) && no_cursor p q && not (has (λ x. x == q) p.armed)) (arm p q)) q e
 
 pub Mark_is : (plan : Plan) (p : Body) → row plan p action.Mark ≡ elim (p.hand) [ Removing k ↦ named plan k (λ x. Some (mark p k x)) | _ ↦ None ]
 unfolding row
@@ -211,11 +211,11 @@ Follow_some plan p y q s e known = Follow_is plan p y ∙ (paged_some plan y (λ
 
 pub FillSlot_none : (plan : Plan) (p : Body) (y : SlotName) (v : List ℕ) → slot_named plan y ≡ None → row plan p (action.FillSlot y v) ≡ None
 unfolding row
-FillSlot_none plan p y v e = slotted_none plan y (λ x. when (idle p && own plan p x.page && has (same_spot x) p.mine && nat_lt 0 (class_of p x.page) && nat_le (length v) (width (class_of p x.page - 1))) (fill_slot p x v)) e
+FillSlot_none plan p y v e = slotted_none plan y (λ x. when (idle p && own plan p x.page && has (same_spot x) p.mine && nat_lt 0 (class_word_noted p x.page) && nat_le (length v) (width (class_word_noted p x.page - 1))) (fill_slot p x v)) e
 
-pub FillSlot_some : (plan : Plan) (p : Body) (y : SlotName) (v : List ℕ) (x : Spot) → slot_named plan y ≡ Some x → row plan p (action.FillSlot y v) ≡ when (idle p && own plan p x.page && has (same_spot x) p.mine && nat_lt 0 (class_of p x.page) && nat_le (length v) (width (class_of p x.page - 1))) (fill_slot p x v)
+pub FillSlot_some : (plan : Plan) (p : Body) (y : SlotName) (v : List ℕ) (x : Spot) → slot_named plan y ≡ Some x → row plan p (action.FillSlot y v) ≡ when (idle p && own plan p x.page && has (same_spot x) p.mine && nat_lt 0 (class_word_noted p x.page) && nat_le (length v) (width (class_word_noted p x.page - 1))) (fill_slot p x v)
 unfolding row
-FillSlot_some plan p y v x e = slotted_some plan y (λ x. when (idle p && own plan p x.page && has (same_spot x) p.mine && nat_lt 0 (class_of p x.page) && nat_le (length v) (width (class_of p x.page - 1))) (fill_slot p x v)) x e
+FillSlot_some plan p y v x e = slotted_some plan y (λ x. when (idle p && own plan p x.page && has (same_spot x) p.mine && nat_lt 0 (class_word_noted p x.page) && nat_le (length v) (width (class_word_noted p x.page - 1))) (fill_slot p x v)) x e
 
 pub PutSlot_none : (plan : Plan) (p : Body) (y : SlotName) → slot_named plan y ≡ None → row plan p (action.PutSlot y) ≡ None
 unfolding row

@@ -11,13 +11,13 @@ use Rattle.sh_step.specs.declared.action.SlotName.{SlotName}
 use Rattle.sh_step.specs.declared.action.Action.{Action}
 use Rattle.sh_step.specs.declared.action.Action.TheVariants.{EnterGet, EnterRemove, Mark, Drop, DropHold, Finish, FillSlot, Fill, Publish, ReadClass, ReadLength, ReadWord, ReadPage, SetClass, Take, Follow, Put, PutSlot, Tie, Adopt, Leave, Arm, Ring, RingTie, TakeBell, FollowBell}
 use Rattle.sh_step.specs.Collections.{has, noted, without}
-use Rattle.sh_step.specs.Plans.{Plan, all_pages, home, page_of, slot_of}
-use Rattle.sh_step.specs.Rows.{Row, row, class_of, all_mine, mark, drop_hand, drop_key, enter_get, enter_remove, finish, fill_slot, fill, publish, read_class, read_length, read_word, read_page, set_class, take_page, follow, put_at, tie, adopt, leave, arm, ring, ring_tie, take_bell, follow_bell}
+use Rattle.sh_step.specs.Plans.{Plan, heap_pages, home, page_of, slot_of}
+use Rattle.sh_step.specs.Rows.{Row, row, class_word_noted, all_mine, mark, drop_hand, drop_key, enter_get, enter_remove, finish, fill_slot, fill, publish, read_class, read_length, read_word, read_page, set_class, take_page, follow, put_at, tie, adopt, leave, arm, ring, ring_tie, take_bell, follow_bell}
 
 -- the key names this slot of the heap
 pub record Named (plan : Plan) (k : ℕ) (x : Name) : Type 0 where
   pub unpacks : plan.keys.unpack k ≡ Some x
-  pub page : x.page < all_pages plan
+  pub page : x.page < heap_pages plan
   pub slot : x.slot < 48
 
 -- the heap has the page of that name
@@ -50,7 +50,7 @@ Meets plan p Drop m = (x : Spot) × (p.hand ≡ Leaving x) × (m ≡ drop_hand p
 Meets plan p (DropHold k) m = (x : Name) × Named plan k x × (p.hand ≡ Idle) × Holds p k × (m ≡ drop_key p k x)
 Meets plan p Finish m = (x : Spot) × (g : ℕ) × (p.hand ≡ Finishing x g) × (m ≡ finish plan p x g)
 Meets plan p (FillSlot y v) m = HasPage plan (its_page y) × (y.slot < 48) × (p.hand ≡ Idle) × Owns plan p (slot_of plan y).page × HasMine p (slot_of plan y)
-    × (0 < class_of p (slot_of plan y).page) × (length v ≤ width (class_of p (slot_of plan y).page - 1)) × (m ≡ fill_slot p (slot_of plan y) v)
+    × (0 < class_word_noted p (slot_of plan y).page) × (length v ≤ width (class_word_noted p (slot_of plan y).page - 1)) × (m ≡ fill_slot p (slot_of plan y) v)
 Meets plan p Fill m = (x : Spot) × (v : List ℕ) × (i : ℕ) × (p.hand ≡ Filling x v i) × (i < length v) × (m ≡ fill p x v i)
 Meets plan p Publish m = (x : Spot) × (v : List ℕ) × (i : ℕ) × (p.hand ≡ Filling x v i) × (length v ≤ i) × (m ≡ publish plan p x v)
 Meets plan p (ReadClass k) m = (x : Name) × Named plan k x × (p.hand ≡ Idle) × Holds p k × (m ≡ read_class p k x)
@@ -58,7 +58,7 @@ Meets plan p (ReadLength k) m = (x : Name) × Named plan k x × (p.hand ≡ Idle
 Meets plan p (ReadWord k i) m = (x : Name) × (c : ℕ) × (n : ℕ) × Named plan k x × (noted k p.widths ≡ Some c) × (noted k p.lengths ≡ Some n) × (p.hand ≡ Idle) × Holds p k × (i < n) × (m ≡ read_word p k x c i)
 Meets plan p (ReadPage y) m = HasPage plan y × (p.hand ≡ Idle) × Owns plan p (page_of plan y) × (m ≡ read_page p (page_of plan y))
 Meets plan p (SetClass y c) m = (n : ℕ) × HasPage plan y × (noted (page_of plan y) p.classes ≡ Some n) × (p.hand ≡ Idle) × Owns plan p (page_of plan y) × ((n ≡ 0) ⊎ (all_mine p (page_of plan y) n ≡ true)) × (c < 8) × (m ≡ set_class p (page_of plan y) c)
-Meets plan p (Take y) m = HasPage plan y × (p.hand ≡ Idle) × Owns plan p (page_of plan y) × (0 < class_of p (page_of plan y)) × (noted (page_of plan y) p.cursors ≡ None) × (m ≡ take_page p (page_of plan y))
+Meets plan p (Take y) m = HasPage plan y × (p.hand ≡ Idle) × Owns plan p (page_of plan y) × (0 < class_word_noted p (page_of plan y)) × (noted (page_of plan y) p.cursors ≡ None) × (m ≡ take_page p (page_of plan y))
 Meets plan p (Follow y) m = (s : ℕ) × HasPage plan y × (noted (page_of plan y) p.cursors ≡ Some s) × (p.hand ≡ Idle) × Owns plan p (page_of plan y) × (m ≡ follow p (page_of plan y) s)
 Meets plan p Put m = (x : Spot) × (p.hand ≡ ToPut x) × (m ≡ put_at p x)
 Meets plan p (PutSlot y) m = HasPage plan (its_page y) × (y.slot < 48) × (p.hand ≡ Idle) × Owns plan p (slot_of plan y).page × HasMine p (slot_of plan y)
@@ -66,7 +66,7 @@ Meets plan p (PutSlot y) m = HasPage plan (its_page y) × (y.slot < 48) × (p.ha
 Meets plan p Tie m = (x : Spot) × (l : ℕ) × (r : Bool) × (p.hand ≡ Tying x l r) × (m ≡ tie p x l r)
 Meets plan p (Adopt n) m = (p.owned ≡ None) × (p.hand ≡ Idle) × (n < plan.shards) × (m ≡ adopt p n)
 Meets plan p Leave m = (n : ℕ) × (p.owned ≡ Some n) × (p.hand ≡ Idle) × (p.mine ≡ []) × (p.cursors ≡ []) × (p.armed ≡ []) × (p.bell_cursor ≡ None) × (m ≡ leave p n)
-Meets plan p (Arm y) m = HasPage plan y × (p.hand ≡ Idle) × Owns plan p (page_of plan y) × (0 < class_of p (page_of plan y)) × (noted (page_of plan y) p.cursors ≡ None) × (has (λ x. x == page_of plan y) p.armed ≡ false) × (m ≡ arm p (page_of plan y))
+Meets plan p (Arm y) m = HasPage plan y × (p.hand ≡ Idle) × Owns plan p (page_of plan y) × (0 < class_word_noted p (page_of plan y)) × (noted (page_of plan y) p.cursors ≡ None) × (has (λ x. x == page_of plan y) p.armed ≡ false) × (m ≡ arm p (page_of plan y))
 Meets plan p Ring m = (q : ℕ) × (p.hand ≡ Ringing q) × (m ≡ ring plan p q)
 Meets plan p RingTie m = (q : ℕ) × (l : ℕ) × (p.hand ≡ RingTying q l) × (m ≡ ring_tie p q l)
 Meets plan p TakeBell m = (n : ℕ) × (p.owned ≡ Some n) × (p.hand ≡ Idle) × (p.bell_cursor ≡ None) × (m ≡ take_bell plan p n)

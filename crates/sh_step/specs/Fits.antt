@@ -7,17 +7,17 @@ use Rattle.sh_shape.specs.declared.places.Place.{Place}
 use Rattle.sh_shape.specs.declared.places.Place.TheVariants.{State, PageLink, Bell}
 use Rattle.sh_slots.specs.declared.reply.Reply.TheVariants.{Insert}
 use Rattle.sh_step.specs.Operations.{StoresWord}
-use Rattle.sh_step.specs.Plans.{Plan, all_pages}
+use Rattle.sh_step.specs.Plans.{Plan, heap_pages}
 use Rattle.sh_step.specs.Rows.{Row}
 
 -- what stands on a bell names pages of the heap
 abbrev pub WordFits : Plan → Place → ℕ → Type 0
-WordFits plan (Bell k) n = n ≤ all_pages plan + 1
-WordFits plan (PageLink q) n = n ≤ all_pages plan + 1
+WordFits plan (Bell k) n = n ≤ heap_pages plan + 1
+WordFits plan (PageLink q) n = n ≤ heap_pages plan + 1
 WordFits plan _ n = Unit {0}
 
 -- Its place is one of the shape, what it stores is a word, and a key that it issues names its slot in the generation found
-pub record Fits (shape : Numbers) (plan : Plan) (r : Row) (n : ℕ) : Type 0 where
+pub record RowFits (shape : Numbers) (plan : Plan) (r : Row) (n : ℕ) : Type 0 where
   pub place : IsPlace shape r.place
   pub stores : StoresWord r.operation
   pub word : WordFits plan r.place n

@@ -16,7 +16,7 @@ use Rattle.sh_step.specs.declared.moves.Move.TheVariants as move
 use Rattle.sh_step.specs.Collections.{without}
 use Rattle.sh_step.specs.declared.operation.Operation.TheVariants.{Store}
 use Rattle.sh_step.specs.Parts.{newcomer}
-use Rattle.sh_step.specs.Plans.{Plan, all_pages, page_of, slot_of}
+use Rattle.sh_step.specs.Plans.{Plan, heap_pages, page_of, slot_of}
 use Rattle.sh_step.specs.Rows.{Row, row, enter_get, enter_remove, mark, drop_hand, drop_key, finish, fill_slot, fill_in, publish, read_class, read_length, read_word, read_page, set_class, take_page, follow, put_at, tie, adopt, leave, arm, ring, ring_tie, take_bell, follow_bell}
 
 -- the row of a move
@@ -58,7 +58,7 @@ has_place shape p = nat_lt p.shard shape.shards && nat_lt p.page (pages_of shape
 
 -- the place that a key, a page's name or a slot's name names, where the shape has it
 abbrev pub place_named : Plan → ℕ → Option Name
-place_named plan k = elim (plan.keys.unpack k) [ Some x ↦ cond (nat_lt x.page (all_pages plan) && nat_lt x.slot 48) (Some x) None | None ↦ None ]
+place_named plan k = elim (plan.keys.unpack k) [ Some x ↦ cond (nat_lt x.page (heap_pages plan) && nat_lt x.slot 48) (Some x) None | None ↦ None ]
 
 abbrev pub page_named : Plan → PageName → Option ℕ
 page_named plan x = cond (nat_lt x.shard plan.shards && nat_lt x.page plan.pages) (Some (page_of plan x)) None

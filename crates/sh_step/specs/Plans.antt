@@ -45,8 +45,8 @@ abbrev pub plan_of : Layout → Numbers → Plan
 plan_of layout n = record { shards = n.shards; pages = segment_pages * n.segments; passes = n.passes; keys = keys_of layout n.shards (segment_pages * n.segments) }
 
 -- how many pages there are, and the shard of a page
-abbrev pub all_pages : Plan → ℕ
-all_pages plan = plan.shards * plan.pages
+abbrev pub heap_pages : Plan → ℕ
+heap_pages plan = plan.shards * plan.pages
 
 unfoldable pub home : Plan → ℕ → ℕ
 home plan q = home_of plan.pages q
@@ -71,11 +71,11 @@ slot_of plan x = record { page = page_number plan x.shard x.page; slot = x.slot 
 
 -- the laws of a plan on which the core rests: a key names one place and generation, and counts have room
 pub record Lawful (plan : Plan) : Type 0 where
-  pub names : (n : Name) → 0 < n.generation → n.generation ≤ plan.keys.gen_max → n.page < all_pages plan → n.slot < 48 → plan.keys.unpack (plan.keys.pack n) ≡ Some n
+  pub names : (n : Name) → 0 < n.generation → n.generation ≤ plan.keys.gen_max → n.page < heap_pages plan → n.slot < 48 → plan.keys.unpack (plan.keys.pack n) ≡ Some n
   pub keys : (k : ℕ) (n : Name) → plan.keys.unpack k ≡ Some n → k ≡ plan.keys.pack n
   pub begins : (k : ℕ) (n : Name) → plan.keys.unpack k ≡ Some n → 0 < n.generation
   pub passes : plan.passes ≤ 64
   pub generations : 0 < plan.keys.gen_max
   pub guards : plan.keys.guard_max + 64 < 2 ^ 30
   pub last_generation : plan.keys.gen_max < 2 ^ 32
-  pub few_pages : all_pages plan ≤ 2048
+  pub few_pages : heap_pages plan ≤ 2048

@@ -14,7 +14,7 @@ use Rattle.sh_step.specs.declared.action.Action.{Action}
 use Rattle.sh_step.specs.declared.action.Action.TheVariants.{EnterGet, EnterRemove, Mark, Drop, DropHold, Finish, FillSlot, Fill, Publish, ReadClass, ReadLength, ReadWord, ReadPage, SetClass, Take, Follow, Put, PutSlot, Tie, Adopt, Leave, Arm, Ring, RingTie, TakeBell, FollowBell}
 use Rattle.sh_shape.specs.declared.places.Place.{Place}
 use Rattle.sh_shape.specs.declared.places.Place.TheVariants.{Class, Head, PageLink, State, Link, Length, Payload, Owner, Bell}
-use Rattle.sh_step.specs.Plans.{Plan, all_pages, home, local, over_heap, page_of, slot_of}
+use Rattle.sh_step.specs.Plans.{Plan, heap_pages, home, local, over_heap, page_of, slot_of}
 use Rattle.sh_shape.specs.Classes.{width, slots}
 use Rattle.sh_slots.specs.Slots.{same_spot, spots, spot_of, live_at, has_room, after_enter_remove, after_drop, marked_word, finished_word, is_reusable_after, published_name}
 use Rattle.sh_stack.specs.Stack.{top_word, top_item, link_over, link_item}
@@ -49,8 +49,8 @@ abbrev pub own : Plan → Body → ℕ → Bool
 own plan p q = owned_by plan p.owned q
 
 -- the class word noted of a page, 0 where none is
-abbrev pub class_of : Body → ℕ → ℕ
-class_of p q = elim (noted q p.classes) [ Some c ↦ c | None ↦ 0 ]
+abbrev pub class_word_noted : Body → ℕ → ℕ
+class_word_noted p q = elim (noted q p.classes) [ Some c ↦ c | None ↦ 0 ]
 
 abbrev pub no_cursor : Body → ℕ → Bool
 no_cursor p q = elim (noted q p.cursors) [ Some _ ↦ false | None ↦ true ]
@@ -141,7 +141,7 @@ fill_in p x v i class_word = record {
 }
 
 abbrev pub fill : Body → Spot → List ℕ → ℕ → Row
-fill p x v i = fill_in p x v i (class_of p x.page)
+fill p x v i = fill_in p x v i (class_word_noted p x.page)
 
 abbrev pub publish : Plan → Body → Spot → List ℕ → Row
 publish plan p x v = record {
@@ -286,7 +286,7 @@ follow_bell plan p q = record {
 
 -- what a key names, where it is a place of the shape
 abbrev pub named : Plan → ℕ → (Name → Option Row) → Option Row
-named plan k f = elim (plan.keys.unpack k) [ Some x ↦ cond (nat_lt x.page (all_pages plan) && nat_lt x.slot 48) (f x) None | None ↦ None ]
+named plan k f = elim (plan.keys.unpack k) [ Some x ↦ cond (nat_lt x.page (heap_pages plan) && nat_lt x.slot 48) (f x) None | None ↦ None ]
 
 -- the page of this name, and the slot of this name, where the shape has it
 abbrev pub paged : Plan → PageName → (ℕ → Option Row) → Option Row
@@ -303,7 +303,7 @@ row plan p Mark = elim (p.hand) [ Removing k ↦ named plan k (λ x. Some (mark 
 row plan p Drop = elim (p.hand) [ Leaving x ↦ Some (drop_hand p x) | _ ↦ None ]
 row plan p (DropHold k) = named plan k (λ x. when (idle p && has (λ j. j == k) p.holds) (drop_key p k x))
 row plan p Finish = elim (p.hand) [ Finishing x g ↦ Some (finish plan p x g) | _ ↦ None ]
-row plan p (FillSlot y v) = slotted plan y (λ x. when (idle p && own plan p x.page && has (same_spot x) p.mine && nat_lt 0 (class_of p x.page) && nat_le (length v) (width (class_of p x.page - 1))) (fill_slot p x v))
+row plan p (FillSlot y v) = slotted plan y (λ x. when (idle p && own plan p x.page && has (same_spot x) p.mine && nat_lt 0 (class_word_noted p x.page) && nat_le (length v) (width (class_word_noted p x.page - 1))) (fill_slot p x v))
 row plan p Fill = elim (p.hand) [ Filling x v n ↦ when (nat_lt n (length v)) (fill p x v n) | _ ↦ None ]
 row plan p Publish = elim (p.hand) [ Filling x v n ↦ when (nat_le (length v) n) (publish plan p x v) | _ ↦ None ]
 row plan p (ReadClass k) = named plan k (λ x. when (idle p && has (λ j. j == k) p.holds) (read_class p k x))
@@ -311,14 +311,14 @@ row plan p (ReadLength k) = named plan k (λ x. when (idle p && has (λ j. j == 
 row plan p (ReadWord k i) = named plan k (λ x. elim (noted k p.widths) [ Some c ↦ elim (noted k p.lengths) [ Some n ↦ when (idle p && has (λ j. j == k) p.holds && nat_lt i n) (read_word p k x c i) | None ↦ None ] | None ↦ None ])
 row plan p (ReadPage y) = paged plan y (λ q. when (idle p && own plan p q) (read_page p q))
 row plan p (SetClass y c) = paged plan y (λ q. elim (noted q p.classes) [ Some n ↦ when (idle p && own plan p q && ((n == 0) || all_mine p q n) && nat_lt c 8) (set_class p q c) | None ↦ None ])
-row plan p (Take y) = paged plan y (λ q. when (idle p && own plan p q && nat_lt 0 (class_of p q) && no_cursor p q) (take_page p q))
+row plan p (Take y) = paged plan y (λ q. when (idle p && own plan p q && nat_lt 0 (class_word_noted p q) && no_cursor p q) (take_page p q))
 row plan p (Follow y) = paged plan y (λ q. elim (noted q p.cursors) [ Some s ↦ when (idle p && own plan p q) (follow p q s) | None ↦ None ])
 row plan p Put = elim (p.hand) [ ToPut x ↦ Some (put_at p x) | _ ↦ None ]
 row plan p (PutSlot y) = slotted plan y (λ x. when (idle p && own plan p x.page && has (same_spot x) p.mine) (put_at (record p { mine = without (same_spot x) p.mine }) x))
 row plan p Tie = elim (p.hand) [ Tying x l r ↦ Some (tie p x l r) | _ ↦ None ]
 row plan p (Adopt n) = elim (p.owned) [ None ↦ when (idle p && nat_lt n plan.shards) (adopt p n) | _ ↦ None ]
 row plan p Leave = elim (p.owned) [ Some n ↦ when (idle p && (length p.mine == 0) && (length p.cursors == 0) && (length p.armed == 0) && (elim (p.bell_cursor) [ None ↦ true | _ ↦ false ])) (leave p n) | None ↦ None ]
-row plan p (Arm y) = paged plan y (λ q. when (idle p && own plan p q && nat_lt 0 (class_of p q) && no_cursor p q && not (has (λ x. x == q) p.armed)) (arm p q))
+row plan p (Arm y) = paged plan y (λ q. when (idle p && own plan p q && nat_lt 0 (class_word_noted p q) && no_cursor p q && not (has (λ x. x == q) p.armed)) (arm p q))
 row plan p Ring = elim (p.hand) [ Ringing q ↦ Some (ring plan p q) | _ ↦ None ]
 row plan p RingTie = elim (p.hand) [ RingTying q l ↦ Some (ring_tie p q l) | _ ↦ None ]
 row plan p TakeBell = elim (p.owned) [ Some n ↦ when (idle p && (elim (p.bell_cursor) [ None ↦ true | _ ↦ false ])) (take_bell plan p n) | None ↦ None ]

@@ -1,8 +1,8 @@
 //! Actions, with what each is about.
 ghost use Rattle.std.specs.Prelude.{◌≡◌};
-ghost use Rattle.sh_step.specs.Kinds.{kind_of};
+ghost use Rattle.sh_step.specs.Kinds.{kind_of_action};
 
-use crate::kind::Kind;
+use crate::kind::ActionKind;
 use sh_value::Value;
 
 /// A page as an action names it: any two numbers. Where the shape has no such page the action is not enabled.
@@ -93,32 +93,32 @@ pub struct Event {
 
 impl Action {
     /// The kind that it is of.
-    pub fn kind(&self) -> Kind
-        ensures { result ≡ kind_of self.now }
+    pub fn kind(&self) -> ActionKind
+        ensures { result ≡ kind_of_action self.now }
     {
         match self {
-            Action::EnterGet(_) | Action::EnterRemove(_) => Kind::Enter,
-            Action::Mark => Kind::Mark,
-            Action::Drop | Action::DropHold(_) => Kind::Drop,
-            Action::Finish => Kind::Finish,
-            Action::FillSlot(_, _) | Action::Fill => Kind::Fill,
-            Action::Publish => Kind::Publish,
+            Action::EnterGet(_) | Action::EnterRemove(_) => ActionKind::Enter,
+            Action::Mark => ActionKind::Mark,
+            Action::Drop | Action::DropHold(_) => ActionKind::Drop,
+            Action::Finish => ActionKind::Finish,
+            Action::FillSlot(_, _) | Action::Fill => ActionKind::Fill,
+            Action::Publish => ActionKind::Publish,
             Action::ReadClass(_)
             | Action::ReadLength(_)
             | Action::ReadWord(_, _)
-            | Action::ReadPage(_) => Kind::Read,
-            Action::SetClass(_, _) => Kind::SetClass,
-            Action::Take(_) => Kind::Take,
-            Action::Follow(_) => Kind::Follow,
-            Action::Put | Action::PutSlot(_) => Kind::Put,
-            Action::Tie => Kind::Tie,
-            Action::Adopt(_) => Kind::Adopt,
-            Action::Leave => Kind::Leave,
-            Action::Arm(_) => Kind::Arm,
-            Action::Ring => Kind::Ring,
-            Action::RingTie => Kind::RingTie,
-            Action::TakeBell => Kind::TakeBell,
-            Action::FollowBell => Kind::FollowBell,
+            | Action::ReadPage(_) => ActionKind::Read,
+            Action::SetClass(_, _) => ActionKind::SetClass,
+            Action::Take(_) => ActionKind::Take,
+            Action::Follow(_) => ActionKind::Follow,
+            Action::Put | Action::PutSlot(_) => ActionKind::Put,
+            Action::Tie => ActionKind::Tie,
+            Action::Adopt(_) => ActionKind::Adopt,
+            Action::Leave => ActionKind::Leave,
+            Action::Arm(_) => ActionKind::Arm,
+            Action::Ring => ActionKind::Ring,
+            Action::RingTie => ActionKind::RingTie,
+            Action::TakeBell => ActionKind::TakeBell,
+            Action::FollowBell => ActionKind::FollowBell,
         }
     }
 }

@@ -1,10 +1,10 @@
 //! The kinds of action.
 ghost use Rattle.std.specs.Prelude.{◌≡◌};
-ghost use Rattle.sh_step.specs.Kinds.{name_of};
+ghost use Rattle.sh_step.specs.Kinds.{kind_name};
 
 /// The 19 kinds of action, by their names in scripts and replies.
 #[derive(Clone, Copy, Debug, PartialEq, Eq)]
-pub enum Kind {
+pub enum ActionKind {
     /// Enters a slot.
     Enter,
     /// Marks a slot.
@@ -45,31 +45,31 @@ pub enum Kind {
     FollowBell,
 }
 
-impl Kind {
+impl ActionKind {
     /// Its name.
     pub fn name(&self) -> &'static str
-        ensures { result.now ≡ name_of self.now }
+        ensures { result.now ≡ kind_name self.now }
     {
         match self {
-            Kind::Enter => "Enter",
-            Kind::Mark => "Mark",
-            Kind::Drop => "Drop",
-            Kind::Finish => "Finish",
-            Kind::Fill => "Fill",
-            Kind::Publish => "Publish",
-            Kind::Read => "Read",
-            Kind::SetClass => "SetClass",
-            Kind::Take => "Take",
-            Kind::Follow => "Follow",
-            Kind::Put => "Put",
-            Kind::Tie => "Tie",
-            Kind::Adopt => "Adopt",
-            Kind::Leave => "Leave",
-            Kind::Arm => "Arm",
-            Kind::Ring => "Ring",
-            Kind::RingTie => "RingTie",
-            Kind::TakeBell => "TakeBell",
-            Kind::FollowBell => "FollowBell",
+            ActionKind::Enter => "Enter",
+            ActionKind::Mark => "Mark",
+            ActionKind::Drop => "Drop",
+            ActionKind::Finish => "Finish",
+            ActionKind::Fill => "Fill",
+            ActionKind::Publish => "Publish",
+            ActionKind::Read => "Read",
+            ActionKind::SetClass => "SetClass",
+            ActionKind::Take => "Take",
+            ActionKind::Follow => "Follow",
+            ActionKind::Put => "Put",
+            ActionKind::Tie => "Tie",
+            ActionKind::Adopt => "Adopt",
+            ActionKind::Leave => "Leave",
+            ActionKind::Arm => "Arm",
+            ActionKind::Ring => "Ring",
+            ActionKind::RingTie => "RingTie",
+            ActionKind::TakeBell => "TakeBell",
+            ActionKind::FollowBell => "FollowBell",
         }
     }
 }

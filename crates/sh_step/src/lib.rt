@@ -28,7 +28,7 @@ mod tests;
 pub use action::{Action, Event, PageName, SlotName};
 pub use body::Body;
 pub use footstep::Footstep;
-pub use kind::Kind;
+pub use kind::ActionKind;
 pub use laws::{conditions_have_rows, footsteps_count, room_does_not_wrap, steps_look_at_no_part};
 pub use moves::{Move, enabled};
 pub use operation::Operation;

@@ -2,7 +2,7 @@
 ghost use Rattle.std.specs.Prelude.{◌≡◌, ◌==◌, ◌&&◌, ◌||◌, not, nat_lt};
 ghost use Rattle.sh_step.specs.Plans.{plan_of};
 ghost use Rattle.sh_step.specs.Collections.{has};
-ghost use Rattle.sh_step.specs.Rows.{idle, own, class_of, no_cursor, all_mine};
+ghost use Rattle.sh_step.specs.Rows.{idle, own, class_word_noted, no_cursor, all_mine};
 ghost use Rattle.sh_step.specs.Moves.{IsMoveOf};
 
 use crate::names::page_of_name;
@@ -36,14 +36,14 @@ pub fn may_touch<L: KeyLayout>(shape: &Shape, part: &Part, page: u64) -> bool
 
 // Whether it may take the page's stack.
 fn may_take<L: KeyLayout>(shape: &Shape, part: &Part, page: u64) -> bool
-    ensures { result ≡ (idle part.now && own (plan_of L.layout shape.now) part.now page && nat_lt 0 (class_of part.now page) && no_cursor part.now page) }
+    ensures { result ≡ (idle part.now && own (plan_of L.layout shape.now) part.now page && nat_lt 0 (class_word_noted part.now page) && no_cursor part.now page) }
 {
     may_touch::<L>(shape, part, page) && part.class_word(page) > 0 && part.has_no_cursor(page)
 }
 
 // Whether it may arm the page.
 fn may_arm<L: KeyLayout>(shape: &Shape, part: &Part, page: u64) -> bool
-    ensures { result ≡ (idle part.now && own (plan_of L.layout shape.now) part.now page && nat_lt 0 (class_of part.now page) && no_cursor part.now page && not (has (λ x. x == page) part.now.armed)) }
+    ensures { result ≡ (idle part.now && own (plan_of L.layout shape.now) part.now page && nat_lt 0 (class_word_noted part.now page) && no_cursor part.now page && not (has (λ x. x == page) part.now.armed)) }
 {
     may_take::<L>(shape, part, page) && !part.has_armed(page)
 }

@@ -3,7 +3,7 @@ ghost use Rattle.std.specs.Prelude.{◌≡◌, ◌<◌, ◌≤◌, ◌==◌, [],
 ghost use Rattle.sh_slots.specs.Slots.{same_spot, spots};
 ghost use Rattle.sh_slots.specs.declared.hand.Hand.TheVariants.{Idle};
 ghost use Rattle.sh_step.specs.Collections.{has, noted, every};
-ghost use Rattle.sh_step.specs.Rows.{idle, class_of, no_cursor, all_mine};
+ghost use Rattle.sh_step.specs.Rows.{idle, class_word_noted, no_cursor, all_mine};
 
 mod apply;
 mod in_hand;
@@ -156,7 +156,7 @@ impl Part {
 
     /// The class word of a page of its shard, 0 where it knows none.
     pub fn class_word(&self, page: u64) -> u64
-        ensures { result ≡ class_of self.now page }
+        ensures { result ≡ class_word_noted self.now page }
     {
         match self.class_noted(page) {
             Some(word) => word,

@@ -4,7 +4,7 @@ ghost use Rattle.sh_shape.specs.Classes.{width};
 ghost use Rattle.sh_slots.specs.Slots.{same_spot};
 ghost use Rattle.sh_step.specs.Plans.{plan_of};
 ghost use Rattle.sh_step.specs.Collections.{has};
-ghost use Rattle.sh_step.specs.Rows.{idle, own, class_of};
+ghost use Rattle.sh_step.specs.Rows.{idle, own, class_word_noted};
 ghost use Rattle.sh_step.specs.Moves.{IsMoveOf};
 
 use crate::names::slot_of_name;
@@ -39,7 +39,7 @@ fn fits_class(length: u64, class_word: u64) -> bool
 
 // Whether it may fill the slot, which is its own, with a value of this length.
 fn may_fill<L: KeyLayout>(shape: &Shape, part: &Part, spot: Spot, length: u64) -> bool
-    ensures { result ≡ (idle part.now && own (plan_of L.layout shape.now) part.now spot.page && has (same_spot spot) part.now.mine && nat_lt 0 (class_of part.now spot.page) && nat_le length (width (class_of part.now spot.page - 1))) }
+    ensures { result ≡ (idle part.now && own (plan_of L.layout shape.now) part.now spot.page && has (same_spot spot) part.now.mine && nat_lt 0 (class_word_noted part.now spot.page) && nat_le length (width (class_word_noted part.now spot.page - 1))) }
 {
     may_put::<L>(shape, part, spot) && fits_class(length, part.class_word(spot.page))
 }

@@ -4,7 +4,7 @@ use crate::operands::{
     bell_of, bell_word, gen_max, guard_max, payload_word, put_word, slots_of_word, width_of_word,
     word_of_value,
 };
-use crate::{Action, Kind, Move, Operation, PageName, Part, SlotName, enabled};
+use crate::{Action, ActionKind, Move, Operation, PageName, Part, SlotName, enabled};
 use sh_key::Tiny;
 use sh_shape::{Place, Shape};
 use sh_slots::Spot;
@@ -28,9 +28,9 @@ fn forms_are_of_their_kinds(rt: HostRuntime) -> Result<(), Fail> {
     };
     let value = Value::new(&[5]).expect(&rt, "one word fits");
     assert_eq!(rt; Action::EnterGet(4096).kind().name(), "Enter");
-    assert_eq!(rt; Action::EnterRemove(4096).kind(), Kind::Enter);
+    assert_eq!(rt; Action::EnterRemove(4096).kind(), ActionKind::Enter);
     assert_eq!(rt; Action::FillSlot(slot, value).kind().name(), "Fill");
-    assert_eq!(rt; Action::DropHold(4096).kind(), Kind::Drop);
+    assert_eq!(rt; Action::DropHold(4096).kind(), ActionKind::Drop);
     assert_eq!(rt; Action::Arm(page).kind().name(), "Arm");
     Ok(())
 }

@@ -1,6 +1,6 @@
 //! What the heap answers in place of doing a call.
 ghost use Rattle.std.specs.Prelude.{◌≡◌};
-ghost use Rattle.sh_value.specs.Refusal.{number_of, name_of};
+ghost use Rattle.sh_value.specs.Refusal.{refusal_number, refusal_name};
 
 /// Why a call is refused. A refused call leaves the map, the holds and the issued keys as they were.
 #[derive(Clone, Copy, Debug, PartialEq, Eq)]
@@ -36,7 +36,7 @@ pub enum Refusal {
 impl Refusal {
     /// Its number, from 1 to 13.
     pub fn number(&self) -> u32
-        ensures { result ≡ number_of self.now }
+        ensures { result ≡ refusal_number self.now }
     {
         match self {
             Refusal::BadKey => 1,
@@ -57,7 +57,7 @@ impl Refusal {
 
     /// Its name, as replies and fault lines print it.
     pub fn name(&self) -> &'static str
-        ensures { result.now ≡ name_of self.now }
+        ensures { result.now ≡ refusal_name self.now }
     {
         match self {
             Refusal::BadKey => "BadKey",

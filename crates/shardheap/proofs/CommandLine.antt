@@ -14,7 +14,7 @@ use Rattle.clap.specs.declared.error.kind.ErrorKind.TheVariants.{OutOfMemory}
 use Rattle.clap.proofs.WalkLemmas.{first_value-rows, one_text-rows}
 use Rattle.sh_replay.specs.declared.mode.Mode.{Mode}
 use Rattle.sh_replay.specs.declared.mode.Mode.TheVariants.{Plain, Steps}
-use Rattle.shardheap.specs.Options.{IsNoMode, IsRefused, NameModes, accounts_text, command_line, mode_word, name_of}
+use Rattle.shardheap.specs.Options.{IsNoMode, IsRefused, NameModes, flag_text, command_line, mode_word, mode_name}
 
 simple_and_free : (modes : Bor (List (Bor Text))) → is_simple_and_free (command_line modes) ≡ true
 simple_and_free modes = refl
@@ -41,7 +41,7 @@ word_is modes words m rows = first_value-rows (found_of m) (codes "mode") ∙ ap
 
 -- the text of the flag
 pub flag_is : (modes : Bor (List (Bor Text))) (words : List Text) (m : ArgMatches) → rows_of (found_of m) ≡ matches_of (command_line modes) words
-    → one_text (found_of m) (codes "accounts") ≡ accounts_text modes words
+    → one_text (found_of m) (codes "accounts") ≡ flag_text modes words
 flag_is modes words m rows = one_text-rows (found_of m) (codes "accounts") ∙ ap (one_of (codes "accounts")) rows
 
 -- a text that is there is what is read
@@ -53,14 +53,14 @@ read_word None b w t e is = cc
 pub among : (modes : Bor (List (Bor Text))) (t : Text) → NameModes modes → Accepts false (Names modes) t → IsNoMode t → ⊥
 among modes t named accepted unnamed = go modes.now named accepted
   where
-    same : (mode : Mode) (x : Text) → x ≡ name_of mode → bytes_eq x t ≡ false
+    same : (mode : Mode) (x : Text) → x ≡ mode_name mode → bytes_eq x t ≡ false
     same mode x is = differ (bytes_eq x t) refl
       where
         differ : (b : Bool) → bytes_eq x t ≡ b → bytes_eq x t ≡ false
         differ true e = absurd (unnamed mode (sym ((bytes_eq-Decides x t).0 e) ∙ is))
         differ false e = e
 
-    go : (names : List (Bor Text)) → map (λ w. w.now) names ≡ name_of Plain ∷ name_of Steps ∷ [] → list_any (λ name. bytes_eq name.now t) names ≡ true → ⊥
+    go : (names : List (Bor Text)) → map (λ w. w.now) names ≡ mode_name Plain ∷ mode_name Steps ∷ [] → list_any (λ name. bytes_eq name.now t) names ≡ true → ⊥
     go [] is e = cc
     go (x ∷ []) is e = cc
     go (x ∷ y ∷ []) is e =

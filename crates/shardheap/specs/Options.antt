@@ -11,17 +11,17 @@ use Rattle.sh_replay.specs.declared.mode.Mode.{Mode}
 use Rattle.sh_replay.specs.declared.mode.Mode.TheVariants.{Plain, Steps}
 
 -- how a mode is written
-abbrev pub name_of : Mode → Text
-name_of Plain = codes "plain"
-name_of Steps = codes "steps"
+abbrev pub mode_name : Mode → Text
+mode_name Plain = codes "plain"
+mode_name Steps = codes "steps"
 
 -- the word names no mode
 abbrev pub IsNoMode : Text → Type 0
-IsNoMode word = (mode : Mode) → word ≢ name_of mode
+IsNoMode word = (mode : Mode) → word ≢ mode_name mode
 
 -- the words of the modes, in the order of the help, wherever they stand
 abbrev pub NameModes : Bor (List (Bor Text)) → Type 0
-NameModes modes = map (λ w. w.now) modes.now ≡ name_of Plain ∷ name_of Steps ∷ []
+NameModes modes = map (λ w. w.now) modes.now ≡ mode_name Plain ∷ mode_name Steps ∷ []
 
 -- the mode has to be given, and is one of these words
 abbrev pub mode_rule : Bor (List (Bor Text)) → Rule
@@ -44,8 +44,8 @@ abbrev pub mode_word : Bor (List (Bor Text)) → List Text → Option Text
 mode_word modes words = first_of (codes "mode") (matches_of (command_line modes) words)
 
 -- what clap makes of the flag
-abbrev pub accounts_text : Bor (List (Bor Text)) → List Text → Option Text
-accounts_text modes words = one_of (codes "accounts") (matches_of (command_line modes) words)
+abbrev pub flag_text : Bor (List (Bor Text)) → List Text → Option Text
+flag_text modes words = one_of (codes "accounts") (matches_of (command_line modes) words)
 
 -- a flag is set where its text is "true", and isn't where it has none or "false"
 pub record Shows (text : Option Text) (flag : Bool) : Type 0 where
@@ -54,12 +54,12 @@ pub record Shows (text : Option Text) (flag : Bool) : Type 0 where
   pub no : text ≡ Some (codes "false") → flag ≡ false
 
 -- clap's rules find no fault with the words, and its matches have this mode and this flag
-pub record Says (words : List Text) (mode : Mode) (accounts : Bool) : Type 0 where
+pub record CommandSays (words : List Text) (mode : Mode) (accounts : Bool) : Type 0 where
   pub modes : Bor (List (Bor Text))
   pub named : NameModes modes
   pub faultless : fault_of (command_line modes) words ≡ []
-  pub mode_is : mode_word modes words ≡ Some (name_of mode)
-  pub accounts_is : Shows (accounts_text modes words) accounts
+  pub mode_is : mode_word modes words ≡ Some (mode_name mode)
+  pub accounts_is : Shows (flag_text modes words) accounts
 
 -- the words are refused with an error of this kind: memory ran out, or clap's rules find this fault; words that the rules
 -- take are refused for want of memory alone

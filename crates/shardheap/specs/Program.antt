@@ -6,9 +6,9 @@ use Rattle.clap.specs.declared.error.kind.ErrorKind.TheVariants.{DisplayHelp, Di
 use Rattle.sh_script.specs.declared.fault.Fault.{Fault}
 use Rattle.sh_replay.specs.declared.mode.Mode.{Mode}
 use Rattle.sh_replay.specs.Ends.{IsEndFault}
-use Rattle.sh_replay.specs.Output.{IsFaultOf, IsScriptOf, Runs, Stops}
+use Rattle.sh_replay.specs.Output.{IsFaultOf, IsScriptOf, WritesOutput, Stops}
 use Rattle.shardheap.specs.Faults.{status_of}
-use Rattle.shardheap.specs.Options.{IsRefused, Says}
+use Rattle.shardheap.specs.Options.{IsRefused, CommandSays}
 
 -- the exit status where clap gave no options for this reason: 0 after help, or 3 where help could not be written; 3
 -- where memory ran out; and 2 after a mistake in the words
@@ -39,8 +39,8 @@ pub record EndsFaulty (mode : Mode) (accounts : Bool) (text : List ℕ) (old new
 pub record EndsRun (words : List Text) (text : List ℕ) (old new : Option (List ℕ)) (status : ℕ) : Type 0 where
   pub mode : Mode
   pub accounts : Bool
-  pub said : Says words mode accounts
-  pub ends : ((status ≡ 0) × Runs mode accounts text old new) ⊎ EndsFaulty mode accounts text old new status
+  pub said : CommandSays words mode accounts
+  pub ends : ((status ≡ 0) × WritesOutput mode accounts text old new) ⊎ EndsFaulty mode accounts text old new status
 
 -- the exit statuses that there are
 abbrev pub IsStatus : ℕ → Type 0

@@ -1,7 +1,7 @@
 //! The command line: a mode, and whether accounts are wanted.
 ghost use Rattle.std.specs.Prelude.{◌≡◌, IfOk, IfErr, IfSome, IfNone, map};
 ghost use Rattle.clap.specs.Words.{app_of, kind_of};
-ghost use Rattle.shardheap.specs.Options.{IsNoMode, IsRefused, Says, command_line, name_of};
+ghost use Rattle.shardheap.specs.Options.{IsNoMode, IsRefused, CommandSays, command_line, mode_name};
 
 use clap::{Arg, ArgAction, Command, Error};
 use sh_replay::Mode;
@@ -12,7 +12,7 @@ const MODES: [Mode; 2] = [Mode::Plain, Mode::Steps];
 
 /// How a mode is written.
 fn name(mode: Mode) -> &'static str
-    ensures { result.now ≡ name_of mode }
+    ensures { result.now ≡ mode_name mode }
 {
     match mode {
         Mode::Plain => "plain",
@@ -22,7 +22,7 @@ fn name(mode: Mode) -> &'static str
 
 /// The mode that is written so.
 fn mode_named(word: &str) -> Option<Mode>
-    ensures some { IfSome result (λ mode. word.now ≡ name_of mode) }
+    ensures some { IfSome result (λ mode. word.now ≡ mode_name mode) }
     ensures none { IfNone result (IsNoMode word.now) }
 {
     MODES.into_iter().find(|mode| name(*mode) == word)
@@ -60,7 +60,7 @@ fn command<'a>(alloc: Global, modes: &'a [&'a str]) -> Result<Command<'a>, Alloc
 /// The mode and the flag `--accounts` of a command line, whose first word is the program's name. An error is clap's: its
 /// own for words that its rules refuse, for `--help` and for `--version`, and `OutOfMemory`.
 pub fn options<'a>(alloc: Global, words: &'a [&'a str]) -> Result<(Mode, bool), Error>
-    ensures ok { IfOk result (λ r. Says (map (λ w. w.now) words.entry.now) r.0 r.1) }
+    ensures ok { IfOk result (λ r. CommandSays (map (λ w. w.now) words.entry.now) r.0 r.1) }
     ensures err { IfErr result (λ e. IsRefused (map (λ w. w.now) words.entry.now) (kind_of e)) }
 {
     let modes = [name(MODES[0]), name(MODES[1])];

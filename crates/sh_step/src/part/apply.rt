@@ -3,7 +3,7 @@ ghost use Rattle.std.specs.Prelude.{◌≡◌, IsOk, IfOk, IfErr, OnOk, OnErr};
 ghost use Rattle.sh_step.specs.Plans.{plan_of};
 ghost use Rattle.sh_step.specs.Moves.{row_of};
 ghost use Rattle.sh_step.specs.Parts.{ListGrows, AddsToNoList};
-ghost use Rattle.sh_step.specs.Fits.{Fits};
+ghost use Rattle.sh_step.specs.Fits.{RowFits};
 
 use super::Part;
 use crate::Move;
@@ -22,7 +22,7 @@ impl Part {
         the_move: &Move,
         found: u64,
     ) -> Result<Option<Reply>, Refusal>
-        requires fits { Fits shape.now (plan_of L.layout shape.now) (row_of (plan_of L.layout shape.now) self.old the_move.now) found }
+        requires fits { RowFits shape.now (plan_of L.layout shape.now) (row_of (plan_of L.layout shape.now) self.old the_move.now) found }
         ensures reply { IfOk result (λ reply. reply ≡ (row_of (plan_of L.layout shape.now) self.old the_move.now).reply found) }
         ensures part { OnOk result (self.new ≡ (row_of (plan_of L.layout shape.now) self.old the_move.now).part found) }
         ensures err { OnErr result (self.new ≡ self.old) }

@@ -1,5 +1,5 @@
 use Rattle.std.proofs.Common.{◌∙◌, arith}
-use Rattle.sh_replay.specs.PlainRun.{opening, run_of}
+use Rattle.sh_replay.specs.PlainRun.{opening_run, run_of}
 use Rattle.sh_replay.proofs.RunLemmas.{writes_more, from_ok}
 use Rattle.sh_replay.proofs.plain_output.plain_lines.Goals as goal
 
@@ -8,7 +8,7 @@ loop-line-preserved g c =
     let before = c.loop-line.run in
     let after = c.step.new.self in
     record {
-      written = writes_more g.L.KeyLayout.layout (opening c.args.shape.shards c.args.shape.passes c.args.tag)
+      written = writes_more g.L.KeyLayout.layout (opening_run c.args.shape.shards c.args.shape.passes c.args.tag)
           (run_of before.shards before.tag before.store before.owners before.keys.items) (run_of after.shards after.tag after.store after.owners after.keys.items)
           c.args.lines.now c.loop-line.line-index c.line-item.result c.in_ok-answer.answer c.loop-line.output.items c.push_reply.new.out.items
           c.loop-line-test.true c.line-item.is c.loop-line.invariant.written c.in_ok-answer.ensures.steps

@@ -1,11 +1,11 @@
 use Rattle.std.proofs.Common.{subst, arith}
 use Rattle.sh_lists.specs.Numbers.{Distinct}
-use Rattle.sh_queue.specs.Chain.{Chained}
+use Rattle.sh_queue.specs.Chain.{ChainNumbers}
 use Rattle.sh_queue.proofs.Linking.{appending_none, appending_more}
 use Rattle.sh_queue.proofs.chain.Chain.append.Goals as goal
 
 pub loop-x-init : goal.loop-x-init
-loop-x-init c = appending_none c.args.first c.args.count c.args.self.now c.requires.here c.requires.apart (subst (λ (v : Chained). Distinct v.numbers) c.self.view_is c.self.invariant.distinct)
+loop-x-init c = appending_none c.args.first c.args.count c.args.self.now c.requires.here c.requires.apart (subst (λ (v : ChainNumbers). Distinct v.numbers) c.self.view_is c.self.invariant.distinct)
 
 pub loop-x-preserved : goal.loop-x-preserved
 loop-x-preserved c =

@@ -1,6 +1,6 @@
 use Rattle.std.proofs.Common.{ap, ◌∙◌, arith}
 use Rattle.std.proofs.lemmas.List.{get_or_read}
-use Rattle.sh_queue.specs.Numbers.{has}
+use Rattle.sh_queue.specs.Numbers.{has_number}
 use Rattle.sh_queue.proofs.Linking.{inside, unlinks}
 use Rattle.sh_queue.proofs.chain.Chain.unlink.Goals as goal
 
@@ -73,4 +73,4 @@ returns-clause-gone c =
     let u = unlinks n p count c.args.x c.index-before.result.now c.index-behind.result.now c.args.self.now c.self.view_is c.self.invariant c.requires.here c.requires.inner
     (get_or_read p c.args.x _ small.1 c.index-before.ensures 0)
     (get_or_read n c.args.x _ small.0 c.index-behind.ensures 0) in
-    ap (λ v. has c.args.x v.numbers) u.holds.shows ∙ u.gone
+    ap (λ v. has_number c.args.x v.numbers) u.holds.shows ∙ u.gone

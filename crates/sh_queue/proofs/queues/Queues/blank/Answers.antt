@@ -1,13 +1,13 @@
 use Rattle.std.proofs.Common.{◌≡◌, ◌≤◌, ◌<◌, ℕ, true, arith, ap, ◌∙◌, subst}
 use Rattle.std.specs.Prelude.{slice_get, IfSome}
-use Rattle.sh_queue.specs.Numbers.{has}
-use Rattle.sh_queue.specs.Queues.{PageQueues, queue}
-use Rattle.sh_queue.proofs.Sections.{has-mark}
+use Rattle.sh_queue.specs.Numbers.{has_number}
+use Rattle.sh_queue.specs.Queues.{PageQueues, pages_behind}
+use Rattle.sh_queue.proofs.Sections.{has_number-mark}
 use Rattle.sh_queue.proofs.Fronts.{front_of, lowest_blank}
 use Rattle.sh_queue.proofs.queues.Queues.blank.Goals as goal
 
 pub following-requires-clause-here : goal.following-requires-clause-here
-following-requires-clause-here c = has-mark _ c.self.inside.chain.numbers c.self.invariant.marked (omega arith)
+following-requires-clause-here c = has_number-mark _ c.self.inside.chain.numbers c.self.invariant.marked (omega arith)
 
 pub returns-clause-front : goal.returns-clause-front
 returns-clause-front c =
@@ -20,9 +20,9 @@ pub returns-clause-lowest : goal.returns-clause-lowest
 returns-clause-lowest c =
     let q = c.self.inside in
     let w = q.chain.numbers in
-    let P : PageQueues → Type 0 = λ v. IfSome c.page_of.result (λ page. (other : ℕ) → has other v.blank ≡ true → page ≤ other) in
+    let P : PageQueues → Type 0 = λ v. IfSome c.page_of.result (λ page. (other : ℕ) → has_number other v.blank ≡ true → page ≤ other) in
     let front = front_of w 9 c.following.result q.chain.size q.opened q.unopened q.full.items c.page_of.result c.self.invariant c.following.ensures c.page_of.ensures in
-    subst P c.self.view_is (lowest_blank (queue 9 w) c.page_of.result c.self.invariant.rising front.is)
+    subst P c.self.view_is (lowest_blank (pages_behind 9 w) c.page_of.result c.self.invariant.rising front.is)
 
 pub returns-clause-opened : goal.returns-clause-opened
 returns-clause-opened c =

@@ -6,7 +6,7 @@ use Rattle.sh_step.specs.declared.moves.Move.{Move}
 use Rattle.sh_step.specs.declared.moves.Move.TheVariants as move
 use Rattle.sh_step.specs.Plans.{Plan, plan_of}
 use Rattle.sh_step.specs.Moves.{row_of}
-use Rattle.sh_step.specs.Fits.{Fits}
+use Rattle.sh_step.specs.Fits.{RowFits}
 use Rattle.sh_step.proofs.part.Part.apply.Goals as goal
 
 left : Plan → Body → ℕ → Move → Body
@@ -27,8 +27,8 @@ pub publish-requires-clause-names : goal.publish-requires-clause-names
 publish-requires-clause-names g c =
     let plan = plan_of g.L.KeyLayout.layout c.args.shape.now in
     let spot = c.in-Publish.spot in
-    let fits : Fits c.args.shape.now plan (row_of plan c.args.self.now (move.Publish spot c.in-Publish.value)) c.args.found =
-    subst (λ m. Fits c.args.shape.now plan (row_of plan c.args.self.now m) c.args.found) c.in-Publish.is c.requires.fits in
+    let fits : RowFits c.args.shape.now plan (row_of plan c.args.self.now (move.Publish spot c.in-Publish.value)) c.args.found =
+    subst (λ m. RowFits c.args.shape.now plan (row_of plan c.args.self.now m) c.args.found) c.in-Publish.is c.requires.fits in
     fits.issues _ c.in-Publish.value spot.page spot.slot refl refl
 
 pub returns-in-EnterRemove-clause-reply : goal.returns-in-EnterRemove-clause-reply
