@@ -10,7 +10,7 @@ use crate::numbers::read_numbers;
 use crate::place::{page, slot};
 use crate::reader::ScriptBody;
 use crate::trouble::Trouble;
-use sh_step::{Action, Event, ActionKind, PageName};
+use sh_step::{Action, ActionKind, Event, PageName};
 use sh_value::Value;
 use std::alloc::Global;
 use std::marker::Model;

@@ -128,7 +128,11 @@ fn newline_in(text: &[u8]) -> Option<usize>
 }
 
 /// The header of a script, and what its other lines add up to, from what there is before them.
-pub fn parse<'a, B: ScriptBody<'a>>(alloc: Global, text: &'a [u8], start: B) -> Result<(Header, B), Fault>
+pub fn parse<'a, B: ScriptBody<'a>>(
+    alloc: Global,
+    text: &'a [u8],
+    start: B,
+) -> Result<(Header, B), Fault>
     ensures { GivesScript (λ x. x) result (script_of B.adds start text.entry.now) }
 {
     if text.len() > 1_048_576 {
