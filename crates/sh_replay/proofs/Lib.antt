@@ -5,3 +5,9 @@ pub mod StepKeys
 pub mod RangeLemmas
 pub mod HeaderShapes
 pub mod StepLemmas
+pub mod ListLemmas
+pub mod LineLemmas
+pub mod CallLemmas
+pub mod Newcomers
+pub mod InTurn
+pub mod PlainLines

@@ -2,6 +2,14 @@ pub mod Keys
 pub mod Numbers
 pub mod Replies
 pub mod PlainRun
+pub mod Parts
+pub mod Calls
+pub mod Runs
+pub mod Told
+pub mod Meeting
+pub mod Alone
+pub mod Holders
+pub mod PlainDoes
 pub mod StepsOutput
 pub mod StepsKeys
 pub mod Ends

@@ -2,15 +2,21 @@
 #![tactic(auto)]
 
 mod account_line;
+pub mod alone;
 mod answer;
 mod ends;
 mod event_line;
+pub mod holder;
 mod keys;
+pub mod laws;
+pub mod line;
+pub mod meeting;
 mod mode;
 mod numbers;
 mod plain;
 mod plain_output;
 mod replay;
+pub mod side;
 mod steps;
 mod steps_output;
 

@@ -1,0 +1,126 @@
+-- What is known of a pass of a heap.
+use Rattle.std.specs.Prelude.{◌≡◌, ℕ, zero, suc, ◌*◌, ◌-◌, ◌==◌, nat_lt, not, is_some, ◌&&◌, Bool, true, false, List, [], ◌∷◌, ◌++◌, Option, Some, None, count_by, if◌then◌else◌}
+use Rattle.std.specs.List.{AllZip}
+use Rattle.sh_key.specs.Layout.{Layout, unpacked}
+use Rattle.sh_shape.specs.Shape.{Numbers}
+use Rattle.sh_history.specs.declared.entry.Entry.{Entry}
+use Rattle.sh_history.specs.declared.log.LogEntry.{LogEntry}
+use Rattle.sh_history.specs.declared.log.LogEntry.TheVariants.{Known, Unread}
+use Rattle.sh_history.specs.History.{Legal, is_got_from, is_release_from}
+use Rattle.sh_history.specs.Log.{Agrees, entries_of}
+
+-- what stays the same over a run; keys are placed where the store has shards and pages, as the running heap
+pub record RunTerms : Type 0 where
+  pub layout : Layout
+  pub shape : Numbers
+  pub placed : Bool
+
+-- its entries, in order, and the shard that it owns
+pub record PassPart : Type 0 where
+  pub log : List LogEntry
+  pub shard : Option ℕ
+
+abbrev pub no_part : PassPart
+no_part = record { log = []; shard = None }
+
+-- a pass, and its entries
+pub record PassTold : Type 0 where
+  pub pass : ℕ
+  pub log : List LogEntry
+
+-- which heap it is of, its number, its part, and the passes that it took in
+pub record SeenPass : Type 0 where
+  pub heap : ℕ
+  pub terms : RunTerms
+  pub pass : ℕ
+  pub part : PassPart
+  pub told : List PassTold
+
+-- the pass has done nothing yet
+abbrev pub new_pass : ℕ → RunTerms → ℕ → SeenPass
+new_pass heap terms pass = record { heap = heap; terms = terms; pass = pass; part = no_part; told = [] }
+
+-- passes 0 to n - 1 of a heap
+abbrev pub new_passes : ℕ → RunTerms → ℕ → List SeenPass
+new_passes heap terms zero = []
+new_passes heap terms (suc n) = new_passes heap terms n ++ new_pass heap terms n ∷ []
+
+-- a call may change the part alone
+abbrev pub SamePass : SeenPass → SeenPass → Type 0
+SamePass v w = w ≡ record v { part = w.part }
+
+-- all passes that it speaks of, with their entries
+abbrev pub tale_told : SeenPass → List PassTold
+tale_told s = record { pass = s.pass; log = s.part.log } ∷ s.told
+
+-- in this history the entries of each pass of the tale are its log, in order
+abbrev pub HasLogOf : List Entry → PassTold → Type 0
+HasLogOf history t = AllZip Agrees t.log (entries_of (λ p. p == t.pass) history)
+
+abbrev pub HasAllLogs : List Entry → List PassTold → Type 0
+HasAllLogs history [] = Unit {0}
+HasAllLogs history (t ∷ ts) = HasLogOf history t × HasAllLogs history ts
+
+abbrev pub told_pass : PassTold → ℕ
+told_pass t = t.pass
+
+-- 0 to n - 1
+abbrev pub passes_below : ℕ → List ℕ
+passes_below zero = []
+passes_below (suc n) = passes_below n ++ n ∷ []
+
+-- there is one legal history that has all logs of the tale, and no entries of passes that the heap does not have
+pub record HasWholeTale (terms : RunTerms) (tale : List PassTold) : Type 0 where
+  pub history : List Entry
+  pub legal : Legal terms.shape.passes terms.layout.guard_max history
+  pub has : HasAllLogs history tale
+  pub only : entries_of (λ p. not (nat_lt p terms.shape.passes)) history ≡ []
+
+-- ---- what decides which refusal comes
+
+-- the number is a key of the layout, and its place is one of the shape
+abbrev pub is_placed_key : Layout → Numbers → ℕ → Bool
+is_placed_key layout shape key = elim (unpacked layout key) [
+  | Some p ↦ nat_lt p.shard shape.shards && nat_lt p.page (8 * shape.segments) && nat_lt p.slot 48
+  | None ↦ false
+]
+
+-- the key is one of the shard
+abbrev pub is_key_of_shard : Layout → Option ℕ → ℕ → Bool
+is_key_of_shard layout None key = false
+is_key_of_shard layout (Some shard) key = elim (unpacked layout key) [ Some p ↦ p.shard == shard | None ↦ false ]
+
+-- which numbers are keys
+abbrev pub is_run_key : RunTerms → ℕ → Bool
+is_run_key terms key = if terms.placed then is_placed_key terms.layout terms.shape key else is_some (unpacked terms.layout key)
+
+-- which keys an insert may give where this shard is owned
+abbrev pub is_own_key : RunTerms → Option ℕ → ℕ → Bool
+is_own_key terms shard key = if terms.placed then is_key_of_shard terms.layout shard key else true
+
+-- of the running heap
+abbrev pub heap_terms : Layout → Numbers → RunTerms
+heap_terms layout shape = record { layout = layout; shape = shape; placed = true }
+
+-- of no heap
+abbrev pub no_terms : RunTerms
+no_terms = heap_terms (record { shard_bits = 0; page_bits = 0; gen_max = 0; guard_max = 0 }) (record { shards = 0; segments = 0; passes = 0 })
+
+-- of the plain store, which knows no shape
+abbrev pub plain_terms : Layout → Numbers → RunTerms
+plain_terms layout shape = record { layout = layout; shape = shape; placed = false }
+
+abbrev pub is_got : ℕ → LogEntry → Bool
+is_got pass (Known e) = is_got_from pass e
+is_got pass (Unread p k) = p == pass
+
+abbrev pub is_release : ℕ → LogEntry → Bool
+is_release pass (Known e) = is_release_from pass e
+is_release pass (Unread p k) = false
+
+-- how many holds_left the log leaves the pass
+abbrev pub holds_left : List LogEntry → ℕ → ℕ
+holds_left log pass = count_by (is_got pass) log - count_by (is_release pass) log
+
+abbrev pub with_entry : PassPart → LogEntry → PassPart
+with_entry v e = record v { log = v.log ++ e ∷ [] }

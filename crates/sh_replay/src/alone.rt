@@ -1,0 +1,71 @@
+//! A script of calls in one thread: the calls of all passes, one after the other, in the order of the lines.
+ghost use Rattle.std.specs.Prelude.{◌≡◌, ℕ, ◌<◌, IfOk, OnOk, map, length, option_map};
+ghost use Rattle.std.specs.List.{All};
+ghost use Rattle.sh_script.specs.declared.calls.CallLine.{CallLine};
+ghost use Rattle.sh_replay.specs.Keys.{HasTagRoom};
+ghost use Rattle.sh_replay.specs.Parts.{RunTerms, HasWholeTale, new_passes, told_pass, passes_below};
+ghost use Rattle.sh_replay.specs.Told.{IsTold};
+ghost use Rattle.sh_replay.specs.Alone.{tales_told, AllOfHeap};
+
+use crate::answer::push_reply;
+use crate::meeting::meet;
+use crate::line::{answered, binds, number_meant, number_told};
+use crate::side::Side;
+use sh_script::{CallLine, Fault};
+use std::alloc::Global;
+
+// One legal history has what all of them did. `Waiting` where an owner could not leave.
+fn met<S: Side>(sides: Vec<S>) -> Result<(), Fault>
+    ghost at: { ℕ × RunTerms }
+    requires of { AllOfHeap at.0 at.1 (map S.seen sides.items) }
+    requires all { map told_pass (tales_told (map S.seen sides.items)) ≡ passes_below at.1.shape.passes }
+    ensures { OnOk result (HasWholeTale at.1 (tales_told (map S.seen sides.items))) }
+{
+    let mut carrier: Option<S> = None;
+    for side in sides {
+        let mut side = side;
+        if !side.retire() {
+            return Err(Fault::Waiting);
+        }
+        carrier = Some(meet(carrier, side));
+    }
+    match carrier {
+        Some(carrier) => {
+            carrier.whole();
+            Ok(())
+        }
+        None => Err(Fault::Io),
+    }
+}
+
+/// Runs the lines in their order, and answers the reply lines. `Waiting` where an owner could not leave at the end.
+pub fn alone_lines<S: Side>(
+    alloc: Global,
+    lines: &[CallLine],
+    tag: Option<u8>,
+    mut sides: Vec<S>,
+) -> Result<Vec<u8>, Fault>
+    ghost at: { ℕ × RunTerms }
+    requires room { HasTagRoom at.1.layout tag }
+    requires sides { map S.seen sides.items ≡ new_passes at.0 at.1 at.1.shape.passes }
+    requires passes { All (λ (l : CallLine). l.pass < at.1.shape.passes) lines.now }
+    ensures { IfOk result (λ output. IsTold at.1 tag lines.now output.items) }
+{
+    let mut numbers: Vec<Option<u64>> = Vec::new(alloc);
+    let mut output = Vec::new(alloc);
+    for line in lines {
+        let Some(side) = sides.get_mut(line.pass as usize) else {
+            unreachable!()
+        };
+        let bound = number_meant(numbers.as_slice(), &line.call);
+        let answer = answered(side, tag, &line.call, bound);
+        if binds(&line.call) && numbers.push(number_told(&answer)).is_err() {
+            return Err(Fault::Memory);
+        }
+        if push_reply(&mut output, line, &answer).is_err() {
+            return Err(Fault::Memory);
+        }
+    }
+    met(sides)?;
+    Ok(output)
+}
