@@ -46,11 +46,13 @@ pub(crate) fn find(held: &[u64], key: u64) -> Option<usize>
 }
 
 impl<L: KeyLayout> PassState<L> {
-    /// The shape of the heap, as the pass knows it. Between its calls a pass has begun nothing, and it owns no shard.
+    /// The shape of the heap, as the pass knows it. Between its calls a pass has begun nothing, it owns no shard, and all that
+    /// it knows stands.
     pub fn shape<'h>(&self, heap: &'h Heap<L>) -> &'h Shape
         requires { self.now.heap ≡ heap.now }
         ensures is { result.now ≡ heap.now.shape }
         ensures rest { IsAtRest self.now }
+        ensures stands { ViewStands L.layout self.now.view }
     {
         // What holds of every pass holds of this one.
         let _ = &self.held;
