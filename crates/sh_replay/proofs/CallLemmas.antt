@@ -7,7 +7,8 @@ use Rattle.sh_value.specs.declared.refusal.Refusal.TheVariants as refusal
 use Rattle.sh_replay.specs.declared.answer.Answer.{Answer}
 use Rattle.sh_replay.specs.declared.answer.Answer.TheVariants as answer
 use Rattle.sh_replay.specs.Parts.{RunTerms, PassPart}
-use Rattle.sh_replay.specs.Calls.{AnswerSays, InsertAnswers, WordsAnswers, key_answer}
+use Rattle.sh_replay.specs.Calls.{AnswerSays, InsertAnswers, WordsAnswers}
+use Rattle.sh_replay.specs.Results.{key_answer}
 
 pub says : {A : Type 0} {tell : Result A Refusal → Answer} {CallAnswers : Result A Refusal → PassPart → Type 0} (r : Result A Refusal) (a : Answer) (w : PassPart) → a ≡ tell r → CallAnswers r w → AnswerSays tell CallAnswers a w
 says r a w e d = record { result = r; is = e; does = d }

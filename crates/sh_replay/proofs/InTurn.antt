@@ -16,6 +16,7 @@ use Rattle.sh_replay.specs.Alone.{seen_with_part, AnsweredSoFar, tales_told, All
 use Rattle.sh_replay.proofs.ListLemmas.{get_set_same, get_set_other, take_at, take_past, next, map_more, up_length}
 use Rattle.sh_replay.proofs.LineLemmas.{one_more, part_here, part_there}
 use Rattle.sh_replay.proofs.Newcomers.{newcomers_length, newcomers_get, length_map}
+use Rattle.sh_table.specs.Seats.{Heap}
 
 -- ---- passes that meet
 
@@ -24,19 +25,19 @@ tales_more [] s = append-nil (tale_told s)
 tales_more (x ∷ xs) s = ap (λ z. tale_told x ++ z) (tales_more xs s) ∙ sym (append_assoc (tale_told x) (tales_told xs) (tale_told s))
 
 -- leaving changes nothing of what it speaks for
-record Retired (heap : ℕ) (terms : RunTerms) (was s : SeenPass) : Type 0 where
+record Retired (heap : Option Heap) (terms : RunTerms) (was s : SeenPass) : Type 0 where
   pub heap_is : s.heap ≡ heap
   pub terms_is : s.terms ≡ terms
   pub tale_is : tale_told s ≡ tale_told was
 
-retired : (heap : ℕ) (terms : RunTerms) (was s : SeenPass) → was.heap ≡ heap → was.terms ≡ terms → SamePass was s → s.part.log ≡ was.part.log → Retired heap terms was s
+retired : (heap : Option Heap) (terms : RunTerms) (was s : SeenPass) → was.heap ≡ heap → was.terms ≡ terms → SamePass was s → s.part.log ≡ was.part.log → Retired heap terms was s
 retired heap terms was s h t same log = record {
   heap_is = ap (λ (z : SeenPass). z.heap) same ∙ h;
   terms_is = ap (λ (z : SeenPass). z.terms) same ∙ t;
   tale_is = (let P : ℕ → Type 0 = λ z. tale_told s ≡ record { pass = z; log = s.part.log } ∷ s.told in ap tale_told same) ∙ (λ i. record { pass = was.pass; log = log i } ∷ was.told);
 }
 
-pub carries_more : {S : Type 0} (seen : S → SeenPass) (heap : ℕ) (terms : RunTerms) (ys : List S) (x : S) (rest its : List S) (side r : SeenPass) (o : Option SeenPass) → CarriesTale heap terms o (tales_told (map seen ys)) → AllOfHeap heap terms (map seen its) → its ≡ x ∷ rest → SamePass (seen x) side → side.part.log ≡ (seen x).part.log → MeetsCarrier o side r → CarriesTale heap terms (Some r) (tales_told (map seen (ys ++ x ∷ [])))
+pub carries_more : {S : Type 0} (seen : S → SeenPass) (heap : Option Heap) (terms : RunTerms) (ys : List S) (x : S) (rest its : List S) (side r : SeenPass) (o : Option SeenPass) → CarriesTale heap terms o (tales_told (map seen ys)) → AllOfHeap heap terms (map seen its) → its ≡ x ∷ rest → SamePass (seen x) side → side.part.log ≡ (seen x).part.log → MeetsCarrier o side r → CarriesTale heap terms (Some r) (tales_told (map seen (ys ++ x ∷ [])))
 carries_more seen heap terms ys x rest its side r o h all k same log meets = go o h meets
   where
     of : AllOfHeap heap terms (seen x ∷ map seen rest)
@@ -52,10 +53,10 @@ carries_more seen heap terms ys x rest its side r o h all k same log meets = go 
     go None h meets = (ap (λ (z : SeenPass). z.heap) meets ∙ re.heap_is, ap (λ (z : SeenPass). z.terms) meets ∙ re.terms_is, ap tale_told meets ∙ (re.tale_is ∙ (ap (λ (z : List PassTold). z ++ tale_told (seen x)) (sym h) ∙ sym more)))
     go (Some c) h meets = (meets.0 ∙ h.0, meets.1 ∙ h.1, meets.2 ∙ ((λ i. h.2 i ++ re.tale_is i) ∙ sym more))
 
-pub rest_of : {S : Type 0} (seen : S → SeenPass) (heap : ℕ) (terms : RunTerms) (x : S) (rest its : List S) → AllOfHeap heap terms (map seen its) → its ≡ x ∷ rest → AllOfHeap heap terms (map seen rest)
+pub rest_of : {S : Type 0} (seen : S → SeenPass) (heap : Option Heap) (terms : RunTerms) (x : S) (rest its : List S) → AllOfHeap heap terms (map seen its) → its ≡ x ∷ rest → AllOfHeap heap terms (map seen rest)
 rest_of seen heap terms x rest its all k = let of : AllOfHeap heap terms (seen x ∷ map seen rest) = subst (λ (z : List _). AllOfHeap heap terms (map seen z)) k all in of.2
 
-pub all_met : {S : Type 0} (seen : S → SeenPass) (heap : ℕ) (terms : RunTerms) (all ys its : List S) (n : ℕ) (c : SeenPass) (o : Option SeenPass) → all ≡ ys ++ its → length ys + n ≡ length all → n ≡ 0 → CarriesTale heap terms o (tales_told (map seen ys)) → o ≡ Some c → HasWholeTale c.terms (tale_told c) → HasWholeTale terms (tales_told (map seen all))
+pub all_met : {S : Type 0} (seen : S → SeenPass) (heap : Option Heap) (terms : RunTerms) (all ys its : List S) (n : ℕ) (c : SeenPass) (o : Option SeenPass) → all ≡ ys ++ its → length ys + n ≡ length all → n ≡ 0 → CarriesTale heap terms o (tales_told (map seen ys)) → o ≡ Some c → HasWholeTale c.terms (tale_told c) → HasWholeTale terms (tales_told (map seen all))
 all_met {S} seen heap terms all ys its n c o e l z h is stands =
     let yielded : (qs : List S) → all ≡ ys ++ qs → ys ≡ all = elim [ [] ↦ λ f. sym (f ∙ append-nil ys) | x ∷ xs ↦ λ f. let k : length all ≡ length ys + suc (length xs) = ap length f ∙ length-append ys (x ∷ xs) in absurd (omega (arith, k, l, z)) ] in
     let h' = subst (λ (q : Option SeenPass). CarriesTale heap terms q (tales_told (map seen ys))) is h in
@@ -64,7 +65,7 @@ all_met {S} seen heap terms all ys its n c o e l z h is stands =
 
 -- ---- a line more
 
-pub begins_alone : (heap : ℕ) (terms : RunTerms) (tag : Option ℕ) (lines : List CallLine) (sides : List SeenPass) → sides ≡ new_passes heap terms terms.shape.passes → AnsweredSoFar heap terms tag lines 0 [] sides []
+pub begins_alone : (heap : Option Heap) (terms : RunTerms) (tag : Option ℕ) (lines : List CallLine) (sides : List SeenPass) → sides ≡ new_passes heap terms terms.shape.passes → AnsweredSoFar heap terms tag lines 0 [] sides []
 begins_alone heap terms tag lines sides e = record {
   answers = [];
   run = opening_calls;
@@ -75,7 +76,7 @@ begins_alone heap terms tag lines sides e = record {
   each = λ p s at. newcomers_get heap terms terms.shape.passes p s (subst (λ (z : List SeenPass). slice_get z p ≡ Some s) e at);
 }
 
-module _ (heap : ℕ) (terms : RunTerms) (tag : Option ℕ) (lines : List CallLine) (i : ℕ) (numbers : List (Option ℕ)) (sides : List SeenPass) (output : List ℕ) (was : AnsweredSoFar heap terms tag lines i numbers sides output) (l : CallLine) (at : slice_get lines i ≡ Some l) (side now : SeenPass) (own : slice_get sides l.pass ≡ Some side) (same : SamePass side now) (a : Answer) (does : CallAnswers side.terms tag side.pass side.part l.call (number_meant numbers l.call) a now.part) where
+module _ (heap : Option Heap) (terms : RunTerms) (tag : Option ℕ) (lines : List CallLine) (i : ℕ) (numbers : List (Option ℕ)) (sides : List SeenPass) (output : List ℕ) (was : AnsweredSoFar heap terms tag lines i numbers sides output) (l : CallLine) (at : slice_get lines i ≡ Some l) (side now : SeenPass) (own : slice_get sides l.pass ≡ Some side) (same : SamePass side now) (a : Answer) (does : CallAnswers side.terms tag side.pass side.part l.call (number_meant numbers l.call) a now.part) where
   is : side ≡ seen_with_part heap terms was.run.parts l.pass
   is = was.each l.pass side own
 
@@ -146,25 +147,25 @@ within [] k x e = absurd (none-some x e)
 within (y ∷ ys) zero x e = omega arith
 within (y ∷ ys) (suc k) x e = let h = within ys k x e in omega (arith, h)
 
-sides_are : (heap : ℕ) (terms : RunTerms) (parts : ℕ → PassPart) (sides : List SeenPass) → length sides ≡ terms.shape.passes → ((p : ℕ) (s : SeenPass) → slice_get sides p ≡ Some s → s ≡ seen_with_part heap terms parts p) → sides ≡ map (seen_with_part heap terms parts) (passes_below terms.shape.passes)
+sides_are : (heap : Option Heap) (terms : RunTerms) (parts : ℕ → PassPart) (sides : List SeenPass) → length sides ≡ terms.shape.passes → ((p : ℕ) (s : SeenPass) → slice_get sides p ≡ Some s → s ≡ seen_with_part heap terms parts p) → sides ≡ map (seen_with_part heap terms parts) (passes_below terms.shape.passes)
 sides_are heap terms parts sides long each =
     let n : ℕ = terms.shape.passes in
     ext sides (map (seen_with_part heap terms parts) (passes_below n)) (long ∙ sym (length_map (seen_with_part heap terms parts) (passes_below n) ∙ up_length n)) (λ k s e.
     let few : k < n = let w = within sides k s e in omega (arith, w, long) in
     slice_get-map (seen_with_part heap terms parts) (passes_below n) k ∙ (ap (option_map (seen_with_part heap terms parts)) (up_get n k few) ∙ ap (λ (z : SeenPass). Some z) (sym (each k s e))))
 
-all_of : (heap : ℕ) (terms : RunTerms) (parts : ℕ → PassPart) (ns : List ℕ) → AllOfHeap heap terms (map (seen_with_part heap terms parts) ns)
+all_of : (heap : Option Heap) (terms : RunTerms) (parts : ℕ → PassPart) (ns : List ℕ) → AllOfHeap heap terms (map (seen_with_part heap terms parts) ns)
 all_of heap terms parts [] = tt
 all_of heap terms parts (n ∷ ns) = (refl, refl, all_of heap terms parts ns)
 
-tales_are : (heap : ℕ) (terms : RunTerms) (parts : ℕ → PassPart) (ns : List ℕ) → tales_told (map (seen_with_part heap terms parts) ns) ≡ map (part_told parts) ns
+tales_are : (heap : Option Heap) (terms : RunTerms) (parts : ℕ → PassPart) (ns : List ℕ) → tales_told (map (seen_with_part heap terms parts) ns) ≡ map (part_told parts) ns
 tales_are heap terms parts [] = refl
 tales_are heap terms parts (n ∷ ns) = ap (λ (z : List PassTold). part_told parts n ∷ z) (tales_are heap terms parts ns)
 
-pub all_are : (heap : ℕ) (terms : RunTerms) (tag : Option ℕ) (lines : List CallLine) (i : ℕ) (numbers : List (Option ℕ)) (sides : List SeenPass) (output : List ℕ) → AnsweredSoFar heap terms tag lines i numbers sides output → AllOfHeap heap terms sides
+pub all_are : (heap : Option Heap) (terms : RunTerms) (tag : Option ℕ) (lines : List CallLine) (i : ℕ) (numbers : List (Option ℕ)) (sides : List SeenPass) (output : List ℕ) → AnsweredSoFar heap terms tag lines i numbers sides output → AllOfHeap heap terms sides
 all_are heap terms tag lines i numbers sides output h = subst (AllOfHeap heap terms) (sym (sides_are heap terms h.run.parts sides h.all h.each)) (all_of heap terms h.run.parts (passes_below terms.shape.passes))
 
-pub ends_alone : (heap : ℕ) (terms : RunTerms) (tag : Option ℕ) (lines : List CallLine) (i : ℕ) (numbers : List (Option ℕ)) (sides : List SeenPass) (output : List ℕ) → length lines ≤ i → AnsweredSoFar heap terms tag lines i numbers sides output → HasWholeTale terms (tales_told sides) → IsTold terms tag lines output
+pub ends_alone : (heap : Option Heap) (terms : RunTerms) (tag : Option ℕ) (lines : List CallLine) (i : ℕ) (numbers : List (Option ℕ)) (sides : List SeenPass) (output : List ℕ) → length lines ≤ i → AnsweredSoFar heap terms tag lines i numbers sides output → HasWholeTale terms (tales_told sides) → IsTold terms tag lines output
 ends_alone heap terms tag lines i numbers sides output past h stands =
     let whole : take i lines ≡ lines = take_past lines i past in
     let R : List CallLine → Type 0 = λ ls. LinesAnswered terms tag opening_calls ls h.answers h.run in
@@ -182,7 +183,7 @@ map_set f [] k y = refl
 map_set f (x ∷ xs) zero y = refl
 map_set f (x ∷ xs) (suc k) y = ap (λ z. f x ∷ z) (map_set f xs k y)
 
-pub terms_at : (heap : ℕ) (terms : RunTerms) (tag : Option ℕ) (lines : List CallLine) (i : ℕ) (numbers : List (Option ℕ)) (sides : List SeenPass) (output : List ℕ) → AnsweredSoFar heap terms tag lines i numbers sides output → (p : ℕ) (s : SeenPass) → slice_get sides p ≡ Some s → s.terms ≡ terms
+pub terms_at : (heap : Option Heap) (terms : RunTerms) (tag : Option ℕ) (lines : List CallLine) (i : ℕ) (numbers : List (Option ℕ)) (sides : List SeenPass) (output : List ℕ) → AnsweredSoFar heap terms tag lines i numbers sides output → (p : ℕ) (s : SeenPass) → slice_get sides p ≡ Some s → s.terms ≡ terms
 terms_at heap terms tag lines i numbers sides output h p s e = ap (λ (z : SeenPass). z.terms) (h.each p s e)
 
 passes_are : (parts : ℕ → PassPart) (ns : List ℕ) → map told_pass (map (part_told parts) ns) ≡ ns
@@ -190,11 +191,11 @@ passes_are parts [] = refl
 passes_are parts (n ∷ ns) = ap (λ (z : List ℕ). n ∷ z) (passes_are parts ns)
 
 -- they speak for all passes
-pub all_speak : (heap : ℕ) (terms : RunTerms) (tag : Option ℕ) (lines : List CallLine) (i : ℕ) (numbers : List (Option ℕ)) (sides : List SeenPass) (output : List ℕ) → AnsweredSoFar heap terms tag lines i numbers sides output → map told_pass (tales_told sides) ≡ passes_below terms.shape.passes
+pub all_speak : (heap : Option Heap) (terms : RunTerms) (tag : Option ℕ) (lines : List CallLine) (i : ℕ) (numbers : List (Option ℕ)) (sides : List SeenPass) (output : List ℕ) → AnsweredSoFar heap terms tag lines i numbers sides output → map told_pass (tales_told sides) ≡ passes_below terms.shape.passes
 all_speak heap terms tag lines i numbers sides output h =
     ap (λ z. map told_pass (tales_told z)) (sides_are heap terms h.run.parts sides h.all h.each) ∙ (ap (map told_pass) (tales_are heap terms h.run.parts (passes_below terms.shape.passes)) ∙ passes_are h.run.parts (passes_below terms.shape.passes))
 
-pub met_all : {S : Type 0} (seen : S → SeenPass) (heap : ℕ) (terms : RunTerms) (all ys its : List S) (n : ℕ) (c : SeenPass) (o : Option SeenPass) → all ≡ ys ++ its → length ys + n ≡ length all → n ≡ 0 → CarriesTale heap terms o (tales_told (map seen ys)) → o ≡ Some c → map told_pass (tales_told (map seen all)) ≡ passes_below terms.shape.passes → map told_pass (tale_told c) ≡ passes_below c.terms.shape.passes
+pub met_all : {S : Type 0} (seen : S → SeenPass) (heap : Option Heap) (terms : RunTerms) (all ys its : List S) (n : ℕ) (c : SeenPass) (o : Option SeenPass) → all ≡ ys ++ its → length ys + n ≡ length all → n ≡ 0 → CarriesTale heap terms o (tales_told (map seen ys)) → o ≡ Some c → map told_pass (tales_told (map seen all)) ≡ passes_below terms.shape.passes → map told_pass (tale_told c) ≡ passes_below c.terms.shape.passes
 met_all seen heap terms all ys its n c o e l z h is up =
     let yielded : (qs : List _) → all ≡ ys ++ qs → ys ≡ all = elim [ [] ↦ λ f. sym (f ∙ append-nil ys) | x ∷ xs ↦ λ f. let k : length all ≡ length ys + suc (length xs) = ap length f ∙ length-append ys (x ∷ xs) in absurd (omega (arith, k, l, z)) ] in
     let h' = subst (λ (q : Option SeenPass). CarriesTale heap terms q (tales_told (map seen ys))) is h in

@@ -10,7 +10,7 @@ use Rattle.sh_history.specs.declared.entry.Entry.TheVariants.{Insert, Got as Got
 use Rattle.sh_history.specs.declared.log.LogEntry.{LogEntry}
 use Rattle.sh_history.specs.declared.log.LogEntry.TheVariants.{Known}
 use Rattle.sh_history.specs.History.{Legal, value_of, present_value, insert_count, holds_by, holds_on, hold_count, is_got_from, is_release_from, is_got_by, is_release_by}
-use Rattle.sh_history.specs.Log.{pass_of, entries_of, is_logged_got_by, is_logged_release_by, logged_holds_by, filled, AllHaveValue}
+use Rattle.sh_history.specs.Log.{pass_of, entries_of, is_logged_got_by, is_logged_release_by, logged_holds_by, is_logged_got_from, is_logged_release_from, logged_hold_count, filled, AllHaveValue}
 use Rattle.sh_history.proofs.LogLaws.{count_by-cons, known_filled, gets_have_value}
 use Rattle.sh_plain.specs.Plain.{Plain, PlainReply, Replied, refused, insert_reply, with_added, got_reply, get_reply, removed_reply, remove_reply, release_reply, read_answer}
 use Rattle.sh_plain.proofs.Held.{held_has_value}
@@ -20,8 +20,9 @@ use Rattle.sh_script.specs.declared.calls.Reference.{Reference}
 use Rattle.sh_replay.specs.declared.answer.Answer.{Answer}
 use Rattle.sh_replay.specs.declared.answer.Answer.TheVariants as answer
 use Rattle.sh_replay.specs.PlainRun as plain
-use Rattle.sh_replay.specs.Parts.{PassPart, with_entry, holds_left, is_got, is_release, plain_terms}
-use Rattle.sh_replay.specs.Calls.{UnlessRefused, AnswerSays, OnKey, key_meant, HoldGot, get_refusal, KeyRemoved, remove_refusal, HoldReleased, hold_refusal, ValueRead, ReadAnswers, AdoptAnswers, adopt_refusal, LeaveAnswers, InsertAnswers, WordsAnswers, ValueInserted, needs_shard, words_refusal, key_answer, done_answer, value_answer}
+use Rattle.sh_replay.specs.Parts.{PassPart, with_entry, plain_terms}
+use Rattle.sh_replay.specs.Calls.{UnlessRefused, AnswerSays, OnKey, key_meant, HoldGot, get_refusal, KeyRemoved, remove_refusal, HoldReleased, hold_refusal, ValueRead, ReadAnswers, AdoptAnswers, adopt_refusal, LeaveAnswers, InsertAnswers, WordsAnswers, ValueInserted, needs_shard, words_refusal}
+use Rattle.sh_replay.specs.Results.{key_answer, done_answer, value_answer}
 use Rattle.sh_replay.specs.PlainDoes.{IsPlainPart, NameStandsFor, IsPlainCall, PlainAnswersSo}
 
 -- ---- counts over the entries of a pass
@@ -82,8 +83,8 @@ release_by_own p key (Released q k) e = left_of (q == p) (k == key) e
 abbrev own : ℕ → List Entry → List LogEntry
 own p es = map Known (entries_of (λ q. q == p) es)
 
-own_holds : (p : ℕ) (es : List Entry) → holds_left (own p es) p ≡ hold_count es p
-own_holds p es = rw (counted (is_got p) (is_got_from p) (λ e. pass_of e == p) (λ e. refl) (got_own p) es, counted (is_release p) (is_release_from p) (λ e. pass_of e == p) (λ e. refl) (release_own p) es) refl
+own_holds : (p : ℕ) (es : List Entry) → logged_hold_count (own p es) p ≡ hold_count es p
+own_holds p es = rw (counted (is_logged_got_from p) (is_got_from p) (λ e. pass_of e == p) (λ e. refl) (got_own p) es, counted (is_logged_release_from p) (is_release_from p) (λ e. pass_of e == p) (λ e. refl) (release_own p) es) refl
 
 own_holds_by : (p key : ℕ) (es : List Entry) → logged_holds_by (own p es) p key ≡ holds_by es p key
 own_holds_by p key es = rw (counted (is_logged_got_by p key) (is_got_by p key) (λ e. pass_of e == p) (λ e. refl) (got_by_own p key) es, counted (is_logged_release_by p key) (is_release_by p key) (λ e. pass_of e == p) (λ e. refl) (release_by_own p key) es) refl
@@ -129,8 +130,8 @@ module _ (run : plain.Run) (v : PassPart) (mine : IsPlainPart run v) where
   either_left Rest true f g x y h k = h
   either_left Rest false f g x y h k = k
 
-  holds_are : holds_left v.log p ≡ hold_count run.store.entries p
-  holds_are = ap (λ l. holds_left l p) mine.log ∙ own_holds p run.store.entries
+  holds_are : logged_hold_count v.log p ≡ hold_count run.store.entries p
+  holds_are = ap (λ l. logged_hold_count l p) mine.log ∙ own_holds p run.store.entries
 
   holds_by_are : (key : ℕ) → logged_holds_by v.log p key ≡ holds_by run.store.entries p key
   holds_by_are key = ap (λ l. logged_holds_by l p key) mine.log ∙ own_holds_by p key run.store.entries
@@ -207,7 +208,7 @@ module _ (run : plain.Run) (v : PassPart) (mine : IsPlainPart run v) where
       let l = left key in
       record { part = l.part; does = record { result = (reply run.store key).answer; is = h.0 ∙ done_same (reply run.store key).answer; does = l.does }; is = subst (λ (n : plain.Run). IsPlainPart n l.part) (sym h.1) l.is }
     where
-      done_same : {B : Type 0} (r : Result B Refusal) → plain.done_answer r ≡ done_answer r
+      done_same : {B : Type 0} (r : Result B Refusal) → done_answer r ≡ done_answer r
       done_same (Ok x) = refl
       done_same (Err x) = refl
 
@@ -216,7 +217,7 @@ module _ (run : plain.Run) (v : PassPart) (mine : IsPlainPart run v) where
   reads passes guard_max (Ok key) told next legal h =
       (record { result = read_answer run.store key; is = h.0 ∙ value_same (read_answer run.store key); does = read_left passes guard_max key legal }, subst (λ (n : plain.Run). IsPlainPart n v) (sym h.1) mine)
     where
-      value_same : (r : Result (List ℕ) Refusal) → plain.value_answer r ≡ value_answer r
+      value_same : (r : Result (List ℕ) Refusal) → value_answer r ≡ value_answer r
       value_same (Ok x) = refl
       value_same (Err x) = refl
 
@@ -314,7 +315,7 @@ module _ (run : plain.Run) (v : PassPart) (mine : IsPlainPart run v) where
       let P : Result ℕ Refusal → Type 0 = λ z. ValueInserted (plain_terms layout shape) p v words z v in
       (v, subst P (sym f.0) refl, plain_part new f.1)
 
-  key_same : (tag : Option ℕ) (r : Result ℕ Refusal) → plain.key_answer tag r ≡ key_answer tag r
+  key_same : (tag : Option ℕ) (r : Result ℕ Refusal) → key_answer tag r ≡ key_answer tag r
   key_same tag (Ok x) = refl
   key_same tag (Err x) = refl
 

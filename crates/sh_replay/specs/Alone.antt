@@ -5,13 +5,14 @@ use Rattle.sh_replay.specs.declared.answer.Answer.{Answer}
 use Rattle.sh_replay.specs.Parts.{RunTerms, PassPart, SeenPass, PassTold, new_pass, tale_told}
 use Rattle.sh_replay.specs.Replies.{replies_text}
 use Rattle.sh_replay.specs.Runs.{CallsRun, LinesAnswered, opening_calls}
+use Rattle.sh_table.specs.Seats.{Heap}
 
 -- what is seen of a pass with its part of these
-abbrev pub seen_with_part : ℕ → RunTerms → (ℕ → PassPart) → ℕ → SeenPass
+abbrev pub seen_with_part : Option Heap → RunTerms → (ℕ → PassPart) → ℕ → SeenPass
 seen_with_part heap terms parts p = record (new_pass heap terms p) { part = parts p }
 
 -- the first i lines are answered, and these are the passes
-pub record AnsweredSoFar (heap : ℕ) (terms : RunTerms) (tag : Option ℕ) (lines : List CallLine) (i : ℕ) (numbers : List (Option ℕ)) (sides : List SeenPass) (output : List ℕ) : Type 0 where
+pub record AnsweredSoFar (heap : Option Heap) (terms : RunTerms) (tag : Option ℕ) (lines : List CallLine) (i : ℕ) (numbers : List (Option ℕ)) (sides : List SeenPass) (output : List ℕ) : Type 0 where
   pub answers : List Answer
   pub run : CallsRun
   pub ran : LinesAnswered terms tag opening_calls (take i lines) answers run
@@ -28,6 +29,6 @@ tales_told [] = []
 tales_told (s ∷ ss) = tale_told s ++ tales_told ss
 
 -- each is a pass of the heap
-abbrev pub AllOfHeap : ℕ → RunTerms → List SeenPass → Type 0
+abbrev pub AllOfHeap : Option Heap → RunTerms → List SeenPass → Type 0
 AllOfHeap heap terms [] = Unit {0}
 AllOfHeap heap terms (s ∷ ss) = (s.heap ≡ heap) × (s.terms ≡ terms) × AllOfHeap heap terms ss

@@ -7,15 +7,16 @@ use Rattle.sh_key.specs.Layout.{first_key, key_count}
 use Rattle.sh_history.specs.declared.entry.Entry.TheVariants.{Insert, Gone, Crowded, Removed, Released}
 use Rattle.sh_history.specs.declared.log.LogEntry.{LogEntry}
 use Rattle.sh_history.specs.declared.log.LogEntry.TheVariants.{Known}
-use Rattle.sh_history.specs.Log.{IsGotBy, filled, AllHaveValue, logged_holds_by}
+use Rattle.sh_history.specs.Log.{IsGotBy, filled, AllHaveValue, logged_holds_by, logged_hold_count}
 use Rattle.sh_script.specs.declared.calls.Reference.{Reference}
 use Rattle.sh_script.specs.declared.calls.Reference.TheVariants as reference
 use Rattle.sh_script.specs.declared.calls.Call.{Call}
 use Rattle.sh_script.specs.declared.calls.Call.TheVariants as call
 use Rattle.sh_replay.specs.declared.answer.Answer.{Answer}
 use Rattle.sh_replay.specs.declared.answer.Answer.TheVariants as answer
-use Rattle.sh_replay.specs.Keys.{shown, key_shown}
-use Rattle.sh_replay.specs.Parts.{RunTerms, PassPart, with_entry, is_run_key, is_own_key, holds_left}
+use Rattle.sh_replay.specs.Keys.{key_shown}
+use Rattle.sh_replay.specs.Results.{done_answer, value_answer, key_answer}
+use Rattle.sh_replay.specs.Parts.{RunTerms, PassPart, with_entry, is_run_key, is_own_key}
 
 -- a refusal that comes before all else, with nothing changed; where there is none, the rest holds_left
 abbrev pub UnlessRefused : {A : Type 0} → Option Refusal → PassPart → Result A Refusal → PassPart → Type 0 → Type 0
@@ -80,7 +81,7 @@ WordsAnswers terms pass v words r w = UnlessRefused (words_refusal words) v r w 
 abbrev pub get_refusal : RunTerms → ℕ → PassPart → ℕ → Option Refusal
 get_refusal terms pass v key =
     if not (is_run_key terms key) then Some refusal.BadKey
-    else if nat_le 16 (holds_left v.log pass) then Some refusal.HoldsFull
+    else if nat_le 16 (logged_hold_count v.log pass) then Some refusal.HoldsFull
     else None
 
 abbrev pub HoldGot : ℕ → PassPart → ℕ → Result Hold Refusal → PassPart → Type 0
@@ -126,18 +127,6 @@ abbrev pub RemoveAnswers : RunTerms → ℕ → PassPart → ℕ → Result (Uni
 RemoveAnswers terms pass v key r w = UnlessRefused (remove_refusal terms key) v r w (KeyRemoved pass v key r w)
 
 -- ---- how a result is told
-
-abbrev pub done_answer : {A : Type 0} → Result A Refusal → Answer
-done_answer (Ok _) = answer.Done
-done_answer (Err r) = answer.Refused r
-
-abbrev pub value_answer : Result (List ℕ) Refusal → Answer
-value_answer (Ok words) = answer.Read words
-value_answer (Err r) = answer.Refused r
-
-abbrev pub key_answer : Option ℕ → Result ℕ Refusal → Answer
-key_answer tag (Ok key) = answer.Key (shown tag key)
-key_answer tag (Err r) = answer.Refused r
 
 -- the result of the call is told so
 pub record AnswerSays {A : Type 0} (tell : Result A Refusal → Answer) (CallAnswers : Result A Refusal → PassPart → Type 0) (a : Answer) (w : PassPart) : Type 0 where

@@ -7,7 +7,7 @@ use Rattle.sh_replay.specs.Parts.{SeenPass, new_pass, no_terms}
 abbrev pub seen_in : {P S : Type 0} → (P → SeenPass) → (S → SeenPass) → State P S → SeenPass
 seen_in of_pass of_shard (Pass p) = of_pass p
 seen_in of_pass of_shard (Shard s) = of_shard s
-seen_in of_pass of_shard Moving = new_pass 0 no_terms 0
+seen_in of_pass of_shard Moving = new_pass None no_terms 0
 
 -- a pass owns no shard, and a shard is owned
 abbrev pub IsSettled : {P S : Type 0} → (P → SeenPass) → (S → SeenPass) → State P S → Type 0

@@ -1,6 +1,7 @@
 pub mod Keys
 pub mod Numbers
 pub mod Replies
+pub mod Results
 pub mod PlainRun
 pub mod Parts
 pub mod Calls

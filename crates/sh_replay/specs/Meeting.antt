@@ -1,9 +1,10 @@
 -- Passes that meet: one of them carries the tale of all.
 use Rattle.std.specs.Prelude.{◌≡◌, ℕ, List, [], ◌++◌, Option, Some, None}
 use Rattle.sh_replay.specs.Parts.{RunTerms, SeenPass, PassTold, tale_told}
+use Rattle.sh_table.specs.Seats.{Heap}
 
 -- who carries the tale, if there is one yet
-abbrev pub CarriesTale : ℕ → RunTerms → Option SeenPass → List PassTold → Type 0
+abbrev pub CarriesTale : Option Heap → RunTerms → Option SeenPass → List PassTold → Type 0
 CarriesTale heap terms None ts = ts ≡ []
 CarriesTale heap terms (Some s) ts = (s.heap ≡ heap) × (s.terms ≡ terms) × (tale_told s ≡ ts)
 
@@ -17,6 +18,6 @@ abbrev pub OwnsNone : Option SeenPass → Type 0
 OwnsNone None = Unit {0}
 OwnsNone (Some s) = s.part.shard ≡ None
 
-abbrev pub IsOfHeap : ℕ → Option SeenPass → Type 0
+abbrev pub IsOfHeap : Option Heap → Option SeenPass → Type 0
 IsOfHeap heap None = Unit {0}
 IsOfHeap heap (Some s) = s.heap ≡ heap

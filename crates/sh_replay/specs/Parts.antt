@@ -1,13 +1,13 @@
 -- What is known of a pass of a heap.
-use Rattle.std.specs.Prelude.{◌≡◌, ℕ, zero, suc, ◌*◌, ◌-◌, ◌==◌, nat_lt, not, is_some, ◌&&◌, Bool, true, false, List, [], ◌∷◌, ◌++◌, Option, Some, None, count_by, if◌then◌else◌}
+use Rattle.std.specs.Prelude.{◌≡◌, ℕ, zero, suc, ◌*◌, ◌==◌, nat_lt, not, is_some, ◌&&◌, Bool, true, false, List, [], ◌∷◌, ◌++◌, Option, Some, None, if◌then◌else◌}
 use Rattle.std.specs.List.{AllZip}
 use Rattle.sh_key.specs.Layout.{Layout, unpacked}
 use Rattle.sh_shape.specs.Shape.{Numbers}
 use Rattle.sh_history.specs.declared.entry.Entry.{Entry}
 use Rattle.sh_history.specs.declared.log.LogEntry.{LogEntry}
-use Rattle.sh_history.specs.declared.log.LogEntry.TheVariants.{Known, Unread}
-use Rattle.sh_history.specs.History.{Legal, is_got_from, is_release_from}
+use Rattle.sh_history.specs.History.{Legal}
 use Rattle.sh_history.specs.Log.{Agrees, entries_of}
+use Rattle.sh_table.specs.Seats.{Heap}
 
 -- what stays the same over a run; keys are placed where the store has shards and pages, as the running heap
 pub record RunTerms : Type 0 where
@@ -30,18 +30,18 @@ pub record PassTold : Type 0 where
 
 -- which heap it is of, its number, its part, and the passes that it took in
 pub record SeenPass : Type 0 where
-  pub heap : ℕ
+  pub heap : Option Heap
   pub terms : RunTerms
   pub pass : ℕ
   pub part : PassPart
   pub told : List PassTold
 
 -- the pass has done nothing yet
-abbrev pub new_pass : ℕ → RunTerms → ℕ → SeenPass
+abbrev pub new_pass : Option Heap → RunTerms → ℕ → SeenPass
 new_pass heap terms pass = record { heap = heap; terms = terms; pass = pass; part = no_part; told = [] }
 
 -- passes 0 to n - 1 of a heap
-abbrev pub new_passes : ℕ → RunTerms → ℕ → List SeenPass
+abbrev pub new_passes : Option Heap → RunTerms → ℕ → List SeenPass
 new_passes heap terms zero = []
 new_passes heap terms (suc n) = new_passes heap terms n ++ new_pass heap terms n ∷ []
 
@@ -109,18 +109,6 @@ no_terms = heap_terms (record { shard_bits = 0; page_bits = 0; gen_max = 0; guar
 -- of the plain store, which knows no shape
 abbrev pub plain_terms : Layout → Numbers → RunTerms
 plain_terms layout shape = record { layout = layout; shape = shape; placed = false }
-
-abbrev pub is_got : ℕ → LogEntry → Bool
-is_got pass (Known e) = is_got_from pass e
-is_got pass (Unread p k) = p == pass
-
-abbrev pub is_release : ℕ → LogEntry → Bool
-is_release pass (Known e) = is_release_from pass e
-is_release pass (Unread p k) = false
-
--- how many holds_left the log leaves the pass
-abbrev pub holds_left : List LogEntry → ℕ → ℕ
-holds_left log pass = count_by (is_got pass) log - count_by (is_release pass) log
 
 abbrev pub with_entry : PassPart → LogEntry → PassPart
 with_entry v e = record v { log = v.log ++ e ∷ [] }

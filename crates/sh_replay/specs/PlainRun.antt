@@ -12,7 +12,8 @@ use Rattle.sh_script.specs.declared.calls.Call.TheVariants as call
 use Rattle.sh_script.specs.declared.calls.CallLine.{CallLine}
 use Rattle.sh_replay.specs.declared.answer.Answer.{Answer}
 use Rattle.sh_replay.specs.declared.answer.Answer.TheVariants as answer
-use Rattle.sh_replay.specs.Keys.{shown, key_shown}
+use Rattle.sh_replay.specs.Keys.{key_shown}
+pub use Rattle.sh_replay.specs.Results.{done_answer, value_answer, key_answer}
 
 -- the tag of the keys in the script, if they have one; the store; for each pass whether it has a shard; for each name that
 -- is bound its key, or none where the insert was refused or a post bound it
@@ -70,10 +71,6 @@ insert_attempt layout run words =
     else if not (has_shard run) then refused refusal.NoShard
     else insert_reply layout run.store words
 
-abbrev pub key_answer : Option ℕ → Result ℕ Refusal → Answer
-key_answer tag (Ok key) = answer.Key (shown tag key)
-key_answer tag (Err r) = answer.Refused r
-
 -- the attempt was answered so, or its memory was refused; the name is bound to the key, if there is one
 pub record Inserts (layout : Layout) (run : Run) (words : List ℕ) (told : Answer) (next : Run) : Type 0 where
   pub result : Result ℕ Refusal
@@ -92,14 +89,6 @@ bound_key _ = Err answer.Unbound
 abbrev pub key_of : Run → Reference → Result ℕ Answer
 key_of run (reference.Key number) = ok_or (key_shown run.tag number) (answer.Refused refusal.BadKey)
 key_of run (reference.Name i) = bound_key (slice_get run.keys i)
-
-abbrev pub done_answer : {A : Type 0} → Result A Refusal → Answer
-done_answer (Ok _) = answer.Done
-done_answer (Err r) = answer.Refused r
-
-abbrev pub value_answer : Result (List ℕ) Refusal → Answer
-value_answer (Ok words) = answer.Read words
-value_answer (Err r) = answer.Refused r
 
 -- the call on a key has this reply, whose entry the store gains
 abbrev pub Tells : {A : Type 0} → (Plain → ℕ → PlainReply A) → Run → Result ℕ Answer → Answer → Run → Type 0

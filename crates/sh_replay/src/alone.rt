@@ -1,7 +1,8 @@
 //! A script of calls in one thread: the calls of all passes, one after the other, in the order of the lines.
-ghost use Rattle.std.specs.Prelude.{◌≡◌, ℕ, ◌<◌, IfOk, OnOk, map, length, option_map};
+ghost use Rattle.std.specs.Prelude.{◌≡◌, Option, ◌<◌, IfOk, OnOk, map, length, option_map};
 ghost use Rattle.std.specs.List.{All};
 ghost use Rattle.sh_script.specs.declared.calls.CallLine.{CallLine};
+ghost use Rattle.sh_table.specs.Seats.{Heap};
 ghost use Rattle.sh_replay.specs.Keys.{HasTagRoom};
 ghost use Rattle.sh_replay.specs.Parts.{RunTerms, HasWholeTale, new_passes, told_pass, passes_below};
 ghost use Rattle.sh_replay.specs.Told.{IsTold};
@@ -16,7 +17,7 @@ use std::alloc::Global;
 
 // One legal history has what all of them did. `Waiting` where an owner could not leave.
 fn met<S: Side>(sides: Vec<S>) -> Result<(), Fault>
-    ghost at: { ℕ × RunTerms }
+    ghost at: { Option Heap × RunTerms }
     requires of { AllOfHeap at.0 at.1 (map S.seen sides.items) }
     requires all { map told_pass (tales_told (map S.seen sides.items)) ≡ passes_below at.1.shape.passes }
     ensures { OnOk result (HasWholeTale at.1 (tales_told (map S.seen sides.items))) }
@@ -45,7 +46,7 @@ pub fn alone_lines<S: Side>(
     tag: Option<u8>,
     mut sides: Vec<S>,
 ) -> Result<Vec<u8>, Fault>
-    ghost at: { ℕ × RunTerms }
+    ghost at: { Option Heap × RunTerms }
     requires room { HasTagRoom at.1.layout tag }
     requires sides { map S.seen sides.items ≡ new_passes at.0 at.1 at.1.shape.passes }
     requires passes { All (λ (l : CallLine). l.pass < at.1.shape.passes) lines.now }

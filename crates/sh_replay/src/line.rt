@@ -2,7 +2,8 @@
 ghost use Rattle.std.specs.Prelude.{◌≡◌, ℕ, IfOk, true, false, is_some};
 ghost use Rattle.sh_replay.specs.Keys.{HasTagRoom};
 ghost use Rattle.sh_replay.specs.Parts.{SeenPass, SamePass};
-ghost use Rattle.sh_replay.specs.Calls.{CallAnswers, AnswerSays, GetAnswers, ReadAnswers, RemoveAnswers, ReleaseAnswers, AdoptAnswers, LeaveAnswers, WordsAnswers, key_meant, name_in, name_used, binds, number_told, done_answer, value_answer, key_answer};
+ghost use Rattle.sh_replay.specs.Calls.{CallAnswers, AnswerSays, GetAnswers, ReadAnswers, RemoveAnswers, ReleaseAnswers, AdoptAnswers, LeaveAnswers, WordsAnswers, key_meant, name_in, name_used, binds, number_told};
+ghost use Rattle.sh_replay.specs.Results.{done_answer, value_answer, key_answer};
 ghost use Rattle.sh_replay.specs.Runs.{number_bound, number_meant};
 
 use crate::keys::{key_shown, shown};
