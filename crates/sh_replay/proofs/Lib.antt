@@ -11,3 +11,4 @@ pub mod CallLemmas
 pub mod Newcomers
 pub mod InTurn
 pub mod PlainLines
+pub mod RunningLaws

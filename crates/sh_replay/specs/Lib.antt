@@ -10,6 +10,7 @@ pub mod Told
 pub mod Meeting
 pub mod Alone
 pub mod Holders
+pub mod Running
 pub mod PlainDoes
 pub mod StepsOutput
 pub mod StepsKeys

@@ -7,6 +7,7 @@ use Rattle.sh_history.specs.declared.entry.Entry.{Entry}
 use Rattle.sh_history.specs.declared.log.LogEntry.{LogEntry}
 use Rattle.sh_history.specs.History.{Legal}
 use Rattle.sh_history.specs.Log.{Agrees, entries_of}
+use Rattle.sh_step.specs.Moves.{has_place}
 use Rattle.sh_table.specs.Seats.{Heap}
 
 -- what stays the same over a run; keys are placed where the store has shards and pages, as the running heap
@@ -80,10 +81,7 @@ pub record HasWholeTale (terms : RunTerms) (tale : List PassTold) : Type 0 where
 
 -- the number is a key of the layout, and its place is one of the shape
 abbrev pub is_placed_key : Layout → Numbers → ℕ → Bool
-is_placed_key layout shape key = elim (unpacked layout key) [
-  | Some p ↦ nat_lt p.shard shape.shards && nat_lt p.page (8 * shape.segments) && nat_lt p.slot 48
-  | None ↦ false
-]
+is_placed_key layout shape key = elim (unpacked layout key) [ Some p ↦ has_place shape p | None ↦ false ]
 
 -- the key is one of the shard
 abbrev pub is_key_of_shard : Layout → Option ℕ → ℕ → Bool

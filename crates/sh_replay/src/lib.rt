@@ -11,6 +11,7 @@ mod keys;
 pub mod laws;
 pub mod line;
 pub mod meeting;
+pub mod running;
 mod mode;
 mod numbers;
 mod plain;
