@@ -10,8 +10,8 @@ use Rattle.sh_replay.specs.Parts.{RunTerms, PassPart, SeenPass, PassTold, SamePa
 use Rattle.sh_replay.specs.Calls.{CallAnswers}
 use Rattle.sh_replay.specs.Replies.{reply_line, replies_text}
 use Rattle.sh_replay.specs.Runs.{CallsRun, LineAnswered, LinesAnswered, opening_calls, next_run, with_part, with_name, number_meant}
-use Rattle.sh_replay.specs.Told.{IsTold, part_told}
-use Rattle.sh_replay.specs.Meeting.{CarriesTale, MeetsCarrier}
+use Rattle.sh_replay.specs.Told.{AreReplies, IsTold, part_told}
+use Rattle.sh_replay.specs.Meeting.{CarriesTale, MeetsCarrier, OwnsNone, HasMet}
 use Rattle.sh_replay.specs.Alone.{seen_with_part, AnsweredSoFar, tales_told, AllOfHeap}
 use Rattle.sh_replay.proofs.ListLemmas.{get_set_same, get_set_other, take_at, take_past, next, map_more, up_length}
 use Rattle.sh_replay.proofs.LineLemmas.{one_more, part_here, part_there}
@@ -165,18 +165,29 @@ tales_are heap terms parts (n ∷ ns) = ap (λ (z : List PassTold). part_told pa
 pub all_are : (heap : Option Heap) (terms : RunTerms) (tag : Option ℕ) (lines : List CallLine) (i : ℕ) (numbers : List (Option ℕ)) (sides : List SeenPass) (output : List ℕ) → AnsweredSoFar heap terms tag lines i numbers sides output → AllOfHeap heap terms sides
 all_are heap terms tag lines i numbers sides output h = subst (AllOfHeap heap terms) (sym (sides_are heap terms h.run.parts sides h.all h.each)) (all_of heap terms h.run.parts (passes_below terms.shape.passes))
 
-pub ends_alone : (heap : Option Heap) (terms : RunTerms) (tag : Option ℕ) (lines : List CallLine) (i : ℕ) (numbers : List (Option ℕ)) (sides : List SeenPass) (output : List ℕ) → length lines ≤ i → AnsweredSoFar heap terms tag lines i numbers sides output → HasWholeTale terms (tales_told sides) → IsTold terms tag lines output
-ends_alone heap terms tag lines i numbers sides output past h stands =
+abbrev pub ends_alone : (heap : Option Heap) (terms : RunTerms) (tag : Option ℕ) (lines : List CallLine) (i : ℕ) (numbers : List (Option ℕ)) (sides : List SeenPass) (output : List ℕ) → length lines ≤ i → AnsweredSoFar heap terms tag lines i numbers sides output → AreReplies terms tag lines output
+ends_alone heap terms tag lines i numbers sides output past h =
     let whole : take i lines ≡ lines = take_past lines i past in
     let R : List CallLine → Type 0 = λ ls. LinesAnswered terms tag opening_calls ls h.answers h.run in
-    let tale : tales_told sides ≡ map (part_told h.run.parts) (passes_below terms.shape.passes) = ap tales_told (sides_are heap terms h.run.parts sides h.all h.each) ∙ tales_are heap terms h.run.parts (passes_below terms.shape.passes) in
     record {
       answers = h.answers;
       after = h.run;
       ran = subst R whole h.ran;
-      whole = subst (HasWholeTale terms) tale stands;
       is = h.text ∙ ap (λ ls. replies_text ls h.answers) whole;
     }
+
+pub told_alone : (heap : Option Heap) (terms : RunTerms) (tag : Option ℕ) (lines : List CallLine) (i : ℕ) (numbers : List (Option ℕ)) (sides : List SeenPass) (output : List ℕ) (s : SeenPass) → length lines ≤ i → AnsweredSoFar heap terms tag lines i numbers sides output
+    → HasMet heap terms s (tales_told sides) → IsTold terms tag lines output (tale_told s) × CarriesTale heap terms (Some s) (tale_told s) × OwnsNone (Some s)
+told_alone heap terms tag lines i numbers sides output s past h m =
+    let tale : tales_told sides ≡ map (part_told h.run.parts) (passes_below terms.shape.passes) = ap tales_told (sides_are heap terms h.run.parts sides h.all h.each) ∙ tales_are heap terms h.run.parts (passes_below terms.shape.passes) in (
+      record {
+        replies = ends_alone heap terms tag lines i numbers sides output past h;
+        tale_is = m.carries.2 ∙ tale;
+        whole = subst (HasWholeTale terms) (sym m.carries.2) m.whole;
+      },
+      (m.carries.0, m.carries.1, refl),
+      m.none,
+    )
 
 pub map_set : {A B : Type 0} (f : A → B) (xs : List A) (k : ℕ) (y : A) → map f (set xs k y) ≡ set (map f xs) k (f y)
 map_set f [] k y = refl

@@ -1,6 +1,6 @@
 -- Passes that meet: one of them carries the tale of all.
 use Rattle.std.specs.Prelude.{◌≡◌, ℕ, List, [], ◌++◌, Option, Some, None}
-use Rattle.sh_replay.specs.Parts.{RunTerms, SeenPass, PassTold, tale_told}
+use Rattle.sh_replay.specs.Parts.{RunTerms, SeenPass, PassTold, HasWholeTale, tale_told}
 use Rattle.sh_table.specs.Seats.{Heap}
 
 -- who carries the tale, if there is one yet
@@ -21,3 +21,9 @@ OwnsNone (Some s) = s.part.shard ≡ None
 abbrev pub IsOfHeap : Option Heap → Option SeenPass → Type 0
 IsOfHeap heap None = Unit {0}
 IsOfHeap heap (Some s) = s.heap ≡ heap
+
+-- this pass owns no shard and carries this tale, which is whole: one legal history has all that it speaks for, and nothing else
+pub record HasMet (heap : Option Heap) (terms : RunTerms) (s : SeenPass) (tale : List PassTold) : Type 0 where
+  pub carries : CarriesTale heap terms (Some s) tale
+  pub none : OwnsNone (Some s)
+  pub whole : HasWholeTale terms tale

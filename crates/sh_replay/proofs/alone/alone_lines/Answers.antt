@@ -1,4 +1,4 @@
-use Rattle.std.proofs.Common.{rules, arith, ◌≡◌, ◌≤◌, ◌∙◌, ℕ, sym, ap, subst, true, false, map, ◌++◌, ◌∷◌, [], length, Some, Option, slice_get}
+use Rattle.std.proofs.Common.{rules, arith, ◌≡◌, ◌≤◌, ◌∙◌, ℕ, sym, ap, subst, true, false, map, ◌++◌, ◌∷◌, [], length, Some, None, Option, IfSome, slice_get}
 use Rattle.std.specs.Option.{option_map}
 use Rattle.std.proofs.lemmas.Grind.{common_steps}
 use Rattle.std.proofs.lemmas.Option.{gets, slice_get-map}
@@ -8,9 +8,14 @@ use Rattle.sh_replay.specs.Parts.{RunTerms, new_passes}
 use Rattle.sh_replay.specs.Calls.{CallAnswers, binds, number_told}
 use Rattle.sh_replay.specs.Replies.{reply_line}
 use Rattle.sh_replay.specs.Runs.{number_meant, with_name}
-use Rattle.sh_replay.proofs.InTurn.{begins_alone, answered_more, map_set, all_are, all_speak, ends_alone, terms_at}
+use Rattle.sh_replay.proofs.InTurn.{begins_alone, answered_more, map_set, all_are, all_speak, ends_alone, told_alone, terms_at}
 use Rattle.sh_replay.proofs.alone.alone_lines.Goals.{else-binds-via-then-binds+else-is_err, else-binds-via-else-binds}
 use Rattle.sh_replay.proofs.alone.alone_lines.Goals as goal
+
+-- what holds of the carrier, where there is one
+some_told : {S : Type 0} {P Q : S → Type 0} → ((s : S) → P s → Q s) → (o : Option S) → IfSome o P → IfSome o Q
+some_told f None h = h
+some_told f (Some s) h = f s h
 
 pub loop-line-init : goal.loop-line-init
 loop-line-init g c =
@@ -58,7 +63,13 @@ met-requires g c κs within =
     let sides = map g.S.Side.seen c.loop-line.sides.items in
     (within, (all_are g.at.0 g.at.1 c.args.tag c.args.lines.now c.loop-line.line-index c.loop-line.numbers.items sides c.loop-line.output.items c.loop-line.invariant, all_speak g.at.0 g.at.1 c.args.tag c.args.lines.now c.loop-line.line-index c.loop-line.numbers.items sides c.loop-line.output.items c.loop-line.invariant))
 
-pub returns : goal.returns
-returns g c =
+pub returns-clause-replies : goal.returns-clause-replies
+returns-clause-replies g c =
     let past : length c.args.lines.now ≤ c.loop-line.line-index = search rules in
-    ends_alone g.at.0 g.at.1 c.args.tag c.args.lines.now c.loop-line.line-index c.loop-line.numbers.items (map g.S.Side.seen c.loop-line.sides.items) c.loop-line.output.items past c.loop-line.invariant (search rules)
+    ends_alone g.at.0 g.at.1 c.args.tag c.args.lines.now c.loop-line.line-index c.loop-line.numbers.items (map g.S.Side.seen c.loop-line.sides.items) c.loop-line.output.items past c.loop-line.invariant
+
+pub returns-clause-told : goal.returns-clause-told
+returns-clause-told g c =
+    let past : length c.args.lines.now ≤ c.loop-line.line-index = search rules in
+    let sides = map g.S.Side.seen c.loop-line.sides.items in
+    some_told (λ carrier. told_alone g.at.0 g.at.1 c.args.tag c.args.lines.now c.loop-line.line-index c.loop-line.numbers.items sides c.loop-line.output.items (g.S.Side.seen carrier) past c.loop-line.invariant) c.met.result c.met.ensures
