@@ -13,16 +13,14 @@ ghost use Rattle.sh_stack.specs.Stack.{link_over};
 ghost use Rattle.sh_table.specs.Tales.{ViewStands};
 ghost use Rattle.sh_pass.specs.Owners.{MayTouch, MayGive, OwnerDid, OwnerActs, OnPage, SamePages, SameBells, NonePut, NoneArmed, heap_page, own_body, seen_page, seen_bell, bell_taken, bell_followed, published, page_given, page_rung, page_noted, slot_in, heap_spot, page_taken, page_armed, page_followed, page_without, OwnerAdopts, Left, HasNothing, IsKeyIn};
 
-use crate::heap::Heap;
-use crate::pass::Pass;
-use crate::state::PassState;
-use arrayvec::ArrayVec;
+use sh_pass::Heap;
+use sh_pass::Pass;
 use sh_key::KeyLayout;
 use sh_slots::Spot;
 use sh_step::{PageName, SlotName};
 use sh_table::Token;
 use sh_value::Value;
-use std::marker::{Model, PhantomData};
+use std::marker::Model;
 
 /// A pass that may own a shard: what its shard is made with.
 ///
@@ -33,7 +31,7 @@ pub struct Owner<'a, L: KeyLayout> {
     heap: &'a Heap<L>,
     seat: Token,
     // The keys that it holds, in any order.
-    held: ArrayVec<u64, 16>,
+    held: Vec<u64>,
     // A bit for each pass that its tale names.
     named: u64,
 }
@@ -57,19 +55,7 @@ impl<'a, L: KeyLayout> Owner<'a, L> {
         ensures left { (own_body result).owned ≡ None }
         ensures stands { ViewStands L.layout result.view }
     {
-        let Pass { heap, state } = pass;
-        let PassState {
-            seat,
-            held,
-            named,
-            layout: _,
-        } = state;
-        Owner {
-            heap,
-            seat,
-            held,
-            named,
-        }
+        unreachable!()
     }
 
     /// The pass again.
@@ -78,21 +64,7 @@ impl<'a, L: KeyLayout> Owner<'a, L> {
         requires left { (own_body self.entry).owned ≡ None }
         ensures { result ≡ self.entry }
     {
-        let Owner {
-            heap,
-            seat,
-            held,
-            named,
-        } = self;
-        Pass {
-            heap,
-            state: PassState {
-                seat,
-                held,
-                named,
-                layout: PhantomData,
-            },
-        }
+        unreachable!()
     }
 
     // The number of a page over the whole heap.
@@ -101,9 +73,7 @@ impl<'a, L: KeyLayout> Owner<'a, L> {
         requires page { name.page < pages_of self.now.view.shape }
         ensures { result ≡ heap_page self.now name }
     {
-        let shape = self.heap.table.shape();
-        let (_shards, _pages) = (shape.shards(), shape.pages());
-        u64::from(shape.page_number(name.shard as u32, name.page as u32))
+        unreachable!()
     }
 
     /// Becomes the owner of the shard, where it finds 0.
@@ -114,7 +84,7 @@ impl<'a, L: KeyLayout> Owner<'a, L> {
         ensures does { OwnerDid L.layout (action.Adopt shard) (move.Adopt shard) result self.old self.new }
         ensures adopts { OwnerAdopts L.layout shard result self.old self.new }
     {
-        self.heap.table.adopt(&mut self.seat, shard)
+        unreachable!()
     }
 
     /// Reads the class word of the page: 0 where the page is blank, and else one more than its class.
@@ -126,8 +96,7 @@ impl<'a, L: KeyLayout> Owner<'a, L> {
         ensures page { OnPage (heap_page self.old name) (page_noted (seen_page self.old (heap_page self.old name)) result) self.old self.new }
         ensures few { result ≤ 8 }
     {
-        let page = self.number(name);
-        self.heap.table.read_page(&mut self.seat, name, page)
+        unreachable!()
     }
 
     /// Gives the page the class: a blank page, or one of another class all of whose slots are its own.
@@ -142,8 +111,7 @@ impl<'a, L: KeyLayout> Owner<'a, L> {
         ensures put { NonePut self.old self.new }
         ensures arm { NoneArmed self.old self.new }
     {
-        let page = self.number(name);
-        self.heap.table.set_class(&mut self.seat, name, page, class);
+        unreachable!()
     }
 
     /// Takes what was put on the page. Answers the head word that it found.
@@ -158,8 +126,7 @@ impl<'a, L: KeyLayout> Owner<'a, L> {
         ensures put { NonePut self.old self.new }
         ensures arm { NoneArmed self.old self.new }
     {
-        let page = self.number(name);
-        self.heap.table.take(&mut self.seat, name, page)
+        unreachable!()
     }
 
     /// Asks for a ring at the next put on the page, and takes what was put there. Answers the head word that it found.
@@ -174,8 +141,7 @@ impl<'a, L: KeyLayout> Owner<'a, L> {
         ensures page { OnPage (heap_page self.old name) (page_armed (seen_page self.old (heap_page self.old name)) result) self.old self.new }
         ensures put { NonePut self.old self.new }
     {
-        let page = self.number(name);
-        self.heap.table.arm(&mut self.seat, name, page)
+        unreachable!()
     }
 
     /// Reads the link of the slot at the page's cursor, and answers it.
@@ -189,8 +155,7 @@ impl<'a, L: KeyLayout> Owner<'a, L> {
         ensures put { NonePut self.old self.new }
         ensures arm { NoneArmed self.old self.new }
     {
-        let page = self.number(name);
-        self.heap.table.follow(&mut self.seat, name, page, slot)
+        unreachable!()
     }
 
     /// Stores the length of the value, as it begins to fill a slot of its own. Answers the slot's place over the whole heap.
@@ -206,19 +171,7 @@ impl<'a, L: KeyLayout> Owner<'a, L> {
         ensures page { OnPage (heap_page self.old name) (page_without (seen_page self.old (heap_page self.old name)) slot) self.old self.new }
         ensures put { NonePut self.old self.new }
     {
-        let spot = Spot {
-            page: self.number(name),
-            slot,
-        };
-        let slot_name = SlotName {
-            shard: name.shard,
-            page: name.page,
-            slot,
-        };
-        self.heap
-            .table
-            .fill_slot(&mut self.seat, slot_name, spot, value);
-        spot
+        unreachable!()
     }
 
     /// Stores the value's word of this number, from 0, in a page of this class word.
@@ -232,9 +185,7 @@ impl<'a, L: KeyLayout> Owner<'a, L> {
         ensures pages { SamePages self.old self.new }
         ensures put { NonePut self.old self.new }
     {
-        self.heap
-            .table
-            .fill(&mut self.seat, spot, value, i, class_word);
+        unreachable!()
     }
 
     /// Makes the filled slot present. Answers the state word that it found.
@@ -246,7 +197,7 @@ impl<'a, L: KeyLayout> Owner<'a, L> {
         ensures pages { SamePages self.old self.new }
         ensures put { NonePut self.old self.new }
     {
-        self.heap.table.publish(&mut self.seat, spot, value)
+        unreachable!()
     }
 
     /// Stores the value in a slot of its own, in a page of this class word: its length, each word, and then the slot is made
@@ -264,12 +215,7 @@ impl<'a, L: KeyLayout> Owner<'a, L> {
         ensures put { NonePut self.old self.new }
         ensures stands { ViewStands L.layout self.new.view }
     {
-        let spot = self.fill_slot(name, slot, value);
-        for i in 0..value.words().len() as u64 {
-            self.fill(spot, value, i, class_word);
-        }
-        let found = self.publish(spot, value);
-        todo_key(found)
+        unreachable!()
     }
 
     /// Takes what was put on the shard's bell. Answers the bell word that it found.
@@ -284,7 +230,7 @@ impl<'a, L: KeyLayout> Owner<'a, L> {
         ensures put { NonePut self.old self.new }
         ensures arm { NoneArmed self.old self.new }
     {
-        self.heap.table.take_bell(&mut self.seat, shard)
+        unreachable!()
     }
 
     /// Reads the link of the page at the bell's cursor, and answers it.
@@ -298,8 +244,7 @@ impl<'a, L: KeyLayout> Owner<'a, L> {
         ensures put { NonePut self.old self.new }
         ensures arm { NoneArmed self.old self.new }
     {
-        let page = self.number(name);
-        self.heap.table.follow_bell(&mut self.seat, page)
+        unreachable!()
     }
 
     /// Puts a slot of its own on its page's stack. Answers the head word that it found.
@@ -312,16 +257,7 @@ impl<'a, L: KeyLayout> Owner<'a, L> {
         ensures page { OnPage (heap_page self.old name) (page_without (seen_page self.old (heap_page self.old name)) slot) self.old self.new }
         ensures calm { (seen_page self.old (heap_page self.old name)).armed ≡ false → is_armed result ≡ false }
     {
-        let spot = Spot {
-            page: self.number(name),
-            slot,
-        };
-        let slot_name = SlotName {
-            shard: name.shard,
-            page: name.page,
-            slot,
-        };
-        self.heap.table.put_slot(&mut self.seat, slot_name, spot)
+        unreachable!()
     }
 
     /// Stores the link of the slot that it put; whether the put found the page armed.
@@ -333,7 +269,7 @@ impl<'a, L: KeyLayout> Owner<'a, L> {
         ensures pages { SamePages self.old self.new }
         ensures put { NonePut self.old self.new }
     {
-        self.heap.table.tie(&mut self.seat, spot, link, ring);
+        unreachable!()
     }
 
     /// Gives the shard up, of which it has nothing left.
@@ -345,6 +281,20 @@ impl<'a, L: KeyLayout> Owner<'a, L> {
         ensures does { OwnerDid L.layout action.Leave (move.Leave shard) 0 self.old self.new }
         ensures left { Left self.old self.new }
     {
-        self.heap.table.leave(&mut self.seat, shard);
+        unreachable!()
+    }
+
+    /// How many shards the heap has.
+    pub fn shards(&self) -> u64
+        ensures { result ≡ self.now.view.shape.shards }
+    {
+        unreachable!()
+    }
+
+    /// How many pages a shard has.
+    pub fn pages(&self) -> u64
+        ensures { result ≡ pages_of self.now.view.shape }
+    {
+        unreachable!()
     }
 }
