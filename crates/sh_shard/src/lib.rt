@@ -4,12 +4,21 @@
 //! of pages that it armed by its shard's bell.
 #![tactic(auto)]
 
+mod adopting;
 mod bell;
 mod calls;
 mod collecting;
+mod departing;
+mod insert;
 mod leaving;
 pub mod owner;
 pub mod pages;
+mod prepare;
+mod returning;
+mod ringing;
+mod search;
+pub mod shard;
 mod using;
 
 pub use pages::Pages;
+pub use shard::Shard;
