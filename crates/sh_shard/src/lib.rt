@@ -9,6 +9,9 @@ mod calls;
 mod collecting;
 mod leaving;
 pub mod owner;
+mod owner_bell;
+mod owner_pages;
+mod owner_slots;
 pub mod pages;
 mod using;
 

@@ -1,5 +1,5 @@
 //! The pages of an owner's shard: what is kept of each is what the owner knows of it.
-ghost use Rattle.std.specs.Prelude.{◌≡◌, ℕ, ◌<◌, Option, None, MatchBool, true, false};
+ghost use Rattle.std.specs.Prelude.{◌≡◌, ℕ, ◌<◌, ◌≤◌, Option, None, MatchBool, true, false};
 ghost use Rattle.sh_shard.specs.Pages.{page_at, AdoptsPages, CursorStands, NothingMine, WhollyMine};
 
 use sh_key::KeyLayout;
