@@ -54,7 +54,7 @@ impl<'a, L: KeyLayout> Owner<'a, L> {
     pub fn into_pass(self) -> Pass<'a, L>
         requires idle { (own_body self).hand ≡ Idle }
         requires left { (own_body self).owned ≡ None }
-        ensures { result ≡ self }
+        ensures { result ≡ self.entry }
     {
         unreachable!()
     }
