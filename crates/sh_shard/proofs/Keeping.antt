@@ -1,5 +1,5 @@
 -- What is kept of the pages stays what is known of them, step by step.
-use Rattle.std.proofs.Common.{◌≡◌, ◌≢◌, ℕ, zero, suc, ◌+◌, ◌-◌, ◌*◌, ◌/◌, ◌<◌, ◌≤◌, ◌==◌, ⊎_elim, Bool, true, false, cond, Option, Some, None, List, [], ◌++◌, length, get_or, set, refl, ap, ◌∙◌, sym, subst, arith}
+use Rattle.std.proofs.Common.{◌≡◌, ◌≢◌, ℕ, zero, suc, ◌+◌, ◌-◌, ◌*◌, ◌/◌, ◌<◌, ◌≤◌, ◌==◌, ⊎_elim, Bool, true, false, cond, Option, Some, None, List, [], ◌++◌, length, get_or, set, IfSome, refl, ap, ◌∙◌, sym, subst, arith}
 use Rattle.std.specs.Prelude.{nat_lt}
 use Rattle.std.proofs.lemmas.List.{get_or-set_same, get_or-set_other, length-set, get_or_read}
 use Rattle.std.proofs.lemmas.Bool.{cases_eq}
@@ -159,3 +159,8 @@ keeps_bell_waiting {layout} {v = v} {w = w} {shard = shard} {rings = rings} p n 
     let b : SeenBell = seen_bell layout v shard in
     let cursor : (bell_followed v shard n b).cursor ≡ b.cursor = ap (λ t. (cond t (record b { met = b.met + 1 }) (record b { cursor = page_on_bell v shard 2 n })).cursor) e in
     keeps_on p k acts (ap (λ (z : SeenBell). z.cursor) bell ∙ (cursor ∙ (k.bell ∙ rings_same v w shard rings acts.aside.same.shape))) on stands refl a (λ q ne. refl)
+
+-- a cursor that a step left is at a slot of the page
+pub small_cursor : {layout : Layout} {v w : Caller} {q : ℕ} {g : SeenPage} (c : Option ℕ) → g.cursor ≡ c → OnPage q g v w → ViewStands layout w.view → IfSome c (λ s. s < 48)
+small_cursor None e on stands = tt
+small_cursor {q = q} (Some s) e on stands = let h = stands.owner.cursors q s (ap (λ (z : SeenPage). z.cursor) on.here ∙ e) in h.2

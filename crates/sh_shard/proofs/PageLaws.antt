@@ -215,3 +215,6 @@ kept_waiting st g n a e =
     let z : (n == 0) ≡ true = grind (arith, nat_tests) in
     let P : Bool → Type 0 = λ b. KeepsPage st (cond b g (record g { armed = false })) in
     subst P (sym z) a
+
+pub followed_cursor : (g : SeenPage) (s n : ℕ) → (n ≡ 0 → ⊥) → (page_followed g s n).cursor ≡ link_item n
+followed_cursor g s n some = let e : (n == 0) ≡ false = grind (arith, nat_tests) in ap (λ b. (cond b (record g { met = g.met + 1 }) (record g { mine = λ t. (t == s) || g.mine t; cursor = link_item n })).cursor) e

@@ -1,16 +1,26 @@
 -- Work on pages, step by step.
 use Rattle.std.proofs.Common.{◌≡◌, ◌≢◌, ℕ, zero, suc, ◌+◌, ◌<◌, ◌≤◌, ◌==◌, ◌||◌, ◌⊎◌, inr, ⊎_elim, Bool, true, false, cond, Option, Some, None, MatchOption, List, [], ◌∷◌, ◌++◌, refl, ap, ◌∙◌, sym, subst, arith, append-nil}
+use Rattle.std.proofs.lemmas.Bool.{cases_eq}
 use Rattle.std.proofs.lemmas.Bool.Decides.{nat_tests}
 use Rattle.sh_bell.specs.Bell.{is_armed}
 use Rattle.sh_key.specs.Layout.{Layout}
+use Rattle.sh_history.specs.declared.entry.Entry.TheVariants as entry
+use Rattle.sh_history.specs.declared.log.LogEntry.TheVariants.{Known}
+use Rattle.sh_queue.specs.Numbers.{has_number}
+use Rattle.sh_shape.specs.Shape.{Numbers}
+use Rattle.sh_slots.specs.declared.hand.Name.{Name}
+use Rattle.sh_step.specs.Moves.{place_named}
+use Rattle.sh_step.specs.Plans.{plan_of, home}
+use Rattle.sh_shard.specs.declared.pages.PageState.{PageState}
+use Rattle.sh_shard.specs.Kept.{KeepsPage}
 use Rattle.sh_history.specs.declared.log.LogEntry.{LogEntry}
 use Rattle.sh_slots.specs.declared.hand.Hand.TheVariants.{Idle}
 use Rattle.sh_stack.specs.Stack.{link_item}
 use Rattle.sh_step.specs.Collections.{if1}
 use Rattle.sh_pass.specs.Growing.{SameTale}
 use Rattle.sh_pass.specs.Passes.{Caller}
-use Rattle.sh_pass.specs.Owners.{SeenPage, SeenBell, Aside, OwnerActs, OnPage, SamePages, SameBells, NonePut, NoneArmed, heap_page, own_body, seen_page, seen_bell, page_on_bell, page_taken, page_followed, page_rung, bell_taken, bell_followed}
-use Rattle.sh_shard.specs.Pages.{Paged, shard_page, page_at, count_below, own_slots, NothingMine, WorksOn, TakesPage, CursorMoves, CursorStops, CollectsPage, GuardsPage, PageDone, BellTakes, BellStops, BellReads}
+use Rattle.sh_pass.specs.Owners.{SeenPage, SeenBell, Aside, OwnerActs, OnPage, SamePages, SameBells, NonePut, NoneArmed, heap_page, own_body, seen_page, seen_bell, page_on_bell, page_taken, page_followed, page_rung, page_without, page_given, IsKeyIn, bell_taken, bell_followed}
+use Rattle.sh_shard.specs.Pages.{Paged, shard_page, page_at, count_below, own_slots, NothingMine, WorksOn, TakesPage, CursorMoves, CursorStops, CollectsPage, GuardsPage, PageDone, PageInserts, GivesClass, BellTakes, BellStops, BellReads}
 use Rattle.sh_shard.proofs.Keeping.{page_of, here_at, others_at, all_at}
 
 -- what a contract sees of pages
@@ -179,3 +189,114 @@ stops_none p o e = record { works = works_none p o; arm = refl; armed = refl; wa
 
 pub too_many : {A : Type 0} (p i : ℕ) (v : Paged) → i ≤ own_slots (page_at v p) → 49 ≤ i → A
 too_many p i v l m = let f = count_few (page_at v p).mine 48 in absurd (omega arith)
+
+-- ---- the bell
+
+pub bell_took : (layout : Layout) (n shard k : ℕ) (v w : Caller) {m : ℕ} → OwnerActs Idle [] m v w → seen_bell layout w shard ≡ bell_taken v shard n (seen_bell layout v shard) → SamePages v w → NonePut v w → NoneArmed v w → BellTakes (paged_of layout v shard k) (paged_of layout w shard k)
+bell_took layout n shard k v w acts bell pages put arm = record {
+  aside = acts.aside;
+  put = put;
+  arm = arm;
+  log = acts.log ∙ append-nil v.view.own.log;
+  shard = refl;
+  count = refl;
+  takes = ap (λ (b : SeenBell). b.takes) bell;
+  met = ap (λ (b : SeenBell). b.met) bell;
+  pages = all_at v w shard acts.aside.same.shape pages;
+}
+
+pub bell_stopped : (layout : Layout) (p n shard k : ℕ) (v w : Caller) {m : ℕ} → OwnerActs Idle [] m v w → seen_bell layout w shard ≡ bell_followed v shard n (seen_bell layout v shard) → OnPage (heap_page v (shard_page shard p)) (page_rung (page_of v shard p) n) v w → NonePut v w → NoneArmed v w → n ≡ 0
+    → BellStops (paged_of layout v shard k) (paged_of layout w shard k)
+bell_stopped layout p n shard k v w acts bell on put arm none =
+    let e : (n == 0) ≡ true = grind (arith, nat_tests) in
+    let b : SeenBell = seen_bell layout v shard in
+    let is : seen_bell layout w shard ≡ record b { met = b.met + 1 } = bell ∙ ap (λ t. cond t (record b { met = b.met + 1 }) (record b { cursor = page_on_bell v shard 2 n })) e in
+    let met : (seen_bell layout w shard).met ≡ b.met + 1 = ap (λ (z : SeenBell). z.met) is in
+    let here : page_of w shard p ≡ page_of v shard p = here_at v w shard p acts.aside.same.shape on ∙ ap (λ t. cond t (page_of v shard p) (record (page_of v shard p) { armed = false })) e in record {
+      aside = acts.aside;
+      put = put;
+      arm = arm;
+      log = acts.log ∙ append-nil v.view.own.log;
+      shard = refl;
+      count = refl;
+      takes = ap (λ (z : SeenBell). z.takes) is;
+      met = omega (arith, met);
+      waits = waits_at (seen_bell layout w shard).cursor b.met (seen_bell layout w shard).met (omega (arith, met));
+      pages = λ q. ⊎_elim (λ (same : q ≡ p). subst (λ z. page_of w shard z ≡ page_of v shard z) (sym same) here) (λ (ne : q ≢ p). others_at v w shard p acts.aside.same.shape on q ne) (cases_eq q p);
+    }
+
+pub bell_read : (layout : Layout) (p n shard k k' : ℕ) (v w : Caller) {m : ℕ} → OwnerActs Idle [] m v w → seen_bell layout w shard ≡ bell_followed v shard n (seen_bell layout v shard) → OnPage (heap_page v (shard_page shard p)) (page_rung (page_of v shard p) n) v w → NonePut v w → NoneArmed v w
+    → (n ≡ 0 → ⊥) → k' ≡ k → p < k → (page_of v shard p).armed ≡ true → BellReads p (paged_of layout v shard k) (paged_of layout w shard k')
+bell_read layout p n shard k k' v w acts bell on put arm some size inside was =
+    let e : (n == 0) ≡ false = grind (arith, nat_tests) in
+    let b : SeenBell = seen_bell layout v shard in
+    let is : seen_bell layout w shard ≡ record b { cursor = page_on_bell v shard 2 n } = bell ∙ ap (λ t. cond t (record b { met = b.met + 1 }) (record b { cursor = page_on_bell v shard 2 n })) e in record {
+      aside = acts.aside;
+      put = put;
+      arm = arm;
+      log = acts.log ∙ append-nil v.view.own.log;
+      shard = refl;
+      count = size;
+      takes = ap (λ (z : SeenBell). z.takes) is;
+      met = ap (λ (z : SeenBell). z.met) is;
+      inside = omega arith;
+      was = was;
+      here = here_at v w shard p acts.aside.same.shape on ∙ ap (λ t. cond t (page_of v shard p) (record (page_of v shard p) { armed = false })) e;
+      others = others_at v w shard p acts.aside.same.shape on;
+    }
+
+pub bell_waits_none : (o : Paged) → o.bell.cursor ≡ None → BellStops o o
+bell_waits_none o e = record { aside = aside_none o.owner; put = refl; arm = refl; log = refl; shard = refl; count = refl; takes = refl; met = omega arith; waits = subst (λ (c : Option ℕ). MatchOption c (Unit {0}) (λ _. o.bell.met < o.bell.met)) (sym e) tt; pages = λ q. refl }
+
+pub collects_taken : (p : ℕ) (o m n : Paged) → TakesPage p o m → CursorStops p m n → CollectsPage p o n
+collects_taken p o m n t h = collects p o m n t.works h
+
+-- ---- slots that are used
+
+pub inserted : (layout : Layout) (p shard k k' s key : ℕ) (value : List ℕ) (v w : Caller) {m : ℕ} → OwnerActs Idle (Known (entry.Insert v.view.pass key value) ∷ []) m v w → SameBells layout v w → OnPage (heap_page v (shard_page shard p)) (page_without (page_of v shard p) s) v w → NonePut v w → k' ≡ k
+    → PageInserts p value key (paged_of layout v shard k) (paged_of layout w shard k')
+inserted layout p shard k k' s key value v w acts bells on put size = record {
+  aside = acts.aside;
+  put = put;
+  bell = bells shard;
+  log = acts.log;
+  shard = refl;
+  count = size;
+  class = ap (λ (z : SeenPage). z.class) (here_at v w shard p acts.aside.same.shape on);
+  others = others_at v w shard p acts.aside.same.shape on;
+}
+
+pub inserts_after : (p key : ℕ) (value : List ℕ) (o m n : Paged) → WorksOn p o m → PageInserts p value key m n → PageInserts p value key o n
+inserts_after p key value o m n g h = record {
+  aside = aside_more g.aside h.aside;
+  put = h.put ∙ g.put;
+  bell = h.bell ∙ g.bell;
+  log = h.log ∙ (λ i. g.log i ++ Known (entry.Insert (g.aside.same.pass i) key value) ∷ []);
+  shard = h.shard ∙ g.shard;
+  count = h.count ∙ g.count;
+  class = h.class ∙ g.class;
+  others = λ q ne. h.others q ne ∙ g.others q ne;
+}
+
+pub key_after : (layout : Layout) (p key : ℕ) (o m : Paged) → WorksOn p o m → IsKeyIn layout m.owner m.shard key → IsKeyIn layout o.owner o.shard key
+key_after layout p key o m g h =
+    let P : Numbers × ℕ → Type 0 = λ z. (x : Name) × (place_named (plan_of layout z.0) key ≡ Some x) × (home (plan_of layout z.0) x.page ≡ z.1) in
+    subst P (λ i. (g.aside.same.shape i, g.shard i)) h
+
+pub gave_class : (layout : Layout) (p shard c k k' : ℕ) (v w : Caller) {m : ℕ} → OwnerActs Idle [] m v w → SameBells layout v w → OnPage (heap_page v (shard_page shard p)) (page_given (page_of v shard p) c) v w → NonePut v w → NoneArmed v w → k' ≡ k
+    → GivesClass p c (paged_of layout v shard k) (paged_of layout w shard k')
+gave_class layout p shard c k k' v w acts bells on put arm size = record {
+  aside = acts.aside;
+  put = put;
+  arm = arm;
+  bell = bells shard;
+  log = acts.log ∙ append-nil v.view.own.log;
+  shard = refl;
+  count = size;
+  here = here_at v w shard p acts.aside.same.shape on;
+  others = others_at v w shard p acts.aside.same.shape on;
+}
+
+-- a page whose lists are empty
+pub none_mine : (st : PageState) (g : SeenPage) → KeepsPage st g → st.lists.free ≡ [] → st.lists.local ≡ [] → NothingMine g
+none_mine st g a e f s = sym (a.mine s) ∙ (λ i. has_number s (e i ++ f i))
