@@ -8,6 +8,8 @@ use Rattle.std.proofs.Math.Nat.{lt-div-mul-add}
 use Rattle.sh_history.specs.declared.log.LogEntry.{LogEntry}
 use Rattle.sh_key.specs.Layout.{Layout}
 use Rattle.sh_lists.specs.Numbers.{Misses}
+use Rattle.sh_core.specs.Lists.{slots_under}
+use Rattle.sh_shape.specs.Classes.{slots}
 use Rattle.sh_shape.specs.Shape.{Numbers}
 use Rattle.sh_shape.specs.Places.{pages_of}
 use Rattle.sh_slots.specs.declared.hand.Hand.TheVariants.{Idle}
@@ -164,3 +166,15 @@ keeps_bell_waiting {layout} {v = v} {w = w} {shard = shard} {rings = rings} p n 
 pub small_cursor : {layout : Layout} {v w : Caller} {q : ℕ} {g : SeenPage} (c : Option ℕ) → g.cursor ≡ c → OnPage q g v w → ViewStands layout w.view → IfSome c (λ s. s < 48)
 small_cursor None e on stands = tt
 small_cursor {q = q} (Some s) e on stands = let h = stands.owner.cursors q s (ap (λ (z : SeenPage). z.cursor) on.here ∙ e) in h.2
+
+slots_below : (c s : ℕ) → (c ≡ 0 → ⊥) → s < slots_under c → s < slots (c - 1)
+slots_below c s some l =
+    let e : (c == 0) ≡ false = go (c == 0) refl in
+    subst (λ b. s < cond b 0 (slots (c - 1))) e l where
+      go : (b : Bool) → (c == 0) ≡ b → b ≡ false
+      go true e = absurd (some (let z : c ≡ 0 = grind (arith, nat_tests) in z))
+      go false e = refl
+
+-- a slot of its own is one of the page's class
+pub below_class : {layout : Layout} {v : Caller} {shard : ℕ} {rings : Option ℕ} {states : List PageState} (p : ℕ) (st : PageState) → KeepsPages layout v shard rings states → KeepsPage st (page_of v shard p) → (st.class_word ≡ 0 → ⊥) → (s : ℕ) → (page_of v shard p).mine s ≡ true → s < slots (st.class_word - 1)
+below_class {v = v} {shard = shard} p st k a some s h = slots_below st.class_word s some (k.stands.owner.mine_below (record { page = heap_page v (shard_page shard p); slot = s }) st.class_word h a.class)

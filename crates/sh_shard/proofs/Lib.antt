@@ -1,3 +1,4 @@
 pub mod PageLaws
 pub mod Keeping
 pub mod Working
+pub mod Wholly

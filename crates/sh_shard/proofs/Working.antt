@@ -300,3 +300,14 @@ gave_class layout p shard c k k' v w acts bells on put arm size = record {
 -- a page whose lists are empty
 pub none_mine : (st : PageState) (g : SeenPage) → KeepsPage st g → st.lists.free ≡ [] → st.lists.local ≡ [] → NothingMine g
 none_mine st g a e f s = sym (a.mine s) ∙ (λ i. has_number s (e i ++ f i))
+
+-- a page is tried: its slots are used, its stack is collected, its slots are used, it is armed, its slots are used
+pub tried_early : (p key : ℕ) (value : List ℕ) (o m₁ m₂ n : Paged) → m₁ ≡ o → CollectsPage p m₁ m₂ → PageInserts p value key m₂ n → PageInserts p value key o n
+tried_early p key value o m₁ m₂ n is g h = inserts_after p key value o m₂ n (subst (λ (z : Paged). CollectsPage p z m₂) is g).works h
+
+pub tried : (p : ℕ) (value : List ℕ) (r : Option ℕ) (o m₁ m₂ m₃ m₄ n : Paged) → m₁ ≡ o → CollectsPage p m₁ m₂ → m₃ ≡ m₂ → GuardsPage p m₃ m₄
+    → MatchOption r ((n ≡ m₄) × NothingMine (page_at m₄ p)) (λ key. PageInserts p value key m₄ n) → MatchOption r (WorksOn p o n × PageDone o n p) (λ key. PageInserts p value key o n)
+tried p value r o m₁ m₂ m₃ m₄ n first g second h = go r (subst (λ (z : Paged). CollectsPage p z m₂) first g) (subst (λ (z : Paged). GuardsPage p z m₄) second h) where
+  go : (r : Option ℕ) → CollectsPage p o m₂ → GuardsPage p m₂ m₄ → MatchOption r ((n ≡ m₄) × NothingMine (page_at m₄ p)) (λ key. PageInserts p value key m₄ n) → MatchOption r (WorksOn p o n × PageDone o n p) (λ key. PageInserts p value key o n)
+  go None g h e = subst (λ (z : Paged). WorksOn p o z × PageDone o z p) (sym e.0) (done_of p o m₂ m₄ g h e.1)
+  go (Some key) g h e = inserts_after p key value o m₄ n (works_more p o m₂ m₄ g.works h.works) e
