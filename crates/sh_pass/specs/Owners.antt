@@ -172,9 +172,9 @@ abbrev pub NoneArmed : Caller → Caller → Type 0
 NoneArmed v w = arms w.view.own.trail ≡ arms v.view.own.trail
 
 -- in n steps the hand came to be so and these entries joined the log
-pub record OwnerActs (hand : Hand) (es : List LogEntry) (n : ℕ) (v w : Caller) : Type 0 where
+pub record OwnerActs (begun : Hand) (es : List LogEntry) (n : ℕ) (v w : Caller) : Type 0 where
   pub aside : Aside v w
-  pub hand : (own_body w).hand ≡ hand
+  pub hand : (own_body w).hand ≡ begun
   pub log : w.view.own.log ≡ v.view.own.log ++ es
   pub steps : length w.view.own.trail ≡ length v.view.own.trail + n
 
