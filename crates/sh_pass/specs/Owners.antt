@@ -26,7 +26,7 @@ use Rattle.sh_step.specs.Plans.{plan_of, home}
 use Rattle.sh_core.specs.Lists.{times}
 use Rattle.sh_table.specs.declared.view.View.{View}
 use Rattle.sh_table.specs.Seats.{Heap, IsSeat}
-use Rattle.sh_table.specs.Steps.{row_by, did}
+use Rattle.sh_table.specs.Steps.{WordSays, row_by, did}
 use Rattle.sh_table.specs.Tales.{ViewStands}
 use Rattle.sh_pass.specs.Growing.{SameTale}
 use Rattle.sh_pass.specs.Passes.{Caller, IsTally}
@@ -155,6 +155,7 @@ pub record OwnerDid (layout : Layout) (x : Action) (m : Move) (n : ℕ) (v w : C
   pub heap : w.heap ≡ v.heap
   pub view : w.view ≡ did layout x m v.view n
   pub fits : answer (row_by layout v.view m).operation n ≡ Some n → RowFits v.view.shape (plan_of layout v.view.shape) (row_by layout v.view m) n
+  pub says : answer (row_by layout v.view m).operation n ≡ Some n → WordSays (plan_of layout v.view.shape) (own_body v) (row_by layout v.view m).place n
   pub stands : ViewStands layout w.view
 
 -- heap, tale, shard and holds are as before
