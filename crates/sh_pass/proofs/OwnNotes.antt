@@ -175,3 +175,23 @@ noted_now q n xs = ap (λ b. cond b (Some n) (noted q xs)) (self q)
 pub noted_else : (q r n : ℕ) (xs : List (ℕ × ℕ)) → r ≢ q → noted r ((q, n) ∷ xs) ≡ noted r xs
 unfolding noted
 noted_else q r n xs ne = ap (λ b. cond b (Some n) (noted r xs)) (unlike q r (λ e. ne (sym e)))
+
+-- ---- lists in which nothing stands
+
+false_true : true ≡ false → ⊥
+false_true e = cc
+
+pub none_mine : (xs : List Spot) → ((x : Spot) → has (same_spot x) xs ≡ false) → xs ≡ []
+unfolding has
+none_mine [] h = refl
+none_mine (x ∷ xs) h = absurd (false_true (sym (rw (self x.page, self x.slot) refl) ∙ h x))
+
+pub none_noted_at : (xs : List (ℕ × ℕ)) → ((q : ℕ) → noted q xs ≡ None) → xs ≡ []
+unfolding noted
+none_noted_at [] h = refl
+none_noted_at (x ∷ xs) h = absurd (let e : Some x.1 ≡ None = sym (ap (λ b. cond b (Some x.1) (noted x.0 xs)) (self x.0)) ∙ h x.0 in cc)
+
+pub none_armed : (xs : List ℕ) → ((q : ℕ) → has (λ x. x == q) xs ≡ false) → xs ≡ []
+unfolding has
+none_armed [] h = refl
+none_armed (x ∷ xs) h = absurd (false_true (sym (ap (λ b. b || has (λ y. y == x) xs) (self x)) ∙ h x))

@@ -1,5 +1,5 @@
 -- What each step of an owner leaves of what it knows of its pages and of its bell.
-use Rattle.std.proofs.Common.{◌≡◌, ◌≢◌, ℕ, zero, suc, ◌+◌, ◌-◌, ◌*◌, ◌==◌, ◌&&◌, ◌||◌, Bool, true, false, cond, Option, Some, None, List, [], ◌∷◌, ◌++◌, length, refl, ap, ◌∙◌, sym, subst, arith}
+use Rattle.std.proofs.Common.{◌≡◌, ◌≢◌, ℕ, zero, suc, ◌+◌, ◌-◌, ◌*◌, ◌≤◌, append-nil, ◌==◌, ◌&&◌, ◌||◌, Bool, true, false, cond, Option, Some, None, List, [], ◌∷◌, ◌++◌, length, refl, ap, ◌∙◌, sym, subst, arith}
 use Rattle.std.proofs.lemmas.List.{length-append}
 use Rattle.std.proofs.lemmas.Bool.Decides.{nat_tests}
 use Rattle.std.specs.Prelude.{nat_lt, not, count_by}
@@ -23,7 +23,7 @@ use Rattle.sh_step.specs.declared.footstep.Footstep.{Footstep}
 use Rattle.sh_step.specs.declared.moves.Move.{Move}
 use Rattle.sh_step.specs.declared.moves.Move.TheVariants as move
 use Rattle.sh_step.specs.Collections.{if1, has, noted, without, off}
-use Rattle.sh_step.specs.Footsteps.{footstep_of, takes_page, takes_bell, meets_page, meets_bell, puts_slot, arms_page, takes, met}
+use Rattle.sh_step.specs.Footsteps.{footstep_of, takes_page, takes_bell, meets_page, meets_bell, meets_owner, puts_slot, arms_page, takes, met, owner_met}
 use Rattle.sh_step.specs.Plans.{Plan, plan_of, home, over_heap, page_number}
 use Rattle.sh_step.specs.Rows.{point, unpoint}
 use Rattle.sh_step.proofs.FootstepLaws.{counts_grow}
@@ -33,7 +33,7 @@ use Rattle.sh_table.specs.Tales.{OwnerStands}
 use Rattle.sh_table.specs.Views.{filled_by, key_read, logged_of}
 use Rattle.sh_pass.specs.Growing.{SameTale}
 use Rattle.sh_pass.specs.Passes.{Caller}
-use Rattle.sh_pass.specs.Owners.{OwnerDid, OwnerActs, OnPage, SamePages, SameBells, NonePut, NoneArmed, SeenPage, own_body, seen_page, seen_bell, heap_page, heap_spot, slot_in, published, page_taken, page_armed, page_followed, page_without, page_given, page_noted, page_rung, bell_taken, bell_followed, page_on_bell}
+use Rattle.sh_pass.specs.Owners.{OwnerDid, OwnerActs, OnPage, SamePages, SameBells, NonePut, NoneArmed, OwnerTries, OwnerAdopts, Adopted, Left, SeenPage, own_body, seen_page, seen_bell, heap_page, heap_spot, slot_in, published, page_taken, page_armed, page_followed, page_without, page_given, page_noted, page_rung, bell_taken, bell_followed, page_on_bell}
 use Rattle.sh_pass.proofs.OwnNotes.{self, unlike, noted_point, noted_point_else, noted_unpoint_else, disarmed, disarmed_else, armed_now, armed_else, one_more, one_more_else, one_less, one_less_else, all_given, given_else, noted_now, noted_else}
 
 -- ---- any step
@@ -346,3 +346,64 @@ module _ (layout : Layout) (v w : Caller) where
         still layout action.TakeBell m n v w d b refl puts_slot refl,
         still layout action.TakeBell m n v w d b refl arms_page refl,
       )
+
+  -- a step by which it comes to own a shard, or gives one up
+  tries : (a : Action) (m : Move) (n : ℕ) (d : OwnerDid layout a m n v w) (b : Body) → (row_by layout v.view m).part n ≡ b → b.holds ≡ (own_body v).holds → b.hand ≡ Idle → key_read a ≡ None → logged_of v.view.pass ((row_by layout v.view m).reply n) ≡ [] → OwnerTries v w
+  tries a m n d b is holds idle none silent = record {
+    heap = d.heap;
+    same = same_tale layout a m n v w d b is;
+    hand = ap (λ (p : Body). p.hand) (body_is layout a m n v w d b is) ∙ idle;
+    holds = ap (λ (p : Body). p.holds) (body_is layout a m n v w d b is) ∙ holds;
+    log = log_is layout a m n v w d b is [] none silent ∙ append-nil v.view.own.log;
+    steps = ap (λ (u : View). length u.own.trail) d.view ∙ length-append v.view.own.trail _;
+  }
+
+  pub adopt_does : (k n : ℕ) → n ≤ 1 → (own_body v).hand ≡ Idle → (own_body v).owned ≡ None → OwnerDid layout (action.Adopt k) (move.Adopt k) n v w → OwnerTries v w × OwnerAdopts layout k n v w × NonePut v w × NoneArmed v w
+  unfolding has noted
+  adopt_does k zero few idle left d =
+      let p : Body = own_body v in
+      let a : Action = action.Adopt k in
+      let m : Move = move.Adopt k in
+      let b : Body = record p { owned = Some k; classes = []; mine = []; cursors = []; armed = []; bell_cursor = None } in
+      let is = body_is layout a m 0 v w d b refl in (
+        tries a m 0 d b refl refl idle refl refl,
+        record {
+          owned = ap (λ (c : Body). c.owned) is;
+          bell = ap (λ (c : Body). c.bell_cursor) is;
+          pages = λ r. seen layout a m 0 v w d b refl r (record (seen_page v r) { mine = λ s. false; cursor = None; armed = false; class = None }) (λ s. refl) refl refl refl (still layout a m 0 v w d b refl (takes_page r) refl) (still layout a m 0 v w d b refl (meets_page r) refl);
+        },
+        still layout a m 0 v w d b refl puts_slot refl,
+        still layout a m 0 v w d b refl arms_page refl,
+      )
+  adopt_does k (suc j) few idle left d =
+      let p : Body = own_body v in
+      let a : Action = action.Adopt k in
+      let m : Move = move.Adopt k in
+      let n : ℕ = suc j in
+      let one : n ≡ 1 = omega arith in
+      let is : (row_by layout v.view m).part n ≡ p = ap (λ c. cond c (record p { owned = Some k; classes = []; mine = []; cursors = []; armed = []; bell_cursor = None }) p) (unlike n 0 (λ e. omega arith)) in
+      let met = more layout a m n v w d p is (meets_owner k) (both_so (k == k) (n == 1) (self k) (ap (λ z. z == 1) one)) in (
+        tries a m n d p is refl idle refl refl,
+        (
+          ap (λ (c : Body). c.owned) (body_is layout a m n v w d p is) ∙ left,
+          pages_same layout a m n v w d p is refl refl refl refl (λ r. refl) (λ r. refl),
+          (let e : owner_met k w.view.own.trail ≡ suc (owner_met k v.view.own.trail) = omega arith in e),
+        ),
+        still layout a m n v w d p is puts_slot refl,
+        still layout a m n v w d p is arms_page refl,
+      )
+
+  pub leave_does : (k : ℕ) → (own_body v).hand ≡ Idle → OwnerDid layout action.Leave (move.Leave k) 0 v w → Left v w
+  leave_does k idle d =
+      let p : Body = own_body v in
+      let m : Move = move.Leave k in
+      let b : Body = record p { owned = None } in
+      let t = tries action.Leave m 0 d b refl refl idle refl refl in record {
+        owned = ap (λ (c : Body). c.owned) (body_is layout action.Leave m 0 v w d b refl);
+        heap = t.heap;
+        same = t.same;
+        hand = t.hand;
+        holds = t.holds;
+        log = t.log;
+        steps = t.steps;
+      }

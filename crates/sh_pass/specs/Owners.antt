@@ -195,6 +195,15 @@ pub record OnPage (q : ℕ) (g : SeenPage) (v w : Caller) : Type 0 where
 abbrev pub SamePages : Caller → Caller → Type 0
 SamePages v w = (q : ℕ) → seen_page w q ≡ seen_page v q
 
+-- one step leaves all but the shard that the pass owns, and what it knows of it
+pub record OwnerTries (v w : Caller) : Type 0 where
+  pub heap : w.heap ≡ v.heap
+  pub same : SameTale v.view w.view
+  pub hand : (own_body w).hand ≡ Idle
+  pub holds : (own_body w).holds ≡ (own_body v).holds
+  pub log : w.view.own.log ≡ v.view.own.log
+  pub steps : length w.view.own.trail ≡ length v.view.own.trail + 1
+
 -- the pass owns shard n, of which it knows nothing yet
 pub record Adopted (n : ℕ) (v w : Caller) : Type 0 where
   pub owned : (own_body w).owned ≡ Some n
@@ -214,6 +223,7 @@ pub record Left (v w : Caller) : Type 0 where
   pub hand : (own_body w).hand ≡ Idle
   pub holds : (own_body w).holds ≡ (own_body v).holds
   pub log : w.view.own.log ≡ v.view.own.log
+  pub steps : length w.view.own.trail ≡ length v.view.own.trail + 1
 
 -- the key under which the slot's value is published, where its state was found so
 abbrev pub published : Layout → Caller → Spot → ℕ → ℕ

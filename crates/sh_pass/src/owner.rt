@@ -5,7 +5,7 @@ ghost use Rattle.sh_shape.specs.Places.{pages_of};
 ghost use Rattle.sh_step.specs.declared.action.Action.TheVariants as action;
 ghost use Rattle.sh_step.specs.declared.moves.Move.TheVariants as move;
 ghost use Rattle.sh_table.specs.Tales.{ViewStands};
-ghost use Rattle.sh_pass.specs.Owners.{OwnerDid, OwnerAdopts, Left, HasNothing, heap_page, own_body, seen_page};
+ghost use Rattle.sh_pass.specs.Owners.{OwnerDid, OwnerTries, OwnerAdopts, Left, HasNothing, NonePut, NoneArmed, heap_page, own_body, seen_page};
 
 use crate::heap::Heap;
 use crate::pass::Pass;
@@ -68,7 +68,7 @@ impl<'a, L: KeyLayout> Owner<'a, L> {
     pub fn into_pass(self) -> Pass<'a, L>
         requires idle { (own_body self).hand ≡ Idle }
         requires left { (own_body self).owned ≡ None }
-        ensures { result ≡ self }
+        ensures { result ≡ self.entry }
     {
         let Owner {
             heap,
@@ -85,6 +85,22 @@ impl<'a, L: KeyLayout> Owner<'a, L> {
                 layout: PhantomData,
             },
         }
+    }
+
+    /// How many shards the heap has.
+    pub fn shards(&self) -> u64
+        ensures { result ≡ self.now.view.shape.shards }
+    {
+        let heap = self.heap;
+        u64::from(heap.table.shape().shards())
+    }
+
+    /// How many pages each shard has.
+    pub fn pages(&self) -> u64
+        ensures { result ≡ pages_of self.now.view.shape }
+    {
+        let heap = self.heap;
+        u64::from(heap.table.shape().pages())
     }
 
     // The number of a page over the whole heap.
@@ -105,7 +121,10 @@ impl<'a, L: KeyLayout> Owner<'a, L> {
         requires left { (own_body self.old).owned ≡ None }
         requires shard { shard < self.old.view.shape.shards }
         ensures does { OwnerDid L.layout (action.Adopt shard) (move.Adopt shard) result self.old self.new }
+        ensures tries { OwnerTries self.old self.new }
         ensures adopts { OwnerAdopts L.layout shard result self.old self.new }
+        ensures put { NonePut self.old self.new }
+        ensures arm { NoneArmed self.old self.new }
     {
         let heap = self.heap;
         heap.table.adopt(&mut self.seat, shard)
