@@ -8,10 +8,6 @@ mod bell;
 mod calls;
 mod collecting;
 mod leaving;
-pub mod owner;
-mod owner_bell;
-mod owner_pages;
-mod owner_slots;
 pub mod pages;
 mod using;
 

@@ -4,8 +4,7 @@ ghost use Rattle.sh_shard.specs.Pages.{page_at, AdoptsPages, CursorStands, Nothi
 
 use sh_key::KeyLayout;
 use sh_lists::PageLists;
-use crate::owner::Owner;
-use sh_pass::Pass;
+use sh_pass::{Owner, Pass};
 use sh_shape::classes;
 use sh_step::PageName;
 use sh_value::Refusal;

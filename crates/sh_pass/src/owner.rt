@@ -5,14 +5,16 @@ ghost use Rattle.sh_shape.specs.Places.{pages_of};
 ghost use Rattle.sh_step.specs.declared.action.Action.TheVariants as action;
 ghost use Rattle.sh_step.specs.declared.moves.Move.TheVariants as move;
 ghost use Rattle.sh_table.specs.Tales.{ViewStands};
-ghost use Rattle.sh_pass.specs.Owners.{OwnerDid, OwnerAdopts, Left, HasNothing, heap_page, own_body, seen_page};
+ghost use Rattle.sh_pass.specs.Owners.{OwnerDid, OwnerTries, OwnerAdopts, Left, HasNothing, NonePut, NoneArmed, heap_page, own_body, seen_page};
 
-use sh_pass::Heap;
-use sh_pass::Pass;
+use crate::heap::Heap;
+use crate::pass::Pass;
+use crate::state::PassState;
+use arrayvec::ArrayVec;
 use sh_key::KeyLayout;
 use sh_step::PageName;
 use sh_table::Token;
-use std::marker::Model;
+use std::marker::{Model, PhantomData};
 
 /// A pass that may own a shard: what its shard is made with.
 ///
@@ -23,7 +25,7 @@ pub struct Owner<'a, L: KeyLayout> {
     pub(crate) heap: &'a Heap<L>,
     pub(crate) seat: Token,
     // The keys that it holds, in any order.
-    pub(crate) held: Vec<u64>,
+    pub(crate) held: ArrayVec<u64, 16>,
     // A bit for each pass that its tale names.
     pub(crate) named: u64,
 }
@@ -47,7 +49,19 @@ impl<'a, L: KeyLayout> Owner<'a, L> {
         ensures left { (own_body result).owned ≡ None }
         ensures stands { ViewStands L.layout result.view }
     {
-        unreachable!()
+        let Pass { heap, state } = pass;
+        let PassState {
+            seat,
+            held,
+            named,
+            layout: _,
+        } = state;
+        Owner {
+            heap,
+            seat,
+            held,
+            named,
+        }
     }
 
     /// The pass again.
@@ -56,7 +70,37 @@ impl<'a, L: KeyLayout> Owner<'a, L> {
         requires left { (own_body self).owned ≡ None }
         ensures { result ≡ self.entry }
     {
-        unreachable!()
+        let Owner {
+            heap,
+            seat,
+            held,
+            named,
+        } = self;
+        Pass {
+            heap,
+            state: PassState {
+                seat,
+                held,
+                named,
+                layout: PhantomData,
+            },
+        }
+    }
+
+    /// How many shards the heap has.
+    pub fn shards(&self) -> u64
+        ensures { result ≡ self.now.view.shape.shards }
+    {
+        let heap = self.heap;
+        u64::from(heap.table.shape().shards())
+    }
+
+    /// How many pages each shard has.
+    pub fn pages(&self) -> u64
+        ensures { result ≡ pages_of self.now.view.shape }
+    {
+        let heap = self.heap;
+        u64::from(heap.table.shape().pages())
     }
 
     // The number of a page over the whole heap.
@@ -65,7 +109,10 @@ impl<'a, L: KeyLayout> Owner<'a, L> {
         requires page { name.page < pages_of self.now.view.shape }
         ensures { result ≡ heap_page self.now name }
     {
-        unreachable!()
+        let heap = self.heap;
+        let shape = heap.table.shape();
+        let (_shards, _pages) = (shape.shards(), shape.pages());
+        u64::from(shape.page_number(name.shard as u32, name.page as u32))
     }
 
     /// Becomes the owner of the shard, where it finds 0.
@@ -74,9 +121,13 @@ impl<'a, L: KeyLayout> Owner<'a, L> {
         requires left { (own_body self.old).owned ≡ None }
         requires shard { shard < self.old.view.shape.shards }
         ensures does { OwnerDid L.layout (action.Adopt shard) (move.Adopt shard) result self.old self.new }
+        ensures tries { OwnerTries self.old self.new }
         ensures adopts { OwnerAdopts L.layout shard result self.old self.new }
+        ensures put { NonePut self.old self.new }
+        ensures arm { NoneArmed self.old self.new }
     {
-        unreachable!()
+        let heap = self.heap;
+        heap.table.adopt(&mut self.seat, shard)
     }
 
     /// Gives the shard up, of which it has nothing left.
@@ -88,20 +139,7 @@ impl<'a, L: KeyLayout> Owner<'a, L> {
         ensures does { OwnerDid L.layout action.Leave (move.Leave shard) 0 self.old self.new }
         ensures left { Left self.old self.new }
     {
-        unreachable!()
-    }
-
-    /// How many shards the heap has.
-    pub fn shards(&self) -> u64
-        ensures { result ≡ self.now.view.shape.shards }
-    {
-        unreachable!()
-    }
-
-    /// How many pages a shard has.
-    pub fn pages(&self) -> u64
-        ensures { result ≡ pages_of self.now.view.shape }
-    {
-        unreachable!()
+        let heap = self.heap;
+        heap.table.leave(&mut self.seat, shard);
     }
 }

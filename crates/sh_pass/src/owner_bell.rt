@@ -22,7 +22,8 @@ impl<'a, L: KeyLayout> Owner<'a, L> {
         ensures put { NonePut self.old self.new }
         ensures arm { NoneArmed self.old self.new }
     {
-        unreachable!()
+        let heap = self.heap;
+        heap.table.take_bell(&mut self.seat, shard)
     }
 
     /// Reads the link of the page at the bell's cursor, and answers it.
@@ -36,6 +37,8 @@ impl<'a, L: KeyLayout> Owner<'a, L> {
         ensures put { NonePut self.old self.new }
         ensures arm { NoneArmed self.old self.new }
     {
-        unreachable!()
+        let page = self.number(name);
+        let heap = self.heap;
+        heap.table.follow_bell(&mut self.seat, page)
     }
 }

@@ -15,6 +15,7 @@ ghost use Rattle.sh_pass.specs.Owners.{MayTouch, OwnerDid, OwnerActs, OnPage, Sa
 use crate::owner::Owner;
 use sh_key::KeyLayout;
 use sh_slots::{Spot, published_name};
+use sh_step::operands::key_of_name;
 use sh_step::{PageName, SlotName};
 use sh_value::Value;
 
@@ -32,7 +33,18 @@ impl<'a, L: KeyLayout> Owner<'a, L> {
         ensures page { OnPage (heap_page self.old name) (page_without (seen_page self.old (heap_page self.old name)) slot) self.old self.new }
         ensures put { NonePut self.old self.new }
     {
-        unreachable!()
+        let spot = Spot {
+            page: self.number(name),
+            slot,
+        };
+        let slot_name = SlotName {
+            shard: name.shard,
+            page: name.page,
+            slot,
+        };
+        let heap = self.heap;
+        heap.table.fill_slot(&mut self.seat, slot_name, spot, value);
+        spot
     }
 
     /// Stores the value's word of this number, from 0, in a page of this class word.
@@ -46,7 +58,8 @@ impl<'a, L: KeyLayout> Owner<'a, L> {
         ensures pages { SamePages self.old self.new }
         ensures put { NonePut self.old self.new }
     {
-        unreachable!()
+        let heap = self.heap;
+        heap.table.fill(&mut self.seat, spot, value, i, class_word);
     }
 
     /// Makes the filled slot present. Answers the state word that it found.
@@ -58,7 +71,8 @@ impl<'a, L: KeyLayout> Owner<'a, L> {
         ensures pages { SamePages self.old self.new }
         ensures put { NonePut self.old self.new }
     {
-        unreachable!()
+        let heap = self.heap;
+        heap.table.publish(&mut self.seat, spot, value)
     }
 
     /// Stores the value in a slot of its own, in a page of this class word: its length, each word, and then the slot is made
@@ -76,7 +90,14 @@ impl<'a, L: KeyLayout> Owner<'a, L> {
         ensures put { NonePut self.old self.new }
         ensures stands { ViewStands L.layout self.new.view }
     {
-        unreachable!()
+        let spot = self.fill_slot(name, slot, value);
+        for i in 0..value.words().len() as u64 {
+            self.fill(spot, value, i, class_word);
+        }
+        let found = self.publish(spot, value);
+        let stored = published_name(spot, found);
+        let heap = self.heap;
+        key_of_name::<L>(heap.table.shape(), stored)
     }
 
     /// Puts a slot of its own on its page's stack. Answers the head word that it found.
@@ -89,7 +110,17 @@ impl<'a, L: KeyLayout> Owner<'a, L> {
         ensures page { OnPage (heap_page self.old name) (page_without (seen_page self.old (heap_page self.old name)) slot) self.old self.new }
         ensures calm { (seen_page self.old (heap_page self.old name)).armed ≡ false → is_armed result ≡ false }
     {
-        unreachable!()
+        let spot = Spot {
+            page: self.number(name),
+            slot,
+        };
+        let slot_name = SlotName {
+            shard: name.shard,
+            page: name.page,
+            slot,
+        };
+        let heap = self.heap;
+        heap.table.put_slot(&mut self.seat, slot_name, spot)
     }
 
     /// Stores the link of the slot that it put; whether the put found the page armed.
@@ -101,6 +132,7 @@ impl<'a, L: KeyLayout> Owner<'a, L> {
         ensures pages { SamePages self.old self.new }
         ensures put { NonePut self.old self.new }
     {
-        unreachable!()
+        let heap = self.heap;
+        heap.table.tie(&mut self.seat, spot, link, ring);
     }
 }

@@ -20,7 +20,9 @@ impl<'a, L: KeyLayout> Owner<'a, L> {
         ensures page { OnPage (heap_page self.old name) (page_noted (seen_page self.old (heap_page self.old name)) result) self.old self.new }
         ensures few { result ≤ 8 }
     {
-        unreachable!()
+        let page = self.number(name);
+        let heap = self.heap;
+        heap.table.read_page(&mut self.seat, name, page)
     }
 
     /// Gives the page the class: a blank page, or one of another class all of whose slots are its own.
@@ -35,7 +37,9 @@ impl<'a, L: KeyLayout> Owner<'a, L> {
         ensures put { NonePut self.old self.new }
         ensures arm { NoneArmed self.old self.new }
     {
-        unreachable!()
+        let page = self.number(name);
+        let heap = self.heap;
+        heap.table.set_class(&mut self.seat, name, page, class);
     }
 
     /// Takes what was put on the page. Answers the head word that it found.
@@ -50,7 +54,9 @@ impl<'a, L: KeyLayout> Owner<'a, L> {
         ensures put { NonePut self.old self.new }
         ensures arm { NoneArmed self.old self.new }
     {
-        unreachable!()
+        let page = self.number(name);
+        let heap = self.heap;
+        heap.table.take(&mut self.seat, name, page)
     }
 
     /// Asks for a ring at the next put on the page, and takes what was put there. Answers the head word that it found.
@@ -65,7 +71,9 @@ impl<'a, L: KeyLayout> Owner<'a, L> {
         ensures page { OnPage (heap_page self.old name) (page_armed (seen_page self.old (heap_page self.old name)) result) self.old self.new }
         ensures put { NonePut self.old self.new }
     {
-        unreachable!()
+        let page = self.number(name);
+        let heap = self.heap;
+        heap.table.arm(&mut self.seat, name, page)
     }
 
     /// Reads the link of the slot at the page's cursor, and answers it.
@@ -79,6 +87,8 @@ impl<'a, L: KeyLayout> Owner<'a, L> {
         ensures put { NonePut self.old self.new }
         ensures arm { NoneArmed self.old self.new }
     {
-        unreachable!()
+        let page = self.number(name);
+        let heap = self.heap;
+        heap.table.follow(&mut self.seat, name, page, slot)
     }
 }
