@@ -5,7 +5,7 @@ use Rattle.sh_history.specs.declared.entry.Entry.{Entry}
 use Rattle.sh_history.specs.declared.log.LogEntry.{LogEntry}
 use Rattle.sh_history.specs.declared.log.LogEntry.TheVariants.{Known, Unread}
 use Rattle.sh_history.specs.declared.entry.Entry.TheVariants.{Insert, Got, Gone, Crowded, Removed, Released}
-use Rattle.sh_history.specs.History.{is_got_by, is_release_by, Legal}
+use Rattle.sh_history.specs.History.{is_got_by, is_release_by, is_got_from, is_release_from, Legal}
 
 -- the log entry may stand for the entry
 abbrev pub Agrees : LogEntry → Entry → Type 0
@@ -42,6 +42,18 @@ is_logged_release_by pass key (Unread p k) = false
 abbrev pub logged_holds_by : List LogEntry → ℕ → ℕ → ℕ
 logged_holds_by log pass key =
     count_by (is_logged_got_by pass key) log - count_by (is_logged_release_by pass key) log
+
+abbrev pub is_logged_got_from : ℕ → LogEntry → Bool
+is_logged_got_from pass (Known entry) = is_got_from pass entry
+is_logged_got_from pass (Unread p k) = p == pass
+
+abbrev pub is_logged_release_from : ℕ → LogEntry → Bool
+is_logged_release_from pass (Known entry) = is_release_from pass entry
+is_logged_release_from pass (Unread p k) = false
+
+-- how many holds the log leaves the pass, on whatever keys
+abbrev pub logged_hold_count : List LogEntry → ℕ → ℕ
+logged_hold_count log pass = count_by (is_logged_got_from pass) log - count_by (is_logged_release_from pass) log
 
 -- the log entry is a get of the key by the pass
 abbrev pub IsGotBy : ℕ → ℕ → LogEntry → Type 0

@@ -26,7 +26,7 @@ use Rattle.sh_step.specs.Plans.{plan_of, home}
 use Rattle.sh_core.specs.Lists.{times}
 use Rattle.sh_table.specs.declared.view.View.{View}
 use Rattle.sh_table.specs.Seats.{Heap, IsSeat}
-use Rattle.sh_table.specs.Steps.{row_by, did}
+use Rattle.sh_table.specs.Steps.{WordSays, row_by, did}
 use Rattle.sh_table.specs.Tales.{ViewStands}
 use Rattle.sh_pass.specs.Growing.{SameTale}
 use Rattle.sh_pass.specs.Passes.{Caller, IsTally}
@@ -155,6 +155,7 @@ pub record OwnerDid (layout : Layout) (x : Action) (m : Move) (n : ℕ) (v w : C
   pub heap : w.heap ≡ v.heap
   pub view : w.view ≡ did layout x m v.view n
   pub fits : answer (row_by layout v.view m).operation n ≡ Some n → RowFits v.view.shape (plan_of layout v.view.shape) (row_by layout v.view m) n
+  pub says : answer (row_by layout v.view m).operation n ≡ Some n → WordSays (plan_of layout v.view.shape) (own_body v) (row_by layout v.view m).place n
   pub stands : ViewStands layout w.view
 
 -- heap, tale, shard and holds are as before
@@ -172,9 +173,9 @@ abbrev pub NoneArmed : Caller → Caller → Type 0
 NoneArmed v w = arms w.view.own.trail ≡ arms v.view.own.trail
 
 -- in n steps the hand came to be so and these entries joined the log
-pub record OwnerActs (h : Hand) (es : List LogEntry) (n : ℕ) (v w : Caller) : Type 0 where
+pub record OwnerActs (begun : Hand) (es : List LogEntry) (n : ℕ) (v w : Caller) : Type 0 where
   pub aside : Aside v w
-  pub hand : (own_body w).hand ≡ h
+  pub hand : (own_body w).hand ≡ begun
   pub log : w.view.own.log ≡ v.view.own.log ++ es
   pub steps : length w.view.own.trail ≡ length v.view.own.trail + n
 
@@ -193,6 +194,15 @@ pub record OnPage (q : ℕ) (g : SeenPage) (v w : Caller) : Type 0 where
 
 abbrev pub SamePages : Caller → Caller → Type 0
 SamePages v w = (q : ℕ) → seen_page w q ≡ seen_page v q
+
+-- one step leaves all but the shard that the pass owns, and what it knows of it
+pub record OwnerTries (v w : Caller) : Type 0 where
+  pub heap : w.heap ≡ v.heap
+  pub same : SameTale v.view w.view
+  pub hand : (own_body w).hand ≡ Idle
+  pub holds : (own_body w).holds ≡ (own_body v).holds
+  pub log : w.view.own.log ≡ v.view.own.log
+  pub steps : length w.view.own.trail ≡ length v.view.own.trail + 1
 
 -- the pass owns shard n, of which it knows nothing yet
 pub record Adopted (n : ℕ) (v w : Caller) : Type 0 where
@@ -213,6 +223,7 @@ pub record Left (v w : Caller) : Type 0 where
   pub hand : (own_body w).hand ≡ Idle
   pub holds : (own_body w).holds ≡ (own_body v).holds
   pub log : w.view.own.log ≡ v.view.own.log
+  pub steps : length w.view.own.trail ≡ length v.view.own.trail + 1
 
 -- the key under which the slot's value is published, where its state was found so
 abbrev pub published : Layout → Caller → Spot → ℕ → ℕ

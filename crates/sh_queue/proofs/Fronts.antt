@@ -11,7 +11,7 @@ use Rattle.sh_queue.proofs.Numbers.{has_number-first, has_number-last, lowest}
 use Rattle.sh_queue.proofs.Sections.{page_of-following, page_of-preceding, has_number-queue, pages, Distinct-pages, has_number-pages, run-append-queues}
 use Rattle.sh_queue.proofs.Moves.{length-queues_from}
 
--- the first of a pages_behind, if there is one, is opened, and so is the last
+-- the first of a queue, if there is one, is opened, and so is the last
 IfSome-from : (o : Option ℕ) (P : ℕ → Type 0) → ((p : ℕ) → o ≡ Some p → P p) → IfSome o P
 IfSome-from None P h = tt
 IfSome-from (Some p) P h = h p refl
@@ -21,7 +21,7 @@ is_opened
     → KeepsQueues w size opened unopened notes → has_number p (pages_behind k w) ≡ true → p < opened
 is_opened w k p size opened unopened notes h here = ltb-true p opened (sym (h.pages p) ∙ has_number-queue k p w here)
 
--- the front page of the pages_behind behind a mark
+-- the front page of the queue behind a mark
 pub record IsFront (w : List ℕ) (k opened : ℕ) (answer : Option ℕ) : Type 0 where
   pub is : answer ≡ slice_get (pages_behind k w) 0
   pub is_opened : IfSome answer (λ page. page < opened)
@@ -38,7 +38,7 @@ front_of w k x size opened unopened notes answer h found said =
           (λ p some. is_opened w k p size opened unopened notes h (has_number-first p (pages_behind k w) (sym is ∙ some)));
     }
 
--- the last page of the pages_behind behind a mark
+-- the last page of the queue behind a mark
 pub record IsLast (w : List ℕ) (k opened : ℕ) (answer : Option ℕ) : Type 0 where
   pub is : answer ≡ last_or None (pages_behind k w)
   pub is_opened : IfSome answer (λ page. page < opened)
@@ -67,7 +67,7 @@ lowest_blank xs answer rises is =
     IfSome-from answer (λ page. (other : ℕ) → has_number other xs ≡ true → page ≤ other)
     (λ p some other here. lowest p other 0 xs rises (sym is ∙ some) here)
 
--- ---- each page stands in one pages_behind
+-- ---- each page stands in one queue
 
 all_pages-shown
     : (w : List ℕ) (size opened unopened : ℕ) (notes : List Bool)

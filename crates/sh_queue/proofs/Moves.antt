@@ -23,7 +23,7 @@ pub length-queues_from : (n k : ℕ) (w : List ℕ) → length (queues_from n k 
 length-queues_from zero k w = refl
 length-queues_from (suc n) k w = ap suc (length-queues_from n (suc k) w)
 
--- a page is taken out of each pages_behind
+-- a page is taken out of each queue
 queues_from-without
     : (n k p : ℕ) (w w' : List ℕ)
     → ((i : ℕ) → k ≤ i → i < k + n → pages_behind i w' ≡ without_number p (pages_behind i w))
@@ -54,7 +54,7 @@ class_is c w inside = get_or-queues_from 8 0 c w inside ∙ ap (λ m. pages_behi
 
 -- ---- a page is moved
 
--- page p stands in pages_behind t, which is this one now, and the other queues are as they were without_number it
+-- page p stands in queue t, which is this one now, and the other queues are as they were without it
 pub record Moved (w w' : List ℕ) (t p : ℕ) (new : List ℕ) : Type 0 where
   pub target : pages_behind t w' ≡ new
   pub others : (k : ℕ) → k < 11 → k ≢ t → pages_behind k w' ≡ without_number p (pages_behind k w)

@@ -19,7 +19,7 @@ or_cases false b e = inr e
 cases_le : (m n : ℕ) → (m ≤ n) ⊎ (n < m)
 cases_le m n = ⊎_elim (λ (h : n < m). inr h) (λ (h : m ≤ n). inl h) (cases_lt n m)
 
--- what stands there without_number p stood there before
+-- what stands there without p stood there before
 pub has_number-from_without : (r p : ℕ) (xs : List ℕ) → has_number r (without_number p xs) ≡ true → has_number r xs ≡ true
 has_number-from_without r p xs here = has_number-from_times r xs (⊎_elim
     (λ (is : p ≡ r).
@@ -54,7 +54,7 @@ has_number-in_back r p xs here = ⊎_elim
     (λ (h : has_number r (p ∷ []) ≡ true). inr (has_number-only r p h))
     (or_cases (has_number r (without_number p xs)) (has_number r (p ∷ [])) (sym (has_number-append r (without_number p xs) (p ∷ [])) ∙ here))
 
--- a list in which p does not stand is the same without_number it
+-- a list in which p does not stand is the same without it
 pub without_number-hasnt : (p : ℕ) (xs : List ℕ) → has_number p xs ≡ false → without_number p xs ≡ xs
 without_number-hasnt p xs none = without_number-missing p xs (Misses-from_has p xs none)
 
@@ -376,7 +376,7 @@ module _ (q : PageQueues) (once : EachOnce q) where
   pub blank_distinct : Distinct q.blank
   blank_distinct = Distinct-from_times q.blank (λ k. let few = times-few k q once in omega arith)
 
-  -- a class has_number no more pages than are opened
+  -- a class has no more pages than are opened
   pub length-class_queue : (c : ℕ) → length (class_queue q c) ≤ q.opened
   length-class_queue c =
       length-le_from_Distinct q.opened (class_queue q c) (class_distinct c)

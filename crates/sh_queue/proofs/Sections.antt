@@ -313,7 +313,7 @@ marks-put_before m p (x ∷ xs) =
       | false ↦ ap (λ ys. cond (nat_lt x 11) (x ∷ ys) ys) (marks-put_before m p xs)
     ]
 
--- ---- the ends of a pages_behind
+-- ---- the ends of a queue
 
 -- the number behind a mark is the front page, or the next mark
 pub page_of-following : (c : ℕ) (xs : List ℕ) → page_numbered (following c xs) ≡ slice_get (pages_behind c xs) 0
@@ -384,7 +384,7 @@ page_of-preceding c a j n (x ∷ xs) is from upto mark =
       next c a (suc n) xs is some mark small =
           page_of-preceding_next (suc c) a n xs is mark ∙ ap (λ o. last_or o (pages_to_mark xs)) (page_of-mark a small)
 
--- ---- the pages of a pages_behind are pages of the chain
+-- ---- the pages of a queue are pages of the chain
 
 has_number-run : (p : ℕ) (xs : List ℕ) → has_number p (pages_to_mark xs) ≡ true → has_number (11 + p) xs ≡ true
 has_number-run p [] here = absurd (false≢true here)

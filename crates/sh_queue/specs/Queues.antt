@@ -4,8 +4,8 @@ use Rattle.std.specs.List.{concat}
 use Rattle.sh_lists.specs.Numbers.{Distinct, upward}
 use Rattle.sh_queue.specs.Numbers.{has_number, without_number, RisesFrom}
 
--- how many pages are opened, the first ones; how many segments are not; the pages that stand in the pages_behind of each of the
--- 8 classes, in the full pages_behind, and the blank pages, each list from its front
+-- how many pages are opened, the first ones; how many segments are not; the pages that stand in the queue of each of the
+-- 8 classes, in the full queue, and the blank pages, each list from its front
 pub record PageQueues : Type 0 where
   pub opened : ℕ
   pub unopened : ℕ
@@ -13,7 +13,7 @@ pub record PageQueues : Type 0 where
   pub full : List ℕ
   pub blank : List ℕ
 
--- the pages in the pages_behind of class c
+-- the pages in the queue of class c
 abbrev pub class_queue : PageQueues → ℕ → List ℕ
 class_queue q c = get_or q.classes c []
 
@@ -38,7 +38,7 @@ abbrev pub taken_out : ℕ → PageQueues → PageQueues
 taken_out page q =
     record q { classes = map (without_number page) q.classes; full = without_number page q.full; blank = without_number page q.blank }
 
--- the pages_behind of class c becomes this one
+-- the queue of class c becomes this one
 abbrev pub with_class : ℕ → List ℕ → PageQueues → PageQueues
 with_class c pages q = record q { classes = slice_set q.classes c pages }
 
@@ -50,7 +50,7 @@ at_front c page q = with_class c (page ∷ without_number page (class_queue q c)
 abbrev pub at_back : ℕ → ℕ → PageQueues → PageQueues
 at_back c page q = with_class c (without_number page (class_queue q c) ++ page ∷ []) (taken_out page q)
 
--- the page, taken from where it stands, is the last of the full pages_behind
+-- the page, taken from where it stands, is the last of the full queue
 abbrev pub among_full : ℕ → PageQueues → PageQueues
 among_full page q = record (taken_out page q) { full = without_number page q.full ++ page ∷ [] }
 
@@ -61,7 +61,7 @@ one_more_segment q =
 
 -- ---- how one chain of numbers holds the queues
 
--- The numbers below 11 are marks: 0 to 7 stand ahead of the queues of the classes, 8 ahead of the full pages_behind, 9 ahead of
+-- The numbers below 11 are marks: 0 to 7 stand ahead of the queues of the classes, 8 ahead of the full queue, 9 ahead of
 -- the blank pages, 10 at the end. Page p is the number 11 + p.
 
 -- the page that a number stands for; a mark stands for none
@@ -102,8 +102,8 @@ queues_shown numbers opened unopened = record {
   blank = pages_behind 9 numbers;
 }
 
--- what is true of the chain: it has_number the marks in ascending order, the opened pages between them, and the blank pages rise;
--- the notes tell which pages are in the full pages_behind
+-- what is true of the chain: it has the marks in ascending order, the opened pages between them, and the blank pages rise;
+-- the notes tell which pages are in the full queue
 pub record KeepsQueues (numbers : List ℕ) (size opened unopened : ℕ) (notes : List Bool) : Type 0 where
   pub room : 11 + opened ≤ size
   pub few : opened + 8 * unopened ≤ 2048

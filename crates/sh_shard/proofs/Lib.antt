@@ -5,3 +5,7 @@ pub mod Hearing
 pub mod Trying
 pub mod Preparing
 pub mod FullPages
+pub mod PageLaws
+pub mod Keeping
+pub mod Working
+pub mod Wholly

@@ -209,14 +209,14 @@ pub record BarePage (g : SeenPage) : Type 0 where
   pub class : g.class ≡ Some word
   pub few : word ≤ 8
 
--- the shard is its own, and the class word of each of its pages is known
-pub record AdoptsShard (v : Caller) (shard : ℕ) (n : Paged) : Type 0 where
+-- shard k is its own, and the class word of each of its pages is known
+pub record AdoptsShard (v : Caller) (k : ℕ) (n : Paged) : Type 0 where
   pub heap : n.owner.heap ≡ v.heap
   pub same : SameTale v.view n.owner.view
   pub log : n.owner.view.own.log ≡ v.view.own.log
   pub holds : (own_body n.owner).holds ≡ (own_body v).holds
-  pub owned : (own_body n.owner).owned ≡ Some shard
-  pub shard : n.shard ≡ shard
+  pub owned : (own_body n.owner).owned ≡ Some k
+  pub shard : n.shard ≡ k
   pub count : n.count ≡ pages_of v.view.shape
   pub bell : n.bell.cursor ≡ None
   pub pages : (p : ℕ) → p < n.count → BarePage (page_at n p)

@@ -26,8 +26,8 @@ impl<'a, L: KeyLayout> Pages<'a, L> {
 
     /// Gives the shard up, of which it has nothing.
     pub(crate) fn give_up(self) -> Pass<'a, L>
-        requires pages { (p : ℕ) → p < self.entry.count → BarePage (page_at self.entry p) }
-        requires bell { self.entry.bell.cursor ≡ None }
+        requires pages { (p : ℕ) → p < self.count → BarePage (page_at self p) }
+        requires bell { self.bell.cursor ≡ None }
         ensures { ShardLeft self.entry.owner result }
     {
         unreachable!()

@@ -11,7 +11,6 @@ mod collecting;
 mod departing;
 mod insert;
 mod leaving;
-pub mod owner;
 pub mod pages;
 mod prepare;
 mod returning;

@@ -1,11 +1,10 @@
 //! The pages of an owner's shard: what is kept of each is what the owner knows of it.
-ghost use Rattle.std.specs.Prelude.{◌≡◌, ℕ, ◌<◌, Option, None, MatchBool, true, false};
+ghost use Rattle.std.specs.Prelude.{◌≡◌, ℕ, ◌<◌, ◌≤◌, Option, None, MatchBool, true, false};
 ghost use Rattle.sh_shard.specs.Pages.{page_at, AdoptsPages, CursorStands, NothingMine, WhollyMine};
 
 use sh_key::KeyLayout;
 use sh_lists::PageLists;
-use crate::owner::Owner;
-use sh_pass::Pass;
+use sh_pass::{Owner, Pass};
 use sh_shape::classes;
 use sh_step::PageName;
 use sh_value::Refusal;

@@ -1,5 +1,5 @@
 // Using the slots of a page.
-ghost use Rattle.std.specs.Prelude.{◌≡◌, ℕ, ◌+◌, ◌-◌, ◌<◌, ◌⊎◌, length, Some, MatchOption, IfSome};
+ghost use Rattle.std.specs.Prelude.{◌≡◌, ℕ, ◌+◌, ◌-◌, ◌<◌, ◌≤◌, ◌⊎◌, length, Some, MatchOption, IfSome};
 ghost use Rattle.sh_shape.specs.Classes.{width};
 ghost use Rattle.sh_pass.specs.Owners.{IsKeyIn};
 ghost use Rattle.sh_shard.specs.Pages.{page_at, seen_class, WorksOn, PageDone, NothingMine, WhollyMine, PageInserts, TakesSteps, GivesClass};
