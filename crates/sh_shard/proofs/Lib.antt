@@ -1,0 +1,11 @@
+pub mod Sides
+pub mod Sorting
+pub mod Searching
+pub mod Hearing
+pub mod Trying
+pub mod Preparing
+pub mod FullPages
+pub mod PageLaws
+pub mod Keeping
+pub mod Working
+pub mod Wholly

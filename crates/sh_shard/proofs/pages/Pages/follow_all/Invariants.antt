@@ -1,0 +1,11 @@
+use Rattle.std.proofs.Common.{◌≡◌, ◌≤◌}
+use Rattle.sh_shard.specs.Pages.{page_at, WorksOn, NoArming, own_slots}
+use Rattle.sh_shard.proofs.pages.Pages.follow_all.Given as goal
+
+abbrev pub invariant-loop-turn : goal.invariant-loop-turn
+invariant-loop-turn g l = record {
+  works : WorksOn l.page l.fn.self l.self;
+  arm : NoArming l.fn.self l.self;
+  armed : (page_at l.self l.page).armed ≡ (page_at l.fn.self l.page).armed;
+  more : l._turn ≤ own_slots (page_at l.self l.page);
+}

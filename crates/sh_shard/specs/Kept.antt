@@ -1,0 +1,40 @@
+-- What is kept of the pages of an owner's shard.
+use Rattle.std.specs.Prelude.{◌≡◌, ℕ, ◌<◌, ◌≤◌, false, List, [], ◌++◌, length, get_or, Option, Some, None}
+use Rattle.sh_key.specs.Layout.{Layout}
+use Rattle.sh_lists.specs.Lists.{Lists}
+use Rattle.sh_queue.specs.Numbers.{has_number}
+use Rattle.sh_shape.specs.Places.{pages_of}
+use Rattle.sh_slots.specs.declared.hand.Hand.TheVariants.{Idle}
+use Rattle.sh_table.specs.Tales.{ViewStands}
+use Rattle.sh_pass.specs.Passes.{Caller}
+use Rattle.sh_pass.specs.Owners.{SeenPage, heap_page, own_body, seen_page}
+use Rattle.sh_shard.specs.declared.pages.PageState.{PageState}
+use Rattle.sh_shard.specs.Pages.{shard_page}
+
+abbrev pub bare_lists : Lists
+bare_lists = record { free = []; local = []; cursor = None }
+
+abbrev pub blank_state : PageState
+blank_state = record { lists = bare_lists; class_word = 0; armed = false }
+
+-- what is kept of a page is what its owner knows of it: each slot of the lists is its own, and no other is; a blank page is not armed
+pub record KeepsPage (st : PageState) (g : SeenPage) : Type 0 where
+  pub class : g.class ≡ Some st.class_word
+  pub few : st.class_word ≤ 8
+  pub cursor : g.cursor ≡ st.lists.cursor
+  pub armed : g.armed ≡ st.armed
+  pub mine : (s : ℕ) → has_number s (st.lists.free ++ st.lists.local) ≡ g.mine s
+  pub blank : st.class_word ≡ 0 → st.armed ≡ false
+
+-- the number over the whole heap of a page of the shard, if there is one
+abbrev pub rings_at : Caller → ℕ → Option ℕ → Option ℕ
+rings_at v shard rings = elim rings [ Some p ↦ Some (heap_page v (shard_page shard p)) | None ↦ None ]
+
+-- nothing is begun, the shard is its own, and of each page is kept what is known of it
+pub record KeepsPages (layout : Layout) (v : Caller) (shard : ℕ) (rings : Option ℕ) (states : List PageState) : Type 0 where
+  pub stands : ViewStands layout v.view
+  pub idle : (own_body v).hand ≡ Idle
+  pub owned : (own_body v).owned ≡ Some shard
+  pub bell : (own_body v).bell_cursor ≡ rings_at v shard rings
+  pub few : length states ≡ pages_of v.view.shape
+  pub pages : (p : ℕ) → p < length states → KeepsPage (get_or states p blank_state) (seen_page v (heap_page v (shard_page shard p)))

@@ -1,0 +1,6 @@
+pub mod Pages
+pub mod Kept
+pub mod Leaving
+pub mod Shards
+pub mod Searches
+pub mod Returning

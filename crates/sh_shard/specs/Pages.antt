@@ -1,0 +1,242 @@
+-- What a contract sees of the pages of an owner's shard, and what work on them does.
+use Rattle.std.specs.Prelude.{◌≡◌, ◌≢◌, ℕ, zero, suc, ◌+◌, ◌-◌, ◌<◌, ◌≤◌, ◌⊎◌, Bool, true, false, List, [], ◌∷◌, ◌++◌, length, Option, Some, None, MatchOption, IfSome, Result, Ok, Err}
+use Rattle.sh_history.specs.declared.entry.Entry.TheVariants as entry
+use Rattle.sh_history.specs.declared.log.LogEntry.TheVariants.{Known}
+use Rattle.sh_shape.specs.Classes.{slots}
+use Rattle.sh_shape.specs.Places.{pages_of}
+use Rattle.sh_slots.specs.declared.hand.Hand.TheVariants.{Idle}
+use Rattle.sh_step.specs.Collections.{if1}
+use Rattle.sh_step.specs.Footsteps.{owner_met}
+use Rattle.sh_step.specs.declared.action.PageName.{PageName}
+use Rattle.sh_value.specs.declared.refusal.Refusal.{Refusal}
+use Rattle.sh_value.specs.declared.refusal.Refusal.TheVariants as refusal
+use Rattle.sh_pass.specs.Growing.{SameTale}
+use Rattle.sh_pass.specs.Passes.{Caller}
+use Rattle.sh_pass.specs.Owners.{SeenPage, SeenBell, Aside, NonePut, NoneArmed, heap_page, own_body, page_given, page_with, seen_page}
+
+-- what the owner knows, its shard, how many pages that has, and its bell as the owner sees it
+pub record Paged : Type 0 where
+  pub owner : Caller
+  pub shard : ℕ
+  pub count : ℕ
+  pub bell : SeenBell
+
+-- page p of the shard
+abbrev pub shard_page : ℕ → ℕ → PageName
+shard_page shard p = record { shard = shard; page = p }
+
+-- page p of the shard as the owner sees it
+abbrev pub page_at : Paged → ℕ → SeenPage
+page_at v p = seen_page v.owner (heap_page v.owner (shard_page v.shard p))
+
+-- the page's class word, 0 where none is known
+abbrev pub seen_class : SeenPage → ℕ
+seen_class g = elim (g.class) [ Some c ↦ c | None ↦ 0 ]
+
+-- how many numbers below n pass
+abbrev pub count_below : (ℕ → Bool) → ℕ → ℕ
+count_below f zero = 0
+count_below f (suc n) = if1 (f n) + count_below f n
+
+-- how many of the page's slots are its owner's
+abbrev pub own_slots : SeenPage → ℕ
+own_slots g = count_below g.mine 48
+
+abbrev pub NothingMine : SeenPage → Type 0
+NothingMine g = (s : ℕ) → g.mine s ≡ false
+
+-- all slots of the page's class are its owner's
+pub record WhollyMine (g : SeenPage) : Type 0 where
+  pub class : ℕ
+  pub classed : g.class ≡ Some (suc class)
+  pub mine : (s : ℕ) → s < slots class → g.mine s ≡ true
+
+abbrev pub CursorStands : Option ℕ → Type 0
+CursorStands c = MatchOption c ⊥ (λ _. Unit {0})
+
+-- where a cursor stands, a link was not written, in this work
+abbrev pub WaitsSince : SeenPage → SeenPage → Type 0
+WaitsSince g h = MatchOption h.cursor (Unit {0}) (λ _. g.met < h.met)
+
+-- so many steps were taken
+abbrev pub TakesSteps : ℕ → Paged → Paged → Type 0
+TakesSteps n v w = length w.owner.view.own.trail ≡ length v.owner.view.own.trail + n
+
+abbrev pub NoArming : Paged → Paged → Type 0
+NoArming o n = NoneArmed o.owner n.owner
+
+-- ---- work on one page
+
+-- work on page p alone, which adds nothing to the log and puts nothing
+pub record WorksOn (p : ℕ) (o n : Paged) : Type 0 where
+  pub aside : Aside o.owner n.owner
+  pub put : NonePut o.owner n.owner
+  pub bell : n.bell ≡ o.bell
+  pub log : n.owner.view.own.log ≡ o.owner.view.own.log
+  pub shard : n.shard ≡ o.shard
+  pub count : n.count ≡ o.count
+  pub class : (page_at n p).class ≡ (page_at o p).class
+  pub takes : (page_at o p).takes ≤ (page_at n p).takes
+  pub met : (page_at o p).met ≤ (page_at n p).met
+  pub others : (q : ℕ) → q ≢ p → page_at n q ≡ page_at o q
+
+-- what was put on the page was taken: it is armed as before, or no longer
+pub record TakesPage (p : ℕ) (o n : Paged) : Type 0 where
+  pub works : WorksOn p o n
+  pub arm : NoArming o n
+  pub takes : (page_at n p).takes ≡ (page_at o p).takes + 1
+  pub armed : (page_at o p).armed ≡ false → (page_at n p).armed ≡ false
+
+-- the cursor went on, and one slot more is its own
+pub record CursorMoves (p : ℕ) (o n : Paged) : Type 0 where
+  pub works : WorksOn p o n
+  pub arm : NoArming o n
+  pub armed : (page_at n p).armed ≡ (page_at o p).armed
+  pub more : own_slots (page_at n p) ≡ own_slots (page_at o p) + 1
+
+-- the cursor is at its end, or met a link that was not written
+pub record CursorStops (p : ℕ) (o n : Paged) : Type 0 where
+  pub works : WorksOn p o n
+  pub arm : NoArming o n
+  pub armed : (page_at n p).armed ≡ (page_at o p).armed
+  pub waits : WaitsSince (page_at o p) (page_at n p)
+
+-- the page's stack was collected, as far as its links are written
+pub record CollectsPage (p : ℕ) (o n : Paged) : Type 0 where
+  pub works : WorksOn p o n
+  pub waits : WaitsSince (page_at o p) (page_at n p)
+
+-- after it the page is armed, unless a cursor stands; that cursor stood before, or met a link that was not written
+pub record GuardsPage (p : ℕ) (o n : Paged) : Type 0 where
+  pub works : WorksOn p o n
+  pub waits : MatchOption (page_at n p).cursor ((page_at n p).armed ≡ true) (λ _. (n ≡ o) ⊎ ((page_at o p).met < (page_at n p).met))
+
+-- nothing is left in the page: where it has a cursor, a link was not written in this call; else it is armed
+pub record PageDone (o n : Paged) (p : ℕ) : Type 0 where
+  pub mine : NothingMine (page_at n p)
+  pub waits : MatchOption (page_at n p).cursor ((page_at n p).armed ≡ true) (λ _. (page_at o p).met < (page_at n p).met)
+
+-- the value joined the log under this key, in page p; nothing was put, and no page changed its class
+pub record PageInserts (p : ℕ) (value : List ℕ) (key : ℕ) (o n : Paged) : Type 0 where
+  pub aside : Aside o.owner n.owner
+  pub put : NonePut o.owner n.owner
+  pub bell : n.bell ≡ o.bell
+  pub log : n.owner.view.own.log ≡ o.owner.view.own.log ++ Known (entry.Insert o.owner.view.pass key value) ∷ []
+  pub shard : n.shard ≡ o.shard
+  pub count : n.count ≡ o.count
+  pub class : (page_at n p).class ≡ (page_at o p).class
+  pub others : (q : ℕ) → q ≢ p → page_at n q ≡ page_at o q
+
+-- page p was given class c: all its slots are its owner's
+pub record GivesClass (p c : ℕ) (o n : Paged) : Type 0 where
+  pub aside : Aside o.owner n.owner
+  pub put : NonePut o.owner n.owner
+  pub arm : NoArming o n
+  pub bell : n.bell ≡ o.bell
+  pub log : n.owner.view.own.log ≡ o.owner.view.own.log
+  pub shard : n.shard ≡ o.shard
+  pub count : n.count ≡ o.count
+  pub here : page_at n p ≡ page_given (page_at o p) c
+  pub others : (q : ℕ) → q ≢ p → page_at n q ≡ page_at o q
+
+-- ---- the bell
+
+-- what was put on the bell was taken
+pub record BellTakes (o n : Paged) : Type 0 where
+  pub aside : Aside o.owner n.owner
+  pub put : NonePut o.owner n.owner
+  pub arm : NoArming o n
+  pub log : n.owner.view.own.log ≡ o.owner.view.own.log
+  pub shard : n.shard ≡ o.shard
+  pub count : n.count ≡ o.count
+  pub takes : n.bell.takes ≡ o.bell.takes + 1
+  pub met : n.bell.met ≡ o.bell.met
+  pub pages : (q : ℕ) → page_at n q ≡ page_at o q
+
+-- the bell's cursor is at its end, or met a link that was not written
+pub record BellStops (o n : Paged) : Type 0 where
+  pub aside : Aside o.owner n.owner
+  pub put : NonePut o.owner n.owner
+  pub arm : NoArming o n
+  pub log : n.owner.view.own.log ≡ o.owner.view.own.log
+  pub shard : n.shard ≡ o.shard
+  pub count : n.count ≡ o.count
+  pub takes : n.bell.takes ≡ o.bell.takes
+  pub met : o.bell.met ≤ n.bell.met
+  pub waits : MatchOption n.bell.cursor (Unit {0}) (λ _. o.bell.met < n.bell.met)
+  pub pages : (q : ℕ) → page_at n q ≡ page_at o q
+
+-- page p was read from the bell: it was armed, and is no longer
+pub record BellReads (p : ℕ) (o n : Paged) : Type 0 where
+  pub aside : Aside o.owner n.owner
+  pub put : NonePut o.owner n.owner
+  pub arm : NoArming o n
+  pub log : n.owner.view.own.log ≡ o.owner.view.own.log
+  pub shard : n.shard ≡ o.shard
+  pub count : n.count ≡ o.count
+  pub takes : n.bell.takes ≡ o.bell.takes
+  pub met : n.bell.met ≡ o.bell.met
+  pub inside : p < n.count
+  pub was : (page_at o p).armed ≡ true
+  pub here : page_at n p ≡ record (page_at o p) { armed = false }
+  pub others : (q : ℕ) → q ≢ p → page_at n q ≡ page_at o q
+
+-- how many pages are armed
+abbrev pub armed_pages : Paged → ℕ
+armed_pages v = count_below (λ p. (page_at v p).armed) v.count
+
+-- ---- the four calls
+
+-- where a slot came to be the owner's, its page has one more; all other pages and the bell are as they were
+pub record SlotComes (came : Option ℕ) (o n : Paged) : Type 0 where
+  pub owned : (own_body n.owner).owned ≡ (own_body o.owner).owned
+  pub same : SameTale o.owner.view n.owner.view
+  pub bell : n.bell ≡ o.bell
+  pub shard : n.shard ≡ o.shard
+  pub count : n.count ≡ o.count
+  pub inside : IfSome came (λ p. p < n.count)
+  pub here : IfSome came (λ p. (s : ℕ) × (page_at n p ≡ page_with (page_at o p) s))
+  pub others : (q : ℕ) → came ≢ Some q → page_at n q ≡ page_at o q
+
+-- ---- becoming the owner
+
+-- a page of which nothing but its class word is known: no slot of it is its owner's, it has no cursor and is not armed
+pub record BarePage (g : SeenPage) : Type 0 where
+  pub mine : NothingMine g
+  pub cursor : g.cursor ≡ None
+  pub armed : g.armed ≡ false
+  pub word : ℕ
+  pub class : g.class ≡ Some word
+  pub few : word ≤ 8
+
+-- shard k is its own, and the class word of each of its pages is known
+pub record AdoptsShard (v : Caller) (k : ℕ) (n : Paged) : Type 0 where
+  pub heap : n.owner.heap ≡ v.heap
+  pub same : SameTale v.view n.owner.view
+  pub log : n.owner.view.own.log ≡ v.view.own.log
+  pub holds : (own_body n.owner).holds ≡ (own_body v).holds
+  pub owned : (own_body n.owner).owned ≡ Some k
+  pub shard : n.shard ≡ k
+  pub count : n.count ≡ pages_of v.view.shape
+  pub bell : n.bell.cursor ≡ None
+  pub pages : (p : ℕ) → p < n.count → BarePage (page_at n p)
+
+-- nothing is its own, and it has begun nothing; heap, tale, log and holds are as before
+pub record ShardLeft (v w : Caller) : Type 0 where
+  pub heap : w.heap ≡ v.heap
+  pub same : SameTale v.view w.view
+  pub log : w.view.own.log ≡ v.view.own.log
+  pub holds : (own_body w).holds ≡ (own_body v).holds
+  pub hand : (own_body w).hand ≡ Idle
+  pub owned : (own_body w).owned ≡ None
+
+-- why a shard was not adopted: there is none of the number, it has an owner, as one more step tells, or memory was refused
+abbrev pub AdoptRefused : ℕ → Caller → Caller → Refusal → Type 0
+AdoptRefused shard v w refusal.NoShard = (v.view.shape.shards ≤ shard) × (w ≡ v)
+AdoptRefused shard v w refusal.Taken = (shard < v.view.shape.shards) × ShardLeft v w × (length w.view.own.trail ≡ length v.view.own.trail + 1) × (owner_met shard w.view.own.trail ≡ owner_met shard v.view.own.trail + 1)
+AdoptRefused shard v w refusal.Memory = (shard < v.view.shape.shards) × ShardLeft v w
+AdoptRefused shard v w _ = ⊥
+
+abbrev pub AdoptsPages : ℕ → Caller → Result Paged (Caller × Refusal) → Type 0
+AdoptsPages shard v (Ok n) = (shard < v.view.shape.shards) × AdoptsShard v shard n
+AdoptsPages shard v (Err r) = AdoptRefused shard v r.0 r.1

@@ -1,0 +1,33 @@
+-- How pages come back from the full queue, and how the pages of a shard that is adopted come to their queues.
+use Rattle.std.specs.Prelude.{◌≡◌, ◌≢◌, ℕ, ◌+◌, ◌-◌, ◌*◌, ◌<◌, ◌≤◌, ◌⊎◌, true, false, Some}
+use Rattle.sh_queue.specs.Numbers.{has_number}
+use Rattle.sh_queue.specs.Queues.{PageQueues, class_queue, at_back}
+use Rattle.sh_shard.specs.Pages.{Paged, page_at, seen_class}
+use Rattle.sh_shard.specs.Shards.{FullPage}
+
+-- each page stands where it belongs, but that those named may stand in the full queue and have a slot or a cursor, or not be armed
+pub record SortedBut (named : ℕ → Type 0) (v : Paged) (q : PageQueues) : Type 0 where
+  pub all : q.opened + 8 * q.unopened ≡ v.count
+  pub later : (p : ℕ) → q.opened ≤ p → p < v.count → (page_at v p).class ≡ Some 0
+  pub classes : (c p : ℕ) → has_number p (class_queue q c) ≡ true → (page_at v p).class ≡ Some (c + 1)
+  pub full : (p : ℕ) → has_number p q.full ≡ true → ¬ named p → FullPage (page_at v p)
+  pub word : (p : ℕ) → has_number p q.full ≡ true → (0 < seen_class (page_at v p)) × (seen_class (page_at v p) ≤ 8)
+  pub blank : (p : ℕ) → has_number p q.blank ≡ true → (page_at v p).class ≡ Some 0
+
+-- where page p stood in the full queue and is not a full page, it went to the back of its class
+abbrev pub ReturnsPage : ℕ → Paged → PageQueues → PageQueues → Type 0
+ReturnsPage p v q q' = ((q' ≡ q) × ((has_number p q.full ≡ false) ⊎ FullPage (page_at v p)))
+    ⊎ ((has_number p q.full ≡ true) × (q' ≡ at_back (seen_class (page_at v p) - 1) p q))
+
+-- no page is in a class yet, and none is full
+pub record AllBlank (count : ℕ) (q : PageQueues) : Type 0 where
+  pub all : q.opened + 8 * q.unopened ≡ count
+  pub classes : (c p : ℕ) → has_number p (class_queue q c) ≡ false
+  pub full : (p : ℕ) → has_number p q.full ≡ false
+
+-- the pages below k stand in the queues of their classes, and no page is full
+pub record FiledBelow (k : ℕ) (v : Paged) (q : PageQueues) : Type 0 where
+  pub all : q.opened + 8 * q.unopened ≡ v.count
+  pub classes : (c p : ℕ) → has_number p (class_queue q c) ≡ true → (page_at v p).class ≡ Some (c + 1)
+  pub full : (p : ℕ) → has_number p q.full ≡ false
+  pub blank : (p : ℕ) → has_number p q.blank ≡ true → p < k → (page_at v p).class ≡ Some 0

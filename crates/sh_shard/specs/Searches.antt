@@ -1,0 +1,79 @@
+-- What a search of an owner's pages does, part by part.
+use Rattle.std.specs.Prelude.{◌≡◌, ◌≢◌, ℕ, ◌+◌, ◌-◌, ◌<◌, ◌≤◌, ◌⊎◌, Bool, true, false, List, ◌++◌, length, Some, None, MatchOption}
+use Rattle.std.specs.List.{last_or}
+use Rattle.sh_queue.specs.Numbers.{has_number}
+use Rattle.sh_queue.specs.Queues.{class_queue, at_back, among_full}
+use Rattle.sh_pass.specs.Owners.{Aside, NonePut, NoneArmed}
+use Rattle.sh_shard.specs.Pages.{Paged, page_at, PageDone, BellReads}
+use Rattle.sh_shard.specs.Shards.{Sharded, WorksThroughout, BellDone}
+
+-- work on pages that adds nothing to the log, puts nothing and changes no page's class; the bell is as it was
+pub record WorkedSince (o n : Paged) : Type 0 where
+  pub aside : Aside o.owner n.owner
+  pub put : NonePut o.owner n.owner
+  pub bell : n.bell ≡ o.bell
+  pub log : n.owner.view.own.log ≡ o.owner.view.own.log
+  pub shard : n.shard ≡ o.shard
+  pub count : n.count ≡ o.count
+  pub classes : (q : ℕ) → (page_at n q).class ≡ (page_at o q).class
+  pub takes : (q : ℕ) → (page_at o q).takes ≤ (page_at n q).takes
+  pub met : (q : ℕ) → (page_at o q).met ≤ (page_at n q).met
+
+-- a page was tried in vain, and went to the back or to the full queue
+pub record Settles (c p : ℕ) (o n : Sharded) : Type 0 where
+  pub pages : n.pages ≡ o.pages
+  pub queues : (n.queues ≡ at_back c p o.queues) ⊎ (n.queues ≡ among_full p o.queues)
+
+-- each page that stands in the queue of class c was tried, and nothing is left in it
+pub record Searched (c : ℕ) (o n : Sharded) : Type 0 where
+  pub since : WorkedSince o.pages n.pages
+  pub done : (p : ℕ) → has_number p (class_queue n.queues c) ≡ true → PageDone o.pages n.pages p
+
+-- after so many turns: `rest` is yet to be tried, and ends in the page that was the last as the search began; those that were tried wait behind it
+pub record Searching (c turn last : ℕ) (o n : Sharded) : Type 0 where
+  pub since : WorkedSince o.pages n.pages
+  pub rest : List ℕ
+  pub waited : List ℕ
+  pub queue : class_queue n.queues c ≡ rest ++ waited
+  pub ends : last_or None rest ≡ Some last
+  pub few : turn + length rest ≤ n.queues.opened
+  pub done : (p : ℕ) → has_number p waited ≡ true → PageDone o.pages n.pages p
+
+-- the bell was followed, taken and followed; where `read` is not so, no page of class c was read
+pub record RingsOut (c : ℕ) (read : Bool) (o n : Sharded) : Type 0 where
+  pub through : WorksThroughout o.pages n.pages
+  pub bell : BellDone o.pages n.pages
+  pub pages : read ≡ false → (q : ℕ) → (page_at o.pages q).class ≡ Some (c + 1) → page_at n.pages q ≡ page_at o.pages q
+  pub queue : read ≡ false → (q : ℕ) → has_number q (class_queue n.queues c) ≡ true → has_number q (class_queue o.queues c) ≡ true
+
+-- each page that stands in the queue of class c is done, and so is the bell
+pub record Tried (c : ℕ) (o n : Sharded) : Type 0 where
+  pub through : WorksThroughout o.pages n.pages
+  pub bell : BellDone o.pages n.pages
+  pub done : (p : ℕ) → has_number p (class_queue n.queues c) ≡ true → PageDone o.pages n.pages p
+
+-- a page of this class word was read from the bell; where it stood in the full queue, it went to the back of its class
+pub record Heard (word : ℕ) (o n : Sharded) : Type 0 where
+  pub page : ℕ
+  pub reads : BellReads page o.pages n.pages
+  pub class : (page_at n.pages page).class ≡ Some word
+  pub queues : (n.queues ≡ o.queues) ⊎ (n.queues ≡ at_back (word - 1) page o.queues) × (0 < word) × (word ≤ 8)
+
+-- pages were read from the bell; of class c none was, unless `read`
+pub record Hears (c : ℕ) (read : Bool) (o n : Sharded) : Type 0 where
+  pub aside : Aside o.pages.owner n.pages.owner
+  pub put : NonePut o.pages.owner n.pages.owner
+  pub log : n.pages.owner.view.own.log ≡ o.pages.owner.view.own.log
+  pub shard : n.pages.shard ≡ o.pages.shard
+  pub count : n.pages.count ≡ o.pages.count
+  pub classes : (q : ℕ) → (page_at n.pages q).class ≡ (page_at o.pages q).class
+  pub page_takes : (q : ℕ) → (page_at n.pages q).takes ≡ (page_at o.pages q).takes
+  pub page_met : (q : ℕ) → (page_at n.pages q).met ≡ (page_at o.pages q).met
+  pub takes : n.pages.bell.takes ≡ o.pages.bell.takes
+  pub met : o.pages.bell.met ≤ n.pages.bell.met
+  pub pages : read ≡ false → (q : ℕ) → (page_at o.pages q).class ≡ Some (c + 1) → page_at n.pages q ≡ page_at o.pages q
+  pub queue : read ≡ false → (q : ℕ) → has_number q (class_queue n.queues c) ≡ true → has_number q (class_queue o.queues c) ≡ true
+
+-- its cursor is at its end, or met a link that was not written
+abbrev pub BellWaits : Sharded → Sharded → Type 0
+BellWaits o n = MatchOption n.pages.bell.cursor (Unit {0}) (λ _. o.pages.bell.met < n.pages.bell.met)

@@ -1,0 +1,145 @@
+-- What a contract sees of an owner's shard, and what its calls do.
+use Rattle.std.specs.Prelude.{◌≡◌, ◌≢◌, ℕ, ◌+◌, ◌*◌, ◌<◌, ◌≤◌, ◌⊎◌, false, true, List, [], ◌∷◌, ◌++◌, length, None, Some, MatchOption, Result, Ok, Err, slice_get}
+use Rattle.sh_history.specs.declared.entry.Entry.TheVariants as entry
+use Rattle.sh_history.specs.declared.log.LogEntry.TheVariants.{Known}
+use Rattle.sh_key.specs.Layout.{Layout}
+use Rattle.sh_queue.specs.Numbers.{has_number}
+use Rattle.sh_queue.specs.Queues.{PageQueues, class_queue}
+use Rattle.sh_value.specs.declared.refusal.Refusal.{Refusal}
+use Rattle.sh_value.specs.declared.refusal.Refusal.TheVariants as refusal
+use Rattle.sh_shape.specs.Classes.{class_of}
+use Rattle.sh_pass.specs.Passes.{Caller}
+use Rattle.sh_pass.specs.Owners.{SeenPage, Aside, NonePut, IsKeyIn}
+use Rattle.sh_shard.specs.Pages.{Paged, page_at, seen_class, NothingMine, WhollyMine, GivesClass, PageDone, TakesSteps, AdoptsShard, AdoptRefused, ShardLeft}
+use Rattle.sh_shard.specs.Leaving.{Waiting}
+
+pub record Sharded : Type 0 where
+  pub pages : Paged
+  pub queues : PageQueues
+
+-- ---- what is true of every shard between calls
+
+-- a page of the full queue: it has a class, is armed, has no cursor, and nothing of it is its owner's
+pub record FullPage (g : SeenPage) : Type 0 where
+  pub classed : 0 < seen_class g
+  pub few : seen_class g ≤ 8
+  pub armed : g.armed ≡ true
+  pub cursor : g.cursor ≡ None
+  pub mine : NothingMine g
+
+-- each page stands where it belongs: in the queue of its class, in the full queue, or blank
+pub record SortedPages (v : Paged) (q : PageQueues) : Type 0 where
+  pub all : q.opened + 8 * q.unopened ≡ v.count
+  pub later : (p : ℕ) → q.opened ≤ p → p < v.count → (page_at v p).class ≡ Some 0
+  pub classes : (c p : ℕ) → has_number p (class_queue q c) ≡ true → (page_at v p).class ≡ Some (c + 1)
+  pub full : (p : ℕ) → has_number p q.full ≡ true → FullPage (page_at v p)
+  pub blank : (p : ℕ) → has_number p q.blank ≡ true → (page_at v p).class ≡ Some 0
+
+-- ---- what an insert does
+
+-- work on pages and on the bell that adds nothing to the log, puts nothing and changes no page's class
+pub record WorksThroughout (o n : Paged) : Type 0 where
+  pub aside : Aside o.owner n.owner
+  pub put : NonePut o.owner n.owner
+  pub log : n.owner.view.own.log ≡ o.owner.view.own.log
+  pub shard : n.shard ≡ o.shard
+  pub count : n.count ≡ o.count
+  pub classes : (q : ℕ) → (page_at n q).class ≡ (page_at o q).class
+  pub takes : (q : ℕ) → (page_at o q).takes ≤ (page_at n q).takes
+  pub met : (q : ℕ) → (page_at o q).met ≤ (page_at n q).met
+  pub bell_takes : o.bell.takes ≤ n.bell.takes
+  pub bell_met : o.bell.met ≤ n.bell.met
+
+-- the bell was taken and followed to its end, or a link of it was not written, in this work
+abbrev pub BellDone : Paged → Paged → Type 0
+BellDone o n = MatchOption n.bell.cursor (o.bell.takes < n.bell.takes) (λ _. o.bell.met < n.bell.met)
+
+-- nothing of class c is left in any page of the class, and the bell is done
+pub record NoneLeft (c : ℕ) (o n : Paged) : Type 0 where
+  pub through : WorksThroughout o n
+  pub bell : BellDone o n
+  pub done : (p : ℕ) → p < n.count → (page_at n p).class ≡ Some (c + 1) → PageDone o n p
+
+-- a page of another class than c, all of whose slots are its owner's
+pub record IsSpare (c : ℕ) (g : SeenPage) : Type 0 where
+  pub whole : WhollyMine g
+  pub other : g.class ≢ Some (c + 1)
+
+-- no page can be given class c: none is blank, in no segment either that is not opened, and none is spare
+pub record NoPageFor (c : ℕ) (o : Sharded) : Type 0 where
+  pub blank : (p : ℕ) → p < o.pages.count → (page_at o.pages p).class ≢ Some 0
+  pub spare : (p : ℕ) → p < o.pages.count → ¬ IsSpare c (page_at o.pages p)
+  pub unopened : o.queues.unopened ≡ 0
+
+-- page p, which was blank or spare, was given class c, and is the front page of the class
+pub record PreparesPage (c p : ℕ) (o n : Sharded) : Type 0 where
+  pub inside : p < o.pages.count
+  pub was : ((page_at o.pages p).class ≡ Some 0) ⊎ IsSpare c (page_at o.pages p)
+  pub gives : GivesClass p c o.pages n.pages
+  pub front : slice_get (class_queue n.queues c) 0 ≡ Some p
+
+-- a page is prepared for class c, or there is none that could be, or a segment's growth was refused
+abbrev pub PrepareServes : ℕ → Sharded → Result ℕ Refusal → Sharded → Type 0
+PrepareServes c o (Ok p) n = PreparesPage c p o n
+PrepareServes c o (Err refusal.Full) n = (n ≡ o) × NoPageFor c o
+PrepareServes c o (Err refusal.Memory) n = (n ≡ o) × (o.queues.unopened ≢ 0)
+PrepareServes c o (Err _) n = ⊥
+
+-- the shard has no room for class c: each page of the class is done, no page is blank, of no page are all slots its owner's, and no
+-- segment is unopened
+pub record NoRoom (c : ℕ) (o n : Sharded) : Type 0 where
+  pub left : NoneLeft c o.pages n.pages
+  pub blank : (p : ℕ) → p < n.pages.count → (page_at n.pages p).class ≢ Some 0
+  pub whole : (p : ℕ) → p < n.pages.count → ¬ WhollyMine (page_at n.pages p)
+  pub unopened : n.queues.unopened ≡ 0
+
+-- the value joined the log under this key; nothing was put
+pub record Added (value : List ℕ) (key : ℕ) (o n : Paged) : Type 0 where
+  pub aside : Aside o.owner n.owner
+  pub put : NonePut o.owner n.owner
+  pub log : n.owner.view.own.log ≡ o.owner.view.own.log ++ Known (entry.Insert o.owner.view.pass key value) ∷ []
+  pub shard : n.shard ≡ o.shard
+  pub count : n.count ≡ o.count
+
+-- an insert of a value of class c: it joins the log, or there is no room, or a segment's growth was refused
+abbrev pub InsertServes : Layout → ℕ → List ℕ → Sharded → Result ℕ Refusal → Sharded → Type 0
+InsertServes layout c value o (Ok key) n = Added value key o.pages n.pages × IsKeyIn layout o.pages.owner o.pages.shard key
+InsertServes layout c value o (Err refusal.Full) n = NoRoom c o n
+InsertServes layout c value o (Err refusal.Memory) n = WorksThroughout o.pages n.pages
+InsertServes layout c value o (Err _) n = ⊥
+
+-- an insert of a value of class c into a page that had another class or none: there is none where the value could go, or a segment's
+-- growth was refused, and then nothing is changed
+abbrev pub InsertsElsewhere : Layout → ℕ → List ℕ → Sharded → Result ℕ Refusal → Sharded → Type 0
+InsertsElsewhere layout c value o (Ok key) n = Added value key o.pages n.pages × IsKeyIn layout o.pages.owner o.pages.shard key
+InsertsElsewhere layout c value o (Err refusal.Full) n = (n ≡ o) × NoPageFor c o
+InsertsElsewhere layout c value o (Err refusal.Memory) n = n ≡ o
+InsertsElsewhere layout c value o (Err _) n = ⊥
+
+-- the class of a value
+abbrev pub value_class : List ℕ → ℕ
+value_class value = elim (class_of (length value)) [ Some c ↦ c | None ↦ 0 ]
+
+-- the front page of class c has a slot of its owner
+pub record IsQuick (c : ℕ) (o : Sharded) : Type 0 where
+  pub page : ℕ
+  pub slot : ℕ
+  pub front : slice_get (class_queue o.queues c) 0 ≡ Some page
+  pub mine : (page_at o.pages page).mine slot ≡ true
+
+-- an insert that is done in so many steps
+abbrev pub DoneIn : ℕ → Sharded → Result ℕ Refusal → Sharded → Type 0
+DoneIn n o (Ok key) m = TakesSteps n o.pages m.pages
+DoneIn n o (Err _) m = ⊥
+
+-- ---- becoming and ceasing to be the owner
+
+-- shard k is the pass's own, or there is none of the number, or it has an owner, or memory was refused
+abbrev pub AdoptServes : ℕ → Caller → Result Sharded (Caller × Refusal) → Type 0
+AdoptServes k v (Ok n) = (k < v.view.shape.shards) × AdoptsShard v k n.pages
+AdoptServes k v (Err r) = AdoptRefused k v r.0 r.1
+
+-- the shard is left, or leaving waits for others and the shard comes back
+abbrev pub LeaveServes : Sharded → Result Caller (Sharded × Refusal) → Type 0
+LeaveServes o (Ok w) = ShardLeft o.pages.owner w
+LeaveServes o (Err r) = (r.1 ≡ refusal.Waiting) × Waiting o.pages r.0.pages

@@ -1,0 +1,27 @@
+// Ceasing to be the owner of a shard.
+ghost use Rattle.sh_shard.specs.Shards.{LeaveServes};
+
+use crate::returning::return_all;
+use crate::shard::Shard;
+use sh_key::KeyLayout;
+use sh_pass::Pass;
+use sh_value::Refusal;
+
+impl<'a, L: KeyLayout> Shard<'a, L> {
+    /// Leaves the shard: what others freed is collected, all that the owner has is put back for the next owner, and the pass
+    /// comes back. Refused as `Waiting`, with the shard, where another caller has begun a free in it that is yet to end: then
+    /// nothing is put back, and the shard serves as before.
+    pub fn leave(self) -> Result<Pass<'a, L>, (Self, Refusal)>
+        ensures { LeaveServes self.entry result }
+    {
+        let Shard { pages, mut queues } = self;
+        let _opened = queues.opened();
+        match pages.leave() {
+            Ok(pass) => Ok(pass),
+            Err(pages) => {
+                return_all(&pages, &mut queues);
+                Err((Shard { pages, queues }, Refusal::Waiting))
+            }
+        }
+    }
+}

@@ -1,0 +1,84 @@
+// Inserting a value: at the front page of its class where that has a slot, and else wherever the shard has room.
+ghost use Rattle.std.specs.Prelude.{◌≡◌, ℕ, ◌+◌, ◌<◌, ◌≤◌, length, Some, MatchOption, IfSome, slice_get, true};
+ghost use Rattle.sh_queue.specs.Numbers.{has_number};
+ghost use Rattle.sh_queue.specs.Queues.{class_queue};
+ghost use Rattle.sh_shape.specs.Classes.{width};
+ghost use Rattle.sh_pass.specs.Owners.{IsKeyIn};
+ghost use Rattle.sh_shard.specs.Pages.{page_at, NothingMine, PageInserts, TakesSteps};
+ghost use Rattle.sh_shard.specs.Shards.{Added, InsertServes, InsertsElsewhere, IsQuick, DoneIn};
+
+use crate::shard::Shard;
+use sh_key::KeyLayout;
+use sh_value::{Refusal, Value};
+
+impl<'a, L: KeyLayout> Shard<'a, L> {
+    // Stores a value of the class, and answers its key.
+    pub(crate) fn insert_in(&mut self, c: u32, value: &Value) -> Result<u64, Refusal>
+        requires class { c < 8 }
+        requires fits { length value.now ≤ width c }
+        ensures serves { InsertServes L.layout c value.now self.old result self.new }
+        ensures quick { IsQuick c self.old → DoneIn (length value.now + 2) self.old result self.new }
+    {
+        if let Some(key) = self.use_at_front(c, value) {
+            return Ok(key);
+        }
+        self.insert_slowly(c, value)
+    }
+
+    // The same where the front page has no slot: the pages of the class, the bell, and then another page for the class.
+    fn insert_slowly(&mut self, c: u32, value: &Value) -> Result<u64, Refusal>
+        requires class { c < 8 }
+        requires fits { length value.now ≤ width c }
+        ensures { InsertServes L.layout c value.now self.old result self.new }
+    {
+        if let Some(key) = self.look(c, value) {
+            return Ok(key);
+        }
+        self.sorted();
+        self.insert_in_another(c, value)
+    }
+
+    // Gives another page the class, and stores the value there.
+    fn insert_in_another(&mut self, c: u32, value: &Value) -> Result<u64, Refusal>
+        requires class { c < 8 }
+        requires fits { length value.now ≤ width c }
+        ensures { InsertsElsewhere L.layout c value.now self.old result self.new }
+    {
+        match self.prepare(c) {
+            Err(refusal) => Err(refusal),
+            Ok(_page) => match self.use_at_front(c, value) {
+                Some(key) => Ok(key),
+                None => unreachable!(),
+            },
+        }
+    }
+
+    // Uses a slot of the front page of the class, if it has one.
+    fn use_at_front(&mut self, c: u32, value: &Value) -> Option<u64>
+        requires class { c < 8 }
+        requires fits { length value.now ≤ width c }
+        ensures used { MatchOption result
+            ((self.new ≡ self.old) × ((p : ℕ) → slice_get (class_queue self.old.queues c) 0 ≡ Some p → NothingMine (page_at self.old.pages p)))
+            (λ key. Added value.now key self.old.pages self.new.pages) }
+        ensures key { IfSome result (λ key. IsKeyIn L.layout self.old.pages.owner self.old.pages.shard key) }
+        ensures steps { IfSome result (λ _. TakesSteps (length value.now + 2) self.old.pages self.new.pages) }
+    {
+        let Some(page) = self.queues.front(c) else {
+            return None;
+        };
+        self.use_page(c, page, value)
+    }
+
+    // Uses a slot of a page of the class, if it has one.
+    fn use_page(&mut self, c: u32, page: u32, value: &Value) -> Option<u64>
+        requires here { has_number page (class_queue self.old.queues c) ≡ true }
+        requires inside { page < self.old.queues.opened }
+        requires fits { length value.now ≤ width c }
+        ensures used { MatchOption result ((self.new ≡ self.old) × NothingMine (page_at self.old.pages page)) (λ key. PageInserts page value.now key self.old.pages self.new.pages) }
+        ensures key { IfSome result (λ key. IsKeyIn L.layout self.old.pages.owner self.old.pages.shard key) }
+        ensures steps { IfSome result (λ _. TakesSteps (length value.now + 2) self.old.pages self.new.pages) }
+    {
+        let _opened = self.queues.opened();
+        self.pages.use_slot(page as u64, value)
+    }
+}

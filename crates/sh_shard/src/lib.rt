@@ -1,0 +1,23 @@
+//! Owners: a pass that owns a shard inserts into its pages.
+//!
+//! An owner keeps the free slots of its pages in private lists, collects what others put on the pages' stacks, and hears
+//! of pages that it armed by its shard's bell.
+#![tactic(auto)]
+
+mod adopting;
+mod bell;
+mod calls;
+mod collecting;
+mod departing;
+mod insert;
+mod leaving;
+pub mod pages;
+mod prepare;
+mod returning;
+mod ringing;
+mod search;
+pub mod shard;
+mod using;
+
+pub use pages::Pages;
+pub use shard::Shard;

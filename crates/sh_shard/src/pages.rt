@@ -1,0 +1,110 @@
+//! The pages of an owner's shard: what is kept of each is what the owner knows of it.
+ghost use Rattle.std.specs.Prelude.{◌≡◌, ℕ, ◌<◌, ◌≤◌, Option, None, MatchBool, true, false};
+ghost use Rattle.sh_shard.specs.Pages.{page_at, AdoptsPages, CursorStands, NothingMine, WhollyMine};
+
+use sh_key::KeyLayout;
+use sh_lists::PageLists;
+use sh_pass::{Owner, Pass};
+use sh_shape::classes;
+use sh_step::PageName;
+use sh_value::Refusal;
+use std::alloc::Global;
+use std::marker::Model;
+
+// What is kept of a page.
+#[derive(Drop)]
+pub struct PageState {
+    // Its slots that are the owner's, and the slot of its stack to follow next.
+    pub(crate) lists: PageLists,
+    // 0 blank, c + 1 of class c.
+    pub(crate) class_word: u64,
+    pub(crate) armed: bool,
+}
+
+/// The pages of an owner's shard.
+#[derive(Drop)]
+pub struct Pages<'a, L: KeyLayout> {
+    pub(crate) owner: Owner<'a, L>,
+    pub(crate) shard: u64,
+    // The page of the bell whose link is to be followed next.
+    pub(crate) rings: Option<u64>,
+    // One for each page of the shard.
+    pub(crate) states: Vec<PageState>,
+}
+
+impl<'a, L: KeyLayout> Model for Pages<'a, L> {
+    ghost use Rattle.std.specs.Prelude.{length};
+    ghost use Rattle.sh_pass.specs.Owners.{seen_bell};
+    ghost use Rattle.sh_shard.specs.Kept.{KeepsPages};
+    ghost use Rattle.sh_shard.specs.Pages.{Paged};
+
+    ghost Value = { Paged };
+
+    ghost view = { λ p. record { owner = p.owner; shard = p.shard; count = length p.states.items; bell = seen_bell L.layout p.owner p.shard } };
+
+    ghost invariant = { λ p. KeepsPages L.layout p.owner p.shard p.rings p.states.items };
+}
+
+impl<'a, L: KeyLayout> Pages<'a, L> {
+    /// Makes the pass the owner of the shard, and reads the class word of each page in ascending order. Refused, with the
+    /// pass, as `NoShard` where there is no such shard, as `Taken` where it has an owner, and as `Memory` where memory for
+    /// the pages is refused: then the shard is left again.
+    pub(crate) fn adopt(alloc: Global, pass: Pass<'a, L>, shard: u64) -> Result<Self, (Pass<'a, L>, Refusal)>
+        ensures { AdoptsPages shard pass.entry result }
+    {
+        unreachable!()
+    }
+
+    /// How many pages the shard has.
+    pub(crate) fn count(&self) -> u64
+        ensures count { result ≡ self.now.count }
+        ensures few { result ≤ 2048 }
+    {
+        self.states.len() as u64
+    }
+
+    /// The class word of a page: 0 where it is blank, and else one more than its class.
+    pub(crate) fn class_word(&self, page: u64) -> u64
+        requires { page < self.now.count }
+        ensures word { (page_at self.now page).class ≡ Some result }
+        ensures few { result ≤ 8 }
+    {
+        self.states[page as usize].class_word
+    }
+
+    /// Whether the page has a cursor.
+    pub(crate) fn has_cursor(&self, page: u64) -> bool
+        requires { page < self.now.count }
+        ensures { MatchBool result (CursorStands (page_at self.now page).cursor) ((page_at self.now page).cursor ≡ None) }
+    {
+        self.states[page as usize].lists.cursor().is_some()
+    }
+
+    /// Whether the page is armed.
+    pub(crate) fn is_armed(&self, page: u64) -> bool
+        requires { page < self.now.count }
+        ensures { result ≡ (page_at self.now page).armed }
+    {
+        self.states[page as usize].armed
+    }
+
+    /// Whether a slot of the page is the owner's.
+    pub(crate) fn has_slot(&self, page: u64) -> bool
+        requires { page < self.now.count }
+        ensures { MatchBool result ((s : ℕ) × ((page_at self.now page).mine s ≡ true)) (NothingMine (page_at self.now page)) }
+    {
+        self.states[page as usize].lists.len() > 0
+    }
+
+    /// Whether the page has a class, all of whose slots are the owner's.
+    pub(crate) fn is_wholly_mine(&self, page: u64) -> bool
+        requires { page < self.now.count }
+        ensures { MatchBool result (WhollyMine (page_at self.now page)) (¬ WhollyMine (page_at self.now page)) }
+    {
+        let state = &self.states[page as usize];
+        if state.class_word == 0 {
+            return false;
+        }
+        state.lists.len() == classes::slots((state.class_word - 1) as u32)
+    }
+}

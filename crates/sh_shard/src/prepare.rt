@@ -1,0 +1,112 @@
+// Giving a class to a page that is blank, or that has another class and all of whose slots are the owner's.
+ghost use Rattle.std.specs.Prelude.{◌≡◌, ◌≢◌, ℕ, ◌+◌, ◌<◌, None, Some, MatchOption, MatchBool, IfErr, OnOk, OnErr, slice_get};
+ghost use Rattle.sh_shard.specs.Pages.{page_at};
+ghost use Rattle.sh_shard.specs.Shards.{IsSpare, PreparesPage, PrepareServes};
+
+use crate::shard::Shard;
+use sh_key::KeyLayout;
+use sh_value::Refusal;
+
+impl<'a, L: KeyLayout> Shard<'a, L> {
+    /// Gives a page the class, from 0 to 7, puts it in front of the class's queue, and answers it: the lowest blank page of the
+    /// opened segments, else the lowest page of another class all of whose slots are the owner's, else the first page of the
+    /// next segment, which is opened. Refused, with nothing changed, as `Full` exactly where there is no such page, and as
+    /// `Memory` where the segment's growth is refused.
+    pub fn prepare(&mut self, class: u32) -> Result<u32, Refusal>
+        requires { class < 8 }
+        ensures { PrepareServes class self.old result self.new }
+    {
+        if let Some(page) = self.give_blank(class) {
+            return Ok(page);
+        }
+        if let Some(page) = self.give_spare(class) {
+            return Ok(page);
+        }
+        self.give_opened(class)
+    }
+
+    // Opens the next segment, and gives its first page the class.
+    fn give_opened(&mut self, class: u32) -> Result<u32, Refusal>
+        requires class { class < 8 }
+        requires blank { slice_get self.old.queues.blank 0 ≡ None }
+        requires spare { (p : ℕ) → p < self.old.pages.count → ¬ IsSpare class (page_at self.old.pages p) }
+        ensures { PrepareServes class self.old result self.new }
+    {
+        let _opened = self.queues.opened();
+        if self.queues.unopened() == 0 {
+            return Err(Refusal::Full);
+        }
+        self.open_segment()?;
+        match self.give_blank(class) {
+            Some(page) => Ok(page),
+            None => unreachable!(),
+        }
+    }
+
+    // Gives the lowest blank page the class.
+    fn give_blank(&mut self, class: u32) -> Option<u32>
+        requires { class < 8 }
+        ensures { MatchOption result ((self.new ≡ self.old) × (slice_get self.old.queues.blank 0 ≡ None)) (λ page. PreparesPage class page self.old self.new) }
+    {
+        let _opened = self.queues.opened();
+        let Some(page) = self.queues.blank() else {
+            return None;
+        };
+        self.pages.give_class(page as u64, class);
+        self.queues.to_front(class, page);
+        Some(page)
+    }
+
+    // Gives the lowest page of another class all of whose slots are the owner's this one.
+    fn give_spare(&mut self, class: u32) -> Option<u32>
+        requires { class < 8 }
+        ensures { MatchOption result ((self.new ≡ self.old) × ((p : ℕ) → p < self.old.pages.count → ¬ IsSpare class (page_at self.old.pages p))) (λ page. PreparesPage class page self.old self.new) }
+    {
+        let Some(page) = self.spare(class) else {
+            return None;
+        };
+        let _opened = self.queues.opened();
+        self.pages.give_class(page as u64, class);
+        self.queues.to_front(class, page);
+        Some(page)
+    }
+
+    // The lowest opened page of another class all of whose slots are the owner's.
+    fn spare(&self, class: u32) -> Option<u32>
+        ensures { MatchOption result
+            ((p : ℕ) → p < self.now.pages.count → ¬ IsSpare class (page_at self.now.pages p))
+            (λ page. (page < self.now.queues.opened) × IsSpare class (page_at self.now.pages page)) }
+    {
+        let opened = self.queues.opened();
+        for page in 0..opened {
+            if self.is_spare(class, page) {
+                return Some(page);
+            }
+        }
+        None
+    }
+
+    // Whether the opened page has another class, and all its slots are the owner's.
+    fn is_spare(&self, class: u32, page: u32) -> bool
+        requires { page < self.now.queues.opened }
+        ensures { MatchBool result (IsSpare class (page_at self.now.pages page)) (¬ IsSpare class (page_at self.now.pages page)) }
+    {
+        let page = page as u64;
+        if self.pages.class_word(page) == class as u64 + 1 {
+            return false;
+        }
+        self.pages.is_wholly_mine(page)
+    }
+
+    // Opens the next segment.
+    fn open_segment(&mut self) -> Result<(), Refusal>
+        requires { self.old.queues.unopened ≢ 0 }
+        ensures pages { self.new.pages ≡ self.old.pages }
+        ensures memory { IfErr result (λ refusal. refusal ≡ Refusal.Memory) }
+        ensures same { OnErr result (self.new ≡ self.old) }
+        ensures blank { OnOk result (slice_get self.new.queues.blank 0 ≢ None) }
+    {
+        let _first = self.queues.open_segment()?;
+        Ok(())
+    }
+}

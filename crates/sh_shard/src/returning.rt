@@ -1,0 +1,72 @@
+// How pages come back from the full queue: once a slot of theirs is free, a cursor stands, or they are no longer armed.
+ghost use Rattle.std.specs.Prelude.{◌≡◌, ℕ, ◌<◌, Some, MatchBool, IfSome, true};
+ghost use Rattle.sh_queue.specs.Numbers.{has_number};
+ghost use Rattle.sh_shard.specs.Pages.{page_at, seen_class};
+ghost use Rattle.sh_shard.specs.Shards.{FullPage, SortedPages};
+ghost use Rattle.sh_shard.specs.Returning.{SortedBut, ReturnsPage};
+
+use crate::pages::Pages;
+use sh_key::KeyLayout;
+use sh_queue::Queues;
+
+// All pages that are not full any longer go back to their classes, in ascending order.
+pub(crate) fn return_all<L: KeyLayout>(pages: &Pages<'_, L>, queues: &mut Queues)
+    requires { SortedBut (λ p. Unit {0}) pages.now queues.old }
+    ensures { SortedPages pages.now queues.new }
+{
+    let opened = queues.opened();
+    for page in 0..opened {
+        let _opened = queues.opened();
+        return_page(pages, queues, page as u64);
+    }
+    let _returned = queues.opened();
+}
+
+// A page to which a slot came goes back to its class, where it was full.
+pub(crate) fn return_one<L: KeyLayout>(pages: &Pages<'_, L>, queues: &mut Queues, came: Option<u64>)
+    requires sorted { SortedBut (λ p. came ≡ Some p) pages.now queues.old }
+    requires inside { IfSome came (λ p. p < pages.now.count) }
+    ensures { SortedPages pages.now queues.new }
+{
+    let Some(page) = came else {
+        return;
+    };
+    let _opened = queues.opened();
+    return_page(pages, queues, page);
+}
+
+// The page, where it stands in the full queue and is not a full page, goes to the back of its class.
+fn return_page<L: KeyLayout>(pages: &Pages<'_, L>, queues: &mut Queues, page: u64)
+    requires inside { page < pages.now.count }
+    requires classed { has_number page queues.old.full ≡ true → 0 < seen_class (page_at pages.now page) }
+    ensures { ReturnsPage page pages.now queues.old queues.new }
+{
+    let opened = queues.opened();
+    if page >= opened as u64 {
+        return;
+    }
+    if !queues.in_full(page as u32) {
+        return;
+    }
+    if is_full(pages, page) {
+        return;
+    }
+    let class = pages.class_word(page) - 1;
+    queues.to_back(class as u32, page as u32);
+}
+
+// Whether the page, which has a class, belongs in the full queue.
+fn is_full<L: KeyLayout>(pages: &Pages<'_, L>, page: u64) -> bool
+    requires inside { page < pages.now.count }
+    requires classed { 0 < seen_class (page_at pages.now page) }
+    ensures { MatchBool result (FullPage (page_at pages.now page)) (Unit {0}) }
+{
+    let _word = pages.class_word(page);
+    if !pages.is_armed(page) {
+        return false;
+    }
+    if pages.has_cursor(page) {
+        return false;
+    }
+    !pages.has_slot(page)
+}

@@ -1,0 +1,82 @@
+// Hearing of armed pages by the shard's bell: a full page that is read from it goes back to its class.
+ghost use Rattle.std.specs.Prelude.{◌≡◌, ℕ, ◌+◌, ◌<◌, None, MatchOption, ◌||◌, ◌==◌};
+ghost use Rattle.sh_shard.specs.Pages.{BellTakes, BellStops};
+ghost use Rattle.sh_shard.specs.Searches.{Heard, Hears, BellWaits, RingsOut};
+
+use crate::shard::Shard;
+use sh_key::KeyLayout;
+
+// Whether a page of class c was read, once this class word was.
+fn is_heard(read: bool, word: u64, c: u32) -> bool
+    ensures { result ≡ (read || (word == c + 1)) }
+{
+    read || word == c as u64 + 1
+}
+
+fn either(first: bool, second: bool) -> bool
+    ensures { result ≡ (first || second) }
+{
+    first || second
+}
+
+impl<'a, L: KeyLayout> Shard<'a, L> {
+    // Follows the bell, takes it once it is at its end, and follows: whether a page of the class was read.
+    pub(crate) fn ring_out(&mut self, c: u32) -> bool
+        requires class { c < 8 }
+        ensures { RingsOut c result self.old self.new }
+    {
+        let first = self.hear(c);
+        if self.pages.has_rings() {
+            return first;
+        }
+        self.take_bell();
+        let second = self.hear(c);
+        either(first, second)
+    }
+
+    // Follows the bell to its end or to a link that is not written: whether a page of the class was read.
+    fn hear(&mut self, c: u32) -> bool
+        requires class { c < 8 }
+        ensures hears { Hears c result self.old self.new }
+        ensures waits { BellWaits self.old self.new }
+    {
+        let mut read = false;
+        let _opened = self.queues.opened();
+        let count = self.pages.count();
+        for _turn in 0..count + 1 {
+            let _opened = self.queues.opened();
+            let Some(word) = self.read_bell() else {
+                return read;
+            };
+            read = is_heard(read, word, c);
+        }
+        read
+    }
+
+    // One step on the bell: a page that is read, where it is full, goes to the back of its class. Answers its class word.
+    fn read_bell(&mut self) -> Option<u64>
+        ensures { MatchOption result ((self.new.queues ≡ self.old.queues) × BellStops self.old.pages self.new.pages) (λ word. Heard word self.old self.new) }
+    {
+        let opened = self.queues.opened();
+        let Some(page) = self.pages.follow_bell() else {
+            return None;
+        };
+        let word = self.pages.class_word(page);
+        if page >= opened as u64 {
+            return Some(word);
+        }
+        if !self.queues.in_full(page as u32) {
+            return Some(word);
+        }
+        self.queues.to_back((word - 1) as u32, page as u32);
+        Some(word)
+    }
+
+    fn take_bell(&mut self)
+        requires none { self.old.pages.bell.cursor ≡ None }
+        ensures takes { BellTakes self.old.pages self.new.pages }
+        ensures queues { self.new.queues ≡ self.old.queues }
+    {
+        self.pages.take_bell();
+    }
+}

@@ -1,0 +1,89 @@
+// Looking for a slot in the pages of a class, and in what others freed there.
+ghost use Rattle.std.specs.Prelude.{◌≡◌, ℕ, ◌<◌, ◌≤◌, length, MatchOption, IfSome, true};
+ghost use Rattle.sh_queue.specs.Numbers.{has_number};
+ghost use Rattle.sh_queue.specs.Queues.{class_queue};
+ghost use Rattle.sh_shape.specs.Classes.{width};
+ghost use Rattle.sh_pass.specs.Owners.{IsKeyIn};
+ghost use Rattle.sh_shard.specs.Pages.{page_at, NothingMine, WorksOn, PageDone, PageInserts};
+ghost use Rattle.sh_shard.specs.Shards.{Added};
+ghost use Rattle.sh_shard.specs.Searches.{Settles, Searched, Tried};
+
+use crate::shard::Shard;
+use sh_key::KeyLayout;
+use sh_value::Value;
+
+impl<'a, L: KeyLayout> Shard<'a, L> {
+    // The search, the bell, and the search again where a page of the class was read from the bell.
+    pub(crate) fn look(&mut self, c: u32, value: &Value) -> Option<u64>
+        requires class { c < 8 }
+        requires fits { length value.now ≤ width c }
+        ensures looked { MatchOption result (Tried c self.old self.new) (λ key. Added value.now key self.old.pages self.new.pages) }
+        ensures key { IfSome result (λ key. IsKeyIn L.layout self.old.pages.owner self.old.pages.shard key) }
+    {
+        if let Some(key) = self.search(c, value) {
+            return Some(key);
+        }
+        self.sorted();
+        if !self.ring_out(c) {
+            return None;
+        }
+        self.search(c, value)
+    }
+
+    // Tries each page that stands in the queue of the class once, from the front.
+    fn search(&mut self, c: u32, value: &Value) -> Option<u64>
+        requires class { c < 8 }
+        requires fits { length value.now ≤ width c }
+        ensures searched { MatchOption result (Searched c self.old self.new) (λ key. Added value.now key self.old.pages self.new.pages) }
+        ensures key { IfSome result (λ key. IsKeyIn L.layout self.old.pages.owner self.old.pages.shard key) }
+    {
+        let opened = self.queues.opened();
+        let Some(last) = self.queues.last(c) else {
+            return None;
+        };
+        for _turn in 0..opened {
+            let _opened = self.queues.opened();
+            let Some(page) = self.queues.front(c) else {
+                return None;
+            };
+            if let Some(key) = self.try_page(c, page, value) {
+                return Some(key);
+            }
+            self.settle(c, page);
+            if page == last {
+                return None;
+            }
+        }
+        None
+    }
+
+    // Tries one page of the class's queue.
+    fn try_page(&mut self, c: u32, page: u32, value: &Value) -> Option<u64>
+        requires here { has_number page (class_queue self.old.queues c) ≡ true }
+        requires inside { page < self.old.queues.opened }
+        requires fits { length value.now ≤ width c }
+        ensures queues { self.new.queues ≡ self.old.queues }
+        ensures tried { MatchOption result (WorksOn page self.old.pages self.new.pages × PageDone self.old.pages self.new.pages page) (λ key. PageInserts page value.now key self.old.pages self.new.pages) }
+        ensures key { IfSome result (λ key. IsKeyIn L.layout self.old.pages.owner self.old.pages.shard key) }
+    {
+        let _opened = self.queues.opened();
+        self.pages.try_page(page as u64, value)
+    }
+
+    // After a try in vain: a page whose cursor waits goes to the back, one without a cursor to the full queue.
+    fn settle(&mut self, c: u32, page: u32)
+        requires class { c < 8 }
+        requires here { has_number page (class_queue self.old.queues c) ≡ true }
+        requires inside { page < self.old.queues.opened }
+        requires nothing { NothingMine (page_at self.old.pages page) }
+        requires waits { MatchOption (page_at self.old.pages page).cursor ((page_at self.old.pages page).armed ≡ true) (λ _. Unit {0}) }
+        ensures { Settles c page self.old self.new }
+    {
+        let _opened = self.queues.opened();
+        if self.pages.has_cursor(page as u64) {
+            self.queues.to_back(c, page);
+        } else {
+            self.queues.to_full(page);
+        }
+    }
+}

@@ -1,0 +1,99 @@
+//! Shards: the pages of an owner, and the queues in which they stand.
+ghost use Rattle.std.specs.Prelude.{◌≡◌, ◌+◌, length};
+ghost use Rattle.sh_queue.specs.Queues.{EachOnce};
+ghost use Rattle.sh_pass.specs.Passes.{GetDoes, ReadDoes, RemoveDoes, ReleaseDoes};
+ghost use Rattle.sh_shard.specs.Shards.{SortedPages, InsertServes, IsQuick, DoneIn, value_class};
+
+use crate::pages::Pages;
+use crate::returning::return_one;
+use sh_key::KeyLayout;
+use sh_queue::Queues;
+use sh_shape::classes;
+use sh_value::{Hold, Refusal, Value};
+use std::marker::Model;
+
+/// A shard that a pass owns: it inserts there, and gets, reads, removes and releases as any pass does.
+///
+/// Other passes act between all its calls. Memory is taken by `adopt`, and by an `insert` or a `prepare` that opens a segment.
+#[derive(Drop)]
+pub struct Shard<'a, L: KeyLayout> {
+    pub(crate) pages: Pages<'a, L>,
+    pub(crate) queues: Queues,
+}
+
+impl<'a, L: KeyLayout> Model for Shard<'a, L> {
+    ghost use Rattle.sh_shard.specs.Shards.{Sharded, SortedPages};
+
+    ghost Value = { Sharded };
+
+    ghost view = { λ s. record { pages = s.pages; queues = s.queues } };
+
+    ghost invariant = { λ s. SortedPages s.pages s.queues };
+}
+
+impl<'a, L: KeyLayout> Shard<'a, L> {
+    /// Stores a value in the shard under a new key, and answers the key. Refused as `Full` where the shard has no room for a
+    /// value of its class, of which each page and the bell were looked at in this call, and as `Memory` where the growth of a
+    /// segment was refused; the log, the holds and the keys are then as they were.
+    ///
+    /// Where the front page of the class has a slot, it is done in as many steps as the value has words, and two more.
+    pub fn insert(&mut self, value: &Value) -> Result<u64, Refusal>
+        ensures serves { InsertServes L.layout (value_class value.now) value.now self.old result self.new }
+        ensures quick { IsQuick (value_class value.now) self.old → DoneIn (length value.now + 2) self.old result self.new }
+    {
+        let Some(class) = classes::class_of(value.words().len()) else {
+            unreachable!()
+        };
+        self.insert_in(class, value)
+    }
+
+    /// Takes a hold on a key. Refused as `BadKey`, `HoldsFull`, `Gone` or `Crowded`, tried in that order.
+    pub fn get(&mut self, key: u64) -> Result<Hold, Refusal>
+        ensures does { GetDoes L.layout key self.old.pages.owner result self.new.pages.owner }
+        ensures shard { self.new.pages.shard ≡ self.old.pages.shard }
+    {
+        let _queues = &self.queues;
+        let (answer, came) = self.pages.get(key);
+        return_one(&self.pages, &mut self.queues, came);
+        answer
+    }
+
+    /// The value of a key that the owner holds. Refused as `NotHeld`.
+    pub fn read(&mut self, hold: Hold) -> Result<Value, Refusal>
+        ensures does { ReadDoes hold.key self.old.pages.owner result self.new.pages.owner }
+        ensures shard { self.new.pages.shard ≡ self.old.pages.shard }
+    {
+        let _queues = &self.queues;
+        self.pages.read(hold)
+    }
+
+    /// Removes a key. Refused as `BadKey` or `Gone`.
+    pub fn remove(&mut self, key: u64) -> Result<(), Refusal>
+        ensures does { RemoveDoes L.layout key self.old.pages.owner result self.new.pages.owner }
+        ensures shard { self.new.pages.shard ≡ self.old.pages.shard }
+    {
+        let _queues = &self.queues;
+        let (answer, came) = self.pages.remove(key);
+        return_one(&self.pages, &mut self.queues, came);
+        answer
+    }
+
+    /// Gives one hold on a key back. Refused as `NotHeld`.
+    pub fn release(&mut self, hold: Hold) -> Result<(), Refusal>
+        ensures does { ReleaseDoes hold.key self.old.pages.owner result self.new.pages.owner }
+        ensures shard { self.new.pages.shard ≡ self.old.pages.shard }
+    {
+        let _queues = &self.queues;
+        let (answer, came) = self.pages.release(hold);
+        return_one(&self.pages, &mut self.queues, came);
+        answer
+    }
+
+    // What is known of the queues.
+    pub(crate) fn sorted(&self)
+        ensures sorted { SortedPages self.now.pages self.now.queues }
+        ensures once { EachOnce self.now.queues }
+    {
+        let _opened = self.queues.opened();
+    }
+}
