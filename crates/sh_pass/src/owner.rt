@@ -12,6 +12,7 @@ use crate::pass::Pass;
 use crate::state::PassState;
 use arrayvec::ArrayVec;
 use sh_key::KeyLayout;
+use sh_shape::Shape;
 use sh_step::PageName;
 use sh_table::Token;
 use std::marker::{Model, PhantomData};
@@ -85,6 +86,18 @@ impl<'a, L: KeyLayout> Owner<'a, L> {
                 layout: PhantomData,
             },
         }
+    }
+
+    /// The shape of the heap, as the owner knows it. All that it knows stands.
+    pub fn shape(&self) -> &Shape
+        ensures is { result.now ≡ self.now.heap.shape }
+        ensures same { self.now.view.shape ≡ self.now.heap.shape }
+        ensures stands { ViewStands L.layout self.now.view }
+    {
+        // What holds of every owner holds of this one.
+        let _ = &self.held;
+        let heap = self.heap;
+        heap.table.shape()
     }
 
     /// How many shards the heap has.

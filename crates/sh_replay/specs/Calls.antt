@@ -30,14 +30,14 @@ abbrev pub adopt_refusal : RunTerms → Option ℕ → ℕ → Option Refusal
 adopt_refusal terms (Some own) shard = Some refusal.Taken
 adopt_refusal terms None shard = if nat_le terms.shape.shards shard then Some refusal.NoShard else None
 
-abbrev pub ShardAdopted : PassPart → ℕ → Result (Unit {0}) Refusal → PassPart → Type 0
-ShardAdopted v shard (Ok _) w = w ≡ record v { shard = Some shard }
-ShardAdopted v shard (Err refusal.Taken) w = w ≡ v
-ShardAdopted v shard (Err refusal.Memory) w = w ≡ v
-ShardAdopted v shard (Err _) w = ⊥
+abbrev pub PartAdopted : PassPart → ℕ → Result (Unit {0}) Refusal → PassPart → Type 0
+PartAdopted v shard (Ok _) w = w ≡ record v { shard = Some shard }
+PartAdopted v shard (Err refusal.Taken) w = w ≡ v
+PartAdopted v shard (Err refusal.Memory) w = w ≡ v
+PartAdopted v shard (Err _) w = ⊥
 
 abbrev pub AdoptAnswers : RunTerms → PassPart → ℕ → Result (Unit {0}) Refusal → PassPart → Type 0
-AdoptAnswers terms v shard r w = UnlessRefused (adopt_refusal terms v.shard shard) v r w (ShardAdopted v shard r w)
+AdoptAnswers terms v shard r w = UnlessRefused (adopt_refusal terms v.shard shard) v r w (PartAdopted v shard r w)
 
 -- ---- leave
 

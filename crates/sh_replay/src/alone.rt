@@ -59,7 +59,7 @@ pub fn alone_lines<S: Side>(
             unreachable!()
         };
         let bound = number_meant(numbers.as_slice(), &line.call);
-        let answer = answered(side, tag, &line.call, bound);
+        let answer = answered(alloc, side, tag, &line.call, bound);
         if binds(&line.call) && numbers.push(number_told(&answer)).is_err() {
             return Err(Fault::Memory);
         }

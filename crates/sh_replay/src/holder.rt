@@ -6,6 +6,7 @@ ghost use Rattle.sh_replay.specs.Calls.{AdoptAnswers, LeaveAnswers, ValueInserte
 
 use crate::side::Side;
 use sh_value::{Hold, Refusal, Value};
+use std::alloc::Global;
 use std::marker::Model;
 use std::mem;
 
@@ -46,7 +47,11 @@ pub trait Heap {
 
     type Shard: Calls + Send;
 
-    fn adopt(pass: Self::Pass, shard: u64) -> Result<Self::Shard, (Self::Pass, Refusal)>
+    fn adopt(
+        alloc: Global,
+        pass: Self::Pass,
+        shard: u64,
+    ) -> Result<Self::Shard, (Self::Pass, Refusal)>
         requires none { (Self.Pass.seen pass).part.shard ≡ None }
         ensures { MatchResult result
             (λ s. AdoptAnswers (Self.Pass.seen pass).terms (Self.Pass.seen pass).part shard (Ok tt) (Self.Shard.seen s).part × SamePass (Self.Pass.seen pass) (Self.Shard.seen s))
@@ -111,9 +116,9 @@ impl<H: Heap> Holder<H> {
 impl<H: Heap> Side for Holder<H> {
     ghost seen = { λ h. h };
 
-    fn adopt(&mut self, shard: u64) -> Result<(), Refusal> {
+    fn adopt(&mut self, alloc: Global, shard: u64) -> Result<(), Refusal> {
         match mem::replace(&mut self.state, State::Moving) {
-            State::Pass(pass) => match H::adopt(pass, shard) {
+            State::Pass(pass) => match H::adopt(alloc, pass, shard) {
                 Ok(owner) => {
                     self.state = State::Shard(owner);
                     Ok(())

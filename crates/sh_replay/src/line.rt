@@ -11,6 +11,7 @@ use crate::side::Side;
 use crate::Answer;
 use sh_script::{Call, Reference};
 use sh_value::{Hold, Refusal, Value};
+use std::alloc::Global;
 
 /// How a result without a value is told. This match stands once.
 pub fn done<T: Drop>(res: Result<T, Refusal>) -> Answer
@@ -57,13 +58,19 @@ fn insert<S: Side>(side: &mut S, tag: Option<u8>, words: &[u64]) -> Answer
 
 /// Makes the call. Where it is on a name, the name stands for this number.
 #[tactic(auto, using(crate::proofs::CallLemmas::says))]
-pub fn answered<S: Side>(side: &mut S, tag: Option<u8>, call: &Call, bound: Option<u64>) -> Answer
+pub fn answered<S: Side>(
+    alloc: Global,
+    side: &mut S,
+    tag: Option<u8>,
+    call: &Call,
+    bound: Option<u64>,
+) -> Answer
     requires room { HasTagRoom (S.seen side.old).terms.layout tag }
     ensures does { CallAnswers (S.seen side.old).terms tag (S.seen side.old).pass (S.seen side.old).part call.now bound result (S.seen side.new).part }
     ensures same { SamePass (S.seen side.old) (S.seen side.new) }
 {
     match call {
-        Call::Adopt(shard) => done(side.adopt(*shard)),
+        Call::Adopt(shard) => done(side.adopt(alloc, *shard)),
         Call::Leave => done(side.leave()),
         Call::Insert(words) => insert(side, tag, words.as_slice()),
         Call::Get(reference) => match key_meant(tag, bound, *reference) {

@@ -5,13 +5,14 @@ ghost use Rattle.sh_replay.specs.Parts.{SeenPass, SamePass, HasWholeTale, tale_t
 ghost use Rattle.sh_replay.specs.Calls.{AdoptAnswers, LeaveAnswers, InsertAnswers, GetAnswers, ReadAnswers, RemoveAnswers, ReleaseAnswers};
 
 use sh_value::{Hold, Refusal, Value};
+use std::alloc::Global;
 
 /// A pass, which may own a shard. Its clauses say of each call which refusal comes exactly where, and what its log gains.
 pub trait Side: Drop {
     // What a contract sees.
     ghost seen: { Self → SeenPass };
 
-    fn adopt(&mut self, shard: u64) -> Result<(), Refusal>
+    fn adopt(&mut self, alloc: Global, shard: u64) -> Result<(), Refusal>
         ensures does { AdoptAnswers (seen self.old).terms (seen self.old).part shard result (seen self.new).part }
         ensures same { SamePass (seen self.old) (seen self.new) };
 
