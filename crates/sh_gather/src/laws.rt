@@ -1,0 +1,17 @@
+//! What the keys of a page are, and what is used of the core's theorem.
+ghost use Rattle.sh_core.specs.Refines.{Always, Refines};
+ghost use Rattle.sh_gather.specs.PageKeys.{PageKeysAreAll};
+
+use sh_core::refines_map;
+
+/// Each key that names a slot of the page stands once among the page's keys, and whatever stands there is such a key.
+pub fn page_keys_are_all()
+    ensures { PageKeysAreAll }
+{}
+
+// The clauses of the core's theorem in one record.
+pub(crate) fn core_refines()
+    ensures { Always (λ plan w l. Refines plan w l) }
+{
+    refines_map();
+}
