@@ -56,6 +56,14 @@ later_one u v place n e = subst (NotedMore u) (sym e) (later_note u u place n (l
 pub note_gathered : (u v : View) (place : Place) (n : ℕ) → v ≡ noting u place n → IsGathered u → IsGathered v
 note_gathered u v place n e g = later_gathered u v (later_one u v place n e) g
 
+length_more : {A : Type 0} (xs : List A) (x : A) → length (xs ++ x ∷ []) ≡ length xs + 1
+length_more [] x = refl
+length_more (y ∷ xs) x = let r = length_more xs x in omega arith
+
+-- one look more
+pub note_length : (u v : View) (place : Place) (n : ℕ) → v ≡ noting u place n → length v.noted ≡ length u.noted + 1
+note_length u v place n e = ap (λ (x : View). length x.noted) e ∙ length_more u.noted (place, n)
+
 -- ---- the states
 
 counted_none : (q : ℕ) (f : Spot → ℕ) → 0 ≡ among q f 0
@@ -117,10 +125,6 @@ still_walks v w q from (s ∷ rest) to h k = (k.0, (k.1.0, still_noted v w (Link
 walks_on : (v : View) (q from : ℕ) (slots : List ℕ) (s next : ℕ) → IsNoted v (Link q s) (next + 1) → WalksDown v q from slots (s + 1) → WalksDown v q from (slots ++ s ∷ []) next
 walks_on v q from [] s next n k = (k, (next, n, refl))
 walks_on v q from (r ∷ rest) s next n k = (k.0, (k.1.0, k.1.1, walks_on v q k.1.0 rest s next n k.1.2))
-
-length_more : (xs : List ℕ) (x : ℕ) → length (xs ++ x ∷ []) ≡ length xs + 1
-length_more [] x = refl
-length_more (y ∷ xs) x = let r = length_more xs x in omega arith
 
 -- so many slots were walked, from the head word to the slot that this number names
 abbrev pub HasWalked : View → (q n top : ℕ) → Type 0

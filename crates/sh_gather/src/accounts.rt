@@ -73,6 +73,7 @@ fn count_states<L: KeyLayout>(
     ensures gathered { IsGathered pass.new.view }
     ensures known { Known L.layout pass.new.view }
     ensures later { NotedMore pass.old.view pass.new.view }
+    ensures looks { length pass.new.view.noted ≡ length pass.old.view.noted + count }
     ensures counted { Sure L.layout pass.new.view (λ w l. CountedTo page count result w) }
     ensures alone { StatesAlone class result }
 {
@@ -93,6 +94,7 @@ fn walk<L: KeyLayout>(pass: &mut Pass<'_, L>, page: u64) -> u32
     ensures gathered { IsGathered pass.new.view }
     ensures known { Known L.layout pass.new.view }
     ensures later { NotedMore pass.old.view pass.new.view }
+    ensures looks { length pass.new.view.noted ≤ length pass.old.view.noted + 49 }
     ensures queued { Sure L.layout pass.new.view (λ w l. result ≡ length (l.stack page)) }
     ensures walked { (slots : List ℕ) × IsWholeStack pass.new.view page slots × (result ≡ length slots) }
 {
@@ -116,6 +118,7 @@ pub(crate) fn accounts<L: KeyLayout>(
     requires { IsWhole pass.old.view }
     ensures heap { pass.new.heap ≡ pass.old.heap }
     ensures tale { NotedMore pass.old.view pass.new.view }
+    ensures looks { length pass.new.view.noted ≤ length pass.old.view.noted + 98 }
     ensures there { MatchOption result (¬ ShapeHasPage pass.old.heap.shape shard page) (λ accounts. ShapeHasPage pass.old.heap.shape shard page) }
     ensures are { IfSome result (AreWholeAccounts L.layout pass.new.view (page_number pass.old.heap.shape shard page)) }
 {

@@ -1,5 +1,5 @@
 //! A heap of which one pass knows all.
-ghost use Rattle.std.specs.Prelude.{◌≡◌, IfSome, MatchOption};
+ghost use Rattle.std.specs.Prelude.{◌≡◌, ◌+◌, ◌≤◌, length, IfSome, MatchOption};
 ghost use Rattle.sh_shape.specs.Places.{page_number};
 ghost use Rattle.sh_accounts.specs.Accounts.{ShapeHasPage};
 ghost use Rattle.sh_gather.specs.Gathering.{AreWholeAccounts, NotedMore};
@@ -38,6 +38,7 @@ impl<'a, L: KeyLayout> Whole<'a, L> {
     pub fn accounts(&mut self, shard: u32, page: u32) -> Option<Accounts>
         ensures heap { self.new.heap ≡ self.old.heap }
         ensures tale { NotedMore self.old.view self.new.view }
+        ensures looks { length self.new.view.noted ≤ length self.old.view.noted + 98 }
         ensures there { MatchOption result (¬ ShapeHasPage self.old.heap.shape shard page) (λ accounts. ShapeHasPage self.old.heap.shape shard page) }
         ensures are { IfSome result (AreWholeAccounts L.layout self.new.view (page_number self.old.heap.shape shard page)) }
     {

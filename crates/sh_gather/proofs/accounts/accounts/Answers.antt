@@ -1,9 +1,9 @@
-use Rattle.std.proofs.Common.{ℕ, ◌<◌, ◌≡◌, ◌∙◌, subst, sym, ap}
+use Rattle.std.proofs.Common.{ℕ, ◌<◌, ◌≡◌, ◌∙◌, arith, subst, sym, ap}
 use Rattle.sh_shape.specs.Places.{all_pages, page_number}
 use Rattle.sh_shape.specs.Shape.{Numbers}
 use Rattle.sh_table.specs.declared.view.View.{View}
 use Rattle.sh_gather.specs.Gathering.{AreWholeAccounts}
-use Rattle.sh_gather.proofs.Walking.{page_is, later_shape}
+use Rattle.sh_gather.proofs.Walking.{page_is, later_shape, note_length}
 use Rattle.sh_gather.proofs.accounts.accounts.Goals as goal
 
 pub returns-clause-are : goal.returns-clause-are
@@ -19,3 +19,10 @@ returns-clause-are g c =
     c.load.ensures.view s.ensures.later w.ensures.later w.ensures.gathered w.ensures.known (subst (λ (n : Numbers). q < all_pages n) (sym shape) below) c.class_of-class.ensures.class c.class_of-class.ensures.count s.ensures.counted s.ensures.alone w.ensures.queued w.ensures.walked in
     let number = c.from-number.ensures ∙ (c.page_number.ensures.is ∙ ap (λ (n : Numbers). page_number n c.args.shard c.args.page) heap) in
     subst (λ (n : ℕ). AreWholeAccounts g.L.KeyLayout.layout w.new.pass.view n (record (s.result) { queued = w.result })) number are
+
+pub returns-clause-looks : goal.returns-clause-looks
+returns-clause-looks g c =
+    let class = note_length c.args.pass.now.view c.load.new.self.view _ c.load.result c.load.ensures.view in
+    let states = c.count_states-accounts.ensures.looks in
+    let few = c.class_of-class.ensures.few in
+    let stack = c.walk.ensures.looks in omega arith

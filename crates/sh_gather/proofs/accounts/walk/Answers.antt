@@ -4,7 +4,7 @@ use Rattle.sh_shape.specs.Places.{all_pages}
 use Rattle.sh_table.specs.Seats.{Heap}
 use Rattle.sh_gather.specs.Histories.{Sure}
 use Rattle.sh_gather.specs.Gathering.{WalkedTo}
-use Rattle.sh_gather.proofs.Walking.{HasWalked, later_one, note_gathered, begin_walk, word_walk, next_walk, walk_place, walk_done, walk_whole, walked_none, walked_more, walked_all}
+use Rattle.sh_gather.proofs.Walking.{HasWalked, later_one, note_gathered, note_length, begin_walk, word_walk, next_walk, walk_place, walk_done, walk_whole, walked_none, walked_more, walked_all}
 use Rattle.sh_gather.proofs.accounts.walk.Goals as goal
 
 pub load-top-requires-clause-whole : goal.load-top-requires-clause-whole
@@ -17,7 +17,7 @@ loop-queued-init g c =
     let u = c.load-top.new.self.view in
     let word = c.load-top.result in
     let gathered = note_gathered v u (Head c.args.page) word e.view c.requires.gathered in
-    (e.same, gathered, e.known, later_one v u (Head c.args.page) word e.view, begin_walk g.L.KeyLayout.layout v u c.args.page word c.core_refines.ensures e.view gathered e.known, walked_none v u c.args.page word e.view)
+    (e.same, gathered, e.known, later_one v u (Head c.args.page) word e.view, begin_walk g.L.KeyLayout.layout v u c.args.page word c.core_refines.ensures e.view gathered e.known, walked_none v u c.args.page word e.view, let look = note_length v u (Head c.args.page) word e.view in omega arith)
 
 pub returns-then-top-eq0-clause-heap : goal.returns-then-top-eq0-clause-heap
 returns-then-top-eq0-clause-heap g c = c.loop-queued.invariant.0
@@ -30,6 +30,9 @@ returns-then-top-eq0-clause-known g c = c.loop-queued.invariant.2
 
 pub returns-then-top-eq0-clause-later : goal.returns-then-top-eq0-clause-later
 returns-then-top-eq0-clause-later g c = c.loop-queued.invariant.3
+
+pub returns-then-top-eq0-clause-looks : goal.returns-then-top-eq0-clause-looks
+returns-then-top-eq0-clause-looks g c = let looks = c.loop-queued.invariant.6 in let few = c.loop-queued-test.true in omega arith
 
 pub returns-then-top-eq0-clause-queued : goal.returns-then-top-eq0-clause-queued
 returns-then-top-eq0-clause-queued g c =
@@ -64,7 +67,7 @@ loop-queued-preserved g c =
     let some : 0 < t = let ne = c.if-top-eq0.false in omega arith in
     let n = next_walk g.L.KeyLayout.layout c.args.pass.now.view v u c.args.page c.loop-queued.queued t word c.core_refines.ensures e.view i.1 i.2 i.3 i.4 some in
     let linked : 1 ≤ word = word_walk g.L.KeyLayout.layout v u c.args.page c.loop-queued.queued t word c.core_refines.ensures e.view e.known i.1 i.2 i.4 some in
-    (e.same ∙ i.0, note_gathered v u (Link c.args.page (t - 1)) word e.view i.1, e.known, n.0, n.1, walked_more v u c.args.page c.loop-queued.queued t word e.view some linked i.5)
+    (e.same ∙ i.0, note_gathered v u (Link c.args.page (t - 1)) word e.view i.1, e.known, n.0, n.1, walked_more v u c.args.page c.loop-queued.queued t word e.view some linked i.5, let look = note_length v u (Link c.args.page (t - 1)) word e.view in let looks = i.6 in omega arith)
 
 pub returns-clause-queued : goal.returns-clause-queued
 returns-clause-queued g c =
