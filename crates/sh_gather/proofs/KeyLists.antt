@@ -17,7 +17,7 @@ use Rattle.sh_core.proofs.More.{spots_total}
 use Rattle.sh_core.proofs.StackSteps.{same_page}
 use Rattle.sh_core.proofs.Slots.{same_spot-true, same_spot-refl}
 use Rattle.sh_core.proofs.Totals.{total_append}
-use Rattle.sh_gather.specs.PageKeys.{keys_of_slot, keys_of_slots, page_keys, PageKeysOnce, PageKeysAreAll}
+use Rattle.sh_gather.specs.PageKeys.{keys_of_slot, keys_of_slots, page_keys, PageKeysAreAll}
 use Rattle.sh_gather.proofs.PageKeys.{up_to}
 use Rattle.sh_gather.proofs.PageNumbers.{keys_total}
 

@@ -93,7 +93,7 @@ module _ (layout : Layout) (v : View) (core : Core) (gathered : IsGathered v) (k
 
   -- ---- so a page's accounts are these
   module _ (q : ℕ) (there : q < all_pages v.shape) (a : Accounts) (page : (es : List Event) (h : LeadsHere layout v es) → IsPage plan (run plan es) (lists_of plan es) laws (refined es) (rests es h) q a)
-    (walked : (slots : List ℕ) × IsWholeStack v q slots × (a.queued ≡ length slots)) where
+      (walked : (slots : List ℕ) × IsWholeStack v q slots × (a.queued ≡ length slots)) where
     pub are_whole : AreWholeAccounts layout v q a
     are_whole = let first = leading layout v core known in let es = first.0 in let w = run plan es in let l = lists_of plan es in let h = first.1 in let at = page es h in record {
       reached = λ es h. accounts_are plan (run plan es) (lists_of plan es) laws (refined es) (rests es h) q a (page es h);

@@ -1,5 +1,5 @@
 -- The accounts of a page where no pass has anything in hand or of its own: its keys count its slots, and its stack is all that is queued.
-use Rattle.std.proofs.Common.{◌≡◌, ◌≢◌, ℕ, zero, suc, ◌+◌, ◌-◌, ◌/◌, ◌<◌, ◌≤◌, ◌==◌, ◌&&◌, Bool, true, false, cond, List, [], ◌∷◌, length, drop, sym, refl, ap, ◌∙◌, subst, arith, Option, Some, None}
+use Rattle.std.proofs.Common.{◌≡◌, ◌≢◌, ℕ, zero, suc, ◌+◌, ◌-◌, ◌/◌, ◌<◌, ◌≤◌, ◌==◌, ◌&&◌, Bool, true, false, List, [], ◌∷◌, length, drop, sym, refl, ap, ◌∙◌, subst, arith, Option, Some, None}
 use Rattle.std.specs.Prelude.{not, nat_lt, count_by}
 use Rattle.std.proofs.lemmas.Bool.Decides.{nat_tests}
 use mathlib.Core.Logic.{dite}
@@ -8,7 +8,6 @@ use Rattle.sh_shape.specs.Classes.{slots, class_count}
 use Rattle.sh_slots.specs.declared.hand.Spot.{Spot}
 use Rattle.sh_slots.specs.Slots.{spots, same_spot}
 use Rattle.sh_step.specs.Collections.{total, if1}
-use Rattle.sh_step.specs.declared.body.Body.{Body}
 use Rattle.sh_step.specs.Plans.{Plan, Lawful, heap_pages}
 use Rattle.sh_core.specs.declared.accounts.Accounts.{Accounts}
 use Rattle.sh_core.specs.Lists.{PutLists, accounts, class_named, slots_under, times, state_of, mine_at, in_hand, among}

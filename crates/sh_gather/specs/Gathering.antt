@@ -32,7 +32,8 @@ NotedMore v w = (more : List (Place × ℕ)) × (w ≡ record v { noted = v.note
 pub record CountsKeys (layout : Layout) (v : View) (q : ℕ) (a : Accounts) (history : List Entry) : Type 0 where
   pub live : a.live ≡ count_by (is_live_key history) (page_keys (plan_of layout v.shape) q)
   pub marked : a.marked ≡ count_by (is_marked_key history) (page_keys (plan_of layout v.shape) q)
-  pub retired : a.retired ≡ count_by (is_retired_key (plan_of layout v.shape) history) (page_keys (plan_of layout v.shape) q)
+  pub retired : a.retired
+      ≡ count_by (is_retired_key (plan_of layout v.shape) history) (page_keys (plan_of layout v.shape) q)
 
 -- the accounts of page q of a heap of which all passes met
 pub record AreWholeAccounts (layout : Layout) (v : View) (q : ℕ) (a : Accounts) : Type 0 where
@@ -42,8 +43,8 @@ pub record AreWholeAccounts (layout : Layout) (v : View) (q : ℕ) (a : Accounts
   -- nothing is an owner's or in a hand
   pub mine : a.mine ≡ 0
   pub hand : a.hand ≡ 0
-  -- the queued slots are those of the page's stack, which was walked to its end; they are what the other three leave of the
-  -- slots of the page's class, and a page without a class has none at all
+  -- the queued slots are those of the page's stack, which was walked to its end; they are what the other three leave of
+  -- the slots of the page's class, and a page without a class has no slots at all
   pub walked : (slots : List ℕ) × IsWholeStack v q slots × (a.queued ≡ length slots)
   pub fill : FillPage a
   -- every history of the tale counts the page's keys so
@@ -68,6 +69,10 @@ with_state a st = record {
   hand = a.hand;
   queued = a.queued;
 }
+
+-- how many slots were counted by their states
+abbrev pub states_counted : Accounts → ℕ
+states_counted a = a.live + a.marked + a.retired
 
 -- no slot is counted as anything else
 pub record StatesAlone (c : Option ℕ) (a : Accounts) : Type 0 where

@@ -13,10 +13,10 @@ use Rattle.sh_table.specs.Views.{Each}
 use Rattle.sh_table.specs.Tales.{IsTale}
 use Rattle.sh_table.specs.Reached.{HasOwn}
 
--- A legal history with the log of each pass of the tale, in the order of the joins. Why entries of passes outside the heap are left
--- out: a tale says nothing of a pass that it does not name, and a legal history may have entries of passes of whatever number. So even
--- where the tale names all passes of the heap, it would allow histories with keys, removals and holds of passes that the heap has not,
--- and no number could be the same for all of them
+-- A legal history with the log of each pass of the tale, in the order of the joins. Entries of passes outside the heap are
+-- left out, since a tale says nothing of a pass that it does not name, and whether a history is legal does not depend on which
+-- numbers its passes have. With them even a tale that names all passes of the heap would have histories in which a pass that
+-- does not exist inserts and removes keys, and by these no number of keys is the same
 pub record IsHistory (layout : Layout) (v : View) (history : List Entry) : Type 0 where
   pub tale : IsTale layout v history
   pub ours : All (λ e. pass_of e < v.shape.passes) history
@@ -29,7 +29,8 @@ pub record LeadsHere (layout : Layout) (v : View) (events : List Event) : Type 0
 
 -- this holds of world and lists after every list of events that leads here
 abbrev pub Sure : Layout → View → (World → PutLists → Type 0) → Type 0
-Sure layout v P = (es : List Event) → LeadsHere layout v es → P (run (plan_of layout v.shape) es) (lists_of (plan_of layout v.shape) es)
+Sure layout v P = (es : List Event) → LeadsHere layout v es
+    → P (run (plan_of layout v.shape) es) (lists_of (plan_of layout v.shape) es)
 
 -- some list of events leads here, and its log is one of the histories
 abbrev pub CanBe : Layout → View → Type 0

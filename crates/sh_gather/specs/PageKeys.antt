@@ -1,4 +1,5 @@
--- The keys of a page, and what a history says of each: issued and not removed; removed and held; removed, the last of its slot, and not held.
+-- The keys of a page, and what a history says of each: live is issued and not removed; marked is removed and held; retired is
+-- removed, the last key of its slot, and not held.
 use Rattle.std.specs.Prelude.{◌≡◌, ◌<◌, ℕ, zero, suc, ◌==◌, nat_lt, Bool, false, not, ◌&&◌, List, [], ◌∷◌, ◌++◌, Some, None, is_some}
 use Rattle.sh_history.specs.declared.entry.Entry.{Entry}
 use Rattle.sh_history.specs.History.{value_of, is_removed, holds_on}
@@ -36,11 +37,12 @@ is_marked_key history k = is_removed history k && nat_lt 0 (holds_on history k)
 abbrev pub is_retired_key : Plan → List Entry → ℕ → Bool
 is_retired_key plan history k = is_removed history k && is_last_key plan k && (holds_on history k == 0)
 
--- each key that names a slot of the page stands once among the page's keys, and whatever stands there is such a key
+-- each key that names a slot of page q stands once among the page's keys, and whatever stands there is such a key
 abbrev pub PageKeysOnce : Plan → Type 0
 PageKeysOnce plan = (q k : ℕ) → q < heap_pages plan →
     ((n : Name) → plan.keys.unpack k ≡ Some n → n.page ≡ q → n.slot < 48 → times k (page_keys plan q) ≡ 1)
     × (0 < times k (page_keys plan q) → (n : Name) × (plan.keys.unpack k ≡ Some n) × (n.page ≡ q) × (n.slot < 48))
 
 abbrev pub PageKeysAreAll : Type 0
-PageKeysAreAll = (layout : Layout) (shape : Numbers) → IsLayout layout → IsShape shape → Fits layout shape → PageKeysOnce (plan_of layout shape)
+PageKeysAreAll = (layout : Layout) (shape : Numbers) → IsLayout layout → IsShape shape → Fits layout shape
+    → PageKeysOnce (plan_of layout shape)

@@ -8,7 +8,8 @@ ghost use Rattle.sh_table.specs.Whole.{IsWhole, Known};
 ghost use Rattle.sh_accounts.specs.Accounts.{ShapeHasPage, no_slots};
 ghost use Rattle.sh_gather.specs.Histories.{Sure};
 ghost use Rattle.sh_gather.specs.Walks.{IsWholeStack};
-ghost use Rattle.sh_gather.specs.Gathering.{IsGathered, NotedMore, AreWholeAccounts, CountedTo, StatesAlone, with_state};
+ghost use Rattle.sh_gather.specs.Gathering.{IsGathered, NotedMore, AreWholeAccounts};
+ghost use Rattle.sh_gather.specs.Gathering.{CountedTo, StatesAlone, states_counted, with_state};
 
 use crate::laws::core_refines;
 use sh_core::Accounts;
@@ -46,9 +47,9 @@ fn class_of(word: u64) -> (Option<u32>, u32)
 
 // Counts one slot more, by its state word.
 fn count_one(accounts: &mut Accounts, word: u64)
-    requires { accounts.old.live + accounts.old.marked + accounts.old.retired < 48 }
+    requires { states_counted accounts.old < 48 }
     ensures is { accounts.new ≡ with_state accounts.old (fields_of word) }
-    ensures one { accounts.new.live + accounts.new.marked + accounts.new.retired ≤ accounts.old.live + accounts.old.marked + accounts.old.retired + 1 }
+    ensures one { states_counted accounts.new ≤ states_counted accounts.old + 1 }
 {
     match State::of(word).kind() {
         Kind::Live => accounts.live += 1,
@@ -85,8 +86,8 @@ fn count_states<L: KeyLayout>(
     accounts
 }
 
-// Walks the stack of a page, from its head word to the end, and counts its slots. Each slot of a page stands there once at
-// most, so 48 links are enough.
+// Walks the stack of a page, from its head word to the end, and counts its slots. Each slot of a page stands there once
+// at most, so 48 links are enough.
 fn walk<L: KeyLayout>(pass: &mut Pass<'_, L>, page: u64) -> u32
     requires page { page < all_pages pass.old.heap.shape }
     requires gathered { IsGathered pass.old.view }
@@ -119,7 +120,9 @@ pub(crate) fn accounts<L: KeyLayout>(
     ensures heap { pass.new.heap ≡ pass.old.heap }
     ensures tale { NotedMore pass.old.view pass.new.view }
     ensures looks { length pass.new.view.noted ≤ length pass.old.view.noted + 98 }
-    ensures there { MatchOption result (¬ ShapeHasPage pass.old.heap.shape shard page) (λ accounts. ShapeHasPage pass.old.heap.shape shard page) }
+    ensures there { MatchOption result
+        (¬ ShapeHasPage pass.old.heap.shape shard page)
+        (λ accounts. ShapeHasPage pass.old.heap.shape shard page) }
     ensures are { IfSome result (AreWholeAccounts L.layout pass.new.view (page_number pass.old.heap.shape shard page)) }
 {
     core_refines();

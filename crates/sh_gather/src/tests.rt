@@ -46,8 +46,8 @@ fn a_whole_needs_all_passes(rt: HostRuntime) -> Result<(), Fail> {
     Ok(())
 }
 
-// Two shards of one segment have 8 pages each, and as nobody has owned a shard, none of them has a class. The get is refused: it
-// enters a slot and leaves it.
+// Two shards of one segment have 8 pages each, and as nobody has owned a shard, none of them has a class. The get is
+// refused: it enters a slot and leaves it.
 fn pages_are_blank<L: KeyLayout>(rt: &impl Abort, alloc: Global, key: u64) {
     let shape = Shape::new(2, 1, 2).expect(rt, "a shape");
     let (heap, seats) = Heap::<L>::open(alloc, shape).expect(rt, "a heap");
@@ -70,7 +70,11 @@ fn pages_are_blank<L: KeyLayout>(rt: &impl Abort, alloc: Global, key: u64) {
 fn blank_in_each_shard<L: KeyLayout>(rt: &impl Abort, all: &mut Whole<'_, L>) {
     for shard in 0..2 {
         for page in 0..8 {
-            assert_eq!(rt; all.accounts(shard, page), Some(BLANK), "page {shard}.{page}");
+            assert_eq!(rt;
+                all.accounts(shard, page),
+                Some(BLANK),
+                "page {shard}.{page}"
+            );
         }
     }
 }
