@@ -21,9 +21,9 @@ use Rattle.sh_accounts.specs.Accounts.{no_slots}
 use Rattle.sh_accounts.proofs.Counts.{among_more}
 use Rattle.sh_table.specs.declared.view.View.{View}
 use Rattle.sh_table.specs.Whole.{IsWhole, Known, noting}
-use Rattle.sh_gather.specs.Histories.{LeadsHere, Sure}
+use Rattle.sh_gather.specs.Histories.{IsHistory, LeadsHere, Sure}
 use Rattle.sh_gather.specs.Walks.{IsNoted, WalksDown, IsWholeStack}
-use Rattle.sh_gather.specs.Gathering.{IsGathered, NotedMore, AreWholeAccounts, CountedTo, StatesAlone, with_state, WalkedTo}
+use Rattle.sh_gather.specs.Gathering.{IsGathered, NotedMore, NotesKeepHistories, AreWholeAccounts, CountedTo, StatesAlone, with_state, WalkedTo}
 use Rattle.sh_gather.proofs.Leading.{Core, leads_before, leads_front, leading, laws, refined, rests, are_whole}
 use Rattle.sh_gather.proofs.PageNumbers.{walk_begins, walk_goes, walk_ends, walk_full}
 
@@ -63,6 +63,12 @@ length_more (y ∷ xs) x = let r = length_more xs x in omega arith
 -- one look more
 pub note_length : (u v : View) (place : Place) (n : ℕ) → v ≡ noting u place n → length v.noted ≡ length u.noted + 1
 note_length u v place n e = ap (λ (x : View). length x.noted) e ∙ length_more u.noted (place, n)
+
+pub notes_keep : NotesKeepHistories
+notes_keep layout v w history h k =
+    let t = k.tale in
+    let at : IsHistory layout (record v { noted = v.noted ++ h.0 }) history = record { tale = record { legal = t.legal; own = t.own; told = t.told; orders = t.orders }; ours = k.ours } in
+    subst (λ (x : View). IsHistory layout x history) (sym h.1) at
 
 -- ---- the states
 

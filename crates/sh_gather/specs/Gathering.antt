@@ -28,6 +28,11 @@ pub record IsGathered (v : View) : Type 0 where
 abbrev pub NotedMore : View → View → Type 0
 NotedMore v w = (more : List (Place × ℕ)) × (w ≡ record v { noted = v.noted ++ more })
 
+-- so its histories are what they were
+abbrev pub NotesKeepHistories : Type 0
+NotesKeepHistories = (layout : Layout) (v w : View) (history : List Entry) → NotedMore v w
+    → IsHistory layout v history → IsHistory layout w history
+
 -- how many of the keys of page q are live, marked and retired by the history is what the accounts say
 pub record CountsKeys (layout : Layout) (v : View) (q : ℕ) (a : Accounts) (history : List Entry) : Type 0 where
   pub live : a.live ≡ count_by (is_live_key history) (page_keys (plan_of layout v.shape) q)

@@ -10,6 +10,6 @@ mod tests;
 pub mod view;
 
 pub use gathering::{join, whole};
-pub use laws::page_keys_are_all;
+pub use laws::{notes_keep_histories, page_keys_are_all};
 pub use sh_core::Accounts;
 pub use view::Whole;
