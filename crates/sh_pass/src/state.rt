@@ -1,13 +1,14 @@
 //! What a pass is, apart from the heap that it steps on.
 ghost use Rattle.std.specs.Prelude.{◌≡◌, ◌==◌, position};
 ghost use Rattle.sh_table.specs.Tales.{ViewStands};
-ghost use Rattle.sh_pass.specs.Passes.{GetDoes, ReadDoes, RemoveDoes, ReleaseDoes};
+ghost use Rattle.sh_pass.specs.Passes.{GetDoes, ReadDoes, RemoveDoes, ReleaseDoes, IsAtRest};
 
 use crate::entering::{get_at, release_at, remove_at};
 use crate::heap::Heap;
 use crate::reading::read_at;
 use arrayvec::ArrayVec;
 use sh_key::KeyLayout;
+use sh_shape::Shape;
 use sh_slots::GetAnswer;
 use sh_step::operands::place_of_key;
 use sh_table::Token;
@@ -45,6 +46,17 @@ pub(crate) fn find(held: &[u64], key: u64) -> Option<usize>
 }
 
 impl<L: KeyLayout> PassState<L> {
+    /// The shape of the heap, as the pass knows it. Between its calls a pass has begun nothing, and it owns no shard.
+    pub fn shape<'h>(&self, heap: &'h Heap<L>) -> &'h Shape
+        requires { self.now.heap ≡ heap.now }
+        ensures is { result.now ≡ heap.now.shape }
+        ensures rest { IsAtRest self.now }
+    {
+        // What holds of every pass holds of this one.
+        let _ = &self.held;
+        heap.table.shape()
+    }
+
     /// Takes a hold on a key, so that its value stays readable. Refused as `BadKey`, `HoldsFull`, `Gone` or `Crowded`,
     /// tried in that order.
     pub fn get(&mut self, heap: &Heap<L>, key: u64) -> Result<Hold, Refusal>
