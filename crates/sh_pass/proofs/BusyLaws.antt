@@ -127,7 +127,7 @@ module _ (layout : Layout) (v : View) where
 -- ---- what a step leaves
 
 pub done : {layout : Layout} {heap : Heap} {n : ℕ} {t u : Seat (Unit {0}) View} (x : Action) (m : Move) → is_by_hand (kind_of_action x) ≡ true → MayDo layout t.me.0 x m → Did layout heap x m n t u → Acts layout x t.me.0 true u.me.0
-done {n = n} x m by may d = (by, (m, n, may, d.view))
+done {n = n} x m by may d = (by, (m, n, may, d.view, d.fits))
 
 -- a step that leaves this body leaves what is kept of it
 pub busy_with : {layout : Layout} {heap : Heap} {n bits : ℕ} {t u : Seat (Unit {0}) View} {held : List ℕ} {h : Hand} (x : Action) (m : Move) (held' : List ℕ) (h' : Hand) (b : Body) → IsBusy layout heap t held bits h → Did layout heap x m n t u → (row_by layout t.me.0 m).part n ≡ b
