@@ -1,0 +1,167 @@
+//! Owners: passes that own a shard, step by step.
+ghost use Rattle.std.specs.Prelude.{◌≡◌, ℕ, ◌<◌, None, Some};
+ghost use Rattle.sh_slots.specs.declared.hand.Hand.TheVariants.{Idle};
+ghost use Rattle.sh_shape.specs.Places.{pages_of};
+ghost use Rattle.sh_step.specs.declared.action.Action.TheVariants as action;
+ghost use Rattle.sh_step.specs.declared.moves.Move.TheVariants as move;
+ghost use Rattle.sh_table.specs.Tales.{ViewStands};
+ghost use Rattle.sh_pass.specs.Owners.{OwnerDid, OwnerTries, OwnerAdopts, Left, HasNothing, NonePut, NoneArmed, heap_page, own_body, seen_page};
+
+use crate::heap::Heap;
+use crate::pass::Pass;
+use crate::state::PassState;
+use arrayvec::ArrayVec;
+use sh_key::KeyLayout;
+use sh_shape::Shape;
+use sh_step::PageName;
+use sh_table::Token;
+use std::marker::{Model, PhantomData};
+
+/// A pass that may own a shard: what its shard is made with.
+///
+/// Each of its steps is one step of the core, has that step's condition, and answers the word that it found; for a store it answers
+/// nothing. A contract sees which heap it is of and what it knows, as of a `Pass`.
+#[derive(Drop)]
+pub struct Owner<'a, L: KeyLayout> {
+    pub(crate) heap: &'a Heap<L>,
+    pub(crate) seat: Token,
+    // The keys that it holds, in any order.
+    pub(crate) held: ArrayVec<u64, 16>,
+    // A bit for each pass that its tale names.
+    pub(crate) named: u64,
+    // The shard that it owns.
+    pub(crate) owned: Option<u64>,
+}
+
+impl<'a, L: KeyLayout> Model for Owner<'a, L> {
+    ghost use Rattle.sh_pass.specs.Passes.{Caller, caller_of};
+    ghost use Rattle.sh_pass.specs.Owners.{IsOwner};
+
+    ghost Value = { Caller };
+
+    ghost view = { λ o. caller_of o.seat };
+
+    ghost invariant = { λ o. IsOwner L.layout o.heap.now o.seat o.held.items o.named o.owned };
+}
+
+impl<'a, L: KeyLayout> Owner<'a, L> {
+    /// The pass, to own a shard.
+    pub fn of(pass: Pass<'a, L>) -> Self
+        ensures same { result ≡ pass.entry }
+        ensures idle { (own_body result).hand ≡ Idle }
+        ensures left { (own_body result).owned ≡ None }
+        ensures stands { ViewStands L.layout result.view }
+    {
+        let Pass { heap, state } = pass;
+        let PassState {
+            seat,
+            held,
+            named,
+            layout: _,
+        } = state;
+        Owner {
+            heap,
+            seat,
+            held,
+            named,
+            owned: None,
+        }
+    }
+
+    /// The pass again.
+    pub fn into_pass(self) -> Pass<'a, L>
+        requires idle { (own_body self).hand ≡ Idle }
+        requires left { (own_body self).owned ≡ None }
+        ensures { result ≡ self.entry }
+    {
+        let Owner {
+            heap,
+            seat,
+            held,
+            named,
+            owned: _,
+        } = self;
+        Pass {
+            heap,
+            state: PassState {
+                seat,
+                held,
+                named,
+                layout: PhantomData,
+            },
+        }
+    }
+
+    /// The shape of the heap, as the owner knows it. All that it knows stands.
+    pub fn shape(&self) -> &Shape
+        ensures is { result.now ≡ self.now.heap.shape }
+        ensures same { self.now.view.shape ≡ self.now.heap.shape }
+        ensures stands { ViewStands L.layout self.now.view }
+    {
+        // What holds of every owner holds of this one.
+        let _ = &self.held;
+        let heap = self.heap;
+        heap.table.shape()
+    }
+
+    /// How many shards the heap has.
+    pub fn shards(&self) -> u64
+        ensures { result ≡ self.now.view.shape.shards }
+    {
+        let heap = self.heap;
+        u64::from(heap.table.shape().shards())
+    }
+
+    /// How many pages each shard has.
+    pub fn pages(&self) -> u64
+        ensures { result ≡ pages_of self.now.view.shape }
+    {
+        let heap = self.heap;
+        u64::from(heap.table.shape().pages())
+    }
+
+    // The number of a page over the whole heap.
+    pub(crate) fn number(&self, name: PageName) -> u64
+        requires shard { name.shard < self.now.view.shape.shards }
+        requires page { name.page < pages_of self.now.view.shape }
+        ensures { result ≡ heap_page self.now name }
+    {
+        let heap = self.heap;
+        let shape = heap.table.shape();
+        let (_shards, _pages) = (shape.shards(), shape.pages());
+        u64::from(shape.page_number(name.shard as u32, name.page as u32))
+    }
+
+    /// Becomes the owner of the shard, where it finds 0.
+    pub fn adopt(&mut self, shard: u64) -> u64
+        requires idle { (own_body self.old).hand ≡ Idle }
+        requires left { (own_body self.old).owned ≡ None }
+        requires shard { shard < self.old.view.shape.shards }
+        ensures does { OwnerDid L.layout (action.Adopt shard) (move.Adopt shard) result self.old self.new }
+        ensures tries { OwnerTries self.old self.new }
+        ensures adopts { OwnerAdopts L.layout shard result self.old self.new }
+        ensures put { NonePut self.old self.new }
+        ensures arm { NoneArmed self.old self.new }
+    {
+        let heap = self.heap;
+        let found = heap.table.adopt(&mut self.seat, shard);
+        if found == 0 {
+            self.owned = Some(shard);
+        }
+        found
+    }
+
+    /// Gives the shard up, of which it has nothing left.
+    pub fn leave(&mut self, shard: u64)
+        requires idle { (own_body self.old).hand ≡ Idle }
+        requires owned { (own_body self.old).owned ≡ Some shard }
+        requires pages { (q : ℕ) → HasNothing (seen_page self.old q) }
+        requires bell { (own_body self.old).bell_cursor ≡ None }
+        ensures does { OwnerDid L.layout action.Leave (move.Leave shard) 0 self.old self.new }
+        ensures left { Left self.old self.new }
+    {
+        let heap = self.heap;
+        heap.table.leave(&mut self.seat, shard);
+        self.owned = None;
+    }
+}

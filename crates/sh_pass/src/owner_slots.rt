@@ -1,0 +1,138 @@
+//! Steps of an owner on slots: how it stores values, and how it puts slots.
+ghost use Rattle.std.specs.Prelude.{◌≡◌, cond, ◌<◌, ◌≤◌, ◌+◌, ◌-◌, [], ◌∷◌, true, false, length};
+ghost use Rattle.sh_history.specs.declared.entry.Entry.TheVariants as entry;
+ghost use Rattle.sh_history.specs.declared.log.LogEntry.TheVariants.{Known};
+ghost use Rattle.sh_slots.specs.declared.hand.Hand.TheVariants.{Idle, Filling, Tying, Ringing};
+ghost use Rattle.sh_shape.specs.Classes.{width};
+ghost use Rattle.sh_step.specs.declared.action.Action.TheVariants as action;
+ghost use Rattle.sh_step.specs.declared.moves.Move.TheVariants as move;
+ghost use Rattle.sh_step.specs.Rows.{class_word_noted};
+ghost use Rattle.sh_bell.specs.Bell.{is_armed, top_of};
+ghost use Rattle.sh_stack.specs.Stack.{link_over};
+ghost use Rattle.sh_table.specs.Tales.{ViewStands};
+ghost use Rattle.sh_pass.specs.Owners.{MayTouch, OwnerDid, OwnerActs, OnPage, SamePages, SameBells, NonePut, heap_page, own_body, seen_page, published, slot_in, heap_spot, page_without, IsKeyIn};
+
+use crate::owner::Owner;
+use sh_key::KeyLayout;
+use sh_slots::{Spot, published_name};
+use sh_step::operands::key_of_name;
+use sh_step::{PageName, SlotName};
+use sh_value::Value;
+
+impl<'a, L: KeyLayout> Owner<'a, L> {
+    /// Stores the length of the value, as it begins to fill a slot of its own. Answers the slot's place over the whole heap.
+    pub fn fill_slot(&mut self, name: PageName, slot: u64, value: &Value) -> Spot
+        requires touch { MayTouch self.old name }
+        requires mine { (seen_page self.old (heap_page self.old name)).mine slot ≡ true }
+        requires classed { 0 < class_word_noted (own_body self.old) (heap_page self.old name) }
+        requires fits { length value.now ≤ width (class_word_noted (own_body self.old) (heap_page self.old name) - 1) }
+        ensures spot { result ≡ heap_spot self.old name slot }
+        ensures does { OwnerDid L.layout (action.FillSlot (slot_in name slot) value.now) (move.FillSlot (heap_spot self.old name slot) value.now) 0 self.old self.new }
+        ensures acts { OwnerActs (Filling (heap_spot self.old name slot) value.now 0) [] 1 self.old self.new }
+        ensures bells { SameBells L.layout self.old self.new }
+        ensures page { OnPage (heap_page self.old name) (page_without (seen_page self.old (heap_page self.old name)) slot) self.old self.new }
+        ensures put { NonePut self.old self.new }
+    {
+        let spot = Spot {
+            page: self.number(name),
+            slot,
+        };
+        let slot_name = SlotName {
+            shard: name.shard,
+            page: name.page,
+            slot,
+        };
+        let heap = self.heap;
+        heap.table.fill_slot(&mut self.seat, slot_name, spot, value);
+        spot
+    }
+
+    /// Stores the value's word of this number, from 0, in a page of this class word.
+    pub fn fill(&mut self, spot: Spot, value: &Value, i: u64, class_word: u64)
+        requires hand { (own_body self.old).hand ≡ Filling spot value.now i }
+        requires left { i < length value.now }
+        requires class { class_word_noted (own_body self.old) spot.page ≡ class_word }
+        ensures does { OwnerDid L.layout action.Fill (move.Fill spot value.now i class_word) 0 self.old self.new }
+        ensures acts { OwnerActs (Filling spot value.now (i + 1)) [] 1 self.old self.new }
+        ensures bells { SameBells L.layout self.old self.new }
+        ensures pages { SamePages self.old self.new }
+        ensures put { NonePut self.old self.new }
+    {
+        let heap = self.heap;
+        heap.table.fill(&mut self.seat, spot, value, i, class_word);
+    }
+
+    /// Makes the filled slot present. Answers the state word that it found.
+    pub fn publish(&mut self, spot: Spot, value: &Value) -> u64
+        requires hand { (own_body self.old).hand ≡ Filling spot value.now (length value.now) }
+        ensures does { OwnerDid L.layout action.Publish (move.Publish spot value.now) result self.old self.new }
+        ensures acts { OwnerActs Idle (Known (entry.Insert self.old.view.pass (published L.layout self.old spot result) value.now) ∷ []) 1 self.old self.new }
+        ensures bells { SameBells L.layout self.old self.new }
+        ensures pages { SamePages self.old self.new }
+        ensures put { NonePut self.old self.new }
+    {
+        let heap = self.heap;
+        heap.table.publish(&mut self.seat, spot, value)
+    }
+
+    /// Stores the value in a slot of its own, in a page of this class word: its length, each word, and then the slot is made
+    /// present. Answers the key under which it is.
+    pub fn insert_at(&mut self, name: PageName, slot: u64, value: &Value, class_word: u64) -> u64
+        requires touch { MayTouch self.old name }
+        requires mine { (seen_page self.old (heap_page self.old name)).mine slot ≡ true }
+        requires class { class_word_noted (own_body self.old) (heap_page self.old name) ≡ class_word }
+        requires classed { 0 < class_word }
+        requires fits { length value.now ≤ width (class_word - 1) }
+        ensures acts { OwnerActs Idle (Known (entry.Insert self.old.view.pass result value.now) ∷ []) (length value.now + 2) self.old self.new }
+        ensures key { IsKeyIn L.layout self.old name.shard result }
+        ensures bells { SameBells L.layout self.old self.new }
+        ensures page { OnPage (heap_page self.old name) (page_without (seen_page self.old (heap_page self.old name)) slot) self.old self.new }
+        ensures put { NonePut self.old self.new }
+        ensures stands { ViewStands L.layout self.new.view }
+    {
+        let spot = self.fill_slot(name, slot, value);
+        for i in 0..value.words().len() as u64 {
+            self.fill(spot, value, i, class_word);
+        }
+        let found = self.publish(spot, value);
+        let stored = published_name(spot, found);
+        let heap = self.heap;
+        key_of_name::<L>(heap.table.shape(), stored)
+    }
+
+    /// Puts a slot of its own on its page's stack. Answers the head word that it found.
+    pub fn put_slot(&mut self, name: PageName, slot: u64) -> u64
+        requires touch { MayTouch self.old name }
+        requires mine { (seen_page self.old (heap_page self.old name)).mine slot ≡ true }
+        ensures does { OwnerDid L.layout (action.PutSlot (slot_in name slot)) (move.PutSlot (heap_spot self.old name slot)) result self.old self.new }
+        ensures acts { OwnerActs (Tying (heap_spot self.old name slot) (link_over (top_of result)) (is_armed result)) [] 1 self.old self.new }
+        ensures bells { SameBells L.layout self.old self.new }
+        ensures page { OnPage (heap_page self.old name) (page_without (seen_page self.old (heap_page self.old name)) slot) self.old self.new }
+        ensures calm { (seen_page self.old (heap_page self.old name)).armed ≡ false → is_armed result ≡ false }
+    {
+        let spot = Spot {
+            page: self.number(name),
+            slot,
+        };
+        let slot_name = SlotName {
+            shard: name.shard,
+            page: name.page,
+            slot,
+        };
+        let heap = self.heap;
+        heap.table.put_slot(&mut self.seat, slot_name, spot)
+    }
+
+    /// Stores the link of the slot that it put; whether the put found the page armed.
+    pub fn tie(&mut self, spot: Spot, link: u64, ring: bool)
+        requires { (own_body self.old).hand ≡ Tying spot link ring }
+        ensures does { OwnerDid L.layout action.Tie (move.Tie spot link ring) 0 self.old self.new }
+        ensures acts { OwnerActs (cond ring (Ringing spot.page) Idle) [] 1 self.old self.new }
+        ensures bells { SameBells L.layout self.old self.new }
+        ensures pages { SamePages self.old self.new }
+        ensures put { NonePut self.old self.new }
+    {
+        let heap = self.heap;
+        heap.table.tie(&mut self.seat, spot, link, ring);
+    }
+}
