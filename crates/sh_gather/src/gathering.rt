@@ -8,9 +8,9 @@ use crate::view::Whole;
 use sh_key::KeyLayout;
 use sh_pass::{Pass, merge};
 
-/// Two passes of one heap meet: the first one, which now carries both tales, so that one legal history has the entries of
-/// all passes that either names, and all that the second carried stands before what the first answers from now on. The holds
-/// of the second stay in their slots for good.
+/// Two passes of one heap meet: the first one, which now carries both tales, so that one legal history has the entries
+/// of all passes that either names, and all that the second carried stands before what the first answers from now on.
+/// The holds of the second stay in their slots for good.
 pub fn join<'a, L: KeyLayout>(one: Pass<'a, L>, other: Pass<'a, L>) -> Pass<'a, L>
     requires { other.heap ≡ one.heap }
     ensures heap { result.heap ≡ one.entry.heap }

@@ -1,10 +1,15 @@
-//! Passes that meet: what one of them can tell for all, and the heap as a whole once one can tell for every pass.
+//! Passes that meet: what one of them can tell for all, and the heap as a whole once one can tell for every pass, with
+//! the accounts of its pages.
 #![tactic(auto)]
 
+mod accounts;
 pub mod gathering;
+pub mod laws;
 #[cfg(test)]
 mod tests;
 pub mod view;
 
 pub use gathering::{join, whole};
+pub use laws::{notes_keep_histories, page_keys_are_all};
+pub use sh_core::Accounts;
 pub use view::Whole;

@@ -1,11 +1,23 @@
-//! Whole heaps: one pass alone cannot tell, and both together can.
-use crate::{join, whole};
+//! Whole heaps: one pass alone cannot tell, and all together can; and the accounts of pages that nobody owns.
+use crate::{Accounts, Whole, join, whole};
 use sh_key::{KeyLayout, Tagged, Tiny, Wide};
 use sh_pass::Heap;
 use sh_shape::Shape;
+use sh_value::Refusal;
 use std::alloc::Global;
 use std::process::Abort;
 use std::test::Fail;
+
+// A page without a class, of whose slots nothing is counted.
+const BLANK: Accounts = Accounts {
+    class: None,
+    live: 0,
+    marked: 0,
+    retired: 0,
+    mine: 0,
+    hand: 0,
+    queued: 0,
+};
 
 // Of three passes two are joined, and then all.
 fn whole_needs_all<L: KeyLayout>(rt: &impl Abort, alloc: Global) {
@@ -31,5 +43,54 @@ fn a_whole_needs_all_passes(rt: HostRuntime) -> Result<(), Fail> {
     whole_needs_all::<Tiny>(&rt, rt.alloc());
     whole_needs_all::<Wide>(&rt, rt.alloc());
     whole_needs_all::<Tagged>(&rt, rt.alloc());
+    Ok(())
+}
+
+// Two shards of one segment have 8 pages each, and as nobody has owned a shard, none of them has a class. The get is
+// refused: it enters a slot and leaves it.
+fn pages_are_blank<L: KeyLayout>(rt: &impl Abort, alloc: Global, key: u64) {
+    let shape = Shape::new(2, 1, 2).expect(rt, "a shape");
+    let (heap, seats) = Heap::<L>::open(alloc, shape).expect(rt, "a heap");
+    let Ok(mut passes) = heap.passes(alloc, seats) else {
+        panic!(rt; "no passes")
+    };
+    let (Some(mut second), Some(first)) = (passes.pop(), passes.pop()) else {
+        panic!(rt; "not two passes")
+    };
+    assert_eq!(rt; second.get(key), Err(Refusal::Gone));
+    let Ok(mut all) = whole(join(first, second)) else {
+        panic!(rt; "both passes are the whole")
+    };
+    blank_in_each_shard(rt, &mut all);
+    none_past_the_last(rt, &mut all);
+    // What was noted before changes no answer.
+    blank_in_each_shard(rt, &mut all);
+}
+
+fn blank_in_each_shard<L: KeyLayout>(rt: &impl Abort, all: &mut Whole<'_, L>) {
+    for shard in 0..2 {
+        for page in 0..8 {
+            assert_eq!(rt;
+                all.accounts(shard, page),
+                Some(BLANK),
+                "page {shard}.{page}"
+            );
+        }
+    }
+}
+
+fn none_past_the_last<L: KeyLayout>(rt: &impl Abort, all: &mut Whole<'_, L>) {
+    assert_eq!(rt; all.accounts(0, 8), None);
+    assert_eq!(rt; all.accounts(1, 8), None);
+    assert_eq!(rt; all.accounts(2, 0), None);
+    assert_eq!(rt; all.accounts(4294967295, 4294967295), None);
+}
+
+// The least key of each layout names slot 0 of page 0 of shard 0, in generation 1.
+#[test]
+fn pages_without_an_owner_are_blank(rt: HostRuntime) -> Result<(), Fail> {
+    pages_are_blank::<Tiny>(&rt, rt.alloc(), 4096);
+    pages_are_blank::<Wide>(&rt, rt.alloc(), 16777216);
+    pages_are_blank::<Tagged>(&rt, rt.alloc(), 1048576);
     Ok(())
 }

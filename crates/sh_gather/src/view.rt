@@ -1,4 +1,11 @@
 //! A heap of which one pass knows all.
+ghost use Rattle.std.specs.Prelude.{◌≡◌, ◌+◌, ◌≤◌, length, IfSome, MatchOption};
+ghost use Rattle.sh_shape.specs.Places.{page_number};
+ghost use Rattle.sh_accounts.specs.Accounts.{ShapeHasPage};
+ghost use Rattle.sh_gather.specs.Gathering.{AreWholeAccounts, NotedMore};
+
+use crate::accounts::accounts;
+use sh_core::Accounts;
 use sh_key::KeyLayout;
 use sh_pass::Pass;
 use std::marker::Model;
@@ -18,4 +25,26 @@ impl<'a, L: KeyLayout> Model for Whole<'a, L> {
     ghost view = { λ w. w.pass };
 
     ghost invariant = { λ w. IsWhole w.pass.view };
+}
+
+impl<'a, L: KeyLayout> Whole<'a, L> {
+    /// The accounts of a shard's page: its class, and how many of the slots of the class are live, marked, retired and
+    /// queued. Words of the page are looked at, 98 at most, and what is queued is found by walking its stack. None where
+    /// the heap has no such page.
+    ///
+    /// No slot is an owner's or in a hand, since all passes met. By every history of what the passes were answered, live
+    /// are the page's keys that were inserted and not removed, marked those that were removed and are still held, and
+    /// retired those that were removed in the last generation of their slots and are not held.
+    pub fn accounts(&mut self, shard: u32, page: u32) -> Option<Accounts>
+        ensures heap { self.new.heap ≡ self.old.heap }
+        ensures tale { NotedMore self.old.view self.new.view }
+        ensures looks { length self.new.view.noted ≤ length self.old.view.noted + 98 }
+        ensures there { MatchOption result
+            (¬ ShapeHasPage self.old.heap.shape shard page)
+            (λ accounts. ShapeHasPage self.old.heap.shape shard page) }
+        ensures are { IfSome result
+            (AreWholeAccounts L.layout self.new.view (page_number self.old.heap.shape shard page)) }
+    {
+        accounts(&mut self.pass, shard, page)
+    }
 }

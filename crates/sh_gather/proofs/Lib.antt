@@ -1,0 +1,6 @@
+pub mod Histories
+pub mod PageKeys
+pub mod PageNumbers
+pub mod Leading
+pub mod Walking
+pub mod KeyLists

@@ -1,0 +1,91 @@
+-- Whole accounts.
+use Rattle.std.specs.Prelude.{◌≡◌, ℕ, ◌+◌, ◌≤◌, not, ◌&&◌, List, ◌++◌, length, drop, count_by, Option, None}
+use Rattle.sh_word.specs.Fields.{Fields}
+use Rattle.sh_key.specs.Layout.{Layout}
+use Rattle.sh_shape.specs.declared.places.Place.{Place}
+use Rattle.sh_slots.specs.declared.hand.Hand.TheVariants.{Idle}
+use Rattle.sh_step.specs.Collections.{if1}
+use Rattle.sh_step.specs.Plans.{plan_of}
+use Rattle.sh_history.specs.declared.entry.Entry.{Entry}
+use Rattle.sh_core.specs.declared.accounts.Accounts.{Accounts}
+use Rattle.sh_core.specs.Lists.{PutLists, accounts, among, state_of}
+use Rattle.sh_core.specs.Stacks.{top}
+use Rattle.sh_core.specs.Worlds.{World}
+use Rattle.sh_accounts.specs.Accounts.{FillPage}
+use Rattle.sh_table.specs.declared.view.View.{View}
+use Rattle.sh_table.specs.Whole.{IsWhole}
+use Rattle.sh_gather.specs.PageKeys.{page_keys, is_live_key, is_marked_key, is_retired_key}
+use Rattle.sh_gather.specs.Histories.{IsHistory, Sure, CanBe}
+use Rattle.sh_gather.specs.Walks.{IsWholeStack}
+
+-- the tale names each pass, and the pass itself has an idle hand and no shard, as each pass that it took in
+pub record IsGathered (v : View) : Type 0 where
+  pub whole : IsWhole v
+  pub idle : v.own.body.hand ≡ Idle
+  pub left : v.own.body.owned ≡ None
+
+-- some words more were noted, and nothing else is new: the tale is as it was
+abbrev pub NotedMore : View → View → Type 0
+NotedMore v w = (more : List (Place × ℕ)) × (w ≡ record v { noted = v.noted ++ more })
+
+-- so its histories are what they were
+abbrev pub NotesKeepHistories : Type 0
+NotesKeepHistories = (layout : Layout) (v w : View) (history : List Entry) → NotedMore v w
+    → IsHistory layout v history → IsHistory layout w history
+
+-- how many of the keys of page q are live, marked and retired by the history is what the accounts say
+pub record CountsKeys (layout : Layout) (v : View) (q : ℕ) (a : Accounts) (history : List Entry) : Type 0 where
+  pub live : a.live ≡ count_by (is_live_key history) (page_keys (plan_of layout v.shape) q)
+  pub marked : a.marked ≡ count_by (is_marked_key history) (page_keys (plan_of layout v.shape) q)
+  pub retired : a.retired
+      ≡ count_by (is_retired_key (plan_of layout v.shape) history) (page_keys (plan_of layout v.shape) q)
+
+-- the accounts of page q of a heap of which all passes met
+pub record AreWholeAccounts (layout : Layout) (v : View) (q : ℕ) (a : Accounts) : Type 0 where
+  -- they are those of the core, after every list of events that leads here; and there is one
+  pub reached : Sure layout v (λ w l. a ≡ accounts w l q)
+  pub can_be : CanBe layout v
+  -- nothing is an owner's or in a hand
+  pub mine : a.mine ≡ 0
+  pub hand : a.hand ≡ 0
+  -- the queued slots are those of the page's stack, which was walked to its end; they are what the other three leave of
+  -- the slots of the page's class, and a page without a class has no slots at all
+  pub walked : (slots : List ℕ) × IsWholeStack v q slots × (a.queued ≡ length slots)
+  pub fill : FillPage a
+  -- every history of the tale counts the page's keys so
+  pub counts : (history : List Entry) → IsHistory layout v history → CountsKeys layout v q a history
+
+-- ---- how they are found
+
+-- how many of the first n slots of page q are live, marked, retired
+pub record CountedTo (q n : ℕ) (a : Accounts) (w : World) : Type 0 where
+  pub live : a.live ≡ among q (λ x. if1 ((state_of w x).present && not (state_of w x).marked)) n
+  pub marked : a.marked ≡ among q (λ x. if1 ((state_of w x).present && (state_of w x).marked)) n
+  pub retired : a.retired ≡ among q (λ x. if1 (not (state_of w x).present && (state_of w x).marked)) n
+
+-- with one slot of this state more
+abbrev pub with_state : Accounts → Fields → Accounts
+with_state a st = record {
+  class = a.class;
+  live = a.live + if1 (st.present && not st.marked);
+  marked = a.marked + if1 (st.present && st.marked);
+  retired = a.retired + if1 (not st.present && st.marked);
+  mine = a.mine;
+  hand = a.hand;
+  queued = a.queued;
+}
+
+-- how many slots were counted by their states
+abbrev pub states_counted : Accounts → ℕ
+states_counted a = a.live + a.marked + a.retired
+
+-- no slot is counted as anything else
+pub record StatesAlone (c : Option ℕ) (a : Accounts) : Type 0 where
+  pub class : a.class ≡ c
+  pub mine : a.mine ≡ 0
+  pub hand : a.hand ≡ 0
+  pub queued : a.queued ≡ 0
+
+-- n slots of the page's stack were walked, and this number names the next
+abbrev pub WalkedTo : ℕ → ℕ → ℕ → World → PutLists → Type 0
+WalkedTo q n t w l = (n ≤ length (l.stack q)) × (t ≡ top (drop n (l.stack q)))

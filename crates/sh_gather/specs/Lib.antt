@@ -1,0 +1,4 @@
+pub mod PageKeys
+pub mod Histories
+pub mod Walks
+pub mod Gathering
