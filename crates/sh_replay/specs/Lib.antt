@@ -11,6 +11,7 @@ pub mod Meeting
 pub mod Alone
 pub mod Holders
 pub mod Running
+pub mod HeapOutput
 pub mod PlainDoes
 pub mod StepsOutput
 pub mod StepsKeys

@@ -6,6 +6,7 @@ pub mod alone;
 mod answer;
 mod ends;
 mod event_line;
+pub mod heap_lines;
 pub mod holder;
 mod keys;
 pub mod laws;
