@@ -58,12 +58,6 @@ CursorStands c = MatchOption c ⊥ (λ _. Unit {0})
 abbrev pub WaitsSince : SeenPage → SeenPage → Type 0
 WaitsSince g h = MatchOption h.cursor (Unit {0}) (λ _. g.met < h.met)
 
--- between its calls the owner has begun nothing, the shard is its own, and the shape that it knows is its heap's
-pub record OwnerAtRest (v : Paged) : Type 0 where
-  pub idle : (own_body v.owner).hand ≡ Idle
-  pub owned : (own_body v.owner).owned ≡ Some v.shard
-  pub shape : v.owner.view.shape ≡ v.owner.heap.shape
-
 -- so many steps were taken
 abbrev pub TakesSteps : ℕ → Paged → Paged → Type 0
 TakesSteps n v w = length w.owner.view.own.trail ≡ length v.owner.view.own.trail + n

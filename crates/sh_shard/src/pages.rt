@@ -1,12 +1,11 @@
 //! The pages of an owner's shard: what is kept of each is what the owner knows of it.
 ghost use Rattle.std.specs.Prelude.{◌≡◌, ℕ, ◌<◌, ◌≤◌, Option, None, MatchBool, true, false};
-ghost use Rattle.sh_table.specs.Tales.{ViewStands};
-ghost use Rattle.sh_shard.specs.Pages.{page_at, OwnerAtRest, AdoptsPages, CursorStands, NothingMine, WhollyMine};
+ghost use Rattle.sh_shard.specs.Pages.{page_at, AdoptsPages, CursorStands, NothingMine, WhollyMine};
 
 use sh_key::KeyLayout;
 use sh_lists::PageLists;
 use sh_pass::{Owner, Pass};
-use sh_shape::{Shape, classes};
+use sh_shape::classes;
 use sh_step::PageName;
 use sh_value::Refusal;
 use std::alloc::Global;
@@ -54,17 +53,6 @@ impl<'a, L: KeyLayout> Pages<'a, L> {
         ensures { AdoptsPages shard pass.entry result }
     {
         unreachable!()
-    }
-
-    /// The shape of the heap. The owner has begun nothing, and all that it knows stands.
-    pub(crate) fn shape(&self) -> &Shape
-        ensures is { result.now ≡ self.now.owner.heap.shape }
-        ensures rest { OwnerAtRest self.now }
-        ensures stands { ViewStands L.layout self.now.owner.view }
-    {
-        // What holds of all pages holds of these.
-        let _ = &self.states;
-        self.owner.shape()
     }
 
     /// How many pages the shard has.

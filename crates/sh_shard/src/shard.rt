@@ -2,15 +2,13 @@
 ghost use Rattle.std.specs.Prelude.{◌≡◌, ◌+◌, length};
 ghost use Rattle.sh_queue.specs.Queues.{EachOnce};
 ghost use Rattle.sh_pass.specs.Passes.{GetDoes, ReadDoes, RemoveDoes, ReleaseDoes};
-ghost use Rattle.sh_table.specs.Tales.{ViewStands};
-ghost use Rattle.sh_shard.specs.Pages.{OwnerAtRest};
 ghost use Rattle.sh_shard.specs.Shards.{SortedPages, InsertServes, IsQuick, DoneIn, value_class};
 
 use crate::pages::Pages;
 use crate::returning::return_one;
 use sh_key::KeyLayout;
 use sh_queue::Queues;
-use sh_shape::{Shape, classes};
+use sh_shape::classes;
 use sh_value::{Hold, Refusal, Value};
 use std::marker::Model;
 
@@ -47,15 +45,6 @@ impl<'a, L: KeyLayout> Shard<'a, L> {
             unreachable!()
         };
         self.insert_in(class, value)
-    }
-
-    /// The shape of the heap. Between its calls the owner has begun nothing, the shard is its own, and all that it knows stands.
-    pub fn shape(&self) -> &Shape
-        ensures is { result.now ≡ self.now.pages.owner.heap.shape }
-        ensures rest { OwnerAtRest self.now.pages }
-        ensures stands { ViewStands L.layout self.now.pages.owner.view }
-    {
-        self.pages.shape()
     }
 
     /// Takes a hold on a key. Refused as `BadKey`, `HoldsFull`, `Gone` or `Crowded`, tried in that order.
