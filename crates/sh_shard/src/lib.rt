@@ -17,6 +17,8 @@ mod returning;
 mod ringing;
 mod search;
 pub mod shard;
+mod standing;
+mod store;
 mod using;
 
 pub use pages::Pages;
