@@ -19,6 +19,8 @@ mod search;
 pub mod shard;
 mod standing;
 mod store;
+#[cfg(test)]
+mod tests;
 mod using;
 
 pub use pages::Pages;
