@@ -17,6 +17,10 @@ mod returning;
 mod ringing;
 mod search;
 pub mod shard;
+mod standing;
+mod store;
+#[cfg(test)]
+mod tests;
 mod using;
 
 pub use pages::Pages;
