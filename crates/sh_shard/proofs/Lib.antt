@@ -2,3 +2,4 @@ pub mod PageLaws
 pub mod Keeping
 pub mod Working
 pub mod Wholly
+pub mod LeavingLaws
