@@ -288,7 +288,7 @@ pub record Putting (turn p : ℕ) (o n : Paged) : Type 0 where
   pub others : (q : ℕ) → q ≢ p → page_at n q ≡ page_at o q
 
 pub putting_none : (p : ℕ) (o : Paged) → Putting 0 p o o
-putting_none p o = record { aside = aside_none o.owner; bell = refl; log = refl; shard = refl; count = refl; cursor = refl; armed = refl; few = count_few (page_at o p).mine 48; others = λ q ne. refl }
+putting_none p o = record { aside = aside_none o.owner; bell = refl; log = refl; shard = refl; count = refl; cursor = refl; armed = refl; few = let l = count_few (page_at o p).mine 48 in omega arith; others = λ q ne. refl }
 
 pub putting_more : (turn p : ℕ) (o m n : Paged) → Putting turn p o m → PutsOne p m n → Putting (turn + 1) p o n
 putting_more turn p o m n g h = record {

@@ -3,3 +3,4 @@ pub mod Keeping
 pub mod Working
 pub mod Wholly
 pub mod LeavingLaws
+pub mod Beginning
