@@ -1,8 +1,8 @@
 -- How an owner leaves its shard: it empties the bell and the stacks, puts back what it has, and gives the shard up.
 use Rattle.std.specs.Prelude.{◌≡◌, ◌≢◌, ℕ, ◌+◌, ◌<◌, ◌≤◌, ◌⊎◌, true, false, List, Option, Some, None, MatchOption, Result, Ok, Err}
 use Rattle.sh_pass.specs.Passes.{Caller}
-use Rattle.sh_pass.specs.Owners.{SeenPage, Aside, NonePut, NoneArmed}
-use Rattle.sh_shard.specs.Pages.{Paged, page_at, CursorStands, NothingMine, WaitsSince, WorksOn, NoArming, ShardLeft}
+use Rattle.sh_pass.specs.Owners.{SeenPage, Aside, HasNothing, NonePut}
+use Rattle.sh_shard.specs.Pages.{Paged, page_at, own_slots, CursorStands, NothingMine, WaitsSince, WorksOn, NoArming, ShardLeft}
 
 -- work on pages and on the bell, which adds nothing to the log, puts nothing and arms nothing
 pub record Collecting (o n : Paged) : Type 0 where
@@ -33,16 +33,32 @@ pub record EmptiesPage (p : ℕ) (o n : Paged) : Type 0 where
   pub arm : NoArming o n
   pub emptied : PageEmptied (page_at o p) (page_at n p)
 
--- bell and pages were emptied
-pub record Empties (o n : Paged) : Type 0 where
+-- the bell was followed to its end, or to a link that was not written
+pub record BellFollowed (o n : Paged) : Type 0 where
   pub through : Collecting o n
-  pub bell : BellEmptied o n
-  pub pages : (p : ℕ) → p < o.count → PageEmptied (page_at o p) (page_at n p)
+  pub takes : n.bell.takes ≡ o.bell.takes
+  pub waits : MatchOption n.bell.cursor (Unit {0}) (λ _. o.bell.met < n.bell.met)
+
+-- each page was emptied, and the bell is as it was
+pub record PagesEmptied (o n : Paged) : Type 0 where
+  pub through : Collecting o n
+  pub bell : n.bell ≡ o.bell
+  pub pages : (p : ℕ) → p < n.count → PageEmptied (page_at o p) (page_at n p)
 
 -- the page has no cursor and is not armed
 pub record AtRest (g : SeenPage) : Type 0 where
   pub cursor : g.cursor ≡ None
   pub armed : g.armed ≡ false
+
+-- the bell has no cursor, and each page is at rest
+pub record AllAtRest (v : Paged) : Type 0 where
+  pub bell : v.bell.cursor ≡ None
+  pub pages : (p : ℕ) → p < v.count → AtRest (page_at v p)
+
+-- the bell has a cursor, or it has none and a page has one, or is armed and has none
+abbrev pub NotAtRest : Paged → Type 0
+NotAtRest v = CursorStands v.bell.cursor
+    ⊎ ((v.bell.cursor ≡ None) × ((p : ℕ) × (p < v.count) × (CursorStands (page_at v p).cursor ⊎ (((page_at v p).cursor ≡ None) × ((page_at v p).armed ≡ true)))))
 
 -- the bell or a page is not at rest: a link of a cursor was not written in this call, or else the page is armed though both it and the bell were taken in this call, so the notice of its ring is yet to come
 abbrev pub RestsNot : Paged → Paged → Type 0
@@ -55,16 +71,37 @@ pub record Waiting (o n : Paged) : Type 0 where
   pub through : Collecting o n
   pub why : RestsNot o n
 
--- no slot of page p is its owner's any longer; what they were was put on the page's stack
-pub record PutsBack (p : ℕ) (o n : Paged) : Type 0 where
+-- a slot of page p was put on the page's stack
+pub record PutsOne (p : ℕ) (o n : Paged) : Type 0 where
   pub aside : Aside o.owner n.owner
-  pub arm : NoArming o n
   pub bell : n.bell ≡ o.bell
   pub log : n.owner.view.own.log ≡ o.owner.view.own.log
   pub shard : n.shard ≡ o.shard
   pub count : n.count ≡ o.count
-  pub here : page_at n p ≡ record (page_at o p) { mine = λ s. false }
+  pub cursor : (page_at n p).cursor ≡ (page_at o p).cursor
+  pub armed : (page_at n p).armed ≡ (page_at o p).armed
+  pub less : own_slots (page_at n p) + 1 ≡ own_slots (page_at o p)
   pub others : (q : ℕ) → q ≢ p → page_at n q ≡ page_at o q
+
+-- each slot of page p that was its owner's was put on the page's stack
+pub record PutsBack (p : ℕ) (o n : Paged) : Type 0 where
+  pub aside : Aside o.owner n.owner
+  pub bell : n.bell ≡ o.bell
+  pub log : n.owner.view.own.log ≡ o.owner.view.own.log
+  pub shard : n.shard ≡ o.shard
+  pub count : n.count ≡ o.count
+  pub cursor : (page_at n p).cursor ≡ (page_at o p).cursor
+  pub armed : (page_at n p).armed ≡ (page_at o p).armed
+  pub mine : NothingMine (page_at n p)
+  pub others : (q : ℕ) → q ≢ p → page_at n q ≡ page_at o q
+
+-- nothing of any page is its owner's, and all is at rest
+pub record PutsAllBack (o n : Paged) : Type 0 where
+  pub aside : Aside o.owner n.owner
+  pub log : n.owner.view.own.log ≡ o.owner.view.own.log
+  pub shard : n.shard ≡ o.shard
+  pub bell : n.bell.cursor ≡ None
+  pub pages : (p : ℕ) → p < n.count → HasNothing (page_at n p)
 
 -- the shard is left, or leaving waits and the shard comes back
 abbrev pub LeaveDoes : Paged → Result Caller Paged → Type 0

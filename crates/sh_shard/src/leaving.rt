@@ -1,13 +1,43 @@
 // Leaving the shard: what others put is collected, what the owner has is put back, and the shard is given up.
-ghost use Rattle.std.specs.Prelude.{◌≡◌, ℕ, ◌<◌, None, MatchBool, Result};
-ghost use Rattle.sh_shard.specs.Leaving.{LeaveDoes, EmptiesPage, AtRest};
-ghost use Rattle.sh_shard.specs.Pages.{page_at, BarePage, ShardLeft};
+ghost use Rattle.std.specs.Prelude.{◌≡◌, ℕ, ◌<◌, ◌⊎◌, None, MatchBool, Result, true, false};
+ghost use Rattle.sh_pass.specs.Owners.{HasNothing, heap_page as number_of};
+ghost use Rattle.sh_shard.specs.Leaving.{LeaveDoes, Collecting, BellFollowed, BellEmptied, EmptiesPage, PagesEmptied, AtRest, AllAtRest, NotAtRest, PutsOne, PutsBack, PutsAllBack};
+ghost use Rattle.sh_shard.specs.Pages.{page_at, shard_page, CursorStands, NothingMine, ShardLeft};
 
 use crate::pages::Pages;
+use sh_bell::{is_armed, top_of};
 use sh_key::KeyLayout;
 use sh_pass::Pass;
+use sh_slots::Spot;
+use sh_stack::link_over;
+use sh_step::PageName;
 
 impl<'a, L: KeyLayout> Pages<'a, L> {
+    // Follows the bell to its end or to a link that is not written.
+    fn follow_rings(&mut self)
+        ensures { BellFollowed self.old self.new }
+    {
+        let count = self.count();
+        for _turn in 0..count + 1 {
+            let Some(_page) = self.follow_bell() else {
+                return;
+            };
+        }
+    }
+
+    // Follows the bell, takes it where it is at its end, and follows.
+    fn empty_bell(&mut self)
+        ensures through { Collecting self.old self.new }
+        ensures bell { BellEmptied self.old self.new }
+    {
+        self.follow_rings();
+        if self.has_rings() {
+            return;
+        }
+        self.take_bell();
+        self.follow_rings();
+    }
+
     // Follows the page's cursor; where it has none then and is armed still, takes what was put, and follows.
     fn empty_page(&mut self, page: u64)
         requires { page < self.old.count }
@@ -20,25 +50,127 @@ impl<'a, L: KeyLayout> Pages<'a, L> {
         if !self.is_armed(page) {
             return;
         }
+        let _blank = self.class_word(page);
         self.take(page);
         self.follow_all(page);
     }
 
+    // Empties each page, in ascending order.
+    fn empty_pages(&mut self)
+        ensures { PagesEmptied self.old self.new }
+    {
+        for page in 0..self.count() {
+            self.empty_page(page);
+        }
+    }
+
+    // Whether the page has no cursor and is not armed.
+    fn rests(&self, page: u64) -> bool
+        requires { page < self.now.count }
+        ensures { MatchBool result (AtRest (page_at self.now page)) (CursorStands (page_at self.now page).cursor ⊎ (((page_at self.now page).cursor ≡ None) × ((page_at self.now page).armed ≡ true))) }
+    {
+        if self.has_cursor(page) {
+            return false;
+        }
+        !self.is_armed(page)
+    }
+
+    // Whether the bell has no cursor, and no page has one or is armed.
+    fn is_at_rest(&self) -> bool
+        ensures { MatchBool result (AllAtRest self.now) (NotAtRest self.now) }
+    {
+        if self.has_rings() {
+            return false;
+        }
+        for page in 0..self.count() {
+            if !self.rests(page) {
+                return false;
+            }
+        }
+        true
+    }
+
+    // The number of a page over the whole heap.
+    fn heap_page(&self, page: u64) -> u64
+        requires { page < self.now.count }
+        ensures { result ≡ number_of self.now.owner (shard_page self.now.shard page) }
+    {
+        self.shard * self.states.len() as u64 + page
+    }
+
+    // Two steps: the next slot of the lists is put on the page's stack. False where there is none.
+    fn put_next(&mut self, page: u64) -> bool
+        requires inside { page < self.old.count }
+        requires calm { (page_at self.old page).armed ≡ false }
+        ensures { MatchBool result (PutsOne page self.old self.new) ((self.new ≡ self.old) × NothingMine (page_at self.old page)) }
+    {
+        let name = PageName {
+            shard: self.shard,
+            page,
+        };
+        let number = self.heap_page(page);
+        let state = &mut self.states[page as usize];
+        let Some(slot) = state.lists.next_slot() else {
+            return false;
+        };
+        let slot = slot as u64;
+        let head = self.owner.put_slot(name, slot);
+        let spot = Spot { page: number, slot };
+        self.owner.tie(spot, link_over(top_of(head)), is_armed(head));
+        true
+    }
+
+    // Puts each slot of the lists on the page's stack: those of `free`, and then those of `local`, front to back.
+    fn put_back(&mut self, page: u64)
+        requires inside { page < self.old.count }
+        requires calm { (page_at self.old page).armed ≡ false }
+        ensures { PutsBack page self.old self.new }
+    {
+        for _turn in 0..49u64 {
+            if !self.put_next(page) {
+                return;
+            }
+        }
+    }
+
+    // Puts the slots of each page back, in ascending order.
+    fn put_all_back(&mut self)
+        requires { AllAtRest self.old }
+        ensures { PutsAllBack self.old self.new }
+    {
+        for page in 0..self.count() {
+            self.put_back(page);
+        }
+    }
+
     /// Gives the shard up, of which it has nothing.
     pub(crate) fn give_up(self) -> Pass<'a, L>
-        requires pages { (p : ℕ) → p < self.count → BarePage (page_at self p) }
+        requires pages { (p : ℕ) → p < self.count → HasNothing (page_at self p) }
         requires bell { self.bell.cursor ≡ None }
         ensures { ShardLeft self.entry.owner result }
     {
-        unreachable!()
+        let Pages {
+            mut owner,
+            shard,
+            rings: _,
+            states: _,
+        } = self;
+        owner.leave(shard);
+        owner.into_pass()
     }
 
     /// Leaves the shard: the bell is followed, taken and followed, cursors are followed, and each page still armed that has no
     /// cursor is taken and followed. Where a cursor stands then or a page is armed, others have yet to end what they began:
     /// nothing is put, and the pages come back. Else the owner's slots are put on their pages, and the shard is given up.
-    pub(crate) fn leave(self) -> Result<Pass<'a, L>, Self>
+    pub(crate) fn leave(mut self) -> Result<Pass<'a, L>, Self>
         ensures { LeaveDoes self.entry result }
     {
-        unreachable!()
+        self.empty_bell();
+        self.empty_pages();
+        if !self.is_at_rest() {
+            return Err(self);
+        }
+        self.put_all_back();
+        Ok(self.give_up())
     }
 }

@@ -1,6 +1,9 @@
 //! The pages of an owner's shard: what is kept of each is what the owner knows of it.
-ghost use Rattle.std.specs.Prelude.{◌≡◌, ℕ, ◌<◌, ◌≤◌, Option, None, MatchBool, true, false};
-ghost use Rattle.sh_shard.specs.Pages.{page_at, AdoptsPages, CursorStands, NothingMine, WhollyMine};
+ghost use Rattle.std.specs.Prelude.{◌≡◌, ℕ, ◌<◌, ◌≤◌, Option, None, Some, MatchBool, MatchResult, true, false};
+ghost use Rattle.sh_slots.specs.declared.hand.Hand.TheVariants.{Idle};
+ghost use Rattle.sh_table.specs.Tales.{ViewStands};
+ghost use Rattle.sh_pass.specs.Owners.{HasNothing, own_body, seen_page};
+ghost use Rattle.sh_shard.specs.Pages.{page_at, AdoptsPages, AdoptsShard, CursorStands, NothingMine, ShardLeft, WhollyMine};
 
 use sh_key::KeyLayout;
 use sh_lists::PageLists;
@@ -49,10 +52,55 @@ impl<'a, L: KeyLayout> Pages<'a, L> {
     /// Makes the pass the owner of the shard, and reads the class word of each page in ascending order. Refused, with the
     /// pass, as `NoShard` where there is no such shard, as `Taken` where it has an owner, and as `Memory` where memory for
     /// the pages is refused: then the shard is left again.
-    pub(crate) fn adopt(alloc: Global, pass: Pass<'a, L>, shard: u64) -> Result<Self, (Pass<'a, L>, Refusal)>
+    pub(crate) fn adopt(
+        alloc: Global,
+        pass: Pass<'a, L>,
+        shard: u64,
+    ) -> Result<Self, (Pass<'a, L>, Refusal)>
         ensures { AdoptsPages shard pass.entry result }
     {
-        unreachable!()
+        let mut owner = Owner::of(pass);
+        if shard >= owner.shards() {
+            return Err((owner.into_pass(), Refusal::NoShard));
+        }
+        if owner.adopt(shard) != 0 {
+            return Err((owner.into_pass(), Refusal::Taken));
+        }
+        match Self::begin(alloc, owner, shard) {
+            Ok(pages) => Ok(pages),
+            Err(owner) => Err((owner.into_pass(), Refusal::Memory)),
+        }
+    }
+
+    // Reads the class word of each page of the shard that was adopted. Where memory is refused, the shard is left.
+    fn begin(alloc: Global, owner: Owner<'a, L>, shard: u64) -> Result<Self, Owner<'a, L>>
+        requires idle { (own_body owner).hand ≡ Idle }
+        requires owned { (own_body owner).owned ≡ Some shard }
+        requires bell { (own_body owner).bell_cursor ≡ None }
+        requires pages { (q : ℕ) → HasNothing (seen_page owner q) }
+        requires stands { ViewStands L.layout owner.view }
+        ensures { MatchResult result (λ pages. AdoptsShard owner.entry shard pages) (λ back. ShardLeft owner.entry back) }
+    {
+        let mut owner = owner;
+        let count = owner.pages();
+        let Ok(mut states) = Vec::with_capacity(alloc, count as usize) else {
+            owner.leave(shard);
+            return Err(owner);
+        };
+        for page in 0..count {
+            let class_word = owner.read_page(PageName { shard, page });
+            states.push_reserved(PageState {
+                lists: PageLists::bare(),
+                class_word,
+                armed: false,
+            });
+        }
+        Ok(Pages {
+            owner,
+            shard,
+            rings: None,
+            states,
+        })
     }
 
     /// How many pages the shard has.
