@@ -17,6 +17,8 @@ mod returning;
 mod ringing;
 mod search;
 pub mod shard;
+#[cfg(test)]
+mod tests;
 mod using;
 
 pub use pages::Pages;
