@@ -1,6 +1,7 @@
 //! What calls on shards answer, by worked examples: which keys come in which order, what is refused, what a stopped caller
 //! leaves behind, and what stands after refused memory.
 ghost use Rattle.std.specs.Prelude.{◌≡◌, ◌<◌};
+ghost use Rattle.sh_shape.specs.Places.{IsPlace};
 
 mod changing_hands;
 mod filling;
@@ -11,23 +12,30 @@ mod threads;
 
 use crate::Shard;
 use sh_key::KeyLayout;
-use sh_pass::{Busy, Heap, Pass, Seats};
-use sh_shape::Shape;
+use sh_pass::{Busy, Heap, Pass, Seats, merge};
+use sh_shape::{Place, Shape};
 use sh_step::Action;
 use sh_value::{Refusal, Value};
 use std::alloc::Global;
 use std::process::Abort;
 
-// A heap of one shard with one segment, asked for once more where memory was refused.
-fn opened<L: KeyLayout>(rt: &impl Abort, alloc: Global, passes: u32) -> (Heap<L>, Seats<L>)
-    ensures { result.1 ≡ result.0 }
+// A heap with so many shards, segments of a shard and passes, asked for once more where memory was refused.
+fn opened<L: KeyLayout>(
+    rt: &impl Abort,
+    alloc: Global,
+    shards: u32,
+    segments: u32,
+    passes: u32,
+) -> (Heap<L>, Seats<L>)
+    ensures seats { result.1 ≡ result.0 }
+    ensures shape { result.0.shape ≡ record { shards = shards; segments = segments; passes = passes } }
 {
-    let shape = Shape::new(1, 1, passes).expect(rt, "a shape");
+    let shape = Shape::new(shards, segments, passes).expect(rt, "a shape");
     match Heap::<L>::open(alloc, shape) {
         Ok(both) => both,
         Err(why) => {
             assert_eq!(rt; why, Refusal::Memory);
-            let shape = Shape::new(1, 1, passes).expect(rt, "a shape");
+            let shape = Shape::new(shards, segments, passes).expect(rt, "a shape");
             Heap::<L>::open(alloc, shape).expect(rt, "a heap")
         }
     }
@@ -61,6 +69,7 @@ fn one_pass<'a, L: KeyLayout>(
     seats: Seats<L>,
 ) -> Pass<'a, L>
     requires { seats ≡ heap.now }
+    ensures { result.heap ≡ heap.now }
 {
     let mut passes = dealt(rt, alloc, heap, seats);
     let Some(pass) = passes.pop() else {
@@ -77,6 +86,8 @@ fn two_passes<'a, L: KeyLayout>(
     seats: Seats<L>,
 ) -> (Pass<'a, L>, Pass<'a, L>)
     requires { seats ≡ heap.now }
+    ensures one { result.0.heap ≡ heap.now }
+    ensures other { result.1.heap ≡ heap.now }
 {
     let mut passes = dealt(rt, alloc, heap, seats);
     let (Some(other), Some(one)) = (passes.pop(), passes.pop()) else {
@@ -85,13 +96,20 @@ fn two_passes<'a, L: KeyLayout>(
     (one, other)
 }
 
-// Shard 0 of the pass, asked for until no memory is refused.
-fn adopted<'a, L: KeyLayout>(rt: &impl Abort, alloc: Global, pass: Pass<'a, L>) -> Shard<'a, L> {
-    match Shard::adopt(alloc, pass, 0) {
+// Shard n, asked for once more where memory was refused.
+fn adopted<'a, L: KeyLayout>(
+    rt: &impl Abort,
+    alloc: Global,
+    pass: Pass<'a, L>,
+    n: u64,
+) -> Shard<'a, L>
+    ensures { result.pages.owner.heap ≡ pass.entry.heap }
+{
+    match Shard::adopt(alloc, pass, n) {
         Ok(shard) => shard,
         Err((pass, why)) => {
             assert_eq!(rt; why, Refusal::Memory);
-            let Ok(shard) = Shard::adopt(alloc, pass, 0) else {
+            let Ok(shard) = Shard::adopt(alloc, pass, n) else {
                 panic!(rt; "no shard")
             };
             shard
@@ -99,20 +117,24 @@ fn adopted<'a, L: KeyLayout>(rt: &impl Abort, alloc: Global, pass: Pass<'a, L>) 
     }
 }
 
-// The same where it is refused for other reasons than memory.
+// The pass again, and why it got no shard.
 fn not_adopted<'a, L: KeyLayout>(
     rt: &impl Abort,
     alloc: Global,
     pass: Pass<'a, L>,
     n: u64,
-) -> (Pass<'a, L>, Refusal) {
+) -> (Pass<'a, L>, Refusal)
+    ensures { result.0.heap ≡ pass.entry.heap }
+{
     let Err((pass, why)) = Shard::adopt(alloc, pass, n) else {
         panic!(rt; "a shard")
     };
     (pass, why)
 }
 
-fn left<'a, L: KeyLayout>(rt: &impl Abort, shard: Shard<'a, L>) -> Pass<'a, L> {
+fn left<'a, L: KeyLayout>(rt: &impl Abort, shard: Shard<'a, L>) -> Pass<'a, L>
+    ensures { result.heap ≡ shard.entry.pages.owner.heap }
+{
     let Ok(pass) = shard.leave() else {
         panic!(rt; "it waits")
     };
@@ -129,7 +151,9 @@ fn sixteen(rt: &impl Abort) -> Value {
 }
 
 // An insert, once more where memory was refused.
-fn put<L: KeyLayout>(shard: &mut Shard<'_, L>, value: &Value) -> Result<u64, Refusal> {
+fn put<L: KeyLayout>(shard: &mut Shard<'_, L>, value: &Value) -> Result<u64, Refusal>
+    ensures { shard.new.pages.owner.heap ≡ shard.old.pages.owner.heap }
+{
     match shard.insert(value) {
         Err(Refusal::Memory) => shard.insert(value),
         answer => answer,
@@ -139,6 +163,7 @@ fn put<L: KeyLayout>(shard: &mut Shard<'_, L>, value: &Value) -> Result<u64, Ref
 // A page prepared, once more where memory was refused.
 fn prepared<L: KeyLayout>(shard: &mut Shard<'_, L>, class: u32) -> Result<u32, Refusal>
     requires { class < 8 }
+    ensures { shard.new.pages.owner.heap ≡ shard.old.pages.owner.heap }
 {
     match shard.prepare(class) {
         Err(Refusal::Memory) => shard.prepare(class),
@@ -172,4 +197,12 @@ fn stopped_at<'a, L: KeyLayout>(
         assert!(rt; busy.act(action));
     }
     busy
+}
+
+// The word at a place, where the pass knows all.
+fn word<L: KeyLayout>(rt: &impl Abort, pass: &mut Pass<'_, L>, place: Place) -> u64
+    requires { IsPlace pass.old.heap.shape place }
+{
+    assert!(rt; pass.is_whole());
+    pass.load(place)
 }

@@ -6,8 +6,8 @@ use std::test::Fail;
 
 #[test]
 fn an_empty_value_is_stored(rt: HostRuntime) -> Result<(), Fail> {
-    let (heap, seats) = opened::<Tiny>(&rt, rt.alloc(), 1);
-    let mut shard = adopted(&rt, rt.alloc(), one_pass(&rt, rt.alloc(), &heap, seats));
+    let (heap, seats) = opened::<Tiny>(&rt, rt.alloc(), 1, 1, 1);
+    let mut shard = adopted(&rt, rt.alloc(), one_pass(&rt, rt.alloc(), &heap, seats), 0);
     assert_eq!(rt; put(&mut shard, &value(&rt, &[])), Ok(4_096));
     let hold = shard.get(4_096)?;
     assert_eq!(rt; shard.read(hold), Ok(value(&rt, &[])));
@@ -17,8 +17,8 @@ fn an_empty_value_is_stored(rt: HostRuntime) -> Result<(), Fail> {
 // Seventeen words are no value, and 13 words go where 16 do.
 #[test]
 fn long_values_share_a_page(rt: HostRuntime) -> Result<(), Fail> {
-    let (heap, seats) = opened::<Tiny>(&rt, rt.alloc(), 1);
-    let mut shard = adopted(&rt, rt.alloc(), one_pass(&rt, rt.alloc(), &heap, seats));
+    let (heap, seats) = opened::<Tiny>(&rt, rt.alloc(), 1, 1, 1);
+    let mut shard = adopted(&rt, rt.alloc(), one_pass(&rt, rt.alloc(), &heap, seats), 0);
     assert_eq!(rt;
         Value::new(&[1, 2, 3, 4, 5, 6, 7, 8, 9, 10, 11, 12, 13, 14, 15, 16, 17]),
         Err(Refusal::TooLong)
@@ -33,11 +33,11 @@ fn long_values_share_a_page(rt: HostRuntime) -> Result<(), Fail> {
     Ok(())
 }
 
-// A slot is used three times, and no more.
+// A slot is used three times, and no more: its word is then three times 2^32, and 2^31 for the end of its last generation.
 #[test]
 fn a_removed_key_stays_gone(rt: HostRuntime) -> Result<(), Fail> {
-    let (heap, seats) = opened::<Tiny>(&rt, rt.alloc(), 1);
-    let mut shard = adopted(&rt, rt.alloc(), one_pass(&rt, rt.alloc(), &heap, seats));
+    let (heap, seats) = opened::<Tiny>(&rt, rt.alloc(), 1, 1, 1);
+    let mut shard = adopted(&rt, rt.alloc(), one_pass(&rt, rt.alloc(), &heap, seats), 0);
     for key in [4_096, 4_097, 4_098] {
         assert_eq!(rt; put(&mut shard, &sixteen(&rt)), Ok(key));
     }
@@ -51,15 +51,17 @@ fn a_removed_key_stays_gone(rt: HostRuntime) -> Result<(), Fail> {
         assert_eq!(rt; shard.remove(key), Err(Refusal::Gone));
     }
     assert_eq!(rt; put(&mut shard, &sixteen(&rt)), Ok(4_160));
+    let mut pass = left(&rt, shard);
+    assert_eq!(rt; word(&rt, &mut pass, Place::State(0, 0)), 15_032_385_536);
     Ok(())
 }
 
 // A value stays for the one who holds it, while others find nothing.
 #[test]
 fn a_held_value_outlives_its_removal(rt: HostRuntime) -> Result<(), Fail> {
-    let (heap, seats) = opened::<Tiny>(&rt, rt.alloc(), 2);
+    let (heap, seats) = opened::<Tiny>(&rt, rt.alloc(), 1, 1, 2);
     let (one, mut other) = two_passes(&rt, rt.alloc(), &heap, seats);
-    let mut shard = adopted(&rt, rt.alloc(), one);
+    let mut shard = adopted(&rt, rt.alloc(), one, 0);
     assert_eq!(rt; put(&mut shard, &value(&rt, &[7, 8])), Ok(4_096));
     let hold = other.get(4_096)?;
     assert_eq!(rt; shard.remove(4_096), Ok(()));
@@ -71,9 +73,9 @@ fn a_held_value_outlives_its_removal(rt: HostRuntime) -> Result<(), Fail> {
 
 #[test]
 fn numbers_that_are_no_keys(rt: HostRuntime) -> Result<(), Fail> {
-    let (heap, seats) = opened::<Tiny>(&rt, rt.alloc(), 2);
+    let (heap, seats) = opened::<Tiny>(&rt, rt.alloc(), 1, 1, 2);
     let (one, mut other) = two_passes(&rt, rt.alloc(), &heap, seats);
-    let mut shard = adopted(&rt, rt.alloc(), one);
+    let mut shard = adopted(&rt, rt.alloc(), one, 0);
     for (number, why) in [
         (0, Refusal::BadKey),
         (9_223_372_036_854_775_808, Refusal::BadKey),
@@ -108,12 +110,12 @@ fn hold_and_release<L: KeyLayout>(
 
 #[test]
 fn few_holds_are_given(rt: HostRuntime) -> Result<(), Fail> {
-    let (heap, seats) = opened::<Tiny>(&rt, rt.alloc(), 1);
-    let mut shard = adopted(&rt, rt.alloc(), one_pass(&rt, rt.alloc(), &heap, seats));
+    let (heap, seats) = opened::<Tiny>(&rt, rt.alloc(), 1, 1, 1);
+    let mut shard = adopted(&rt, rt.alloc(), one_pass(&rt, rt.alloc(), &heap, seats), 0);
     assert_eq!(rt; put(&mut shard, &value(&rt, &[1])), Ok(4_096));
     hold_and_release(&rt, &mut shard, 4_096, 4, Refusal::Crowded);
-    let (heap, seats) = opened::<Wide>(&rt, rt.alloc(), 1);
-    let mut shard = adopted(&rt, rt.alloc(), one_pass(&rt, rt.alloc(), &heap, seats));
+    let (heap, seats) = opened::<Wide>(&rt, rt.alloc(), 1, 1, 1);
+    let mut shard = adopted(&rt, rt.alloc(), one_pass(&rt, rt.alloc(), &heap, seats), 0);
     assert_eq!(rt; put(&mut shard, &value(&rt, &[1])), Ok(16_777_216));
     hold_and_release(&rt, &mut shard, 16_777_216, 16, Refusal::HoldsFull);
     Ok(())

@@ -31,9 +31,9 @@ fn waits<'a>(rt: &impl Abort, shard: Shard<'a, Tiny>) -> Option<Shard<'a, Tiny>>
 
 // Another stops after so many steps of a removal from a page that is not armed.
 fn stopped_unarmed(rt: &impl Abort, alloc: Global, steps: usize, more: u32, waiting: bool) {
-    let (heap, seats) = opened::<Tiny>(rt, alloc, 2);
+    let (heap, seats) = opened::<Tiny>(rt, alloc, 1, 1, 2);
     let (one, other) = two_passes(rt, alloc, &heap, seats);
-    let mut shard = adopted(rt, alloc, one);
+    let mut shard = adopted(rt, alloc, one, 0);
     for key in [4_096, 4_097, 4_098] {
         assert_eq!(rt; put(&mut shard, &sixteen(rt)), Ok(key));
     }
@@ -59,9 +59,9 @@ fn stopped_armed(
     alloc: Global,
     steps: usize,
 ) -> (Result<u64, Refusal>, Option<Result<u64, Refusal>>) {
-    let (heap, seats) = opened::<Tiny>(rt, alloc, 2);
+    let (heap, seats) = opened::<Tiny>(rt, alloc, 1, 1, 2);
     let (one, other) = two_passes(rt, alloc, &heap, seats);
-    let mut shard = adopted(rt, alloc, one);
+    let mut shard = adopted(rt, alloc, one, 0);
     fill(rt, &mut shard);
     let _busy = stopped_at(rt, other, 4_096, steps);
     let first = put(&mut shard, &sixteen(rt));

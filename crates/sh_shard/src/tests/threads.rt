@@ -58,9 +58,9 @@ fn put_and_remove(shard: &mut Shard<'_, Wide>, value: &Value) -> u32 {
 // be used in the next round, as the two batches are all that the shard has room for.
 #[test]
 fn an_owner_and_another_step_at_the_same_time(rt: HostRuntime) -> Result<(), Fail> {
-    let (heap, seats) = opened::<Wide>(&rt, rt.alloc(), 2);
+    let (heap, seats) = opened::<Wide>(&rt, rt.alloc(), 1, 1, 2);
     let (one, mut other) = two_passes(&rt, rt.alloc(), &heap, seats);
-    let mut shard = adopted(&rt, rt.alloc(), one);
+    let mut shard = adopted(&rt, rt.alloc(), one, 0);
     for round in 0..50u64 {
         let keys = put_batch(&rt, &mut shard, round);
         let words = sixteen(&rt);
@@ -80,6 +80,7 @@ fn an_owner_and_another_step_at_the_same_time(rt: HostRuntime) -> Result<(), Fai
         assert_eq!(rt; good, 12);
         assert_eq!(rt; good_too, 12);
     }
-    let _one = left(&rt, shard);
+    let one = left(&rt, shard);
+    assert!(rt; merge(one, other).is_whole());
     Ok(())
 }
