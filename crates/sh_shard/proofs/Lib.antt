@@ -9,3 +9,4 @@ pub mod PageLaws
 pub mod Keeping
 pub mod Working
 pub mod Wholly
+pub mod Booking

@@ -4,3 +4,4 @@ pub mod Leaving
 pub mod Shards
 pub mod Searches
 pub mod Returning
+pub mod Stores

@@ -9,7 +9,10 @@ use Rattle.sh_value.specs.declared.refusal.Refusal.{Refusal}
 use Rattle.sh_value.specs.declared.refusal.Refusal.TheVariants as refusal
 use Rattle.sh_shape.specs.Classes.{class_of}
 use Rattle.sh_pass.specs.Passes.{Caller}
-use Rattle.sh_pass.specs.Owners.{SeenPage, Aside, NonePut, IsKeyIn}
+use Rattle.sh_slots.specs.declared.hand.Hand.TheVariants.{Idle}
+use Rattle.sh_table.specs.Tales.{ViewStands}
+use Rattle.sh_pass.specs.Growing.{SameTale}
+use Rattle.sh_pass.specs.Owners.{SeenPage, Aside, NonePut, IsKeyIn, own_body}
 use Rattle.sh_shard.specs.Pages.{Paged, page_at, seen_class, NothingMine, WhollyMine, GivesClass, PageDone, TakesSteps, AdoptsShard, AdoptRefused, ShardLeft}
 use Rattle.sh_shard.specs.Leaving.{Waiting}
 
@@ -34,6 +37,18 @@ pub record SortedPages (v : Paged) (q : PageQueues) : Type 0 where
   pub classes : (c p : ℕ) → has_number p (class_queue q c) ≡ true → (page_at v p).class ≡ Some (c + 1)
   pub full : (p : ℕ) → has_number p q.full ≡ true → FullPage (page_at v p)
   pub blank : (p : ℕ) → has_number p q.blank ≡ true → (page_at v p).class ≡ Some 0
+
+-- nothing is begun, the shard is the owner's, and its tale stands
+pub record HoldsShard (layout : Layout) (o : Sharded) : Type 0 where
+  pub stands : ViewStands layout o.pages.owner.view
+  pub idle : (own_body o.pages.owner).hand ≡ Idle
+  pub owned : (own_body o.pages.owner).owned ≡ Some o.pages.shard
+
+-- after a call the same pass holds the same shard
+pub record StaysOwner (layout : Layout) (o n : Sharded) : Type 0 where
+  pub holds : HoldsShard layout n
+  pub shard : n.pages.shard ≡ o.pages.shard
+  pub same : SameTale o.pages.owner.view n.pages.owner.view
 
 -- ---- what an insert does
 

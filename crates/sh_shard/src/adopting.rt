@@ -1,7 +1,7 @@
 // Becoming the owner of a shard: its pages that have a class come to the queues of their classes.
 ghost use Rattle.std.specs.Prelude.{◌≡◌, ℕ, ◌+◌, ◌*◌, ◌<◌, ◌≤◌, ◌==◌, cond, Some, IfOk, IfErr, OnOk};
 ghost use Rattle.sh_shard.specs.Pages.{page_at, BarePage};
-ghost use Rattle.sh_shard.specs.Shards.{SortedPages, AdoptServes};
+ghost use Rattle.sh_shard.specs.Shards.{SortedPages, HoldsShard, AdoptServes};
 ghost use Rattle.sh_shard.specs.Returning.{AllBlank, FiledBelow};
 
 use crate::pages::Pages;
@@ -17,11 +17,16 @@ impl<'a, L: KeyLayout> Shard<'a, L> {
     /// exactly where the heap has no shard of this number, as `Taken` where the shard has an owner, and as `Memory` where
     /// memory for its pages is refused: then the shard is left again.
     pub fn adopt(alloc: Global, pass: Pass<'a, L>, n: u64) -> Result<Self, (Pass<'a, L>, Refusal)>
-        ensures { AdoptServes n pass.entry result }
+        ensures serves { AdoptServes n pass.entry result }
+        ensures holds { IfOk result (HoldsShard L.layout) }
     {
         let pages = Pages::adopt(alloc, pass, n)?;
         match queues_of(alloc, &pages) {
-            Ok(queues) => Ok(Shard { pages, queues }),
+            Ok(queues) => {
+                let shard = Shard { pages, queues };
+                shard.standing();
+                Ok(shard)
+            }
             Err(refusal) => Err((pages.give_up(), refusal)),
         }
     }

@@ -1,5 +1,6 @@
 // Ceasing to be the owner of a shard.
-ghost use Rattle.sh_shard.specs.Shards.{LeaveServes};
+ghost use Rattle.std.specs.Prelude.{IfErr};
+ghost use Rattle.sh_shard.specs.Shards.{LeaveServes, HoldsShard};
 
 use crate::returning::return_all;
 use crate::shard::Shard;
@@ -12,7 +13,8 @@ impl<'a, L: KeyLayout> Shard<'a, L> {
     /// comes back. Refused as `Waiting`, with the shard, where another caller has begun a free in it that is yet to end: then
     /// nothing is put back, and the shard serves as before.
     pub fn leave(self) -> Result<Pass<'a, L>, (Self, Refusal)>
-        ensures { LeaveServes self.entry result }
+        ensures serves { LeaveServes self.entry result }
+        ensures holds { IfErr result (λ r. HoldsShard L.layout r.0) }
     {
         let Shard { pages, mut queues } = self;
         let _opened = queues.opened();
@@ -20,7 +22,9 @@ impl<'a, L: KeyLayout> Shard<'a, L> {
             Ok(pass) => Ok(pass),
             Err(pages) => {
                 return_all(&pages, &mut queues);
-                Err((Shard { pages, queues }, Refusal::Waiting))
+                let shard = Shard { pages, queues };
+                shard.standing();
+                Err((shard, Refusal::Waiting))
             }
         }
     }

@@ -44,7 +44,7 @@ impl<'a, L: KeyLayout> Shard<'a, L> {
         requires fits { length value.now ≤ width c }
         ensures { InsertsElsewhere L.layout c value.now self.old result self.new }
     {
-        match self.prepare(c) {
+        match self.give_page(c) {
             Err(refusal) => Err(refusal),
             Ok(_page) => match self.use_at_front(c, value) {
                 Some(key) => Ok(key),

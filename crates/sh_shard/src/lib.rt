@@ -17,6 +17,8 @@ mod returning;
 mod ringing;
 mod search;
 pub mod shard;
+mod standing;
+mod store;
 #[cfg(test)]
 mod tests;
 mod using;

@@ -1,7 +1,7 @@
 // Giving a class to a page that is blank, or that has another class and all of whose slots are the owner's.
 ghost use Rattle.std.specs.Prelude.{◌≡◌, ◌≢◌, ℕ, ◌+◌, ◌<◌, None, Some, MatchOption, MatchBool, IfErr, OnOk, OnErr, slice_get};
 ghost use Rattle.sh_shard.specs.Pages.{page_at};
-ghost use Rattle.sh_shard.specs.Shards.{IsSpare, PreparesPage, PrepareServes};
+ghost use Rattle.sh_shard.specs.Shards.{IsSpare, PreparesPage, PrepareServes, StaysOwner};
 
 use crate::shard::Shard;
 use sh_key::KeyLayout;
@@ -13,6 +13,17 @@ impl<'a, L: KeyLayout> Shard<'a, L> {
     /// next segment, which is opened. Refused, with nothing changed, as `Full` exactly where there is no such page, and as
     /// `Memory` where the segment's growth is refused.
     pub fn prepare(&mut self, class: u32) -> Result<u32, Refusal>
+        requires { class < 8 }
+        ensures serves { PrepareServes class self.old result self.new }
+        ensures stays { StaysOwner L.layout self.old self.new }
+    {
+        let answer = self.give_page(class);
+        self.standing();
+        answer
+    }
+
+    // The same, of which more is known then.
+    pub(crate) fn give_page(&mut self, class: u32) -> Result<u32, Refusal>
         requires { class < 8 }
         ensures { PrepareServes class self.old result self.new }
     {

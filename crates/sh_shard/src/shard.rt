@@ -1,8 +1,8 @@
 //! Shards: the pages of an owner, and the queues in which they stand.
-ghost use Rattle.std.specs.Prelude.{◌≡◌, ◌+◌, length};
+ghost use Rattle.std.specs.Prelude.{◌+◌, length};
 ghost use Rattle.sh_queue.specs.Queues.{EachOnce};
 ghost use Rattle.sh_pass.specs.Passes.{GetDoes, ReadDoes, RemoveDoes, ReleaseDoes};
-ghost use Rattle.sh_shard.specs.Shards.{SortedPages, InsertServes, IsQuick, DoneIn, value_class};
+ghost use Rattle.sh_shard.specs.Shards.{SortedPages, StaysOwner, InsertServes, IsQuick, DoneIn, value_class};
 
 use crate::pages::Pages;
 use crate::returning::return_one;
@@ -40,52 +40,60 @@ impl<'a, L: KeyLayout> Shard<'a, L> {
     pub fn insert(&mut self, value: &Value) -> Result<u64, Refusal>
         ensures serves { InsertServes L.layout (value_class value.now) value.now self.old result self.new }
         ensures quick { IsQuick (value_class value.now) self.old → DoneIn (length value.now + 2) self.old result self.new }
+        ensures stays { StaysOwner L.layout self.old self.new }
     {
         let Some(class) = classes::class_of(value.words().len()) else {
             unreachable!()
         };
-        self.insert_in(class, value)
+        let answer = self.insert_in(class, value);
+        self.standing();
+        answer
     }
 
     /// Takes a hold on a key. Refused as `BadKey`, `HoldsFull`, `Gone` or `Crowded`, tried in that order.
     pub fn get(&mut self, key: u64) -> Result<Hold, Refusal>
         ensures does { GetDoes L.layout key self.old.pages.owner result self.new.pages.owner }
-        ensures shard { self.new.pages.shard ≡ self.old.pages.shard }
+        ensures stays { StaysOwner L.layout self.old self.new }
     {
         let _queues = &self.queues;
         let (answer, came) = self.pages.get(key);
         return_one(&self.pages, &mut self.queues, came);
+        self.standing();
         answer
     }
 
     /// The value of a key that the owner holds. Refused as `NotHeld`.
     pub fn read(&mut self, hold: Hold) -> Result<Value, Refusal>
         ensures does { ReadDoes hold.key self.old.pages.owner result self.new.pages.owner }
-        ensures shard { self.new.pages.shard ≡ self.old.pages.shard }
+        ensures stays { StaysOwner L.layout self.old self.new }
     {
         let _queues = &self.queues;
-        self.pages.read(hold)
+        let answer = self.pages.read(hold);
+        self.standing();
+        answer
     }
 
     /// Removes a key. Refused as `BadKey` or `Gone`.
     pub fn remove(&mut self, key: u64) -> Result<(), Refusal>
         ensures does { RemoveDoes L.layout key self.old.pages.owner result self.new.pages.owner }
-        ensures shard { self.new.pages.shard ≡ self.old.pages.shard }
+        ensures stays { StaysOwner L.layout self.old self.new }
     {
         let _queues = &self.queues;
         let (answer, came) = self.pages.remove(key);
         return_one(&self.pages, &mut self.queues, came);
+        self.standing();
         answer
     }
 
     /// Gives one hold on a key back. Refused as `NotHeld`.
     pub fn release(&mut self, hold: Hold) -> Result<(), Refusal>
         ensures does { ReleaseDoes hold.key self.old.pages.owner result self.new.pages.owner }
-        ensures shard { self.new.pages.shard ≡ self.old.pages.shard }
+        ensures stays { StaysOwner L.layout self.old self.new }
     {
         let _queues = &self.queues;
         let (answer, came) = self.pages.release(hold);
         return_one(&self.pages, &mut self.queues, came);
+        self.standing();
         answer
     }
 

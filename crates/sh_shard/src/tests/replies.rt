@@ -1,6 +1,7 @@
 //! What single calls answer.
 use super::*;
 use sh_key::{Tiny, Wide};
+use sh_plain::Store;
 use sh_value::Hold;
 use std::test::Fail;
 
@@ -118,5 +119,28 @@ fn few_holds_are_given(rt: HostRuntime) -> Result<(), Fail> {
     let mut shard = adopted(&rt, rt.alloc(), one_pass(&rt, rt.alloc(), &heap, seats), 0);
     assert_eq!(rt; put(&mut shard, &value(&rt, &[1])), Ok(16_777_216));
     hold_and_release(&rt, &mut shard, 16_777_216, 16, Refusal::HoldsFull);
+    Ok(())
+}
+
+// What any store does.
+fn store_and_remove<S: Store>(rt: &impl Abort, store: &mut S, value: &Value) {
+    let key = match store.insert(value) {
+        Err(Refusal::Memory) => store.insert(value),
+        answer => answer,
+    };
+    let key = key.expect(rt, "a key");
+    let hold = store.get(key).expect(rt, "a hold");
+    assert_eq!(rt; store.read(hold).expect(rt, "a value").words(), value.words());
+    assert_eq!(rt; store.remove(key), Ok(()));
+    assert_eq!(rt; store.get(key), Err(Refusal::Gone));
+    assert_eq!(rt; store.release(hold), Ok(()));
+    assert_eq!(rt; store.release(hold), Err(Refusal::NotHeld));
+}
+
+#[test]
+fn a_shard_is_a_store(rt: HostRuntime) -> Result<(), Fail> {
+    let (heap, seats) = opened::<Tiny>(&rt, rt.alloc(), 1, 1, 1);
+    let mut shard = adopted(&rt, rt.alloc(), one_pass(&rt, rt.alloc(), &heap, seats), 0);
+    store_and_remove(&rt, &mut shard, &value(&rt, &[1, 5, 6]));
     Ok(())
 }

@@ -1,0 +1,50 @@
+// A shard is a store.
+use crate::shard::Shard;
+use sh_key::KeyLayout;
+use sh_plain::Store;
+use sh_value::{Hold, Refusal, Value};
+
+impl<L: KeyLayout> Store for Shard<'_, L> {
+    ghost use Rattle.sh_pass.specs.Passes.{GetDoes, ReadDoes, RemoveDoes, ReleaseDoes};
+    ghost use Rattle.sh_shard.specs.Shards.{InsertServes, value_class};
+    ghost use Rattle.sh_shard.specs.Stores.{shard_book, shard_setting};
+
+    ghost book = { shard_book };
+
+    ghost setting = { shard_setting L.layout };
+
+    ghost inserts = { λ old value result new. InsertServes L.layout (value_class value) value old result new };
+
+    ghost gets = { λ old key result new. GetDoes L.layout key old.pages.owner result new.pages.owner };
+
+    ghost reads = { λ old key result new. ReadDoes key old.pages.owner result new.pages.owner };
+
+    ghost removes = { λ old key result new. RemoveDoes L.layout key old.pages.owner result new.pages.owner };
+
+    ghost releases = { λ old key result new. ReleaseDoes key old.pages.owner result new.pages.owner };
+
+    fn insert(&mut self, value: &Value) -> Result<u64, Refusal> {
+        self.standing();
+        Shard::insert(self, value)
+    }
+
+    fn get(&mut self, key: u64) -> Result<Hold, Refusal> {
+        self.standing();
+        Shard::get(self, key)
+    }
+
+    fn read(&mut self, hold: Hold) -> Result<Value, Refusal> {
+        self.standing();
+        Shard::read(self, hold)
+    }
+
+    fn remove(&mut self, key: u64) -> Result<(), Refusal> {
+        self.standing();
+        Shard::remove(self, key)
+    }
+
+    fn release(&mut self, hold: Hold) -> Result<(), Refusal> {
+        self.standing();
+        Shard::release(self, hold)
+    }
+}
