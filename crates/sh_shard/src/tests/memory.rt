@@ -4,7 +4,11 @@ use sh_key::Tiny;
 use std::test::Fail;
 
 // The shard, and how often memory was refused before it. After a refusal the shard is nobody's and the pass has come back.
-fn adopted_at_last<'a>(rt: &impl Abort, alloc: Global, pass: Pass<'a, Tiny>) -> (Shard<'a, Tiny>, u32) {
+fn adopted_at_last<'a>(
+    rt: &impl Abort,
+    alloc: Global,
+    pass: Pass<'a, Tiny>,
+) -> (Shard<'a, Tiny>, u32) {
     match Shard::adopt(alloc, pass, 0) {
         Ok(shard) => (shard, 0),
         Err((mut pass, why)) => {

@@ -130,7 +130,10 @@ fn store_and_remove<S: Store>(rt: &impl Abort, store: &mut S, value: &Value) {
     };
     let key = key.expect(rt, "a key");
     let hold = store.get(key).expect(rt, "a hold");
-    assert_eq!(rt; store.read(hold).expect(rt, "a value").words(), value.words());
+    assert_eq!(rt;
+        store.read(hold).expect(rt, "a value").words(),
+        value.words()
+    );
     assert_eq!(rt; store.remove(key), Ok(()));
     assert_eq!(rt; store.get(key), Err(Refusal::Gone));
     assert_eq!(rt; store.release(hold), Ok(()));

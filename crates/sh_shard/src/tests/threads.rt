@@ -10,7 +10,9 @@ const BATCH: usize = 12;
 fn put_batch(rt: &impl Abort, shard: &mut Shard<'_, Wide>, round: u64) -> [u64; BATCH] {
     let mut keys = [0; BATCH];
     for i in 0..BATCH {
-        let words = [round, i as u64, 3, 4, 5, 6, 7, 8, 9, 10, 11, 12, 13, 14, 15, 16];
+        let words = [
+            round, i as u64, 3, 4, 5, 6, 7, 8, 9, 10, 11, 12, 13, 14, 15, 16,
+        ];
         let key = put(shard, &value(rt, &words));
         assert!(rt; key.is_ok());
         if let Ok(key) = key {
