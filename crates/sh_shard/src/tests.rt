@@ -1,209 +1,208 @@
-//! What no clause says: that shards are adopted, filled, left and adopted again, with the very pages and keys of a heap of the
-//! small layout; and that what another pass freed is found.
-ghost use Rattle.std.specs.Prelude.{◌≡◌};
+//! What calls on shards answer, by worked examples: which keys come in which order, what is refused, what a stopped caller
+//! leaves behind, and what stands after refused memory.
+ghost use Rattle.std.specs.Prelude.{◌≡◌, ◌<◌};
+ghost use Rattle.sh_shape.specs.Places.{IsPlace};
 
+mod changing_hands;
+mod filling;
+mod memory;
+mod replies;
 mod stopped;
+mod threads;
 
 use crate::Shard;
-use sh_key::Tiny;
-use sh_pass::{Heap, Pass, Seats};
-use sh_plain::Store;
-use sh_shape::Shape;
+use sh_key::KeyLayout;
+use sh_pass::{Busy, Heap, Pass, Seats, merge};
+use sh_shape::{Place, Shape};
+use sh_step::Action;
 use sh_value::{Refusal, Value};
 use std::alloc::Global;
 use std::process::Abort;
-use std::test::Fail;
 
-// A heap of one shard with one segment, for two passes.
-fn opened(rt: &impl Abort, alloc: Global) -> (Heap<Tiny>, Seats<Tiny>)
-    ensures { result.1 ≡ result.0 }
+// A heap with so many shards, segments of a shard and passes, asked for once more where memory was refused.
+fn opened<L: KeyLayout>(
+    rt: &impl Abort,
+    alloc: Global,
+    shards: u32,
+    segments: u32,
+    passes: u32,
+) -> (Heap<L>, Seats<L>)
+    ensures seats { result.1 ≡ result.0 }
+    ensures shape { result.0.shape ≡ record { shards = shards; segments = segments; passes = passes } }
 {
-    let shape = Shape::new(1, 1, 2).expect(rt, "a shape");
-    Heap::<Tiny>::open(alloc, shape).expect(rt, "a heap")
-}
-
-fn two_passes<'a>(rt: &impl Abort, alloc: Global, heap: &'a Heap<Tiny>, seats: Seats<Tiny>) -> (Pass<'a, Tiny>, Pass<'a, Tiny>)
-    requires { seats ≡ heap.now }
-{
-    let Ok(mut passes) = heap.passes(alloc, seats) else {
-        panic!(rt; "no passes")
-    };
-    let (Some(second), Some(first)) = (passes.pop(), passes.pop()) else {
-        panic!(rt; "not two passes")
-    };
-    (first, second)
-}
-
-fn adopted<'a>(rt: &impl Abort, alloc: Global, pass: Pass<'a, Tiny>) -> Shard<'a, Tiny> {
-    let Ok(shard) = Shard::adopt(alloc, pass, 0) else {
-        panic!(rt; "no shard")
-    };
-    shard
-}
-
-fn left<'a>(rt: &impl Abort, shard: Shard<'a, Tiny>) -> Pass<'a, Tiny> {
-    let Ok(pass) = shard.leave() else {
-        panic!(rt; "the shard was not left")
-    };
-    pass
-}
-
-fn value_of(rt: &impl Abort, words: &[u64]) -> Value {
-    Value::new(words).expect(rt, "a value")
-}
-
-// Three of them fill a page.
-fn long_value(rt: &impl Abort) -> Value {
-    value_of(rt, &[1, 2, 3, 4, 5, 6, 7, 8, 9, 10, 11, 12, 13, 14, 15, 16])
-}
-
-// All 24 slots of the shard, page by page.
-fn fill(rt: &impl Abort, shard: &mut Shard<'_, Tiny>, value: &Value) {
-    for page in 0..8u64 {
-        for slot in 0..3u64 {
-            assert_eq!(rt; shard.insert(value), Ok(4096 + page * 64 + slot));
+    let shape = Shape::new(shards, segments, passes).expect(rt, "a shape");
+    match Heap::<L>::open(alloc, shape) {
+        Ok(both) => both,
+        Err(why) => {
+            assert_eq!(rt; why, Refusal::Memory);
+            let shape = Shape::new(shards, segments, passes).expect(rt, "a shape");
+            Heap::<L>::open(alloc, shape).expect(rt, "a heap")
         }
     }
 }
 
-#[test]
-fn shards_change_hands(rt: HostRuntime) -> Result<(), Fail> {
-    let (heap, seats) = opened(&rt, rt.alloc());
-    let (first, second) = two_passes(&rt, rt.alloc(), &heap, seats);
-    let mut shard = adopted(&rt, rt.alloc(), first);
-    assert_eq!(rt; shard.prepare(7), Ok(0));
-    assert_eq!(rt; shard.prepare(0), Ok(1));
-    let Err((second, refusal)) = Shard::adopt(rt.alloc(), second, 0) else {
-        panic!(rt; "a shard with two owners")
+// Its passes, asked for once more where memory was refused.
+fn dealt<'a, L: KeyLayout>(
+    rt: &impl Abort,
+    alloc: Global,
+    heap: &'a Heap<L>,
+    seats: Seats<L>,
+) -> Vec<Pass<'a, L>>
+    requires { seats ≡ heap.now }
+{
+    match heap.passes(alloc, seats) {
+        Ok(passes) => passes,
+        Err((seats, why)) => {
+            assert_eq!(rt; why, Refusal::Memory);
+            let Ok(passes) = heap.passes(alloc, seats) else {
+                panic!(rt; "no passes")
+            };
+            passes
+        }
+    }
+}
+
+fn one_pass<'a, L: KeyLayout>(
+    rt: &impl Abort,
+    alloc: Global,
+    heap: &'a Heap<L>,
+    seats: Seats<L>,
+) -> Pass<'a, L>
+    requires { seats ≡ heap.now }
+    ensures { result.heap ≡ heap.now }
+{
+    let mut passes = dealt(rt, alloc, heap, seats);
+    let Some(pass) = passes.pop() else {
+        panic!(rt; "no pass")
     };
-    assert_eq!(rt; refusal, Refusal::Taken);
-    let Err((second, refusal)) = Shard::adopt(rt.alloc(), second, 4) else {
-        panic!(rt; "a shard that is none")
+    pass
+}
+
+// Passes 0 and 1.
+fn two_passes<'a, L: KeyLayout>(
+    rt: &impl Abort,
+    alloc: Global,
+    heap: &'a Heap<L>,
+    seats: Seats<L>,
+) -> (Pass<'a, L>, Pass<'a, L>)
+    requires { seats ≡ heap.now }
+    ensures one { result.0.heap ≡ heap.now }
+    ensures other { result.1.heap ≡ heap.now }
+{
+    let mut passes = dealt(rt, alloc, heap, seats);
+    let (Some(other), Some(one)) = (passes.pop(), passes.pop()) else {
+        panic!(rt; "not two passes")
     };
-    assert_eq!(rt; refusal, Refusal::NoShard);
-    let first = left(&rt, shard);
-    let mut shard = adopted(&rt, rt.alloc(), second);
-    assert_eq!(rt; shard.prepare(7), Ok(2));
-    let _second = left(&rt, shard);
-    assert!(rt; !first.is_whole());
-    Ok(())
+    (one, other)
 }
 
-#[test]
-fn each_page_is_prepared_once(rt: HostRuntime) -> Result<(), Fail> {
-    let (heap, seats) = opened(&rt, rt.alloc());
-    let (first, _second) = two_passes(&rt, rt.alloc(), &heap, seats);
-    let mut shard = adopted(&rt, rt.alloc(), first);
-    for page in 0..8u32 {
-        assert_eq!(rt; shard.prepare(3), Ok(page));
+// Shard n, asked for once more where memory was refused.
+fn adopted<'a, L: KeyLayout>(
+    rt: &impl Abort,
+    alloc: Global,
+    pass: Pass<'a, L>,
+    n: u64,
+) -> Shard<'a, L>
+    ensures { result.pages.owner.heap ≡ pass.entry.heap }
+{
+    match Shard::adopt(alloc, pass, n) {
+        Ok(shard) => shard,
+        Err((pass, why)) => {
+            assert_eq!(rt; why, Refusal::Memory);
+            let Ok(shard) = Shard::adopt(alloc, pass, n) else {
+                panic!(rt; "no shard")
+            };
+            shard
+        }
     }
-    assert_eq!(rt; shard.prepare(3), Err(Refusal::Full));
-    Ok(())
 }
 
-#[test]
-fn a_full_shard_takes_what_another_pass_freed(rt: HostRuntime) -> Result<(), Fail> {
-    let (heap, seats) = opened(&rt, rt.alloc());
-    let (first, mut second) = two_passes(&rt, rt.alloc(), &heap, seats);
-    let value = long_value(&rt);
-    let mut shard = adopted(&rt, rt.alloc(), first);
-    fill(&rt, &mut shard, &value);
-    assert_eq!(rt; shard.insert(&value), Err(Refusal::Full));
-    assert_eq!(rt; second.remove(4097), Ok(()));
-    assert_eq!(rt; shard.insert(&value), Ok(8193));
-    Ok(())
+// The pass again, and why it got no shard.
+fn not_adopted<'a, L: KeyLayout>(
+    rt: &impl Abort,
+    alloc: Global,
+    pass: Pass<'a, L>,
+    n: u64,
+) -> (Pass<'a, L>, Refusal)
+    ensures { result.0.heap ≡ pass.entry.heap }
+{
+    let Err((pass, why)) = Shard::adopt(alloc, pass, n) else {
+        panic!(rt; "a shard")
+    };
+    (pass, why)
 }
 
-#[test]
-fn values_go_by_their_class(rt: HostRuntime) -> Result<(), Fail> {
-    let (heap, seats) = opened(&rt, rt.alloc());
-    let (first, _second) = two_passes(&rt, rt.alloc(), &heap, seats);
-    let mut shard = adopted(&rt, rt.alloc(), first);
-    assert_eq!(rt; shard.insert(&long_value(&rt)), Ok(4096));
-    let thirteen = value_of(&rt, &[1, 2, 3, 4, 5, 6, 7, 8, 9, 10, 11, 12, 13]);
-    assert_eq!(rt; shard.insert(&thirteen), Ok(4097));
-    assert_eq!(rt; shard.insert(&value_of(&rt, &[])), Ok(4160));
-    let hold = shard.get(4097).expect(&rt, "a hold");
-    let read = shard.read(hold).expect(&rt, "a value");
-    assert_eq!(rt; read.words(), thirteen.words());
-    assert_eq!(rt; shard.release(hold), Ok(()));
-    assert_eq!(rt; shard.release(hold), Err(Refusal::NotHeld));
-    Ok(())
+fn left<'a, L: KeyLayout>(rt: &impl Abort, shard: Shard<'a, L>) -> Pass<'a, L>
+    ensures { result.heap ≡ shard.entry.pages.owner.heap }
+{
+    let Ok(pass) = shard.leave() else {
+        panic!(rt; "it waits")
+    };
+    pass
 }
 
-#[test]
-fn a_slot_ends_after_its_last_generation(rt: HostRuntime) -> Result<(), Fail> {
-    let (heap, seats) = opened(&rt, rt.alloc());
-    let (first, _second) = two_passes(&rt, rt.alloc(), &heap, seats);
-    let value = long_value(&rt);
-    let mut shard = adopted(&rt, rt.alloc(), first);
-    for key in [4096, 4097, 4098] {
-        assert_eq!(rt; shard.insert(&value), Ok(key));
+fn value(rt: &impl Abort, words: &[u64]) -> Value {
+    Value::new(words).expect(rt, "few words")
+}
+
+// The sixteen words 1 to 16, of which a page has three.
+fn sixteen(rt: &impl Abort) -> Value {
+    value(rt, &[1, 2, 3, 4, 5, 6, 7, 8, 9, 10, 11, 12, 13, 14, 15, 16])
+}
+
+// An insert, once more where memory was refused.
+fn put<L: KeyLayout>(shard: &mut Shard<'_, L>, value: &Value) -> Result<u64, Refusal>
+    ensures { shard.new.pages.owner.heap ≡ shard.old.pages.owner.heap }
+{
+    match shard.insert(value) {
+        Err(Refusal::Memory) => shard.insert(value),
+        answer => answer,
     }
-    assert_eq!(rt; shard.remove(4096), Ok(()));
-    assert_eq!(rt; shard.insert(&value), Ok(8192));
-    assert_eq!(rt; shard.remove(8192), Ok(()));
-    assert_eq!(rt; shard.insert(&value), Ok(12288));
-    assert_eq!(rt; shard.remove(12288), Ok(()));
-    for key in [4096, 8192, 12288] {
-        assert_eq!(rt; shard.get(key), Err(Refusal::Gone));
-    }
-    assert_eq!(rt; shard.insert(&value), Ok(4160));
-    Ok(())
 }
 
-#[test]
-fn an_empty_page_changes_its_class(rt: HostRuntime) -> Result<(), Fail> {
-    let (heap, seats) = opened(&rt, rt.alloc());
-    let (first, _second) = two_passes(&rt, rt.alloc(), &heap, seats);
-    let value = long_value(&rt);
-    let short = value_of(&rt, &[1]);
-    let mut shard = adopted(&rt, rt.alloc(), first);
-    fill(&rt, &mut shard, &value);
-    for key in [4096, 4097, 4098] {
-        assert_eq!(rt; shard.remove(key), Ok(()));
+// A page prepared, once more where memory was refused.
+fn prepared<L: KeyLayout>(shard: &mut Shard<'_, L>, class: u32) -> Result<u32, Refusal>
+    requires { class < 8 }
+    ensures { shard.new.pages.owner.heap ≡ shard.old.pages.owner.heap }
+{
+    match shard.prepare(class) {
+        Err(Refusal::Memory) => shard.prepare(class),
+        answer => answer,
     }
-    for key in [8192, 8193, 8194, 4099] {
-        assert_eq!(rt; shard.insert(&short), Ok(key));
-    }
-    assert_eq!(rt; shard.get(4096), Err(Refusal::Gone));
-    Ok(())
 }
 
-#[test]
-fn a_page_with_an_ended_slot_keeps_its_class(rt: HostRuntime) -> Result<(), Fail> {
-    let (heap, seats) = opened(&rt, rt.alloc());
-    let (first, _second) = two_passes(&rt, rt.alloc(), &heap, seats);
-    let value = long_value(&rt);
-    let mut shard = adopted(&rt, rt.alloc(), first);
-    fill(&rt, &mut shard, &value);
-    assert_eq!(rt; shard.remove(4096), Ok(()));
-    assert_eq!(rt; shard.insert(&value), Ok(8192));
-    assert_eq!(rt; shard.remove(8192), Ok(()));
-    assert_eq!(rt; shard.insert(&value), Ok(12288));
-    for key in [12288, 4097, 4098] {
-        assert_eq!(rt; shard.remove(key), Ok(()));
+// The steps by which a key is removed whose slot is the first that is put on an armed page.
+fn removing(key: u64) -> [Action; 8] {
+    [
+        Action::EnterRemove(key),
+        Action::Mark,
+        Action::Drop,
+        Action::Finish,
+        Action::Put,
+        Action::Tie,
+        Action::Ring,
+        Action::RingTie,
+    ]
+}
+
+// The pass, after it did the first so many of the steps.
+fn stopped_at<'a, L: KeyLayout>(
+    rt: &impl Abort,
+    pass: Pass<'a, L>,
+    key: u64,
+    steps: usize,
+) -> Busy<'a, L> {
+    let mut busy = pass.begin();
+    for action in removing(key).iter().take(steps) {
+        assert!(rt; busy.act(action));
     }
-    assert_eq!(rt; shard.insert(&value_of(&rt, &[1])), Err(Refusal::Full));
-    Ok(())
+    busy
 }
 
-// What any store does, of a shard.
-fn put_and_read<S: Store>(rt: &impl Abort, store: &mut S, value: &Value) {
-    let key = store.insert(value).expect(rt, "a key");
-    let hold = store.get(key).expect(rt, "a hold");
-    let read = store.read(hold).expect(rt, "a value");
-    assert_eq!(rt; read.words(), value.words());
-    assert_eq!(rt; store.remove(key), Ok(()));
-    assert_eq!(rt; store.get(key), Err(Refusal::Gone));
-    assert_eq!(rt; store.release(hold), Ok(()));
-}
-
-#[test]
-fn a_shard_is_a_store(rt: HostRuntime) -> Result<(), Fail> {
-    let (heap, seats) = opened(&rt, rt.alloc());
-    let (first, _second) = two_passes(&rt, rt.alloc(), &heap, seats);
-    let mut shard = adopted(&rt, rt.alloc(), first);
-    put_and_read(&rt, &mut shard, &value_of(&rt, &[5, 6]));
-    Ok(())
+// The word at a place, where the pass knows all.
+fn word<L: KeyLayout>(rt: &impl Abort, pass: &mut Pass<'_, L>, place: Place) -> u64
+    requires { IsPlace pass.old.heap.shape place }
+{
+    assert!(rt; pass.is_whole());
+    pass.load(place)
 }

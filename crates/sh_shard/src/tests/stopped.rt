@@ -1,132 +1,85 @@
-//! What an owner is answered while another pass has stopped within a remove.
-use super::{adopted, fill, left, long_value, opened, two_passes};
-use crate::Shard;
+//! Callers that stop in the middle of a removal, and what the owner can do then.
+use super::filling::fill;
+use super::*;
 use sh_key::Tiny;
-use sh_pass::{Busy, Pass};
-use sh_step::Action;
-use sh_value::{Refusal, Value};
-use std::process::Abort;
 use std::test::Fail;
 
-// The pass has done so many steps of a remove of the key, up to eight, and stopped.
-fn stopped<'a>(rt: &impl Abort, pass: Pass<'a, Tiny>, key: u64, count: usize) -> Busy<'a, Tiny> {
-    let steps = [
-        Action::EnterRemove(key),
-        Action::Mark,
-        Action::Drop,
-        Action::Finish,
-        Action::Put,
-        Action::Tie,
-        Action::Ring,
-        Action::RingTie,
-    ];
-    let mut busy = pass.begin();
-    for (i, step) in steps.iter().enumerate() {
-        if i < count {
-            assert!(rt; busy.act(step));
+// Inserts until the shard is full, and answers how many went in.
+fn put_until_full(rt: &impl Abort, shard: &mut Shard<'_, Tiny>) -> u32 {
+    for count in 0..25u32 {
+        match put(shard, &sixteen(rt)) {
+            Ok(_) => {}
+            Err(why) => {
+                assert_eq!(rt; why, Refusal::Full);
+                return count;
+            }
         }
     }
-    busy
+    25
 }
 
-// How many values the shard takes, of thirty at most, until it is full.
-fn takes(rt: &impl Abort, shard: &mut Shard<'_, Tiny>, value: &Value) -> u32 {
-    let mut count = 0u32;
-    for _ in 0..30 {
-        match shard.insert(value) {
-            Ok(_) => count = count.saturating_add(1),
-            Err(refusal) => assert_eq!(rt; refusal, Refusal::Full),
-        }
-    }
-    count
-}
-
-#[test]
-fn leave_waits_for_a_tie(rt: HostRuntime) -> Result<(), Fail> {
-    let (heap, seats) = opened(&rt, rt.alloc());
-    let (first, second) = two_passes(&rt, rt.alloc(), &heap, seats);
-    let value = long_value(&rt);
-    let mut shard = adopted(&rt, rt.alloc(), first);
-    for key in [4096, 4097, 4098] {
-        assert_eq!(rt; shard.insert(&value), Ok(key));
-    }
-    let mut busy = stopped(&rt, second, 4096, 5);
-    assert_eq!(rt; shard.insert(&value), Ok(4160));
-    let Err((shard, refusal)) = shard.leave() else {
-        panic!(rt; "left, with a slot that is yet to be tied")
-    };
-    assert_eq!(rt; refusal, Refusal::Waiting);
-    assert!(rt; busy.act(&Action::Tie));
-    let _first = left(&rt, shard);
-    let Ok(second) = busy.end() else {
-        panic!(rt; "a pass that has begun nothing")
-    };
-    let mut shard = adopted(&rt, rt.alloc(), second);
-    assert_eq!(rt; shard.insert(&value), Ok(8192));
-    Ok(())
-}
-
-#[test]
-fn the_eight_steps_of_a_remove(rt: HostRuntime) -> Result<(), Fail> {
-    let (heap, seats) = opened(&rt, rt.alloc());
-    let (first, second) = two_passes(&rt, rt.alloc(), &heap, seats);
-    let value = long_value(&rt);
-    let mut shard = adopted(&rt, rt.alloc(), first);
-    fill(&rt, &mut shard, &value);
-    assert_eq!(rt; shard.insert(&value), Err(Refusal::Full));
-    let mut busy = stopped(&rt, second, 4097, 8);
-    assert!(rt; !busy.act(&Action::RingTie));
-    assert_eq!(rt; shard.insert(&value), Ok(8193));
-    Ok(())
-}
-
-#[test]
-fn stopped_on_an_unarmed_page(rt: HostRuntime) -> Result<(), Fail> {
-    for count in 0..7usize {
-        let (heap, seats) = opened(&rt, rt.alloc());
-        let (first, second) = two_passes(&rt, rt.alloc(), &heap, seats);
-        let value = long_value(&rt);
-        let mut shard = adopted(&rt, rt.alloc(), first);
-        for key in [4096, 4097, 4098] {
-            assert_eq!(rt; shard.insert(&value), Ok(key));
-        }
-        let _busy = stopped(&rt, second, 4096, count);
-        let taken = takes(&rt, &mut shard, &value);
-        assert_eq!(rt; taken, if count == 6 { 22 } else { 21 });
-        assert_eq!(rt; shard.leave().is_ok(), count != 5);
-    }
-    Ok(())
-}
-
-// What the owner of a full shard is answered: an insert, a leave, and where that was refused another insert.
-fn answers(rt: &impl Abort, mut shard: Shard<'_, Tiny>, value: &Value) -> (Result<u64, Refusal>, Option<Result<u64, Refusal>>) {
-    let answer = shard.insert(value);
+// Leaves, or answers the shard where that waits.
+fn waits<'a>(rt: &impl Abort, shard: Shard<'a, Tiny>) -> Option<Shard<'a, Tiny>> {
     match shard.leave() {
-        Ok(_) => (answer, None),
-        Err((mut shard, refusal)) => {
-            assert_eq!(rt; refusal, Refusal::Waiting);
-            (answer, Some(shard.insert(value)))
+        Ok(_) => None,
+        Err((shard, why)) => {
+            assert_eq!(rt; why, Refusal::Waiting);
+            Some(shard)
         }
     }
 }
 
-#[test]
-fn stopped_on_an_armed_page(rt: HostRuntime) -> Result<(), Fail> {
-    for count in 0..9usize {
-        let (heap, seats) = opened(&rt, rt.alloc());
-        let (first, second) = two_passes(&rt, rt.alloc(), &heap, seats);
-        let value = long_value(&rt);
-        let mut shard = adopted(&rt, rt.alloc(), first);
-        fill(&rt, &mut shard, &value);
-        assert_eq!(rt; shard.insert(&value), Err(Refusal::Full));
-        let _busy = stopped(&rt, second, 4096, count);
-        let expected = match count {
-            5 => (Err(Refusal::Full), Some(Err(Refusal::Full))),
-            6 | 7 => (Err(Refusal::Full), Some(Ok(8192))),
-            8 => (Ok(8192), None),
-            _ => (Err(Refusal::Full), None),
-        };
-        assert_eq!(rt; answers(&rt, shard, &value), expected);
+// Another stops after so many steps of a removal from a page that is not armed.
+fn stopped_unarmed(rt: &impl Abort, alloc: Global, steps: usize, more: u32, waiting: bool) {
+    let (heap, seats) = opened::<Tiny>(rt, alloc, 1, 1, 2);
+    let (one, other) = two_passes(rt, alloc, &heap, seats);
+    let mut shard = adopted(rt, alloc, one, 0);
+    for key in [4_096, 4_097, 4_098] {
+        assert_eq!(rt; put(&mut shard, &sixteen(rt)), Ok(key));
     }
+    let _busy = stopped_at(rt, other, 4_096, steps);
+    assert_eq!(rt; put_until_full(rt, &mut shard), more);
+    assert_eq!(rt; waits(rt, shard).is_some(), waiting);
+}
+
+#[test]
+fn a_caller_stops_at_a_page_that_is_not_armed(rt: HostRuntime) -> Result<(), Fail> {
+    for steps in 0..5usize {
+        stopped_unarmed(&rt, rt.alloc(), steps, 21, false);
+    }
+    stopped_unarmed(&rt, rt.alloc(), 5, 21, true);
+    stopped_unarmed(&rt, rt.alloc(), 6, 22, false);
+    Ok(())
+}
+
+// Another stops after so many steps of a removal from a shard that is full. Answers what an insert is answered then, and
+// what a second one is where leaving waits.
+fn stopped_armed(
+    rt: &impl Abort,
+    alloc: Global,
+    steps: usize,
+) -> (Result<u64, Refusal>, Option<Result<u64, Refusal>>) {
+    let (heap, seats) = opened::<Tiny>(rt, alloc, 1, 1, 2);
+    let (one, other) = two_passes(rt, alloc, &heap, seats);
+    let mut shard = adopted(rt, alloc, one, 0);
+    fill(rt, &mut shard);
+    let _busy = stopped_at(rt, other, 4_096, steps);
+    let first = put(&mut shard, &sixteen(rt));
+    match waits(rt, shard) {
+        None => (first, None),
+        Some(mut shard) => (first, Some(put(&mut shard, &sixteen(rt)))),
+    }
+}
+
+#[test]
+fn a_caller_stops_at_a_page_that_is_armed(rt: HostRuntime) -> Result<(), Fail> {
+    let full = Err(Refusal::Full);
+    for steps in 0..5usize {
+        assert_eq!(rt; stopped_armed(&rt, rt.alloc(), steps), (full, None));
+    }
+    assert_eq!(rt; stopped_armed(&rt, rt.alloc(), 5), (full, Some(full)));
+    assert_eq!(rt; stopped_armed(&rt, rt.alloc(), 6), (full, Some(Ok(8_192))));
+    assert_eq!(rt; stopped_armed(&rt, rt.alloc(), 7), (full, Some(Ok(8_192))));
+    assert_eq!(rt; stopped_armed(&rt, rt.alloc(), 8), (Ok(8_192), None));
     Ok(())
 }

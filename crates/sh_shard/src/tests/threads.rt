@@ -1,0 +1,88 @@
+//! An owner and another caller at the same time.
+use super::*;
+use sh_key::Wide;
+use std::test::Fail;
+use std::thread::join;
+
+const BATCH: usize = 12;
+
+// Stores so many values, of sixteen words that begin with these numbers, and answers their keys.
+fn put_batch(rt: &impl Abort, shard: &mut Shard<'_, Wide>, round: u64) -> [u64; BATCH] {
+    let mut keys = [0; BATCH];
+    for i in 0..BATCH {
+        let words = [
+            round, i as u64, 3, 4, 5, 6, 7, 8, 9, 10, 11, 12, 13, 14, 15, 16,
+        ];
+        let key = put(shard, &value(rt, &words));
+        assert!(rt; key.is_ok());
+        if let Ok(key) = key {
+            keys[i] = key;
+        }
+    }
+    keys
+}
+
+// Gets, reads, removes and releases a key: whether it all went as it should.
+fn use_up(pass: &mut Pass<'_, Wide>, key: u64, round: u64, i: u64) -> Result<bool, Refusal> {
+    let hold = pass.get(key)?;
+    let found = pass.read(hold)?;
+    pass.remove(key)?;
+    let gone = pass.get(key) == Err(Refusal::Gone);
+    pass.release(hold)?;
+    Ok(gone && found.words().starts_with(&[round, i, 3, 4]) && found.words().len() == 16)
+}
+
+// How many of the keys went as they should.
+fn use_batch(pass: &mut Pass<'_, Wide>, keys: &[u64; BATCH], round: u64) -> u32 {
+    let mut good = 0u32;
+    for i in 0..BATCH {
+        if use_up(pass, keys[i], round, i as u64) == Ok(true) {
+            good = good.saturating_add(1);
+        }
+    }
+    good
+}
+
+// Stores and removes values of the owner's own: how many went in and out.
+fn put_and_remove(shard: &mut Shard<'_, Wide>, value: &Value) -> u32 {
+    let mut good = 0u32;
+    for _ in 0..BATCH {
+        if let Ok(key) = shard.insert(value) {
+            if shard.remove(key) == Ok(()) {
+                good = good.saturating_add(1);
+            }
+        }
+    }
+    good
+}
+
+// In each round the other removes what the owner stored, while the owner stores and removes more. All that was removed can
+// be used in the next round, as the two batches are all that the shard has room for.
+#[test]
+fn an_owner_and_another_step_at_the_same_time(rt: HostRuntime) -> Result<(), Fail> {
+    let (heap, seats) = opened::<Wide>(&rt, rt.alloc(), 1, 1, 2);
+    let (one, mut other) = two_passes(&rt, rt.alloc(), &heap, seats);
+    let mut shard = adopted(&rt, rt.alloc(), one, 0);
+    for round in 0..50u64 {
+        let keys = put_batch(&rt, &mut shard, round);
+        let words = sixteen(&rt);
+        let ((back, good), (back_too, good_too)) = join(
+            &rt,
+            move || {
+                let good = put_and_remove(&mut shard, &words);
+                (shard, good)
+            },
+            move || {
+                let good = use_batch(&mut other, &keys, round);
+                (other, good)
+            },
+        );
+        shard = back;
+        other = back_too;
+        assert_eq!(rt; good, 12);
+        assert_eq!(rt; good_too, 12);
+    }
+    let one = left(&rt, shard);
+    assert!(rt; merge(one, other).is_whole());
+    Ok(())
+}
