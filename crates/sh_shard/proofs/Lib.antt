@@ -4,3 +4,4 @@ pub mod Working
 pub mod Wholly
 pub mod LeavingLaws
 pub mod Beginning
+pub mod Coming
