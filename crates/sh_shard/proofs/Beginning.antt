@@ -94,3 +94,7 @@ reading_adopts layout shard v w states r size = record {
   bell = r.bell;
   pages = λ p l. let h = r.none (heap_page w (shard_page shard p)) in let k = r.pages p l in record { mine = h.mine; cursor = h.cursor; armed = h.armed; word = (get_or states p blank_state).class_word; class = k.class; few = k.few };
 }
+
+pub reading_more_at : {layout : Layout} (shard n : ℕ) (v w x : Caller) (states : List PageState) (p : ℕ) → length states ≡ p → {m : ℕ} → Reading layout shard v w states → OwnerActs Idle [] m w x → SameBells layout w x → OnPage (heap_page w (shard_page shard p)) (page_noted (page_of w shard p) n) w x → ViewStands layout x.view → n ≤ 8
+    → Reading layout shard v x (states ++ state_of n ∷ [])
+reading_more_at shard n v w x states p is r acts bells on stands few = reading_more shard n v w x states r acts bells (subst (λ z. OnPage (heap_page w (shard_page shard z)) (page_noted (page_of w shard z) n) w x) (sym is) on) stands few

@@ -12,3 +12,4 @@ pub mod Wholly
 pub mod Booking
 pub mod LeavingLaws
 pub mod Beginning
+pub mod Coming

@@ -1,10 +1,12 @@
 -- What is kept of the pages of an owner's shard.
-use Rattle.std.specs.Prelude.{◌≡◌, ℕ, ◌<◌, ◌≤◌, false, List, [], ◌++◌, length, get_or, Option, Some, None}
+use Rattle.std.specs.Prelude.{◌≡◌, ℕ, ◌+◌, ◌*◌, ◌<◌, ◌≤◌, false, List, [], ◌∷◌, ◌++◌, length, get_or, slice_set, Option, Some, None}
 use Rattle.sh_key.specs.Layout.{Layout}
 use Rattle.sh_lists.specs.Lists.{Lists}
+use Rattle.sh_lists.specs.Numbers.{Misses}
 use Rattle.sh_queue.specs.Numbers.{has_number}
 use Rattle.sh_shape.specs.Places.{pages_of}
 use Rattle.sh_slots.specs.declared.hand.Hand.TheVariants.{Idle}
+use Rattle.sh_slots.specs.declared.hand.Spot.{Spot}
 use Rattle.sh_table.specs.Tales.{ViewStands}
 use Rattle.sh_pass.specs.Passes.{Caller}
 use Rattle.sh_pass.specs.Owners.{SeenPage, heap_page, own_body, seen_page}
@@ -38,3 +40,17 @@ pub record KeepsPages (layout : Layout) (v : Caller) (shard : ℕ) (rings : Opti
   pub bell : (own_body v).bell_cursor ≡ rings_at v shard rings
   pub few : length states ≡ pages_of v.view.shape
   pub pages : (p : ℕ) → p < length states → KeepsPage (get_or states p blank_state) (seen_page v (heap_page v (shard_page shard p)))
+
+-- the slot stands in no list of its page, which is one of the shard
+abbrev pub MayCome : ℕ → List PageState → Option Spot → Type 0
+MayCome shard states None = Unit {0}
+MayCome shard states (Some x) = (p : ℕ) × (p < length states) × (x.page ≡ shard * length states + p) × (x.slot < 48) × Misses x.slot ((get_or states p blank_state).lists.free ++ (get_or states p blank_state).lists.local)
+
+-- the state with the slot in front of `local`
+abbrev pub with_local : PageState → ℕ → PageState
+with_local st s = record { lists = record st.lists { local = s ∷ st.lists.local }; class_word = st.class_word; armed = st.armed }
+
+-- the slot came to the lists of its page, whose number in the shard is answered
+abbrev pub Came : ℕ → Option Spot → List PageState → Option ℕ → List PageState → Type 0
+Came shard None old page new = (page ≡ None) × (new ≡ old)
+Came shard (Some x) old page new = (p : ℕ) × (page ≡ Some p) × (p < length old) × (x.page ≡ shard * length old + p) × (new ≡ slice_set old p (with_local (get_or old p blank_state) x.slot))

@@ -1,11 +1,28 @@
 // The four calls of a pass, for an owner: a slot of its shard that it freed itself comes to its page's lists.
-ghost use Rattle.std.specs.Prelude.{◌≡◌};
+ghost use Rattle.std.specs.Prelude.{◌≡◌, ◌+◌, ◌*◌, ◌≤◌, None, length};
 ghost use Rattle.sh_pass.specs.Passes.{GetDoes, ReadDoes, RemoveDoes, ReleaseDoes};
+ghost use Rattle.sh_shard.specs.Kept.{MayCome, Came};
 ghost use Rattle.sh_shard.specs.Pages.{SlotComes};
 
-use crate::pages::Pages;
+use crate::pages::{PageState, Pages};
 use sh_key::KeyLayout;
+use sh_slots::Spot;
 use sh_value::{Hold, Refusal, Value};
+
+// Puts a slot that came in front of `local`. Answers its page's number in the shard.
+fn keep(states: &mut Vec<PageState>, shard: u64, came: Option<Spot>) -> Option<u64>
+    requires few { shard * length states.old.items + length states.old.items ≤ 2048 }
+    requires may { MayCome shard states.old.items came }
+    ensures { Came shard came states.old.items result states.new.items }
+{
+    let Some(spot) = came else {
+        return None;
+    };
+    let page = spot.page - shard * states.len() as u64;
+    let state = &mut states[page as usize];
+    state.lists.push_local(spot.slot as u32);
+    Some(page)
+}
 
 impl<'a, L: KeyLayout> Pages<'a, L> {
     /// Takes a hold on a key. Refused as `BadKey`, `HoldsFull`, `Gone` or `Crowded`, tried in that order. Answers also the page
@@ -14,7 +31,9 @@ impl<'a, L: KeyLayout> Pages<'a, L> {
         ensures does { GetDoes L.layout key self.old.owner result.0 self.new.owner }
         ensures came { SlotComes result.1 self.old self.new }
     {
-        unreachable!()
+        let (answer, came) = self.owner.get(key);
+        let page = keep(&mut self.states, self.shard, came);
+        (answer, page)
     }
 
     /// The value of a key that the owner holds. Refused as `NotHeld`.
@@ -22,7 +41,7 @@ impl<'a, L: KeyLayout> Pages<'a, L> {
         ensures does { ReadDoes hold.key self.old.owner result self.new.owner }
         ensures came { SlotComes None self.old self.new }
     {
-        unreachable!()
+        self.owner.read(hold)
     }
 
     /// Removes a key. Refused as `BadKey` or `Gone`. Answers also the page to which a slot came.
@@ -30,7 +49,9 @@ impl<'a, L: KeyLayout> Pages<'a, L> {
         ensures does { RemoveDoes L.layout key self.old.owner result.0 self.new.owner }
         ensures came { SlotComes result.1 self.old self.new }
     {
-        unreachable!()
+        let (answer, came) = self.owner.remove(key);
+        let page = keep(&mut self.states, self.shard, came);
+        (answer, page)
     }
 
     /// Gives one hold on a key back. Refused as `NotHeld`. Answers also the page to which a slot came.
@@ -38,6 +59,8 @@ impl<'a, L: KeyLayout> Pages<'a, L> {
         ensures does { ReleaseDoes hold.key self.old.owner result.0 self.new.owner }
         ensures came { SlotComes result.1 self.old self.new }
     {
-        unreachable!()
+        let (answer, came) = self.owner.release(hold);
+        let page = keep(&mut self.states, self.shard, came);
+        (answer, page)
     }
 }
