@@ -6,6 +6,7 @@ ghost use Rattle.sh_shape.specs.Places.{IsPlace};
 mod changing_hands;
 mod filling;
 mod memory;
+mod order;
 mod replies;
 mod stopped;
 mod threads;

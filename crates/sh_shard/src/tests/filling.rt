@@ -1,4 +1,6 @@
 //! A shard that is filled, and what comes back of it.
+ghost use Rattle.std.specs.Prelude.{◌≡◌};
+
 use super::*;
 use sh_key::Tiny;
 use std::test::Fail;
