@@ -3,7 +3,6 @@ use Rattle.std.proofs.Common.{◌≡◌, ◌≢◌, ℕ, ◌<◌, ◌≤◌, ◌
 use Rattle.std.proofs.lemmas.Bool.{false≢true}
 use Rattle.std.proofs.lemmas.Bool.Decides.{nat_tests}
 use Rattle.std.specs.Prelude.{cond}
-use Rattle.std.specs.List.{position, remove}
 use Rattle.atomic_table.specs.declared.shared.Seat.{Seat}
 use Rattle.sh_key.specs.Layout.{Layout}
 use Rattle.sh_shape.specs.Shape.{Numbers}
@@ -23,14 +22,12 @@ use Rattle.sh_step.specs.Moves.{place_named}
 use Rattle.sh_step.specs.Plans.{Plan, plan_of}
 use Rattle.sh_step.specs.Rows.{Row, row, hand}
 use Rattle.sh_step.proofs.ConditionLaws.{meets}
-use Rattle.sh_step.proofs.ListLaws.{without_at}
 use Rattle.sh_core.specs.Lists.{times}
 use Rattle.sh_table.specs.declared.view.View.{View}
 use Rattle.sh_table.specs.Seats.{Heap, Did}
 use Rattle.sh_table.specs.Steps.{MayDo, row_by}
 use Rattle.sh_table.specs.Views.{names}
 use Rattle.sh_pass.specs.Busy.{Acts, IsBusy, is_by_hand}
-use Rattle.sh_pass.proofs.HeldLaws.{as_often, found_has, none_has}
 
 -- ---- where the condition fails
 
@@ -130,7 +127,7 @@ module _ (layout : Layout) (v : View) where
 -- ---- what a step leaves
 
 pub done : {layout : Layout} {heap : Heap} {n : ℕ} {t u : Seat (Unit {0}) View} (x : Action) (m : Move) → is_by_hand (kind_of_action x) ≡ true → MayDo layout t.me.0 x m → Did layout heap x m n t u → Acts layout x t.me.0 true u.me.0
-done {n = n} x m by may d = (by, (m, n, may, d.view))
+done {n = n} x m by may d = (by, (m, n, may, d.view, d.fits))
 
 -- a step that leaves this body leaves what is kept of it
 pub busy_with : {layout : Layout} {heap : Heap} {n bits : ℕ} {t u : Seat (Unit {0}) View} {held : List ℕ} {h : Hand} (x : Action) (m : Move) (held' : List ℕ) (h' : Hand) (b : Body) → IsBusy layout heap t held bits h → Did layout heap x m n t u → (row_by layout t.me.0 m).part n ≡ b
@@ -149,18 +146,7 @@ busy_with {t = t} {u = u} x m held' h' b p d is begun left count holds =
 pub busy_still : {layout : Layout} {heap : Heap} {n bits : ℕ} {t u : Seat (Unit {0}) View} {held : List ℕ} {h : Hand} (x : Action) (m : Move) (h' : Hand) → IsBusy layout heap t held bits h → Did layout heap x m n t u → (row_by layout t.me.0 m).part n ≡ hand t.me.0.own.body h' → IsBusy layout heap u held bits h'
 busy_still {t = t} {held = held} x m h' p d is = busy_with x m held h' (hand t.me.0.own.body h') p d is refl p.left p.count p.holds
 
--- ---- holds and keys, as the code finds them out
-
-pub hold_found : (held xs hs : List ℕ) (k i : ℕ) (o : Option ℕ) → ((j : ℕ) → times j held ≡ times j hs) → xs ≡ held → o ≡ position (λ j. j == k) xs → o ≡ Some i → (has (λ j. j == k) held ≡ true) × (has (λ j. j == k) hs ≡ true) × (without (λ j. j == k) held ≡ remove held i)
-hold_found held xs hs k i o often same is some =
-    let at : position (λ j. j == k) held ≡ Some i = ap (λ ys. position (λ j. j == k) ys) (sym same) ∙ (sym is ∙ some) in
-    let f = found_has k i held at in
-    (f.0, sym (as_often k held hs (often k)) ∙ f.0, without_at (λ j. j == k) held i at)
-
-pub no_hold : (held xs hs : List ℕ) (k : ℕ) (o : Option ℕ) → ((j : ℕ) → times j held ≡ times j hs) → xs ≡ held → o ≡ position (λ j. j == k) xs → o ≡ None → has (λ j. j == k) hs ≡ false
-no_hold held xs hs k o often same is none =
-    let at : position (λ j. j == k) held ≡ None = ap (λ ys. position (λ j. j == k) ys) (sym same) ∙ (sym is ∙ none) in
-    sym (as_often k held hs (often k)) ∙ none_has k held at
+-- ---- keys, as the code finds them out
 
 pub named_here : (layout : Layout) (s r : Numbers) (k : ℕ) (o a : Option Name) → s ≡ r → o ≡ place_named (plan_of layout s) k → o ≡ a → place_named (plan_of layout r) k ≡ a
 named_here layout s r k o a same is test = ap (λ z. place_named (plan_of layout z) k) (sym same) ∙ (sym is ∙ test)

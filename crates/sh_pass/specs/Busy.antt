@@ -1,5 +1,5 @@
 -- Passes that step by hand: one event a call.
-use Rattle.std.specs.Prelude.{◌≡◌, ◌≢◌, ℕ, Bool, true, false, List, length, None, Result, Ok, Err}
+use Rattle.std.specs.Prelude.{◌≡◌, ◌≢◌, ℕ, Bool, true, false, List, length, Some, None, Result, Ok, Err}
 use Rattle.atomic_table.specs.declared.shared.Seat.{Seat}
 use Rattle.sh_key.specs.Layout.{Layout}
 use Rattle.sh_slots.specs.declared.hand.Hand.{Hand}
@@ -8,13 +8,15 @@ use Rattle.sh_step.specs.declared.action.Action.{Action}
 use Rattle.sh_step.specs.declared.kind.ActionKind.{ActionKind}
 use Rattle.sh_step.specs.declared.kind.ActionKind.TheVariants as kind
 use Rattle.sh_step.specs.declared.moves.Move.{Move}
+use Rattle.sh_step.specs.Fits.{RowFits}
+use Rattle.sh_step.specs.Operations.{answer}
 use Rattle.sh_step.specs.Kinds.{kind_of_action}
 use Rattle.sh_step.specs.Plans.{plan_of}
 use Rattle.sh_step.specs.Rows.{row}
 use Rattle.sh_core.specs.Lists.{times}
 use Rattle.sh_table.specs.declared.view.View.{View}
 use Rattle.sh_table.specs.Seats.{Heap, IsSeat}
-use Rattle.sh_table.specs.Steps.{MayDo, did}
+use Rattle.sh_table.specs.Steps.{MayDo, did, row_by}
 use Rattle.sh_pass.specs.Passes.{Caller, IsTally}
 
 -- the kinds of step that a pass does by hand
@@ -29,9 +31,10 @@ is_by_hand kind.Ring = true
 is_by_hand kind.RingTie = true
 is_by_hand _ = false
 
--- The call answers whether the action is of such a kind and its condition holds. Then it was that one event, for the word that it found; and else nothing
+-- The call answers whether the action is of such a kind and its condition holds. Then it was that one event, for the word that it found, and its row meets that word where it answers it; and else nothing
 abbrev pub Acts : Layout → Action → View → Bool → View → Type 0
-Acts layout x v true w = (is_by_hand (kind_of_action x) ≡ true) × ((m : Move) × (n : ℕ) × MayDo layout v x m × (w ≡ did layout x m v n))
+Acts layout x v true w = (is_by_hand (kind_of_action x) ≡ true) × ((m : Move) × (n : ℕ) × MayDo layout v x m × (w ≡ did layout x m v n)
+    × (answer (row_by layout v m).operation n ≡ Some n → RowFits v.shape (plan_of layout v.shape) (row_by layout v m) n))
 Acts layout x v false w = (is_by_hand (kind_of_action x) ≡ true → row (plan_of layout v.shape) v.own.body x ≡ None) × (w ≡ v)
 
 -- the pass comes back exactly where its hand is idle, and in either case as it was

@@ -52,11 +52,16 @@ pub record MayTouch (v : Caller) (x : PageName) : Type 0 where
   pub owned : (own_body v).owned ≡ Some x.shard
   pub page : x.page < pages_of v.view.shape
 
--- a seat, and what is kept of it: its holds, in some order, and the bits of its tale
-pub record IsOwner (layout : Layout) (heap : Heap) (t : Seat (Unit {0}) View) (held : List ℕ) (bits : ℕ) : Type 0 where
+-- these are the holds, in some order
+pub record HoldsKept (held hs : List ℕ) : Type 0 where
+  pub count : length held ≡ length hs
+  pub holds : (k : ℕ) → times k held ≡ times k hs
+
+-- a seat, and what is kept of it: its holds, the bits of its tale, and its shard
+pub record IsOwner (layout : Layout) (heap : Heap) (t : Seat (Unit {0}) View) (held : List ℕ) (bits : ℕ) (shard : Option ℕ) : Type 0 where
   pub seat : IsSeat layout heap t
-  pub count : length held ≡ length t.me.0.own.body.holds
-  pub holds : (k : ℕ) → times k held ≡ times k t.me.0.own.body.holds
+  pub owned : t.me.0.own.body.owned ≡ shard
+  pub kept : HoldsKept held t.me.0.own.body.holds
   pub tally : IsTally bits t.me.0
 
 -- ---- what it knows of a page and of its bell
@@ -232,3 +237,19 @@ published layout v x n = (plan_of layout v.view.shape).keys.pack (published_name
 -- the key names a slot of shard n
 abbrev pub IsKeyIn : Layout → Caller → (n key : ℕ) → Type 0
 IsKeyIn layout v n key = (x : Name) × (place_named (plan_of layout v.view.shape) key ≡ Some x) × (home (plan_of layout v.view.shape) x.page ≡ n)
+
+-- ---- calls
+
+-- this slot came to be its own, of a page of its shard, or none did and its pages are as before
+abbrev pub SlotCame : Option Spot → Caller → Caller → Type 0
+SlotCame None v w = SamePages v w
+SlotCame (Some x) v w = (y : PageName) × MayTouch v y × (x.page ≡ heap_page v y) × (x.slot < 48) × ((seen_page v x.page).mine x.slot ≡ false) × OnPage x.page (page_with (seen_page v x.page) x.slot) v w
+
+-- A call is over, and this slot came to be its own, or none did: shard, bells and tale are as before, and nothing was armed
+pub record CallLeaves (layout : Layout) (came : Option Spot) (v w : Caller) : Type 0 where
+  pub idle : (own_body w).hand ≡ Idle
+  pub same : SameTale v.view w.view
+  pub owned : (own_body w).owned ≡ (own_body v).owned
+  pub bells : SameBells layout v w
+  pub arm : NoneArmed v w
+  pub slot : SlotCame came v w

@@ -4,16 +4,14 @@ ghost use Rattle.std.specs.Prelude.{◌≡◌};
 ghost use Rattle.sh_step.specs.declared.action.Action.TheVariants as action;
 ghost use Rattle.sh_pass.specs.Busy.{Acts, IsBusy};
 
-use crate::ending::gen_max;
-use crate::entering::guard_max;
-use crate::state::find;
+use crate::calls::find;
 use arrayvec::ArrayVec;
 use sh_bell::{is_armed, top_of};
 use sh_key::KeyLayout;
 use sh_slots::{GetAnswer, Hand, after_drop, after_enter_remove, answer_to_get, is_reusable_after};
 use sh_stack::link_over;
 use sh_step::Action;
-use sh_step::operands::place_of_key;
+use sh_step::operands::{gen_max, guard_max, place_of_key};
 use sh_table::{HeapTable, Token};
 
 /// What is kept of a pass that steps by hand.

@@ -28,6 +28,8 @@ pub struct Owner<'a, L: KeyLayout> {
     pub(crate) held: ArrayVec<u64, 16>,
     // A bit for each pass that its tale names.
     pub(crate) named: u64,
+    // The shard that it owns.
+    pub(crate) owned: Option<u64>,
 }
 
 impl<'a, L: KeyLayout> Model for Owner<'a, L> {
@@ -38,7 +40,7 @@ impl<'a, L: KeyLayout> Model for Owner<'a, L> {
 
     ghost view = { λ o. caller_of o.seat };
 
-    ghost invariant = { λ o. IsOwner L.layout o.heap.now o.seat o.held.items o.named };
+    ghost invariant = { λ o. IsOwner L.layout o.heap.now o.seat o.held.items o.named o.owned };
 }
 
 impl<'a, L: KeyLayout> Owner<'a, L> {
@@ -61,6 +63,7 @@ impl<'a, L: KeyLayout> Owner<'a, L> {
             seat,
             held,
             named,
+            owned: None,
         }
     }
 
@@ -75,6 +78,7 @@ impl<'a, L: KeyLayout> Owner<'a, L> {
             seat,
             held,
             named,
+            owned: _,
         } = self;
         Pass {
             heap,
@@ -127,7 +131,11 @@ impl<'a, L: KeyLayout> Owner<'a, L> {
         ensures arm { NoneArmed self.old self.new }
     {
         let heap = self.heap;
-        heap.table.adopt(&mut self.seat, shard)
+        let found = heap.table.adopt(&mut self.seat, shard);
+        if found == 0 {
+            self.owned = Some(shard);
+        }
+        found
     }
 
     /// Gives the shard up, of which it has nothing left.
@@ -141,5 +149,6 @@ impl<'a, L: KeyLayout> Owner<'a, L> {
     {
         let heap = self.heap;
         heap.table.leave(&mut self.seat, shard);
+        self.owned = None;
     }
 }

@@ -1,15 +1,13 @@
 //! What a pass is, apart from the heap that it steps on.
-ghost use Rattle.std.specs.Prelude.{◌≡◌, ◌==◌, position};
+ghost use Rattle.std.specs.Prelude.{◌≡◌};
+ghost use Rattle.sh_slots.specs.declared.hand.Hand.TheVariants.{Idle};
 ghost use Rattle.sh_table.specs.Tales.{ViewStands};
 ghost use Rattle.sh_pass.specs.Passes.{GetDoes, ReadDoes, RemoveDoes, ReleaseDoes};
 
-use crate::entering::{get_at, release_at, remove_at};
+use crate::calls::{get_key, read_key, release_key, remove_key};
 use crate::heap::Heap;
-use crate::reading::read_at;
 use arrayvec::ArrayVec;
 use sh_key::KeyLayout;
-use sh_slots::GetAnswer;
-use sh_step::operands::place_of_key;
 use sh_table::Token;
 use sh_value::{Hold, Refusal, Value};
 use std::marker::{Model, PhantomData};
@@ -37,13 +35,6 @@ impl<L: KeyLayout> Model for PassState<L> {
     ghost invariant = { λ s. IsPass L.layout s.seat s.held.items s.named };
 }
 
-// Where the key stands first among the holds.
-pub(crate) fn find(held: &[u64], key: u64) -> Option<usize>
-    ensures { result ≡ position (λ k. k == key) held.now }
-{
-    held.iter().position(|k| *k == key)
-}
-
 impl<L: KeyLayout> PassState<L> {
     /// Takes a hold on a key, so that its value stays readable. Refused as `BadKey`, `HoldsFull`, `Gone` or `Crowded`,
     /// tried in that order.
@@ -52,24 +43,9 @@ impl<L: KeyLayout> PassState<L> {
         ensures does { GetDoes L.layout key self.old result self.new }
         ensures stands { ViewStands L.layout self.new.view }
         ensures same { self.new.heap ≡ self.old.heap }
+        ensures idle { self.new.view.own.body.hand ≡ Idle }
     {
-        // What holds of every pass holds of this one, also where it is refused at once.
-        let _ = &self.held;
-        let table = &heap.table;
-        let Some(name) = place_of_key::<L>(table.shape(), key) else {
-            return Err(Refusal::BadKey);
-        };
-        if self.held.is_full() {
-            return Err(Refusal::HoldsFull);
-        }
-        match get_at(table, &mut self.seat, key, name) {
-            GetAnswer::Got => {
-                self.held.push(key);
-                Ok(Hold { key })
-            }
-            GetAnswer::Crowded => Err(Refusal::Crowded),
-            GetAnswer::Gone => Err(Refusal::Gone),
-        }
+        get_key(&heap.table, &mut self.seat, &mut self.held, key, None).0
     }
 
     /// Removes a key: no later get finds it, and its value stays until the last hold goes. Refused as `BadKey` or `Gone`.
@@ -78,18 +54,9 @@ impl<L: KeyLayout> PassState<L> {
         ensures does { RemoveDoes L.layout key self.old result self.new }
         ensures stands { ViewStands L.layout self.new.view }
         ensures same { self.new.heap ≡ self.old.heap }
+        ensures idle { self.new.view.own.body.hand ≡ Idle }
     {
-        // What holds of every pass holds of this one, also where it is refused at once.
-        let _ = &self.held;
-        let table = &heap.table;
-        let Some(name) = place_of_key::<L>(table.shape(), key) else {
-            return Err(Refusal::BadKey);
-        };
-        if remove_at(table, &mut self.seat, key, name) {
-            Ok(())
-        } else {
-            Err(Refusal::Gone)
-        }
+        remove_key(&heap.table, &mut self.seat, key, None).0
     }
 
     /// Gives one hold on a key back. Refused as `NotHeld`, exactly where the pass has no hold on the key.
@@ -98,17 +65,9 @@ impl<L: KeyLayout> PassState<L> {
         ensures does { ReleaseDoes hold.key self.old result self.new }
         ensures stands { ViewStands L.layout self.new.view }
         ensures same { self.new.heap ≡ self.old.heap }
+        ensures idle { self.new.view.own.body.hand ≡ Idle }
     {
-        let table = &heap.table;
-        let Some(at) = find(self.held.as_slice(), hold.key) else {
-            return Err(Refusal::NotHeld);
-        };
-        let Some(name) = place_of_key::<L>(table.shape(), hold.key) else {
-            unreachable!()
-        };
-        release_at(table, &mut self.seat, hold.key, name);
-        self.held.remove(at);
-        Ok(())
+        release_key(&heap.table, &mut self.seat, &mut self.held, hold.key, None).0
     }
 
     /// The value of a key that the pass holds. Refused as `NotHeld`, exactly where it has no hold on the key.
@@ -117,14 +76,8 @@ impl<L: KeyLayout> PassState<L> {
         ensures does { ReadDoes hold.key self.old result self.new }
         ensures stands { ViewStands L.layout self.new.view }
         ensures same { self.new.heap ≡ self.old.heap }
+        ensures idle { self.new.view.own.body.hand ≡ Idle }
     {
-        let table = &heap.table;
-        let Some(_at) = find(self.held.as_slice(), hold.key) else {
-            return Err(Refusal::NotHeld);
-        };
-        let Some(name) = place_of_key::<L>(table.shape(), hold.key) else {
-            unreachable!()
-        };
-        Ok(read_at(table, &mut self.seat, hold.key, name))
+        read_key(&heap.table, &mut self.seat, &self.held, hold.key)
     }
 }

@@ -1,10 +1,10 @@
 -- What is kept of the pages stays what is known of them, step by step.
-use Rattle.std.proofs.Common.{◌≡◌, ◌≢◌, ℕ, zero, suc, ◌+◌, ◌-◌, ◌*◌, ◌/◌, ◌<◌, ◌≤◌, ◌==◌, ⊎_elim, Bool, true, false, cond, Option, Some, None, List, [], ◌++◌, length, get_or, set, IfSome, refl, ap, ◌∙◌, sym, subst, arith}
+use Rattle.std.proofs.Common.{◌≡◌, ◌≢◌, ℕ, zero, suc, ◌+◌, ◌-◌, ◌*◌, ◌/◌, ◌<◌, ◌≤◌, ◌==◌, ⊎_elim, Bool, true, false, cond, Option, Some, None, List, [], ◌++◌, length, get_or, set, IfSome, refl, ap, ◌∙◌, sym, subst, arith, append-nil}
 use Rattle.std.specs.Prelude.{nat_lt}
 use Rattle.std.proofs.lemmas.List.{get_or-set_same, get_or-set_other, length-set, get_or_read}
 use Rattle.std.proofs.lemmas.Bool.{cases_eq}
 use Rattle.std.proofs.lemmas.Bool.Decides.{nat_tests}
-use Rattle.std.proofs.Math.Nat.{lt-div-mul-add}
+use Rattle.std.proofs.Math.Nat.{lt-div-mul-add, div-mul-le_self}
 use Rattle.sh_history.specs.declared.log.LogEntry.{LogEntry}
 use Rattle.sh_key.specs.Layout.{Layout}
 use Rattle.sh_lists.specs.Numbers.{Misses}
@@ -12,13 +12,14 @@ use Rattle.sh_core.specs.Lists.{slots_under}
 use Rattle.sh_shape.specs.Classes.{slots}
 use Rattle.sh_shape.specs.Shape.{Numbers}
 use Rattle.sh_shape.specs.Places.{pages_of}
+use Rattle.sh_slots.specs.declared.hand.Hand.{Hand}
 use Rattle.sh_slots.specs.declared.hand.Hand.TheVariants.{Idle}
 use Rattle.sh_step.specs.Plans.{Plan, plan_of, home}
 use Rattle.sh_stack.specs.Stack.{link_item}
-use Rattle.sh_step.specs.Rows.{owned_by}
+use Rattle.sh_step.specs.Rows.{owned_by, own}
 use Rattle.sh_table.specs.Tales.{ViewStands}
 use Rattle.sh_pass.specs.Passes.{Caller}
-use Rattle.sh_pass.specs.Owners.{SeenPage, SeenBell, Aside, OwnerActs, OnPage, SamePages, SameBells, MayTouch, heap_page, own_body, seen_page, seen_bell, page_on_bell, bell_followed}
+use Rattle.sh_pass.specs.Owners.{HasNothing, SeenPage, SeenBell, Aside, OwnerActs, OnPage, SamePages, SameBells, MayTouch, heap_page, own_body, seen_page, seen_bell, page_on_bell, bell_followed}
 use Rattle.sh_shard.specs.declared.pages.PageState.{PageState}
 use Rattle.sh_shard.specs.Pages.{shard_page}
 use Rattle.sh_shard.specs.Kept.{KeepsPage, KeepsPages, blank_state, rings_at}
@@ -178,3 +179,54 @@ slots_below c s some l =
 -- a slot of its own is one of the page's class
 pub below_class : {layout : Layout} {v : Caller} {shard : ℕ} {rings : Option ℕ} {states : List PageState} (p : ℕ) (st : PageState) → KeepsPages layout v shard rings states → KeepsPage st (page_of v shard p) → (st.class_word ≡ 0 → ⊥) → (s : ℕ) → (page_of v shard p).mine s ≡ true → s < slots (st.class_word - 1)
 below_class {v = v} {shard = shard} p st k a some s h = slots_below st.class_word s some (k.stands.owner.mine_below (record { page = heap_page v (shard_page shard p); slot = s }) st.class_word h a.class)
+
+-- ---- a shard of which nothing is left
+
+place_of : {layout : Layout} {v : Caller} {shard : ℕ} {rings : Option ℕ} {states : List PageState} → KeepsPages layout v shard rings states → (q : ℕ) → own (plan_of layout v.view.shape) (own_body v) q ≡ true → q < v.view.shape.shards * pages_of v.view.shape → (p : ℕ) × (p < length states) × (heap_page v (shard_page shard p) ≡ q)
+place_of {layout} {v} {shard} {states = states} k q mine l =
+    let plan = plan_of layout v.view.shape in
+    let own_is : (shard == home plan q) ≡ true = sym (ap (λ (z : Option ℕ). owned_by plan z q) k.owned) ∙ mine in
+    let home_is : shard ≡ home plan q = grind (arith, nat_tests) in
+    go (pages_of v.view.shape) k.few l (sym (home_div plan q) ∙ sym home_is) where
+      go : (n : ℕ) → length states ≡ n → q < v.view.shape.shards * n → q / n ≡ shard → (p : ℕ) × (p < length states) × (shard * n + p ≡ q)
+      go zero size l e = absurd (omega arith)
+      go (suc n) size l e =
+          let low = div-mul-le_self q (suc n) in
+          let high = lt-div-mul-add {a = q} {b = suc n} (omega arith) in
+          let f : q / suc n * suc n ≡ shard * suc n = ap (λ z. z * suc n) e in
+          (q - shard * suc n, omega arith, omega arith)
+
+pub nothing_left : {layout : Layout} {v : Caller} {shard : ℕ} {rings : Option ℕ} {states : List PageState} → KeepsPages layout v shard rings states → ((p : ℕ) → p < length states → HasNothing (page_of v shard p)) → (q : ℕ) → HasNothing (seen_page v q)
+nothing_left {layout} {v} {shard} {states = states} k none q = record { mine = λ s. mine s ((seen_page v q).mine s) refl; cursor = cursor (seen_page v q).cursor refl; armed = armed (seen_page v q).armed refl } where
+  at : own (plan_of layout v.view.shape) (own_body v) q ≡ true → q < v.view.shape.shards * pages_of v.view.shape → HasNothing (seen_page v q)
+  at o l = let x = place_of k q o l in subst (λ z. HasNothing (seen_page v z)) x.2 (none x.0 x.1)
+
+  mine : (s : ℕ) (b : Bool) → (seen_page v q).mine s ≡ b → b ≡ false
+  mine s true e = let h = k.stands.owner.mine (record { page = q; slot = s }) e in sym e ∙ (at h.0 h.1).mine s
+  mine s false e = refl
+
+  cursor : (c : Option ℕ) → (seen_page v q).cursor ≡ c → c ≡ None
+  cursor None e = refl
+  cursor (Some s) e = let h = k.stands.owner.cursors q s e in sym e ∙ (at h.0 h.1).cursor
+
+  armed : (b : Bool) → (seen_page v q).armed ≡ b → b ≡ false
+  armed true e = let h = k.stands.owner.armed q e in sym e ∙ (at h.0 h.1).armed
+  armed false e = refl
+
+-- ---- two steps that put a slot
+
+pub two_acts : {u v w : Caller} {h k : Hand} → OwnerActs h [] 1 u v → OwnerActs k [] 1 v w → k ≡ Idle → OwnerActs Idle [] 2 u w
+two_acts {u} {v} g h idle = record {
+  aside = record {
+    heap = h.aside.heap ∙ g.aside.heap;
+    same = record { shape = h.aside.same.shape ∙ g.aside.same.shape; pass = h.aside.same.pass ∙ g.aside.same.pass; told = h.aside.same.told ∙ g.aside.same.told; orders = h.aside.same.orders ∙ g.aside.same.orders };
+    owned = h.aside.owned ∙ g.aside.owned;
+    holds = h.aside.holds ∙ g.aside.holds;
+  };
+  hand = h.hand ∙ idle;
+  log = h.log ∙ (append-nil v.view.own.log ∙ g.log);
+  steps = let a = g.steps in let b = h.steps in omega arith;
+}
+
+pub page_then : {u v w : Caller} {q : ℕ} {g : SeenPage} → OnPage q g u v → SamePages v w → OnPage q g u w
+page_then {q = q} on same = record { here = same q ∙ on.here; others = λ r ne. same r ∙ on.others r ne }

@@ -10,3 +10,5 @@ pub mod Keeping
 pub mod Working
 pub mod Wholly
 pub mod Booking
+pub mod LeavingLaws
+pub mod Beginning

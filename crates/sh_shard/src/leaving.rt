@@ -50,7 +50,6 @@ impl<'a, L: KeyLayout> Pages<'a, L> {
         if !self.is_armed(page) {
             return;
         }
-        let _blank = self.class_word(page);
         self.take(page);
         self.follow_all(page);
     }

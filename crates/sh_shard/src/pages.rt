@@ -3,7 +3,7 @@ ghost use Rattle.std.specs.Prelude.{◌≡◌, ℕ, ◌<◌, ◌≤◌, Option, 
 ghost use Rattle.sh_slots.specs.declared.hand.Hand.TheVariants.{Idle};
 ghost use Rattle.sh_table.specs.Tales.{ViewStands};
 ghost use Rattle.sh_pass.specs.Owners.{HasNothing, own_body, seen_page};
-ghost use Rattle.sh_shard.specs.Pages.{page_at, AdoptsPages, AdoptsShard, CursorStands, NothingMine, ShardLeft, WhollyMine};
+ghost use Rattle.sh_shard.specs.Pages.{page_at, AdoptsPages, AdoptsShard, CursorStands, NothingMine, ShardLeft, WhollyMine, seen_class};
 
 use sh_key::KeyLayout;
 use sh_lists::PageLists;
@@ -131,7 +131,8 @@ impl<'a, L: KeyLayout> Pages<'a, L> {
     /// Whether the page is armed.
     pub(crate) fn is_armed(&self, page: u64) -> bool
         requires { page < self.now.count }
-        ensures { result ≡ (page_at self.now page).armed }
+        ensures armed { result ≡ (page_at self.now page).armed }
+        ensures classed { result ≡ true → 0 < seen_class (page_at self.now page) }
     {
         self.states[page as usize].armed
     }

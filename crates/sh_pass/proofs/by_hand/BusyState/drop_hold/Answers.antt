@@ -7,8 +7,8 @@ use Rattle.sh_step.specs.Collections.{without}
 use Rattle.sh_step.proofs.MoveLaws.{DropHold_none}
 use Rattle.sh_pass.specs.Busy.{IsBusy}
 use Rattle.sh_pass.proofs.MayLaws.{may_drop_hold}
-use Rattle.sh_pass.proofs.HeldLaws.{one_less}
-use Rattle.sh_pass.proofs.BusyLaws.{not_idle_to_drop, not_held, hold_found, no_hold, refused_row, named_here, done, busy_with}
+use Rattle.sh_pass.proofs.HeldLaws.{one_less, hold_found, no_hold}
+use Rattle.sh_pass.proofs.BusyLaws.{not_idle_to_drop, not_held, refused_row, named_here, done, busy_with}
 use Rattle.sh_pass.proofs.by_hand.BusyState.drop_hold.Goals as goal
 
 pub returns-in_default : goal.returns-in_default

@@ -1,0 +1,134 @@
+// The calls of a pass, whether it owns a shard or not. Each answers also the slot of its shard that came to be its own.
+ghost use Rattle.std.specs.Prelude.{◌≡◌, ◌==◌, None, position};
+ghost use Rattle.sh_slots.specs.declared.hand.Hand.TheVariants.{Idle};
+ghost use Rattle.sh_table.specs.Seats.{IsSeat};
+ghost use Rattle.sh_pass.specs.Passes.{GetDoes, ReadDoes, RemoveDoes, ReleaseDoes, caller_of};
+ghost use Rattle.sh_pass.specs.Owners.{HoldsKept, CallLeaves};
+
+use crate::entering::{get_at, release_at, remove_at};
+use crate::reading::read_at;
+use arrayvec::ArrayVec;
+use sh_key::KeyLayout;
+use sh_slots::{GetAnswer, Spot};
+use sh_step::operands::place_of_key;
+use sh_table::{HeapTable, Token};
+use sh_value::{Hold, Refusal, Value};
+
+// Where the key stands first among the holds.
+pub(crate) fn find(held: &[u64], key: u64) -> Option<usize>
+    ensures { result ≡ position (λ k. k == key) held.now }
+{
+    held.iter().position(|k| *k == key)
+}
+
+/// Takes a hold on a key.
+pub(crate) fn get_key<L: KeyLayout>(
+    table: &HeapTable<L>,
+    seat: &mut Token,
+    held: &mut ArrayVec<u64, 16>,
+    key: u64,
+    owned: Option<u64>,
+) -> (Result<Hold, Refusal>, Option<Spot>)
+    requires seat { IsSeat L.layout table.now seat.old }
+    requires idle { seat.old.me.0.own.body.hand ≡ Idle }
+    requires owned { seat.old.me.0.own.body.owned ≡ owned }
+    requires kept { HoldsKept held.old.items seat.old.me.0.own.body.holds }
+    ensures seat { IsSeat L.layout table.now seat.new }
+    ensures kept { HoldsKept held.new.items seat.new.me.0.own.body.holds }
+    ensures does { GetDoes L.layout key (caller_of seat.old) result.0 (caller_of seat.new) }
+    ensures leaves { CallLeaves L.layout result.1 (caller_of seat.old) (caller_of seat.new) }
+{
+    let Some(name) = place_of_key::<L>(table.shape(), key) else {
+        return (Err(Refusal::BadKey), None);
+    };
+    if held.is_full() {
+        return (Err(Refusal::HoldsFull), None);
+    }
+    let got = get_at(table, seat, key, name, owned);
+    match got.0 {
+        GetAnswer::Got => {
+            held.push(key);
+            (Ok(Hold { key }), got.1)
+        }
+        GetAnswer::Crowded => (Err(Refusal::Crowded), got.1),
+        GetAnswer::Gone => (Err(Refusal::Gone), got.1),
+    }
+}
+
+/// Removes a key.
+pub(crate) fn remove_key<L: KeyLayout>(
+    table: &HeapTable<L>,
+    seat: &mut Token,
+    key: u64,
+    owned: Option<u64>,
+) -> (Result<(), Refusal>, Option<Spot>)
+    requires seat { IsSeat L.layout table.now seat.old }
+    requires idle { seat.old.me.0.own.body.hand ≡ Idle }
+    requires owned { seat.old.me.0.own.body.owned ≡ owned }
+    ensures seat { IsSeat L.layout table.now seat.new }
+    ensures kept { seat.new.me.0.own.body.holds ≡ seat.old.me.0.own.body.holds }
+    ensures does { RemoveDoes L.layout key (caller_of seat.old) result.0 (caller_of seat.new) }
+    ensures leaves { CallLeaves L.layout result.1 (caller_of seat.old) (caller_of seat.new) }
+{
+    let Some(name) = place_of_key::<L>(table.shape(), key) else {
+        return (Err(Refusal::BadKey), None);
+    };
+    let removed = remove_at(table, seat, key, name, owned);
+    if removed.0 {
+        (Ok(()), removed.1)
+    } else {
+        (Err(Refusal::Gone), removed.1)
+    }
+}
+
+/// Gives one hold on a key back.
+pub(crate) fn release_key<L: KeyLayout>(
+    table: &HeapTable<L>,
+    seat: &mut Token,
+    held: &mut ArrayVec<u64, 16>,
+    key: u64,
+    owned: Option<u64>,
+) -> (Result<(), Refusal>, Option<Spot>)
+    requires seat { IsSeat L.layout table.now seat.old }
+    requires idle { seat.old.me.0.own.body.hand ≡ Idle }
+    requires owned { seat.old.me.0.own.body.owned ≡ owned }
+    requires kept { HoldsKept held.old.items seat.old.me.0.own.body.holds }
+    ensures seat { IsSeat L.layout table.now seat.new }
+    ensures kept { HoldsKept held.new.items seat.new.me.0.own.body.holds }
+    ensures does { ReleaseDoes key (caller_of seat.old) result.0 (caller_of seat.new) }
+    ensures leaves { CallLeaves L.layout result.1 (caller_of seat.old) (caller_of seat.new) }
+{
+    let Some(at) = find(held.as_slice(), key) else {
+        return (Err(Refusal::NotHeld), None);
+    };
+    let Some(name) = place_of_key::<L>(table.shape(), key) else {
+        unreachable!()
+    };
+    let slot = release_at(table, seat, key, name, owned);
+    held.remove(at);
+    (Ok(()), slot)
+}
+
+/// The value of a key that the pass holds.
+pub(crate) fn read_key<L: KeyLayout>(
+    table: &HeapTable<L>,
+    seat: &mut Token,
+    held: &ArrayVec<u64, 16>,
+    key: u64,
+) -> Result<Value, Refusal>
+    requires seat { IsSeat L.layout table.now seat.old }
+    requires idle { seat.old.me.0.own.body.hand ≡ Idle }
+    requires kept { HoldsKept held.now.items seat.old.me.0.own.body.holds }
+    ensures seat { IsSeat L.layout table.now seat.new }
+    ensures kept { seat.new.me.0.own.body.holds ≡ seat.old.me.0.own.body.holds }
+    ensures does { ReadDoes key (caller_of seat.old) result (caller_of seat.new) }
+    ensures leaves { CallLeaves L.layout None (caller_of seat.old) (caller_of seat.new) }
+{
+    let Some(_at) = find(held.as_slice(), key) else {
+        return Err(Refusal::NotHeld);
+    };
+    let Some(name) = place_of_key::<L>(table.shape(), key) else {
+        unreachable!()
+    };
+    Ok(read_at(table, seat, key, name))
+}

@@ -1,0 +1,65 @@
+//! The calls of an owner: those of a pass, each with the slot of its shard that came to be its own.
+ghost use Rattle.std.specs.Prelude.{◌≡◌, None};
+ghost use Rattle.sh_slots.specs.declared.hand.Hand.TheVariants.{Idle};
+ghost use Rattle.sh_table.specs.Tales.{ViewStands};
+ghost use Rattle.sh_pass.specs.Passes.{GetDoes, ReadDoes, RemoveDoes, ReleaseDoes};
+ghost use Rattle.sh_pass.specs.Owners.{CallLeaves, own_body};
+
+use crate::calls::{get_key, read_key, release_key, remove_key};
+use crate::owner::Owner;
+use sh_key::KeyLayout;
+use sh_slots::Spot;
+use sh_value::{Hold, Refusal, Value};
+
+impl<'a, L: KeyLayout> Owner<'a, L> {
+    /// Takes a hold on a key, so that its value stays readable. Refused as `BadKey`, `HoldsFull`, `Gone` or `Crowded`,
+    /// tried in that order. Where a get that is refused comes to be the last on a removed key, the slot is its own.
+    pub fn get(&mut self, key: u64) -> (Result<Hold, Refusal>, Option<Spot>)
+        requires idle { (own_body self.old).hand ≡ Idle }
+        ensures does { GetDoes L.layout key self.old result.0 self.new }
+        ensures leaves { CallLeaves L.layout result.1 self.old self.new }
+        ensures stands { ViewStands L.layout self.new.view }
+    {
+        let heap = self.heap;
+        get_key(&heap.table, &mut self.seat, &mut self.held, key, self.owned)
+    }
+
+    /// Removes a key: no later get finds it, and its value stays until the last hold goes. Refused as `BadKey` or `Gone`.
+    pub fn remove(&mut self, key: u64) -> (Result<(), Refusal>, Option<Spot>)
+        requires idle { (own_body self.old).hand ≡ Idle }
+        ensures does { RemoveDoes L.layout key self.old result.0 self.new }
+        ensures leaves { CallLeaves L.layout result.1 self.old self.new }
+        ensures stands { ViewStands L.layout self.new.view }
+    {
+        let heap = self.heap;
+        remove_key(&heap.table, &mut self.seat, key, self.owned)
+    }
+
+    /// Gives one hold on a key back. Refused as `NotHeld`, exactly where the pass has no hold on the key.
+    pub fn release(&mut self, hold: Hold) -> (Result<(), Refusal>, Option<Spot>)
+        requires idle { (own_body self.old).hand ≡ Idle }
+        ensures does { ReleaseDoes hold.key self.old result.0 self.new }
+        ensures leaves { CallLeaves L.layout result.1 self.old self.new }
+        ensures stands { ViewStands L.layout self.new.view }
+    {
+        let heap = self.heap;
+        release_key(
+            &heap.table,
+            &mut self.seat,
+            &mut self.held,
+            hold.key,
+            self.owned,
+        )
+    }
+
+    /// The value of a key that the pass holds. Refused as `NotHeld`, exactly where it has no hold on the key.
+    pub fn read(&mut self, hold: Hold) -> Result<Value, Refusal>
+        requires idle { (own_body self.old).hand ≡ Idle }
+        ensures does { ReadDoes hold.key self.old result self.new }
+        ensures leaves { CallLeaves L.layout None self.old self.new }
+        ensures stands { ViewStands L.layout self.new.view }
+    {
+        let heap = self.heap;
+        read_key(&heap.table, &mut self.seat, &self.held, hold.key)
+    }
+}

@@ -1,0 +1,15 @@
+use Rattle.std.proofs.Common.{◌≡◌, ◌≢◌, ◌<◌, ◌+◌, ⊎_elim, arith, subst, sym}
+use Rattle.std.proofs.lemmas.Bool.{cases_eq}
+use Rattle.sh_shard.specs.Leaving.{AtRest}
+use Rattle.sh_shard.specs.Pages.{page_at}
+use Rattle.sh_shard.proofs.LeavingLaws.{rests_more}
+use Rattle.sh_shard.proofs.pages.Pages.is_at_rest.Goals as goal
+
+pub loop-page-init : goal.loop-page-init
+loop-page-init g c = λ p l. absurd (omega arith)
+
+pub loop-page-preserved : goal.loop-page-preserved
+loop-page-preserved g c = rests_more c.args.self.now c.loop-page.page c.loop-page.invariant c.if-not-rests.ensures
+
+pub returns : goal.returns
+returns g c = record { bell = c.if-has_rings.ensures; pages = λ p l. c.loop-page.invariant p (let e = c.count-page-end.ensures.count in let z = c.loop-page-test.false in omega arith) }
