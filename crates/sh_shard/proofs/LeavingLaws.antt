@@ -238,10 +238,13 @@ bell_taken None a b m n s h = h
 bell_taken (Some x) a b m n s h = absurd (subst CursorStands s tt)
 
 pub waiting : (o m n : Paged) → Collecting o m → BellEmptied o m → PagesEmptied m n → NotAtRest n → Waiting o n
-waiting o m n g b e w = record { through = collecting_more o m n g e.through; why = ⊎_elim
-    (λ (s : CursorStands n.bell.cursor). inl (s, subst (λ (z : SeenBell). o.bell.met < z.met) (sym e.bell) (bell_met m.bell.cursor o.bell.takes m.bell.takes o.bell.met m.bell.met (subst (λ (z : SeenBell). CursorStands z.cursor) e.bell s) b)))
-    (λ (s : (n.bell.cursor ≡ None) × ((p : ℕ) × (p < n.count) × (CursorStands (page_at n p).cursor ⊎ (((page_at n p).cursor ≡ None) × ((page_at n p).armed ≡ true))))). inr (s.1.0, s.1.1, page s.0 s.1.0 s.1.1 s.1.2))
-    w } where
+waiting o m n g b e w = record {
+  through = collecting_more o m n g e.through;
+  why = ⊎_elim
+      (λ (s : CursorStands n.bell.cursor). inl (s, subst (λ (z : SeenBell). o.bell.met < z.met) (sym e.bell) (bell_met m.bell.cursor o.bell.takes m.bell.takes o.bell.met m.bell.met (subst (λ (z : SeenBell). CursorStands z.cursor) e.bell s) b)))
+      (λ (s : (n.bell.cursor ≡ None) × ((p : ℕ) × (p < n.count) × (CursorStands (page_at n p).cursor ⊎ (((page_at n p).cursor ≡ None) × ((page_at n p).armed ≡ true))))). inr (s.1.0, s.1.1, page s.0 s.1.0 s.1.1 s.1.2))
+      w;
+} where
   page : n.bell.cursor ≡ None → (p : ℕ) → p < n.count → CursorStands (page_at n p).cursor ⊎ (((page_at n p).cursor ≡ None) × ((page_at n p).armed ≡ true))
       → (CursorStands (page_at n p).cursor × ((page_at o p).met < (page_at n p).met)) ⊎ ((n.bell.cursor ≡ None) × ((page_at n p).armed ≡ true) × ((page_at o p).takes < (page_at n p).takes) × (o.bell.takes < n.bell.takes))
   page none p l (inl s) = inl (s, met_since (page_at n p).cursor (page_at o p).met (page_at m p).met (page_at n p).met s (g.met p) (e.pages p l).waits)

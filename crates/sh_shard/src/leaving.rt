@@ -115,7 +115,8 @@ impl<'a, L: KeyLayout> Pages<'a, L> {
         let slot = slot as u64;
         let head = self.owner.put_slot(name, slot);
         let spot = Spot { page: number, slot };
-        self.owner.tie(spot, link_over(top_of(head)), is_armed(head));
+        self.owner
+            .tie(spot, link_over(top_of(head)), is_armed(head));
         true
     }
 

@@ -22,7 +22,12 @@ fn opened(rt: &impl Abort, alloc: Global) -> (Heap<Tiny>, Seats<Tiny>)
     Heap::<Tiny>::open(alloc, shape).expect(rt, "a heap")
 }
 
-fn two_passes<'a>(rt: &impl Abort, alloc: Global, heap: &'a Heap<Tiny>, seats: Seats<Tiny>) -> (Pass<'a, Tiny>, Pass<'a, Tiny>)
+fn two_passes<'a>(
+    rt: &impl Abort,
+    alloc: Global,
+    heap: &'a Heap<Tiny>,
+    seats: Seats<Tiny>,
+) -> (Pass<'a, Tiny>, Pass<'a, Tiny>)
     requires { seats ≡ heap.now }
 {
     let Ok(mut passes) = heap.passes(alloc, seats) else {

@@ -99,7 +99,11 @@ fn stopped_on_an_unarmed_page(rt: HostRuntime) -> Result<(), Fail> {
 }
 
 // What the owner of a full shard is answered: an insert, a leave, and where that was refused another insert.
-fn answers(rt: &impl Abort, mut shard: Shard<'_, Tiny>, value: &Value) -> (Result<u64, Refusal>, Option<Result<u64, Refusal>>) {
+fn answers(
+    rt: &impl Abort,
+    mut shard: Shard<'_, Tiny>,
+    value: &Value,
+) -> (Result<u64, Refusal>, Option<Result<u64, Refusal>>) {
     let answer = shard.insert(value);
     match shard.leave() {
         Ok(_) => (answer, None),
