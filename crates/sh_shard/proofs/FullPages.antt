@@ -144,10 +144,15 @@ below_next : (p k : ℕ) → p < k + 1 → (p ≡ k) ⊎ (p < k)
 below_next p k l = ⊎_elim (λ (h : p < k). inr h) (λ (h : k ≤ p). inl (omega arith)) (cases_lt p k)
 
 pub filed_blank : (k : ℕ) (v : Paged) (q : PageQueues) → FiledBelow k v q → (page_at v k).class ≡ Some 0 → FiledBelow (k + 1) v q
-filed_blank k v q f is = record { all = f.all; classes = f.classes; full = f.full; blank = λ p here below. ⊎_elim
-    (λ (e : p ≡ k). subst (λ z. (page_at v z).class ≡ Some 0) (sym e) is)
-    (λ (l : p < k). f.blank p here l)
-    (below_next p k below) }
+filed_blank k v q f is = record {
+  all = f.all;
+  classes = f.classes;
+  full = f.full;
+  blank = λ p here below. ⊎_elim
+      (λ (e : p ≡ k). subst (λ z. (page_at v z).class ≡ Some 0) (sym e) is)
+      (λ (l : p < k). f.blank p here l)
+      (below_next p k below);
+}
 
 pub filed_more : (k word : ℕ) (v : Paged) (q q' : PageQueues) → FiledBelow k v q → EachOnce q → k < q.opened → (page_at v k).class ≡ Some word → word ≢ 0 → word ≤ 8 → q' ≡ at_back (word - 1) k q → FiledBelow (k + 1) v q'
 filed_more k word v q q' f once inside class some few is = subst (FiledBelow (k + 1) v) (sym is) (record {

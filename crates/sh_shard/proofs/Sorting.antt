@@ -111,11 +111,11 @@ module _ (v : Paged) (q : PageQueues) (sorted : SortedPages v q) (once : EachOnc
         full = λ r h. subst FullPage (sym (others r (λ (is : r ≡ p). false≢true (sym apart.0 ∙ subst (λ z. has_number z q.full ≡ true) is h)))) (sorted.full r h);
         blank = λ r h. same_word r ∙ sorted.blank r h;
       } where
-    same_word : (r : ℕ) → (page_at w r).class ≡ (page_at v r).class
-    same_word r = ⊎_elim
-        (λ (is : r ≡ p). subst (λ z. (page_at w z).class ≡ (page_at v z).class) (sym is) class)
-        (λ (other : r ≢ p). ap (λ (g : SeenPage). g.class) (others r other))
-        (cases_eq r p)
+        same_word : (r : ℕ) → (page_at w r).class ≡ (page_at v r).class
+        same_word r = ⊎_elim
+            (λ (is : r ≡ p). subst (λ z. (page_at w z).class ≡ (page_at v z).class) (sym is) class)
+            (λ (other : r ≢ p). ap (λ (g : SeenPage). g.class) (others r other))
+            (cases_eq r p)
 
   class_inside : (c p : ℕ) → has_number p (class_queue q c) ≡ true → p < q.opened
   class_inside c p here = Rattle.sh_queue.proofs.PageLaws.class_opened p q once c here
@@ -155,10 +155,14 @@ pub record Alters (p : ℕ) (v w : Paged) : Type 0 where
   pub others : (r : ℕ) → r ≢ p → page_at w r ≡ page_at v r
 
 pub alters_reads : (p : ℕ) (v w : Paged) → BellReads p v w → Alters p v w
-alters_reads p v w b = record { count = b.count; others = b.others; class = λ r. ⊎_elim
-    (λ (is : r ≡ p). subst (λ z. (page_at w z).class ≡ (page_at v z).class) (sym is) (ap (λ (g : SeenPage). g.class) b.here))
-    (λ (other : r ≢ p). ap (λ (g : SeenPage). g.class) (b.others r other))
-    (cases_eq r p) }
+alters_reads p v w b = record {
+  count = b.count;
+  others = b.others;
+  class = λ r. ⊎_elim
+      (λ (is : r ≡ p). subst (λ z. (page_at w z).class ≡ (page_at v z).class) (sym is) (ap (λ (g : SeenPage). g.class) b.here))
+      (λ (other : r ≢ p). ap (λ (g : SeenPage). g.class) (b.others r other))
+      (cases_eq r p);
+}
 
 module _ (v w : Paged) (q : PageQueues) (p : ℕ) (sorted : SortedPages v q) (alters : Alters p v w) where
   -- it was not full
