@@ -29,4 +29,3 @@ part_here parts pass p u e = ap (λ (b : Bool). cond b u (parts p)) (eq-eqb p pa
 
 pub part_there : (parts : ℕ → PassPart) (pass p : ℕ) (u : PassPart) → p ≢ pass → with_part parts pass u p ≡ parts p
 part_there parts pass p u ne = ap (λ (b : Bool). cond b u (parts p)) (ne_eqb p pass ne)
-

@@ -42,4 +42,3 @@ take_past (x ∷ xs) (suc n) h = ap (λ z. x ∷ z) (take_past xs n (omega arith
 pub map_more : {A B : Type 0} (f : A → B) (xs : List A) (x : A) → map f (xs ++ x ∷ []) ≡ map f xs ++ f x ∷ []
 map_more f [] x = refl
 map_more f (y ∷ ys) x = ap (λ l. f y ∷ l) (map_more f ys x)
-

@@ -1,5 +1,5 @@
 -- What calls of a pass of the running heap are in a run of calls.
-use Rattle.std.proofs.Common.{◌≡◌, ℕ, suc, ◌+◌, ◌<◌, ◌≤◌, ◌==◌, Bool, true, false, cond, List, [], ◌∷◌, ◌++◌, map, length, refl, sym, ap, subst, ◌∙◌, arith, Option, Some, None, Result, Ok, Err, ltb-true, eq-eqb}
+use Rattle.std.proofs.Common.{◌≡◌, ℕ, suc, ◌+◌, ◌<◌, ◌≤◌, ◌==◌, ◌&&◌, Bool, true, false, cond, List, [], ◌∷◌, ◌++◌, map, length, refl, sym, ap, subst, ◌∙◌, arith, Option, Some, None, Result, Ok, Err, ltb-true, eq-eqb}
 use Rattle.std.specs.Prelude.{nat_lt, nat_le, not, IsSome, IfOk, MatchResult}
 use Rattle.std.proofs.lemmas.Bool.Decides.{nat_tests}
 use Rattle.std.proofs.lemmas.Option.{same_Some}
@@ -32,7 +32,7 @@ use Rattle.sh_table.specs.Views.{Each, told_of, joined_view}
 use Rattle.sh_pass.specs.Growing.{SameTale}
 use Rattle.sh_pass.specs.Owners.{IsKeyIn}
 use Rattle.sh_pass.proofs.OwnMay.{home_is}
-use Rattle.sh_shard.specs.Pages.{OwnerAtRest, ShardLeft}
+use Rattle.sh_shard.specs.Pages.{ShardLeft}
 use Rattle.sh_shard.specs.Shards.{Sharded, AdoptServes, LeaveServes, InsertServes}
 use Rattle.sh_pass.specs.Passes.{Caller, IsAtRest, CallAdds, CallReads, IsKeyOfHeap, GetDoes, ReadDoes, RemoveDoes, ReleaseDoes, holds}
 use Rattle.sh_replay.specs.Parts.{PassPart, PassTold, SeenPass, SamePass, HasAllLogs, HasWholeTale, tale_told, is_placed_key, is_key_of_shard, heap_terms, with_entry}
@@ -266,35 +266,35 @@ module _ (layout : Layout) (v : Caller) where
 
   pub adopt_answers : (k : ℕ) (r : Result Sharded (Caller × Refusal)) → v.view.own.body.owned ≡ None → AdoptServes k v r
       → MatchResult r
-          (λ n. AdoptAnswers seen_caller.terms seen_caller.part k (Ok tt) (part_of_caller n.pages.owner) × SamePass seen_caller (seen_of_caller layout n.pages.owner))
-          (λ e. AdoptAnswers seen_caller.terms seen_caller.part k (Err e.1) (part_of_caller e.0) × SamePass seen_caller (seen_of_caller layout e.0))
+      (λ n. AdoptAnswers seen_caller.terms seen_caller.part k (Ok tt) (part_of_caller n.pages.owner) × SamePass seen_caller (seen_of_caller layout n.pages.owner))
+      (λ e. AdoptAnswers seen_caller.terms seen_caller.part k (Err e.1) (part_of_caller e.0) × SamePass seen_caller (seen_of_caller layout e.0))
   adopt_answers k (Ok n) none h = (
-      subst (AdoptIs k (Ok tt) n.pages.owner) (sym (there_is k none h.0)) (λ i. record { log = h.1.log i; shard = h.1.owned i }),
-      same_of n.pages.owner h.1.heap h.1.same,
-    )
+    subst (AdoptIs k (Ok tt) n.pages.owner) (sym (there_is k none h.0)) (λ i. record { log = h.1.log i; shard = h.1.owned i }),
+    same_of n.pages.owner h.1.heap h.1.same,
+  )
   adopt_answers k (Err (w, refusal.NoShard)) none h = (subst (AdoptIs k (Err refusal.NoShard) w) (sym (there_is_not k none h.0)) (refl, ap part_of_caller h.1), kept w h.1)
   adopt_answers k (Err (w, refusal.Taken)) none h = (subst (AdoptIs k (Err refusal.Taken) w) (sym (there_is k none h.0)) (part_as_was w none h.1), same_of w h.1.heap h.1.same)
   adopt_answers k (Err (w, refusal.Memory)) none h = (subst (AdoptIs k (Err refusal.Memory) w) (sym (there_is k none h.0)) (part_as_was w none h.1), same_of w h.1.heap h.1.same)
   adopt_answers k (Err (w, _)) none h = absurd h
 
-module _ (layout : Layout) (o : Sharded) (rest : OwnerAtRest o.pages) where
+module _ (layout : Layout) (o : Sharded) (owned : o.pages.owner.view.own.body.owned ≡ Some o.pages.shard) where
   abbrev seen_owner : SeenPass
   seen_owner = seen_of_caller layout o.pages.owner
 
   has_one : needs_shard seen_owner.part.shard ≡ None
-  has_one = ap needs_shard rest.owned
+  has_one = ap needs_shard owned
 
   abbrev LeaveIs : Result (Unit {0}) Refusal → Caller → Option Refusal → Type 0
   LeaveIs r w first = UnlessRefused first seen_owner.part r (part_of_caller w) (PartLeft seen_owner.part r (part_of_caller w))
 
   pub leave_answers : (r : Result Caller (Sharded × Refusal)) → LeaveServes o r
       → MatchResult r
-          (λ w. LeaveAnswers seen_owner.part (Ok tt) (part_of_caller w) × SamePass seen_owner (seen_of_caller layout w))
-          (λ e. LeaveAnswers seen_owner.part (Err e.1) (part_of_caller e.0.pages.owner) × SamePass seen_owner (seen_of_caller layout e.0.pages.owner))
+      (λ w. LeaveAnswers seen_owner.part (Ok tt) (part_of_caller w) × SamePass seen_owner (seen_of_caller layout w))
+      (λ e. LeaveAnswers seen_owner.part (Err e.1) (part_of_caller e.0.pages.owner) × SamePass seen_owner (seen_of_caller layout e.0.pages.owner))
   leave_answers (Ok w) h = (
-      subst (LeaveIs (Ok tt) w) (sym has_one) (λ i. record { log = h.log i; shard = h.owned i }),
-      same_of layout o.pages.owner w h.heap h.same,
-    )
+    subst (LeaveIs (Ok tt) w) (sym has_one) (λ i. record { log = h.log i; shard = h.owned i }),
+    same_of layout o.pages.owner w h.heap h.same,
+  )
   leave_answers (Err (n, r)) h =
       let c = h.1.through in
       let w = n.pages.owner in
@@ -310,16 +310,16 @@ module _ (layout : Layout) (o : Sharded) (rest : OwnerAtRest o.pages) where
 
   own_key : (key : ℕ) → IsKeyIn layout o.pages.owner o.pages.shard key → IsOwnKey seen_owner.terms seen_owner.part.shard key
   own_key key k = record {
-    own = subst (λ (z : Option ℕ). is_key_of_shard layout z key ≡ true) (sym rest.owned) (of_shard layout o.pages.owner.view.shape key o.pages.shard k.0 k.1 k.2);
+    own = subst (λ (z : Option ℕ). is_key_of_shard layout z key ≡ true) (sym owned) (of_shard layout o.pages.owner.view.shape key o.pages.shard k.0 k.1 k.2);
     small = ((keys_are_consecutive layout key).0 (unpacks layout o.pages.owner.view.shape key k.0 k.1)).1;
   }
 
   pub insert_answers : (c : ℕ) (words : List ℕ) (r : Result ℕ Refusal) (n : Sharded) → InsertServes layout c words o r n
       → InsertIs words r n.pages.owner × SamePass seen_owner (seen_of_caller layout n.pages.owner)
   insert_answers c words (Ok key) n h = (
-      (own_key key h.1, λ i. record { log = h.0.log i; shard = h.0.aside.owned i }),
-      same_of layout o.pages.owner n.pages.owner h.0.aside.heap h.0.aside.same,
-    )
+    (own_key key h.1, λ i. record { log = h.0.log i; shard = h.0.aside.owned i }),
+    same_of layout o.pages.owner n.pages.owner h.0.aside.heap h.0.aside.same,
+  )
   insert_answers c words (Err refusal.Full) n h =
       let t = h.left.through in
       (part_unchanged n.pages.owner t.log t.aside.owned, same_of layout o.pages.owner n.pages.owner t.aside.heap t.aside.same)

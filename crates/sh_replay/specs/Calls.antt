@@ -45,13 +45,13 @@ abbrev pub needs_shard : Option ℕ → Option Refusal
 needs_shard (Some own) = None
 needs_shard None = Some refusal.NoShard
 
-abbrev pub Left : PassPart → Result (Unit {0}) Refusal → PassPart → Type 0
-Left v (Ok _) w = w ≡ record v { shard = None }
-Left v (Err refusal.Waiting) w = w ≡ v
-Left v (Err _) w = ⊥
+abbrev pub PartLeft : PassPart → Result (Unit {0}) Refusal → PassPart → Type 0
+PartLeft v (Ok _) w = w ≡ record v { shard = None }
+PartLeft v (Err refusal.Waiting) w = w ≡ v
+PartLeft v (Err _) w = ⊥
 
 abbrev pub LeaveAnswers : PassPart → Result (Unit {0}) Refusal → PassPart → Type 0
-LeaveAnswers v r w = UnlessRefused (needs_shard v.shard) v r w (Left v r w)
+LeaveAnswers v r w = UnlessRefused (needs_shard v.shard) v r w (PartLeft v r w)
 
 -- ---- insert
 

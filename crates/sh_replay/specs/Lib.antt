@@ -11,7 +11,6 @@ pub mod Meeting
 pub mod Alone
 pub mod Holders
 pub mod Running
-pub mod HeapOutput
 pub mod PlainDoes
 pub mod StepsOutput
 pub mod StepsKeys

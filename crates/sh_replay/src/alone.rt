@@ -10,8 +10,8 @@ ghost use Rattle.sh_replay.specs.Meeting.{CarriesTale, OwnsNone, HasMet};
 ghost use Rattle.sh_replay.specs.Alone.{tales_told, AllOfHeap};
 
 use crate::answer::push_reply;
-use crate::meeting::meet;
 use crate::line::{answered, binds, number_meant, number_told};
+use crate::meeting::meet;
 use crate::side::Side;
 use sh_script::{CallLine, Fault};
 use std::alloc::Global;

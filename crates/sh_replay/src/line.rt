@@ -6,9 +6,9 @@ ghost use Rattle.sh_replay.specs.Calls.{CallAnswers, AnswerSays, GetAnswers, Rea
 ghost use Rattle.sh_replay.specs.Results.{done_answer, value_answer, key_answer};
 ghost use Rattle.sh_replay.specs.Runs.{number_bound, number_meant};
 
+use crate::Answer;
 use crate::keys::{key_shown, shown};
 use crate::side::Side;
-use crate::Answer;
 use sh_script::{Call, Reference};
 use sh_value::{Hold, Refusal, Value};
 use std::alloc::Global;

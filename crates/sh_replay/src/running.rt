@@ -8,7 +8,6 @@ use sh_pass::{Pass, merge};
 use sh_shard::Shard;
 use sh_value::{Hold, Refusal, Value};
 use std::alloc::Global;
-use std::marker::PhantomData;
 
 // What a pass knows stands before a call, and it owns no shard after it: `shape` tells both.
 impl<'a, L: KeyLayout> Calls for Pass<'a, L> {
@@ -47,36 +46,28 @@ impl<'a, L: KeyLayout> Calls for Pass<'a, L> {
     }
 }
 
-// The same of an owner, who owns its shard before a call and after it.
+// What an owner knows stands before a call: `shape` tells it.
 impl<'a, L: KeyLayout> Calls for Shard<'a, L> {
     ghost seen = { λ s. seen_of_caller L.layout s.pages.owner };
 
     fn get(&mut self, key: u64) -> Result<Hold, Refusal> {
         let _ = self.shape();
-        let result = Shard::get(self, key);
-        let _ = self.shape();
-        result
+        Shard::get(self, key)
     }
 
     fn read(&mut self, hold: Hold) -> Result<Value, Refusal> {
         let _ = self.shape();
-        let result = Shard::read(self, hold);
-        let _ = self.shape();
-        result
+        Shard::read(self, hold)
     }
 
     fn remove(&mut self, key: u64) -> Result<(), Refusal> {
         let _ = self.shape();
-        let result = Shard::remove(self, key);
-        let _ = self.shape();
-        result
+        Shard::remove(self, key)
     }
 
     fn release(&mut self, hold: Hold) -> Result<(), Refusal> {
         let _ = self.shape();
-        let result = Shard::release(self, hold);
-        let _ = self.shape();
-        result
+        Shard::release(self, hold)
     }
 
     fn whole(&self) {
@@ -86,7 +77,8 @@ impl<'a, L: KeyLayout> Calls for Shard<'a, L> {
 
 /// The passes and the shards of a running heap.
 pub struct Running<'a, L: KeyLayout> {
-    marker: PhantomData<&'a L>,
+    // None is made: it names the heap that passes and shards borrow.
+    _heap: &'a sh_pass::Heap<L>,
 }
 
 impl<'a, L: KeyLayout + Send + Sync> Heap for Running<'a, L> {

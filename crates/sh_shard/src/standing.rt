@@ -8,6 +8,7 @@ ghost use Rattle.sh_shard.specs.Shards.{HoldsShard};
 use crate::pages::Pages;
 use crate::shard::Shard;
 use sh_key::KeyLayout;
+use sh_shape::Shape;
 
 impl<'a, L: KeyLayout> Pages<'a, L> {
     // What is known of the owner.
@@ -18,9 +19,27 @@ impl<'a, L: KeyLayout> Pages<'a, L> {
     {
         let _owner = &self.owner;
     }
+
+    // The shape of the heap.
+    fn shape(&self) -> &Shape
+        ensures is { result.now ≡ self.now.owner.heap.shape }
+        ensures same { self.now.owner.view.shape ≡ self.now.owner.heap.shape }
+    {
+        self.owner.shape()
+    }
 }
 
 impl<'a, L: KeyLayout> Shard<'a, L> {
+    /// The shape of the heap. Between its calls the owner has begun nothing, the shard is its own, and all that it knows stands.
+    pub fn shape(&self) -> &Shape
+        ensures is { result.now ≡ self.now.pages.owner.heap.shape }
+        ensures same { self.now.pages.owner.view.shape ≡ self.now.pages.owner.heap.shape }
+        ensures holds { HoldsShard L.layout self.now }
+    {
+        self.standing();
+        self.pages.shape()
+    }
+
     // What is known of the shard.
     pub(crate) fn standing(&self)
         ensures { HoldsShard L.layout self.now }

@@ -4,5 +4,6 @@ use Rattle.sh_replay.proofs.running.ShardCalls.remove.Goals as goal
 
 pub returns-clause-does : goal.returns-clause-does
 returns-clause-does g c =
-    (remove_answers g.L.KeyLayout.layout c.args.self.now.pages.owner c.remove-result.new.self.pages.owner c.shape.ensures.stands c.shape.ensures.rest.shape
-    (c.shape-2.ensures.rest.owned ∙ (ap (λ n. Some n) c.remove-result.ensures.shard ∙ sym c.shape.ensures.rest.owned)) c.args.key c.remove-result.result c.remove-result.ensures.does).0
+    let stays = c.remove.ensures.stays in
+    (remove_answers g.L.KeyLayout.layout c.args.self.now.pages.owner c.remove.new.self.pages.owner c.shape.ensures.holds.stands c.shape.ensures.same
+    (stays.holds.owned ∙ (ap (λ n. Some n) stays.shard ∙ sym c.shape.ensures.holds.owned)) c.args.key c.remove.result c.remove.ensures.does).0
