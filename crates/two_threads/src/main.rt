@@ -32,7 +32,7 @@ fn words_read(pass: &mut Pass<'_, Wide>, key: u64) -> Result<usize, Refusal> {
 }
 
 fn share(rt: &impl Threads, alloc: Global) -> Result<Story, Refusal> {
-    // One shard, one segment in it, three passes.
+    // One shard, of one segment, and three passes: `passes` answers as many, so the `else` below is never reached.
     let shape = Shape::new(1, 1, 3)?;
     let (heap, seats) = Heap::<Wide>::open(alloc, shape)?;
     let mut passes = heap.passes(alloc, seats).map_err(|(_, why)| why)?;
@@ -69,11 +69,14 @@ fn tell(rt: &impl Print, story: &Story) -> io::Result<()> {
 }
 
 fn main(rt: HostRuntime) -> ExitCode {
-    let told = match share(&rt, rt.alloc()) {
-        Ok(story) => tell(&rt, &story),
-        Err(why) => eprintln!(rt; "refused: {}", why.name()),
+    let story = match share(&rt, rt.alloc()) {
+        Ok(story) => story,
+        Err(why) => {
+            let _ = eprintln!(rt; "refused: {}", why.name());
+            return ExitCode::FAILURE;
+        }
     };
-    match told {
+    match tell(&rt, &story) {
         Ok(()) => ExitCode::SUCCESS,
         Err(_) => ExitCode::FAILURE,
     }
