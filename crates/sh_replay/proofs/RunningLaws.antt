@@ -16,10 +16,10 @@ use Rattle.sh_history.specs.declared.entry.Entry.{Entry}
 use Rattle.sh_history.specs.declared.entry.Entry.TheVariants as entry
 use Rattle.sh_history.specs.declared.log.LogEntry.{LogEntry}
 use Rattle.sh_history.specs.declared.log.LogEntry.TheVariants.{Known, Unread}
-use Rattle.sh_history.specs.Log.{pass_of, entries_of, filled, AllHaveValue, logged_holds_by, logged_hold_count}
+use Rattle.sh_history.specs.Log.{pass_of, entries_of, filled, logged_holds_by, logged_hold_count}
 use Rattle.sh_slots.specs.declared.hand.Name.{Name}
 use Rattle.sh_step.specs.Moves.{has_place, place_named}
-use Rattle.sh_step.specs.Collections.{has, total, if1}
+use Rattle.sh_step.specs.Collections.{has}
 use Rattle.sh_step.specs.Plans.{plan_of, home}
 use Rattle.sh_step.proofs.NameLaws.{no_key, no_place, a_place}
 use Rattle.sh_core.specs.Lists.{times}
@@ -34,9 +34,9 @@ use Rattle.sh_pass.specs.Owners.{IsKeyIn}
 use Rattle.sh_pass.proofs.OwnMay.{home_is}
 use Rattle.sh_shard.specs.Pages.{ShardLeft}
 use Rattle.sh_shard.specs.Shards.{Sharded, AdoptServes, LeaveServes, InsertServes}
-use Rattle.sh_pass.specs.Passes.{Caller, IsAtRest, CallAdds, CallReads, IsKeyOfHeap, GetDoes, ReadDoes, RemoveDoes, ReleaseDoes, holds}
-use Rattle.sh_replay.specs.Parts.{PassPart, PassTold, SeenPass, SamePass, HasAllLogs, HasWholeTale, tale_told, is_placed_key, is_key_of_shard, heap_terms, with_entry}
-use Rattle.sh_replay.specs.Calls.{UnlessRefused, GetAnswers, HoldGot, get_refusal, ReadAnswers, ValueRead, hold_refusal, RemoveAnswers, KeyRemoved, remove_refusal, ReleaseAnswers, HoldReleased, AdoptAnswers, PartAdopted, adopt_refusal, LeaveAnswers, PartLeft, needs_shard, InsertAnswers, ValueInserted, IsOwnKey}
+use Rattle.sh_pass.specs.Passes.{Caller, IsKeyOfHeap, GetDoes, ReadDoes, RemoveDoes, ReleaseDoes, holds}
+use Rattle.sh_replay.specs.Parts.{PassTold, SeenPass, SamePass, HasAllLogs, HasWholeTale, tale_told, is_placed_key, is_key_of_shard, heap_terms, with_entry}
+use Rattle.sh_replay.specs.Calls.{UnlessRefused, GetAnswers, HoldGot, get_refusal, ReadAnswers, ValueRead, hold_refusal, RemoveAnswers, KeyRemoved, remove_refusal, ReleaseAnswers, HoldReleased, AdoptAnswers, PartAdopted, adopt_refusal, LeaveAnswers, PartLeft, needs_shard, ValueInserted, IsOwnKey}
 use Rattle.sh_replay.specs.Running.{part_of_caller, seen_of_caller, log_told}
 
 -- ---- which numbers are keys

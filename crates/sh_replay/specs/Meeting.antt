@@ -1,5 +1,5 @@
 -- Passes that meet: one of them carries the tale of all.
-use Rattle.std.specs.Prelude.{◌≡◌, ℕ, List, [], ◌++◌, Option, Some, None}
+use Rattle.std.specs.Prelude.{◌≡◌, List, [], ◌++◌, Option, Some, None}
 use Rattle.sh_replay.specs.Parts.{RunTerms, SeenPass, PassTold, HasWholeTale, tale_told}
 use Rattle.sh_table.specs.Seats.{Heap}
 

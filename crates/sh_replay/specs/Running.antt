@@ -1,5 +1,5 @@
 -- Passes of the running heap, as a run of calls sees them.
-use Rattle.std.specs.Prelude.{ℕ, map, Some}
+use Rattle.std.specs.Prelude.{map, Some}
 use Rattle.sh_key.specs.Layout.{Layout}
 use Rattle.sh_table.specs.declared.view.Told.{Told}
 use Rattle.sh_pass.specs.Passes.{Caller}

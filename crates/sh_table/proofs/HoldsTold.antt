@@ -81,9 +81,9 @@ pub holds_told : (a k held : ℕ) (log : List LogEntry) (es : List Entry) → Al
     → got_count_by es a k ≡ released_count_by es a k + held → logged_holds_by log a k ≡ held
 holds_told a k held log es agrees counts =
     let got : count_by (is_logged_got_by a k) log ≡ got_count_by es a k =
-        same_count (is_logged_got_by a k) (is_got_by a k) (same_got a k) log (by a es) agrees ∙ own_count (is_got_by a k) (λ e. pass_of e == a) (got_own a k) es in
+    same_count (is_logged_got_by a k) (is_got_by a k) (same_got a k) log (by a es) agrees ∙ own_count (is_got_by a k) (λ e. pass_of e == a) (got_own a k) es in
     let gone : count_by (is_logged_release_by a k) log ≡ released_count_by es a k =
-        same_count (is_logged_release_by a k) (is_release_by a k) (same_release a k) log (by a es) agrees ∙ own_count (is_release_by a k) (λ e. pass_of e == a) (release_own a k) es in
+    same_count (is_logged_release_by a k) (is_release_by a k) (same_release a k) log (by a es) agrees ∙ own_count (is_release_by a k) (λ e. pass_of e == a) (release_own a k) es in
     (λ i. got i - gone i) ∙ more (got_count_by es a k) (released_count_by es a k) held counts
 
 -- ---- and so many there are in all
@@ -119,7 +119,7 @@ same_length [] (y ∷ ys) h = let n = h y in let z = times_none y in let c = tim
 same_length (x ∷ xs) ys h =
     let here : 0 < times x ys = let n = h x in let c = times_cons x x xs in let o = one x in omega (arith, n, c, o) in
     let rest : length xs ≡ length (without (λ y. y == x) ys) =
-        same_length xs (without (λ y. y == x) ys) (λ k. cancels (if1 (x == k)) (times k xs) (times k ys) (times k (without (λ y. y == x) ys)) (sym (times_cons k x xs) ∙ h k) (times_off x k ys here)) in
+    same_length xs (without (λ y. y == x) ys) (λ k. cancels (if1 (x == k)) (times k xs) (times k ys) (times k (without (λ y. y == x) ys)) (sym (times_cons k x xs) ∙ h k) (times_off x k ys here)) in
     let more = shorter x ys (some_has x ys here) in
     omega (arith, rest, more)
 
@@ -220,11 +220,11 @@ pub hold_count_told : (a : ℕ) (holds : List ℕ) (log : List LogEntry) (es : L
     → ((k : ℕ) → got_count_by es a k ≡ released_count_by es a k + times k holds) → logged_hold_count log a ≡ length holds
 hold_count_told a holds log es agrees counts =
     let got : count_by (is_logged_got_from a) log ≡ count_by (is_got_from a) es =
-        same_count (is_logged_got_from a) (is_got_from a) (same_got_from a) log (by a es) agrees ∙ own_count (is_got_from a) (λ e. pass_of e == a) (got_from_own a) es in
+    same_count (is_logged_got_from a) (is_got_from a) (same_got_from a) log (by a es) agrees ∙ own_count (is_got_from a) (λ e. pass_of e == a) (got_from_own a) es in
     let gone : count_by (is_logged_release_from a) log ≡ count_by (is_release_from a) es =
-        same_count (is_logged_release_from a) (is_release_from a) (same_release_from a) log (by a es) agrees ∙ own_count (is_release_from a) (λ e. pass_of e == a) (release_from_own a) es in
+    same_count (is_logged_release_from a) (is_release_from a) (same_release_from a) log (by a es) agrees ∙ own_count (is_release_from a) (λ e. pass_of e == a) (release_from_own a) es in
     let lists : length (got_keys a es) ≡ length (released_keys a es ++ holds) =
-        same_length (got_keys a es) (released_keys a es ++ holds) (λ k. got_times a k es ∙ (counts k ∙ (ap (λ n. n + times k holds) (sym (released_times a k es)) ∙ sym (total_append (λ y. if1 (y == k)) (released_keys a es) holds)))) in
+    same_length (got_keys a es) (released_keys a es ++ holds) (λ k. got_times a k es ∙ (counts k ∙ (ap (λ n. n + times k holds) (sym (released_times a k es)) ∙ sym (total_append (λ y. if1 (y == k)) (released_keys a es) holds)))) in
     let all : count_by (is_got_from a) es ≡ count_by (is_release_from a) es + length holds =
-        sym (got_length a es) ∙ (lists ∙ (length-append (released_keys a es) holds ∙ ap (λ n. n + length holds) (released_length a es))) in
+    sym (got_length a es) ∙ (lists ∙ (length-append (released_keys a es) holds ∙ ap (λ n. n + length holds) (released_length a es))) in
     (λ i. got i - gone i) ∙ more (count_by (is_got_from a) es) (count_by (is_release_from a) es) (length holds) all
