@@ -1,7 +1,6 @@
 //! What calls on shards answer, by worked examples: which keys come in which order, what is refused, what a stopped caller
 //! leaves behind, and what stands after refused memory.
 ghost use Rattle.std.specs.Prelude.{◌≡◌, ◌<◌};
-ghost use Rattle.sh_shape.specs.Places.{IsPlace};
 
 mod changing_hands;
 mod filling;
@@ -13,8 +12,8 @@ mod threads;
 
 use crate::Shard;
 use sh_key::KeyLayout;
-use sh_pass::{Busy, Heap, Pass, Seats, merge};
-use sh_shape::{Place, Shape};
+use sh_pass::{Busy, Heap, Pass, Seats};
+use sh_shape::Shape;
 use sh_step::Action;
 use sh_value::{Refusal, Value};
 use std::alloc::Global;
@@ -70,7 +69,6 @@ fn one_pass<'a, L: KeyLayout>(
     seats: Seats<L>,
 ) -> Pass<'a, L>
     requires { seats ≡ heap.now }
-    ensures { result.heap ≡ heap.now }
 {
     let mut passes = dealt(rt, alloc, heap, seats);
     let Some(pass) = passes.pop() else {
@@ -87,8 +85,6 @@ fn two_passes<'a, L: KeyLayout>(
     seats: Seats<L>,
 ) -> (Pass<'a, L>, Pass<'a, L>)
     requires { seats ≡ heap.now }
-    ensures one { result.0.heap ≡ heap.now }
-    ensures other { result.1.heap ≡ heap.now }
 {
     let mut passes = dealt(rt, alloc, heap, seats);
     let (Some(other), Some(one)) = (passes.pop(), passes.pop()) else {
@@ -103,9 +99,7 @@ fn adopted<'a, L: KeyLayout>(
     alloc: Global,
     pass: Pass<'a, L>,
     n: u64,
-) -> Shard<'a, L>
-    ensures { result.pages.owner.heap ≡ pass.entry.heap }
-{
+) -> Shard<'a, L> {
     match Shard::adopt(alloc, pass, n) {
         Ok(shard) => shard,
         Err((pass, why)) => {
@@ -124,18 +118,14 @@ fn not_adopted<'a, L: KeyLayout>(
     alloc: Global,
     pass: Pass<'a, L>,
     n: u64,
-) -> (Pass<'a, L>, Refusal)
-    ensures { result.0.heap ≡ pass.entry.heap }
-{
+) -> (Pass<'a, L>, Refusal) {
     let Err((pass, why)) = Shard::adopt(alloc, pass, n) else {
         panic!(rt; "a shard")
     };
     (pass, why)
 }
 
-fn left<'a, L: KeyLayout>(rt: &impl Abort, shard: Shard<'a, L>) -> Pass<'a, L>
-    ensures { result.heap ≡ shard.entry.pages.owner.heap }
-{
+fn left<'a, L: KeyLayout>(rt: &impl Abort, shard: Shard<'a, L>) -> Pass<'a, L> {
     let Ok(pass) = shard.leave() else {
         panic!(rt; "it waits")
     };
@@ -152,9 +142,7 @@ fn sixteen(rt: &impl Abort) -> Value {
 }
 
 // An insert, once more where memory was refused.
-fn put<L: KeyLayout>(shard: &mut Shard<'_, L>, value: &Value) -> Result<u64, Refusal>
-    ensures { shard.new.pages.owner.heap ≡ shard.old.pages.owner.heap }
-{
+fn put<L: KeyLayout>(shard: &mut Shard<'_, L>, value: &Value) -> Result<u64, Refusal> {
     match shard.insert(value) {
         Err(Refusal::Memory) => shard.insert(value),
         answer => answer,
@@ -164,7 +152,6 @@ fn put<L: KeyLayout>(shard: &mut Shard<'_, L>, value: &Value) -> Result<u64, Ref
 // A page prepared, once more where memory was refused.
 fn prepared<L: KeyLayout>(shard: &mut Shard<'_, L>, class: u32) -> Result<u32, Refusal>
     requires { class < 8 }
-    ensures { shard.new.pages.owner.heap ≡ shard.old.pages.owner.heap }
 {
     match shard.prepare(class) {
         Err(Refusal::Memory) => shard.prepare(class),
@@ -198,12 +185,4 @@ fn stopped_at<'a, L: KeyLayout>(
         assert!(rt; busy.act(action));
     }
     busy
-}
-
-// The word at a place, where the pass knows all.
-fn word<L: KeyLayout>(rt: &impl Abort, pass: &mut Pass<'_, L>, place: Place) -> u64
-    requires { IsPlace pass.old.heap.shape place }
-{
-    assert!(rt; pass.is_whole());
-    pass.load(place)
 }

