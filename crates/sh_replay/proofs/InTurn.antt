@@ -9,7 +9,7 @@ use Rattle.sh_replay.specs.declared.answer.Answer.{Answer}
 use Rattle.sh_replay.specs.Parts.{RunTerms, PassPart, SeenPass, PassTold, SamePass, HasWholeTale, new_pass, new_passes, tale_told, told_pass, passes_below}
 use Rattle.sh_replay.specs.Calls.{CallAnswers}
 use Rattle.sh_replay.specs.Replies.{reply_line, replies_text}
-use Rattle.sh_replay.specs.Runs.{CallsRun, LineAnswered, LinesAnswered, opening_calls, next_run, with_part, with_name, number_meant}
+use Rattle.sh_replay.specs.Runs.{CallsRun, LineAnswered, LinesAnswered, opening_calls, next_run, with_part, with_number, number_meant}
 use Rattle.sh_replay.specs.Told.{AreReplies, IsTold, part_told}
 use Rattle.sh_replay.specs.Meeting.{CarriesTale, MeetsCarrier, OwnsNone, HasMet}
 use Rattle.sh_replay.specs.Alone.{seen_with_part, AnsweredSoFar, tales_told, AllOfHeap}
@@ -105,7 +105,7 @@ module _ (heap : Option Heap) (terms : RunTerms) (tag : Option ℕ) (lines : Lis
       let Q : PassPart → SeenPass = λ z. record (new_pass heap terms p) { part = z } in
       was.each p s (sym (get_set_other sides l.pass p now ne) ∙ at_p) ∙ ap Q (sym (part_there was.run.parts l.pass p now.part ne))
 
-  pub answered_more : (after : List (Option ℕ)) (new : List SeenPass) (longer : List ℕ) → after ≡ with_name numbers l.call a → new ≡ set sides l.pass now → longer ≡ output ++ reply_line l a → AnsweredSoFar heap terms tag lines (i + 1) after new longer
+  pub answered_more : (after : List (Option ℕ)) (new : List SeenPass) (longer : List ℕ) → after ≡ with_number numbers l.call a → new ≡ set sides l.pass now → longer ≡ output ++ reply_line l a → AnsweredSoFar heap terms tag lines (i + 1) after new longer
   answered_more after new longer named put printed =
       let more = one_more terms tag opening_calls was.run then (take i lines) was.answers l a was.ran steps in
       let R : List CallLine → Type 0 = λ ls. LinesAnswered terms tag opening_calls ls (was.answers ++ a ∷ []) then in
@@ -113,7 +113,7 @@ module _ (heap : Option Heap) (terms : RunTerms) (tag : Option ℕ) (lines : Lis
         answers = was.answers ++ a ∷ [];
         run = then;
         ran = subst R (sym took) more.ran;
-        numbers_are = named ∙ ap (λ (z : List (Option ℕ)). with_name z l.call a) was.numbers_are;
+        numbers_are = named ∙ ap (λ (z : List (Option ℕ)). with_number z l.call a) was.numbers_are;
         text = printed ∙ (ap (λ t. t ++ reply_line l a) was.text ∙ (sym more.text ∙ ap (λ ls. replies_text ls (was.answers ++ a ∷ [])) (sym took)));
         all = ap length put ∙ (length-set sides l.pass now ∙ was.all);
         each = λ p s e. let f : slice_get (set sides l.pass now) p ≡ Some s = ap (λ (z : List SeenPass). slice_get z p) (sym put) ∙ e in dite (ℕ_discrete p l.pass) (λ h. here p s h f) (λ ne. there p s ne f);

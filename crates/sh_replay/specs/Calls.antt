@@ -170,15 +170,15 @@ CallAnswers terms tag pass v call.Post bound a w = (a ≡ answer.Done) × (w ≡
 CallAnswers terms tag pass v (call.Wait name) bound a w = (a ≡ answer.Done) × (w ≡ v)
 
 -- the name that a call is on, by the order in which the names are bound
-abbrev pub name_in : Reference → Option ℕ
-name_in (reference.Key number) = None
-name_in (reference.Name i) = Some i
+abbrev pub name_referred : Reference → Option ℕ
+name_referred (reference.Key number) = None
+name_referred (reference.Name i) = Some i
 
 abbrev pub name_used : Call → Option ℕ
-name_used (call.Get r) = name_in r
-name_used (call.Read r) = name_in r
-name_used (call.Remove r) = name_in r
-name_used (call.Release r) = name_in r
+name_used (call.Get r) = name_referred r
+name_used (call.Read r) = name_referred r
+name_used (call.Remove r) = name_referred r
+name_used (call.Release r) = name_referred r
 name_used _ = None
 
 -- the call binds the next name

@@ -23,12 +23,12 @@ abbrev pub NameStandsFor : plain.Run → Option ℕ → Reference → Type 0
 NameStandsFor run bound r = key_meant run.tag bound r ≡ plain.key_of run r
 
 -- the reference that a call is on
-abbrev pub reference_of : Call → Option Reference
-reference_of (call.Get r) = Some r
-reference_of (call.Read r) = Some r
-reference_of (call.Remove r) = Some r
-reference_of (call.Release r) = Some r
-reference_of _ = None
+abbrev pub reference_used : Call → Option Reference
+reference_used (call.Get r) = Some r
+reference_used (call.Read r) = Some r
+reference_used (call.Remove r) = Some r
+reference_used (call.Release r) = Some r
+reference_used _ = None
 
 -- a call of mode plain: the entries are a legal history, and the name that it is on stands for this number
 pub record IsPlainCall (layout : Layout) (shape : Numbers) (run : plain.Run) (v : PassPart) (c : Call) (bound : Option ℕ) : Type 0 where
@@ -36,7 +36,7 @@ pub record IsPlainCall (layout : Layout) (shape : Numbers) (run : plain.Run) (v 
   pub shards : run.shards ≡ shape.shards
   pub few : run.store.pass < length run.owners
   pub legal : Legal run.store.passes layout.guard_max run.store.entries
-  pub stands : (r : Reference) → reference_of c ≡ Some r → NameStandsFor run bound r
+  pub stands : (r : Reference) → reference_used c ≡ Some r → NameStandsFor run bound r
 
 -- the call of the pass whose turn it is may be answered so by a pass with its part
 pub record PlainAnswersSo (layout : Layout) (shape : Numbers) (run : plain.Run) (v : PassPart) (c : Call) (bound : Option ℕ) (a : Answer) (next : plain.Run) : Type 0 where

@@ -23,14 +23,14 @@ number_bound numbers (Some i) = elim (slice_get numbers i) [ Some number ↦ num
 abbrev pub number_meant : List (Option ℕ) → Call → Option ℕ
 number_meant numbers c = number_bound numbers (name_used c)
 
-abbrev pub with_name : List (Option ℕ) → Call → Answer → List (Option ℕ)
-with_name numbers c a = cond (binds c) (numbers ++ number_told a ∷ []) numbers
+abbrev pub with_number : List (Option ℕ) → Call → Answer → List (Option ℕ)
+with_number numbers c a = cond (binds c) (numbers ++ number_told a ∷ []) numbers
 
 abbrev pub with_part : (ℕ → PassPart) → ℕ → PassPart → ℕ → PassPart
 with_part parts pass part p = cond (p == pass) part (parts p)
 
 abbrev pub next_run : CallsRun → CallLine → Answer → PassPart → CallsRun
-next_run run line a part = record { numbers = with_name run.numbers line.call a; parts = with_part run.parts line.pass part }
+next_run run line a part = record { numbers = with_number run.numbers line.call a; parts = with_part run.parts line.pass part }
 
 -- The line is answered so. It sees the part of its own pass alone, and the numbers of the names bound before.
 pub record LineAnswered (terms : RunTerms) (tag : Option ℕ) (run : CallsRun) (line : CallLine) (a : Answer) (next : CallsRun) : Type 0 where

@@ -2,7 +2,7 @@
 ghost use Rattle.std.specs.Prelude.{◌≡◌, ℕ, IfOk, true, false, is_some};
 ghost use Rattle.sh_replay.specs.Keys.{HasTagRoom};
 ghost use Rattle.sh_replay.specs.Parts.{SeenPass, SamePass};
-ghost use Rattle.sh_replay.specs.Calls.{CallAnswers, AnswerSays, GetAnswers, ReadAnswers, RemoveAnswers, ReleaseAnswers, AdoptAnswers, LeaveAnswers, WordsAnswers, key_meant, name_in, name_used, binds, number_told};
+ghost use Rattle.sh_replay.specs.Calls.{CallAnswers, AnswerSays, GetAnswers, ReadAnswers, RemoveAnswers, ReleaseAnswers, AdoptAnswers, LeaveAnswers, WordsAnswers, key_meant, name_referred, name_used, binds, number_told};
 ghost use Rattle.sh_replay.specs.Results.{done_answer, value_answer, key_answer};
 ghost use Rattle.sh_replay.specs.Runs.{number_bound, number_meant};
 
@@ -96,8 +96,8 @@ pub fn answered<S: Side>(
     }
 }
 
-fn name_in(reference: Reference) -> Option<usize>
-    ensures { result ≡ name_in reference }
+fn name_referred(reference: Reference) -> Option<usize>
+    ensures { result ≡ name_referred reference }
 {
     match reference {
         Reference::Key(_) => None,
@@ -110,7 +110,7 @@ pub fn name_used(call: &Call) -> Option<usize>
     ensures { result ≡ name_used call.now }
 {
     match call {
-        Call::Get(r) | Call::Read(r) | Call::Remove(r) | Call::Release(r) => name_in(*r),
+        Call::Get(r) | Call::Read(r) | Call::Remove(r) | Call::Release(r) => name_referred(*r),
         _ => None,
     }
 }

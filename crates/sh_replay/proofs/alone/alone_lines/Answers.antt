@@ -7,7 +7,7 @@ use Rattle.sh_replay.specs.Keys.{HasTagRoom}
 use Rattle.sh_replay.specs.Parts.{RunTerms, new_passes}
 use Rattle.sh_replay.specs.Calls.{CallAnswers, binds, number_told}
 use Rattle.sh_replay.specs.Replies.{reply_line}
-use Rattle.sh_replay.specs.Runs.{number_meant, with_name}
+use Rattle.sh_replay.specs.Runs.{number_meant, with_number}
 use Rattle.sh_replay.proofs.InTurn.{begins_alone, answered_more, map_set, all_are, all_speak, ends_alone, told_alone, terms_at}
 use Rattle.sh_replay.proofs.alone.alone_lines.Goals.{else-binds-via-then-binds+else-is_err, else-binds-via-else-binds}
 use Rattle.sh_replay.proofs.alone.alone_lines.Goals as goal
@@ -43,7 +43,7 @@ loop-line-preserved g c =
     let now = seen c.answered-answer.new.side in
     let a = c.answered-answer.result in
     let bound : c.number_meant-bound.result ≡ number_meant c.loop-line.numbers.items l.call = search rules in
-    let named : c.else-binds.numbers.items ≡ with_name c.loop-line.numbers.items l.call a = elim c.else-binds.branch [
+    let named : c.else-binds.numbers.items ≡ with_number c.loop-line.numbers.items l.call a = elim c.else-binds.branch [
       | else-binds-via-then-binds+else-is_err w ↦
           let yes : binds l.call ≡ true = search rules in
           let grown : c.else-binds.numbers.items ≡ c.loop-line.numbers.items ++ number_told a ∷ [] = search rules in
