@@ -83,3 +83,33 @@ fn a_caller_stops_at_a_page_that_is_armed(rt: HostRuntime) -> Result<(), Fail> {
     assert_eq!(rt; stopped_armed(&rt, rt.alloc(), 8), (Ok(8_192), None));
     Ok(())
 }
+
+// Two remove a key at the same time: both enter its slot, the owner marks it first, and the other, who marks it too, is the
+// one who finishes it.
+#[test]
+fn of_two_removers_the_last_one_finishes(rt: HostRuntime) -> Result<(), Fail> {
+    let (heap, seats) = opened::<Tiny>(&rt, rt.alloc(), 1, 1, 2);
+    let (one, other) = two_passes(&rt, rt.alloc(), &heap, seats);
+    let mut shard = adopted(&rt, rt.alloc(), one, 0);
+    assert_eq!(rt; put(&mut shard, &sixteen(&rt)), Ok(4_096));
+    let mut busy = other.begin();
+    assert!(rt; busy.act(&Action::EnterRemove(4_096)));
+    assert_eq!(rt; shard.remove(4_096), Ok(()));
+    assert_eq!(rt; shard.remove(4_096), Err(Refusal::Gone));
+    for action in [
+        Action::Mark,
+        Action::Drop,
+        Action::Finish,
+        Action::Put,
+        Action::Tie,
+    ] {
+        assert!(rt; busy.act(&action));
+    }
+    assert!(rt; !busy.act(&Action::Ring));
+    let Ok(mut other) = busy.end() else {
+        panic!(rt; "the hand is idle")
+    };
+    assert_eq!(rt; other.get(4_096), Err(Refusal::Gone));
+    assert_eq!(rt; other.remove(4_096), Err(Refusal::Gone));
+    Ok(())
+}
