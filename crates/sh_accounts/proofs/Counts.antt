@@ -10,7 +10,8 @@ use Rattle.sh_accounts.specs.Kinds.{is, with_one}
 use Rattle.sh_accounts.specs.Accounts.{no_slots, counted, kind_in}
 
 -- the sum over one slot more, from slot s on
-last : (q : ℕ) (f : Spot → ℕ) (s n : ℕ) → total f (spots q s (suc n)) ≡ total f (spots q s n) + f (record { page = q; slot = s + n })
+last : (q : ℕ) (f : Spot → ℕ) (s n : ℕ) → total f (spots q s (suc n))
+    ≡ total f (spots q s n) + f (record { page = q; slot = s + n })
 unfolding total spots
 last q f s zero = let e : s + 0 ≡ s = omega arith in rw e (omega arith)
 last q f s (suc n) =
@@ -18,13 +19,15 @@ last q f s (suc n) =
     let r = last q f (s + 1) n in rw e (omega arith)
 
 pub among_more : (q : ℕ) (f : Spot → ℕ) (n : ℕ) → among q f (n + 1) ≡ among q f n + f (record { page = q; slot = n })
-among_more q f n = let e : n + 1 ≡ suc n = omega arith in let z : 0 + n ≡ n = omega arith in rw e (rw z at (last q f 0 n))
+among_more q f n = let e : n + 1 ≡ suc n = omega arith in let z : 0 + n ≡ n = omega arith
+    in rw e (rw z at (last q f 0 n))
 
 pub counted_none : (k : KeptWorld) (q class : ℕ) → counted k q class 0 ≡ no_slots (Some class)
 unfolding counted total spots
 counted_none k q class = refl
 
-pub counted_more : (k : KeptWorld) (q class n : ℕ) → counted k q class (n + 1) ≡ with_one (counted k q class n) (kind_in k (record { page = q; slot = n }))
+pub counted_more : (k : KeptWorld) (q class n : ℕ) → counted k q class (n + 1)
+    ≡ with_one (counted k q class n) (kind_in k (record { page = q; slot = n }))
 unfolding counted
 counted_more k q class n =
     let a = among_more q (λ x. if1 (is Live (kind_in k x))) n in

@@ -18,7 +18,8 @@ has_in_hand x p = elim (p.hand) [ ToPut y ↦ same_spot x y | Filling y v n ↦ 
 
 -- an empty slot is with a pass, or else queued
 unfoldable pub empty_kind : List Body → Spot → SlotKind
-empty_kind ps x = cond (list_any (λ p. has (same_spot x) p.mine) ps) Mine (cond (list_any (has_in_hand x) ps) Hand Queued)
+empty_kind ps x = cond (list_any (λ p. has (same_spot x) p.mine) ps) Mine
+    (cond (list_any (has_in_hand x) ps) Hand Queued)
 
 abbrev pub slot_kind_by : Kind → List Body → Spot → SlotKind
 slot_kind_by state.Live ps x = Live

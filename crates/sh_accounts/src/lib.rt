@@ -1,4 +1,5 @@
-//! The accounts of a heap's pages: how many of the slots of a page's class are of each kind, after every list of events.
+//! The accounts of a heap's pages: how many of the slots of a page's class are of each kind, after every list of
+//! events.
 #![tactic(auto)]
 
 mod kinds;

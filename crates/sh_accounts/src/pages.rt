@@ -4,7 +4,8 @@ ghost use Rattle.sh_shape.specs.Places.{page_number};
 ghost use Rattle.sh_shape.specs.Classes.{slots, class_count};
 ghost use Rattle.sh_core.specs.Lists.{class_named};
 ghost use Rattle.sh_accounts.specs.Kinds.{with_one};
-ghost use Rattle.sh_accounts.specs.Accounts.{ShapeHasPage, AreAccounts, FillPage, all_slots, no_slots, class_word, kind_in, counted};
+ghost use Rattle.sh_accounts.specs.Accounts.{ShapeHasPage, AreAccounts, FillPage, all_slots, no_slots, class_word};
+ghost use Rattle.sh_accounts.specs.Accounts.{kind_in, counted};
 
 use crate::kinds::{SlotKind, slot_kind};
 use sh_core::{Accounts, World, refines_map};
@@ -95,12 +96,13 @@ fn count_slots<L: KeyLayout>(world: &World<L>, shard: u32, page: u32, class: u32
     accounts
 }
 
-/// The accounts of a shard's page: its class, and how many of the slots of the class are of each kind. None where the heap
-/// has no such page.
+/// The accounts of a shard's page: its class, and how many of the slots of the class are of each kind. None where the
+/// heap has no such page.
 ///
 /// They are the page's after every list of events that leads to this world.
 pub fn page<L: KeyLayout>(world: &World<L>, shard: u32, page: u32) -> Option<Accounts>
-    ensures there { MatchOption result (¬ ShapeHasPage world.now.shape shard page) (λ accounts. ShapeHasPage world.now.shape shard page) }
+    ensures there { MatchOption result (¬ ShapeHasPage world.now.shape shard page)
+        (λ accounts. ShapeHasPage world.now.shape shard page) }
     ensures are { IfSome result (AreAccounts L.layout world.now (page_number world.now.shape shard page)) }
     ensures fill { IfSome result FillPage }
 {

@@ -18,6 +18,7 @@ home_of pages page = page / pages
 abbrev pub local_of : (pages page : ℕ) → ℕ
 local_of pages page = page % pages
 
--- A word of shard n that names its page p as p + k, and none below k: the same with the page's number over the whole heap
+-- A word of shard n that names its page p as p + k, and none below k: the same with the page's number over the whole
+-- heap
 abbrev pub named_over_heap : (pages n k word : ℕ) → ℕ
 named_over_heap pages n k word = cond (nat_lt word k) word (n * pages + (word - k) + k)

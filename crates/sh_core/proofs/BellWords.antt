@@ -1,5 +1,6 @@
 -- What bells and the links of pages name are pages of the heap, so their words are small.
-use Rattle.std.proofs.Common.{◌≡◌, ℕ, zero, suc, ◌+◌, ◌-◌, ◌*◌, ◌<◌, ◌≤◌, ◌==◌, Bool, true, false, cond, List, [], ◌∷◌, refl, ap, ◌∙◌, subst, arith}
+use Rattle.std.proofs.Common.{◌≡◌, ℕ, zero, suc, ◌+◌, ◌-◌, ◌*◌, ◌<◌, ◌≤◌, ◌==◌, Bool, true, false, cond, List, [], ◌∷◌}
+use Rattle.std.proofs.Common.{refl, ap, ◌∙◌, subst, arith}
 use Rattle.std.specs.Prelude.{not, nat_lt}
 use Rattle.sh_step.specs.Collections.{total, if1}
 use Rattle.sh_step.specs.Plans.{Plan, Lawful, heap_pages, home, page_number, over_heap}
@@ -14,13 +15,22 @@ use Rattle.sh_core.proofs.PlacesWithin.{belled}
 use Rattle.sh_core.proofs.StackSteps.{page_same, same_page, times_cons}
 
 -- an item of a chain links to what stands behind it
-chained_at : (word owed : ℕ → ℕ) (q : ℕ) (xs : List ℕ) → Chained word owed xs → 0 < times q xs → (rest : List ℕ) × (word q + owed q ≡ link_to rest) × ((s : ℕ) → times s rest ≤ times s xs)
+chained_at : (word owed : ℕ → ℕ) (q : ℕ) (xs : List ℕ) → Chained word owed xs → 0 < times q xs → (rest : List ℕ)
+    × (word q + owed q ≡ link_to rest) × ((s : ℕ) → times s rest ≤ times s xs)
 unfolding total
 chained_at word owed q [] h some = absurd (omega arith)
 chained_at word owed q (x ∷ xs) h some = go (x == q) refl some (λ k. chained_at word owed q xs h.1 k) where
-  go : (b : Bool) → (x == q) ≡ b → 0 < if1 b + times q xs → (0 < times q xs → (rest : List ℕ) × (word q + owed q ≡ link_to rest) × ((s : ℕ) → times s rest ≤ times s xs)) → (rest : List ℕ) × (word q + owed q ≡ link_to rest) × ((s : ℕ) → times s rest ≤ times s (x ∷ xs))
-  go true e some rest = let i = same_page x q e in let P : ℕ → Type 0 = λ k. word k + owed k ≡ link_to xs in (xs, subst P i h.0, λ s. let t = times_cons s x xs in omega arith)
-  go false e some rest = let r = rest (omega arith) in (r.0, r.1, λ s. let t = times_cons s x xs in let k = r.2 s in omega arith)
+  go : (b : Bool) → (x == q) ≡ b → 0 < if1 b + times q xs → (0 < times q xs → (rest : List ℕ)
+      × (word q + owed q ≡ link_to rest) × ((s : ℕ) → times s rest ≤ times s xs)) → (rest : List ℕ)
+      × (word q + owed q ≡ link_to rest) × ((s : ℕ) → times s rest ≤ times s (x ∷ xs))
+  go true e some rest = let i = same_page x q e in let P : ℕ → Type 0 = λ k. word k + owed k ≡ link_to xs
+      in (xs, subst P i h.0, λ s. let t = times_cons s x xs in omega arith)
+  go false e some rest = let r = rest (omega arith) in (
+    r.0,
+    r.1,
+    λ s. let t = times_cons s x xs in let k = r.2 s
+        in omega arith,
+  )
 
 -- a word that names a page as it does over the heap is no greater
 over_small : (plan : Plan) (n k m : ℕ) → m ≤ over_heap plan n k m
@@ -30,8 +40,10 @@ over_small plan n k m = go (nat_lt m k) refl where
   go true e = omega arith
   go false e = omega arith
 
-module _ (plan : Plan) (w : World) (l : PutLists) (laws : Lawful plan) (all : All plan w l) (know : AllKnow plan w) (within : AllWithin plan w) where
-  listed : (n : ℕ) (xs : List ℕ) → ((s : ℕ) → times s xs ≤ times s (l.bells n) + times s (l.bell_chain n)) → (top xs ≤ heap_pages plan) × (link_to xs ≤ heap_pages plan + 1)
+module _ (plan : Plan) (w : World) (l : PutLists) (laws : Lawful plan) (all : All plan w l) (know : AllKnow plan w)
+    (within : AllWithin plan w) where
+  listed : (n : ℕ) (xs : List ℕ) → ((s : ℕ) → times s xs ≤ times s (l.bells n) + times s (l.bell_chain n))
+      → (top xs ≤ heap_pages plan) × (link_to xs ≤ heap_pages plan + 1)
   listed n [] few = (omega arith, omega arith)
   listed n (s ∷ xs) few =
       let f = few s in
@@ -59,7 +71,8 @@ module _ (plan : Plan) (w : World) (l : PutLists) (laws : Lawful plan) (all : Al
     here : word q ≡ over_heap plan n 2 (w.words.page_link_at q)
     here = rw (page_same (home plan q)) refl
 
-    ends : (xs : List ℕ) → Chained word owed xs → ((s : ℕ) → times s xs ≤ times s (l.bells n) + times s (l.bell_chain n)) → 0 < times q xs → w.words.page_link_at q ≤ heap_pages plan + 1
+    ends : (xs : List ℕ) → Chained word owed xs → ((s : ℕ) → times s xs ≤ times s (l.bells n) + times s
+        (l.bell_chain n)) → 0 < times q xs → w.words.page_link_at q ≤ heap_pages plan + 1
     ends xs c few some =
         let r = chained_at word owed q xs c some in
         let f = (listed n r.0 (λ s. let a = r.2 s in let b = few s in omega arith)).1 in
@@ -74,7 +87,8 @@ module _ (plan : Plan) (w : World) (l : PutLists) (laws : Lawful plan) (all : Al
         let y : if1 (not (word q == 0)) ≡ 1 = rw z refl in
         let t = all.rest.bells.ties n q in
         at (times q (l.bells n)) refl (omega arith) where
-          at : (k : ℕ) → times q (l.bells n) ≡ k → 0 < k + times q (l.bell_chain n) → w.words.page_link_at q ≤ heap_pages plan + 1
+          at : (k : ℕ) → times q (l.bells n) ≡ k → 0 < k + times q (l.bell_chain n)
+              → w.words.page_link_at q ≤ heap_pages plan + 1
           at (suc k) is some = ends (l.bells n) (all.rest.bells.stacks n) (λ s. omega arith) (omega arith)
           at zero is some = ends (l.bell_chain n) (all.rest.bells.chains n) (λ s. omega arith) (omega arith)
 

@@ -1,5 +1,7 @@
 -- A change of a page's class, and what keeps the words sound.
-use Rattle.std.proofs.Common.{◌≡◌, ◌≢◌, ℕ, zero, suc, ◌+◌, ◌-◌, ◌*◌, ◌<◌, ◌≤◌, ◌==◌, ◌&&◌, ◌||◌, ◌⊎◌, inl, inr, Bool, true, false, cond, List, length, set, take, sym, refl, ap, ◌∙◌, subst, arith, Some, None, slice_get}
+use Rattle.std.proofs.Common.{◌≡◌, ◌≢◌, ℕ, zero, suc, ◌+◌, ◌-◌, ◌*◌, ◌<◌, ◌≤◌, ◌==◌, ◌&&◌, ◌||◌, ◌⊎◌, inl, inr, Bool}
+use Rattle.std.proofs.Common.{true, false, cond, List, length, set, take, sym, refl, ap, ◌∙◌, subst, arith, Some, None}
+use Rattle.std.proofs.Common.{slice_get}
 use Rattle.std.specs.Prelude.{not, nat_lt}
 use Rattle.std.proofs.lemmas.Bool.Decides.{nat_tests}
 use Rattle.sh_slots.specs.declared.hand.Spot.{Spot}
@@ -32,31 +34,40 @@ use Rattle.sh_core.proofs.StackSteps.{put_same, put_other, same_page, page_same}
 use Rattle.sh_core.proofs.OwnerKinds.{times_drop, classed}
 use Rattle.sh_core.proofs.GoodKinds.{with}
 
-every_spots : (f : Spot → Bool) (q s m : ℕ) → every f (spots q s m) ≡ true → (t : ℕ) → s ≤ t → t < s + m → f (spot q t) ≡ true
+every_spots : (f : Spot → Bool) (q s m : ℕ) → every f (spots q s m) ≡ true → (t : ℕ) → s ≤ t → t < s + m → f (spot q t)
+    ≡ true
 unfolding every spots
 every_spots f q s zero h t a b = absurd (omega arith)
-every_spots f q s (suc m) h t a b = go (f (spot q s)) refl h (t == s) refl (λ g c d. every_spots f q (s + 1) m g t c d) where
-  go : (b : Bool) → f (spot q s) ≡ b → (b && every f (spots q (s + 1) m)) ≡ true → (c : Bool) → (t == s) ≡ c → (every f (spots q (s + 1) m) ≡ true → s + 1 ≤ t → t < s + 1 + m → f (spot q t) ≡ true) → f (spot q t) ≡ true
-  go false e h c d rest = absurd (let z : false ≡ true = h in cc)
-  go true e h true d rest = let i = same_page t s d in rw i e
-  go true e h false d rest = rest h (let n : s ≢ t = (λ x. let z : (t == s) ≡ true = rw x (page_same t) in let y : true ≡ false = sym z ∙ d in cc) in grind arith) (omega arith)
+every_spots f q s (suc m) h t a b = go (f (spot q s)) refl h (t == s) refl (λ g c d. every_spots f q (s + 1) m g t c d)
+  where
+    go : (b : Bool) → f (spot q s) ≡ b → (b && every f (spots q (s + 1) m)) ≡ true → (c : Bool) → (t == s) ≡ c
+        → (every f (spots q (s + 1) m) ≡ true → s + 1 ≤ t → t < s + 1 + m → f (spot q t) ≡ true) → f (spot q t) ≡ true
+    go false e h c d rest = absurd (let z : false ≡ true = h in cc)
+    go true e h true d rest = let i = same_page t s d in rw i e
+    go true e h false d rest = rest h (let n : s ≢ t = (λ x. let z : (t == s) ≡ true = rw x (page_same t) in let y : true
+        ≡ false = sym z ∙ d in cc) in grind arith) (omega arith)
 
 has_some : (x : Spot) (xs : List Spot) → has (same_spot x) xs ≡ true → 0 < total (λ y. if1 (same_spot x y)) xs
-has_some x xs h = let t = total_without (λ y. if1 (same_spot x y)) (same_spot x) 1 (λ y e. rw e refl) xs h in omega arith
+has_some x xs h = let t = total_without (λ y. if1 (same_spot x y)) (same_spot x) 1 (λ y e. rw e refl) xs h
+    in omega arith
 
 -- what SetClass asks of a page with a class: each slot of its class is in `mine`
-pub room_mine : (w : Words) (p : Body) (q n : ℕ) → w.class_at q ≡ n → ((n == 0) || all_mine p q n) ≡ true → (s : ℕ) → room w (spot q s) ≤ mine_at (spot q s) p
+pub room_mine : (w : Words) (p : Body) (q n : ℕ) → w.class_at q ≡ n → ((n == 0) || all_mine p q n) ≡ true → (s : ℕ)
+    → room w (spot q s) ≤ mine_at (spot q s) p
 room_mine w p q n is h s = rw is (go (nat_lt 0 n) (nat_lt s (slots (n - 1))) refl refl) where
-  some : (b : Bool) → (n == 0) ≡ b → nat_lt 0 n ≡ true → nat_lt s (slots (n - 1)) ≡ true → (b || all_mine p q n) ≡ true → 1 ≤ mine_at (spot q s) p
+  some : (b : Bool) → (n == 0) ≡ b → nat_lt 0 n ≡ true → nat_lt s (slots (n - 1)) ≡ true → (b || all_mine p q n) ≡ true
+      → 1 ≤ mine_at (spot q s) p
   some true e a b h = absurd (let i = same_page n 0 e in let z : 0 < n = grind (arith, nat_tests) in omega arith)
-  some false e a b h = has_some (spot q s) p.mine (every_spots (λ x. has (same_spot x) p.mine) q 0 (slots (n - 1)) h s (omega arith) (let z : s < slots (n - 1) = lt_of s (slots (n - 1)) b in omega arith))
+  some false e a b h = has_some (spot q s) p.mine (every_spots (λ x. has (same_spot x) p.mine) q 0 (slots (n - 1)) h s
+      (omega arith) (let z : s < slots (n - 1) = lt_of s (slots (n - 1)) b in omega arith))
 
   go : (a b : Bool) → nat_lt 0 n ≡ a → nat_lt s (slots (n - 1)) ≡ b → cond (a && b) 1 0 ≤ mine_at (spot q s) p
   go true true a b = some (n == 0) refl a b h
   go true false a b = omega arith
   go false b a c = omega arith
 
-module _ (plan : Plan) (w : World) (l : PutLists) (a : ℕ) (p : Body) (q c : ℕ) (g : Good plan w l) (at : slice_get w.parts a ≡ Some p) (all : (s : ℕ) → room w.words (spot q s) ≤ mine_at (spot q s) p) where
+module _ (plan : Plan) (w : World) (l : PutLists) (a : ℕ) (p : Body) (q c : ℕ) (g : Good plan w l)
+    (at : slice_get w.parts a ≡ Some p) (all : (s : ℕ) → room w.words (spot q s) ≤ mine_at (spot q s) p) where
   abbrev W : Words
   W = write w.words (Class q) (c + 1)
 
@@ -64,11 +75,14 @@ module _ (plan : Plan) (w : World) (l : PutLists) (a : ℕ) (p : Body) (q c : �
   p' = classed p q c
 
   -- of the page's slots all is in `mine`
-  pub empty_page : (x : Spot) → x.page ≡ q → (if1 ((fields_of (w.words.state_at x.page x.slot)).present || (fields_of (w.words.state_at x.page x.slot)).marked) ≡ 0) × (total (in_hand x) w.parts ≡ 0) × (queued l x ≡ 0) × (total (mine_at x) w.parts ≡ mine_at x p)
+  pub empty_page : (x : Spot) → x.page ≡ q → (if1 ((fields_of (w.words.state_at x.page x.slot)).present ||
+      (fields_of (w.words.state_at x.page x.slot)).marked) ≡ 0) × (total (in_hand x) w.parts ≡ 0) × (queued l x ≡ 0)
+      × (total (mine_at x) w.parts ≡ mine_at x p)
   empty_page x e =
       let f = g.slots x in
       let m = total_at (mine_at x) w.parts a p at in
-      let r : room w.words x ≤ mine_at x p = (let P : ℕ → Type 0 = λ k. room w.words (spot k x.slot) ≤ mine_at (spot k x.slot) p in subst P (sym e) (all x.slot)) in
+      let r : room w.words x ≤ mine_at x p = (let P : ℕ → Type 0 = λ k. room w.words (spot k x.slot) ≤ mine_at
+      (spot k x.slot) p in subst P (sym e) (all x.slot)) in
       (omega arith, omega arith, omega arith, omega arith)
 
   class_slots : SlotsFine plan W (set w.parts a p') l
@@ -85,12 +99,16 @@ module _ (plan : Plan) (w : World) (l : PutLists) (a : ℕ) (p : Body) (q c : �
     mine_new =
         let u = total_append (λ y. if1 (same_spot x y)) (spots q 0 (slots c)) (off (λ y. y.page == q) p.mine) in
         let t = times_drop x q p.mine in
-        let s : total (λ y. if1 (same_spot x y)) (spots q 0 (slots c)) ≡ if1 ((x.page == q) && nat_lt x.slot (slots c)) = spots_total x q 0 (slots c) ∙ above (x.page == q) in omega arith where
-          above : (b : Bool) → if1 (b && not (nat_lt x.slot 0) && nat_lt x.slot (0 + slots c)) ≡ if1 (b && nat_lt x.slot (slots c))
+        let s : total (λ y. if1 (same_spot x y)) (spots q 0 (slots c))
+        ≡ if1 ((x.page == q) && nat_lt x.slot (slots c)) = spots_total x q 0 (slots c) ∙ above (x.page == q)
+        in omega arith where
+          above : (b : Bool) → if1 (b && not (nat_lt x.slot 0) && nat_lt x.slot (0 + slots c))
+              ≡ if1 (b && nat_lt x.slot (slots c))
           above true = grind (arith, nat_tests)
           above false = refl
 
-    kinds : (b : Bool) → (x.page == q) ≡ b → if1 (st.present || st.marked) + total (mine_at x) (set w.parts a p') + total (in_hand x) (set w.parts a p') + queued l x ≡ room W x
+    kinds : (b : Bool) → (x.page == q) ≡ b → if1 (st.present || st.marked) + total (mine_at x) (set w.parts a p') +
+        total (in_hand x) (set w.parts a p') + queued l x ≡ room W x
     kinds true e =
         let i = same_page x.page q e in
         let f = empty_page x i in
@@ -105,7 +123,8 @@ module _ (plan : Plan) (w : World) (l : PutLists) (a : ℕ) (p : Body) (q c : �
         let v : cond (x.page == q) 0 (mine_at x p) ≡ 0 = rw e refl in
         let d : c + 1 - 1 ≡ c = omega arith in
         let y : nat_lt 0 (c + 1) ≡ true = grind (arith, nat_tests) in
-        let r : room W x ≡ if1 (nat_lt x.slot (slots c)) = rw (i, put_same w.words.class_at q (c + 1), y, d) refl in omega arith
+        let r : room W x ≡ if1 (nat_lt x.slot (slots c)) = rw (i, put_same w.words.class_at q (c + 1), y, d) refl
+        in omega arith
     kinds false e =
         let f = g.slots x in
         let m = mine_new in
@@ -118,12 +137,18 @@ module _ (plan : Plan) (w : World) (l : PutLists) (a : ℕ) (p : Body) (q c : �
   pub good_set_class : FillFine W p' p'.hand → Good plan (with w W a p') l
   unfolding value_at
   good_set_class fill = good_at plan w l l a p p' W None g at class_slots
-      (keys_value plan w.words W w.log g.keys (λ k s. refl) (λ y. value (y.page == q) y refl)) tt (λ k. refl) ((g.parts a p at).0, fill) (λ b u n h f. others b u h u.hand refl f) where
-        value : (b : Bool) (y : Spot) → (y.page == q) ≡ b → (value_at W y.page y.slot ≡ value_at w.words y.page y.slot) ⊎ (((fields_of (w.words.state_at y.page y.slot)).present ≡ false) × ((fields_of (w.words.state_at y.page y.slot)).marked ≡ false))
-        value true y e = inr (no_or (fields_of (w.words.state_at y.page y.slot)).present (fields_of (w.words.state_at y.page y.slot)).marked (empty_page y (same_page y.page q e)).0)
-        value false y e = inl (ap (λ (k : ℕ). words_from (w.words.payload_at y.page) (y.slot * width (k - 1)) (w.words.length_at y.page y.slot)) (put_other w.words.class_at q y.page (c + 1) e))
+      (keys_value plan w.words W w.log g.keys (λ k s. refl) (λ y. value (y.page == q) y refl)) tt (λ k. refl)
+      ((g.parts a p at).0, fill) (λ b u n h f. others b u h u.hand refl f) where
+        value : (b : Bool) (y : Spot) → (y.page == q) ≡ b → (value_at W y.page y.slot ≡ value_at w.words y.page y.slot)
+            ⊎ (((fields_of (w.words.state_at y.page y.slot)).present ≡ false)
+            × ((fields_of (w.words.state_at y.page y.slot)).marked ≡ false))
+        value true y e = inr (no_or (fields_of (w.words.state_at y.page y.slot)).present
+            (fields_of (w.words.state_at y.page y.slot)).marked (empty_page y (same_page y.page q e)).0)
+        value false y e = inl (ap (λ (k : ℕ). words_from (w.words.payload_at y.page) (y.slot * width (k - 1))
+            (w.words.length_at y.page y.slot)) (put_other w.words.class_at q y.page (c + 1) e))
 
-        others : (b : ℕ) (u : Body) → slice_get w.parts b ≡ Some u → (h : Hand) → u.hand ≡ h → FillFine w.words u h → FillFine W u h
+        others : (b : ℕ) (u : Body) → slice_get w.parts b ≡ Some u → (h : Hand) → u.hand ≡ h → FillFine w.words u h
+            → FillFine W u h
         others b u at' (Filling y v i) e f = go (y.page == q) refl where
           go : (d : Bool) → (y.page == q) ≡ d → FillFine W u (Filling y v i)
           go true d =
@@ -133,54 +158,101 @@ module _ (plan : Plan) (w : World) (l : PutLists) (a : ℕ) (p : Body) (q c : �
               let one : if1 (same_spot y y) ≡ 1 = rw r refl in
               let m = total_at (in_hand y) w.parts b u at' in absurd (omega arith)
           go false d =
-              let P : ℕ → Type 0 = λ k. (w.words.length_at y.page y.slot ≡ length v) × (i ≤ length v) × (length v ≤ width (k - 1)) × (words_from (w.words.payload_at y.page) (y.slot * width (k - 1)) i ≡ take i v) × (class_word_noted u y.page ≡ k) in
+              let P : ℕ → Type 0 = λ k. (w.words.length_at y.page y.slot ≡ length v) × (i ≤ length v)
+              × (length v ≤ width (k - 1)) × (words_from (w.words.payload_at y.page) (y.slot * width (k - 1)) i
+              ≡ take i v) × (class_word_noted u y.page ≡ k) in
               subst P (sym (put_other w.words.class_at q y.page (c + 1) d)) f
         others b u at' _ e f = f
 
 -- the words stay sound
-pub sound_state : (plan : Plan) (w : Words) (x : Spot) (n : ℕ) → SoundOf plan w → (0 < (fields_of n).generation) × ((fields_of n).generation ≤ plan.keys.gen_max) → (((fields_of n).present || (fields_of n).marked) ≡ true → w.length_at x.page x.slot ≤ width (w.class_at x.page - 1)) → SoundOf plan (write w (State x.page x.slot) n)
+pub sound_state : (plan : Plan) (w : Words) (x : Spot) (n : ℕ) → SoundOf plan w → (0 < (fields_of n).generation)
+    × ((fields_of n).generation ≤ plan.keys.gen_max) → (((fields_of n).present || (fields_of n).marked) ≡ true
+    → w.length_at x.page x.slot ≤ width (w.class_at x.page - 1)) → SoundOf plan (write w (State x.page x.slot) n)
 sound_state plan w x n old gen len = record {
   generations = λ q s. gens q s (same_spot (spot q s) x) refl;
   classes = old.classes;
   lengths = λ q s. lens q s (same_spot (spot q s) x) refl;
 } where
-  gens : (q s : ℕ) (b : Bool) → same_spot (spot q s) x ≡ b → (0 < (fields_of (put2 w.state_at x.page x.slot n q s)).generation) × ((fields_of (put2 w.state_at x.page x.slot n q s)).generation ≤ plan.keys.gen_max)
-  gens q s true e = let i = same_spot-true x (spot q s) e in let P : ℕ → Type 0 = λ m. (0 < (fields_of m).generation) × ((fields_of m).generation ≤ plan.keys.gen_max) in
-      subst P (sym (ap (λ (y : Spot). put2 w.state_at x.page x.slot n y.page y.slot) i ∙ put2_same w.state_at x.page x.slot n)) gen
-  gens q s false e = let P : ℕ → Type 0 = λ m. (0 < (fields_of m).generation) × ((fields_of m).generation ≤ plan.keys.gen_max) in subst P (sym (put2_other w.state_at x.page x.slot n q s e)) (old.generations q s)
+  gens : (q s : ℕ) (b : Bool) → same_spot (spot q s) x ≡ b →
+      (0 < (fields_of (put2 w.state_at x.page x.slot n q s)).generation)
+      × ((fields_of (put2 w.state_at x.page x.slot n q s)).generation ≤ plan.keys.gen_max)
+  gens q s true e = let i = same_spot-true x (spot q s) e in let P : ℕ → Type 0 = λ m. (0 < (fields_of m).generation)
+      × ((fields_of m).generation ≤ plan.keys.gen_max) in
+      subst P (sym (ap (λ (y : Spot). put2 w.state_at x.page x.slot n y.page y.slot) i
+      ∙ put2_same w.state_at x.page x.slot n)) gen
+  gens q s false e = let P : ℕ → Type 0 = λ m. (0 < (fields_of m).generation)
+      × ((fields_of m).generation ≤ plan.keys.gen_max) in subst P (sym (put2_other w.state_at x.page x.slot n q s e))
+      (old.generations q s)
 
-  lens : (q s : ℕ) (b : Bool) → same_spot (spot q s) x ≡ b → ((fields_of (put2 w.state_at x.page x.slot n q s)).present || (fields_of (put2 w.state_at x.page x.slot n q s)).marked) ≡ true → w.length_at q s ≤ width (w.class_at q - 1)
+  lens : (q s : ℕ) (b : Bool) → same_spot (spot q s) x ≡ b →
+      ((fields_of (put2 w.state_at x.page x.slot n q s)).present ||
+      (fields_of (put2 w.state_at x.page x.slot n q s)).marked) ≡ true → w.length_at q s ≤ width (w.class_at q - 1)
   lens q s true e h =
       let i = same_spot-true x (spot q s) e in
-      let j : put2 w.state_at x.page x.slot n q s ≡ n = ap (λ (y : Spot). put2 w.state_at x.page x.slot n y.page y.slot) i ∙ put2_same w.state_at x.page x.slot n in
-      let k : ((fields_of n).present || (fields_of n).marked) ≡ true = sym (ap (λ (m : ℕ). (fields_of m).present || (fields_of m).marked) j) ∙ h in
+      let j : put2 w.state_at x.page x.slot n q s ≡ n = ap (λ (y : Spot). put2 w.state_at x.page x.slot n y.page y.slot)
+      i ∙ put2_same w.state_at x.page x.slot n in
+      let k : ((fields_of n).present || (fields_of n).marked) ≡ true = sym
+      (ap (λ (m : ℕ). (fields_of m).present || (fields_of m).marked) j) ∙ h in
       let P : Spot → Type 0 = λ y. w.length_at y.page y.slot ≤ width (w.class_at y.page - 1) in subst P (sym i) (len k)
-  lens q s false e h = old.lengths q s (sym (ap (λ (m : ℕ). (fields_of m).present || (fields_of m).marked) (put2_other w.state_at x.page x.slot n q s e)) ∙ h)
+  lens q s false e h = old.lengths q s (sym (ap (λ (m : ℕ). (fields_of m).present || (fields_of m).marked)
+      (put2_other w.state_at x.page x.slot n q s e)) ∙ h)
 
 -- where generation, M and P stay
-pub sound_still : (plan : Plan) (w : Words) (x : Spot) (n : ℕ) → SoundOf plan w → (fields_of n).generation ≡ (fields_of (w.state_at x.page x.slot)).generation → (fields_of n).marked ≡ (fields_of (w.state_at x.page x.slot)).marked → (fields_of n).present ≡ (fields_of (w.state_at x.page x.slot)).present → SoundOf plan (write w (State x.page x.slot) n)
-sound_still plan w x n old a b c = sound_state plan w x n old (let g = old.generations x.page x.slot in rw a g) (λ h. old.lengths x.page x.slot (sym (ap (λ (m : Bool). m || (fields_of n).marked) c ∙ ap (λ (m : Bool). (fields_of (w.state_at x.page x.slot)).present || m) b) ∙ h))
+pub sound_still : (plan : Plan) (w : Words) (x : Spot) (n : ℕ) → SoundOf plan w → (fields_of n).generation
+    ≡ (fields_of (w.state_at x.page x.slot)).generation → (fields_of n).marked
+    ≡ (fields_of (w.state_at x.page x.slot)).marked → (fields_of n).present
+    ≡ (fields_of (w.state_at x.page x.slot)).present → SoundOf plan (write w (State x.page x.slot) n)
+sound_still plan w x n old a b c = sound_state plan w x n old (let g = old.generations x.page x.slot in rw a g)
+    (λ h. old.lengths x.page x.slot (sym (ap (λ (m : Bool). m || (fields_of n).marked) c
+    ∙ ap (λ (m : Bool). (fields_of (w.state_at x.page x.slot)).present || m) b) ∙ h))
 
-pub sound_length : (plan : Plan) (w : Words) (x : Spot) (n : ℕ) → SoundOf plan w → ((fields_of (w.state_at x.page x.slot)).present ≡ false) × ((fields_of (w.state_at x.page x.slot)).marked ≡ false) → SoundOf plan (write w (Length x.page x.slot) n)
-sound_length plan w x n old none = record { generations = old.generations; classes = old.classes; lengths = λ q s. lens q s (same_spot (spot q s) x) refl } where
-  lens : (q s : ℕ) (b : Bool) → same_spot (spot q s) x ≡ b → ((fields_of (w.state_at q s)).present || (fields_of (w.state_at q s)).marked) ≡ true → put2 w.length_at x.page x.slot n q s ≤ width (w.class_at q - 1)
+pub sound_length : (plan : Plan) (w : Words) (x : Spot) (n : ℕ) → SoundOf plan w
+    → ((fields_of (w.state_at x.page x.slot)).present ≡ false) × ((fields_of (w.state_at x.page x.slot)).marked ≡ false)
+    → SoundOf plan (write w (Length x.page x.slot) n)
+sound_length plan w x n old none = record {
+  generations = old.generations;
+  classes = old.classes;
+  lengths = λ q s. lens
+      q s (same_spot (spot q s) x) refl;
+} where
+  lens : (q s : ℕ) (b : Bool) → same_spot (spot q s) x ≡ b →
+      ((fields_of (w.state_at q s)).present || (fields_of (w.state_at q s)).marked) ≡ true
+      → put2 w.length_at x.page x.slot n q s ≤ width (w.class_at q - 1)
   lens q s true e h =
       let i = same_spot-true x (spot q s) e in
-      let k : ((fields_of (w.state_at q s)).present || (fields_of (w.state_at q s)).marked) ≡ ((fields_of (w.state_at x.page x.slot)).present || (fields_of (w.state_at x.page x.slot)).marked) = ap (λ (y : Spot). (fields_of (w.state_at y.page y.slot)).present || (fields_of (w.state_at y.page y.slot)).marked) i in
-      let m : ((fields_of (w.state_at x.page x.slot)).present || (fields_of (w.state_at x.page x.slot)).marked) ≡ false = rw (none.0, none.1) refl in
+      let k : ((fields_of (w.state_at q s)).present || (fields_of (w.state_at q s)).marked)
+      ≡ ((fields_of (w.state_at x.page x.slot)).present || (fields_of (w.state_at x.page x.slot)).marked) = ap
+      (λ (y : Spot). (fields_of (w.state_at y.page y.slot)).present ||
+      (fields_of (w.state_at y.page y.slot)).marked) i in
+      let m : ((fields_of (w.state_at x.page x.slot)).present || (fields_of (w.state_at x.page x.slot)).marked)
+      ≡ false = rw (none.0, none.1) refl in
       let z : true ≡ false = sym h ∙ k ∙ m in absurd (cc)
   lens q s false e h = rw (put2_other w.length_at x.page x.slot n q s e) (old.lengths q s h)
 
-pub sound_class : (plan : Plan) (w : Words) (q c : ℕ) → SoundOf plan w → c < 8 → q < heap_pages plan → ((s : ℕ) → if1 ((fields_of (w.state_at q s)).present || (fields_of (w.state_at q s)).marked) ≡ 0) → SoundOf plan (write w (Class q) (c + 1))
-sound_class plan w q c old small page none = record { generations = old.generations; classes = λ k. cls k (k == q) refl; lengths = λ k s. lens k s (k == q) refl } where
-  cls : (k : ℕ) (b : Bool) → (k == q) ≡ b → (put w.class_at q (c + 1) k ≤ 8) × (0 < put w.class_at q (c + 1) k → k < heap_pages plan)
-  cls k true e = let i = same_page k q e in let j : put w.class_at q (c + 1) k ≡ c + 1 = rw i (put_same w.class_at q (c + 1)) in (omega arith, λ _. rw i page)
-  cls k false e = let P : ℕ → Type 0 = λ m. (m ≤ 8) × (0 < m → k < heap_pages plan) in subst P (sym (put_other w.class_at q k (c + 1) e)) (old.classes k)
+pub sound_class : (plan : Plan) (w : Words) (q c : ℕ) → SoundOf plan w → c < 8 → q < heap_pages plan
+    → ((s : ℕ) → if1 ((fields_of (w.state_at q s)).present || (fields_of (w.state_at q s)).marked) ≡ 0)
+    → SoundOf plan (write w (Class q) (c + 1))
+sound_class plan w q c old small page none = record {
+  generations = old.generations;
+  classes = λ k. cls k (k == q) refl;
+  lengths = λ k s. lens k s (k == q) refl;
+} where
+  cls : (k : ℕ) (b : Bool) → (k == q) ≡ b → (put w.class_at q (c + 1) k ≤ 8)
+      × (0 < put w.class_at q (c + 1) k → k < heap_pages plan)
+  cls k true e = let i = same_page k q e in let j : put w.class_at q (c + 1) k
+      ≡ c + 1 = rw i (put_same w.class_at q (c + 1)) in (omega arith, λ _. rw i page)
+  cls k false e = let P : ℕ → Type 0 = λ m. (m ≤ 8) × (0 < m → k < heap_pages plan)
+      in subst P (sym (put_other w.class_at q k (c + 1) e)) (old.classes k)
 
-  lens : (k s : ℕ) (b : Bool) → (k == q) ≡ b → ((fields_of (w.state_at k s)).present || (fields_of (w.state_at k s)).marked) ≡ true → w.length_at k s ≤ width (put w.class_at q (c + 1) k - 1)
+  lens : (k s : ℕ) (b : Bool) → (k == q) ≡ b → ((fields_of (w.state_at k s)).present ||
+      (fields_of (w.state_at k s)).marked) ≡ true → w.length_at k s ≤ width (put w.class_at q (c + 1) k - 1)
   lens k s true e h =
       let i = same_page k q e in
       let n = none s in
-      let j : if1 ((fields_of (w.state_at k s)).present || (fields_of (w.state_at k s)).marked) ≡ 0 = ap (λ (m : ℕ). if1 ((fields_of (w.state_at m s)).present || (fields_of (w.state_at m s)).marked)) i ∙ n in
-      let z : if1 ((fields_of (w.state_at k s)).present || (fields_of (w.state_at k s)).marked) ≡ 1 = ap if1 h in absurd (omega arith)
-  lens k s false e h = let P : ℕ → Type 0 = λ m. w.length_at k s ≤ width (m - 1) in subst P (sym (put_other w.class_at q k (c + 1) e)) (old.lengths k s h)
+      let j : if1 ((fields_of (w.state_at k s)).present || (fields_of (w.state_at k s)).marked)
+      ≡ 0 = ap (λ (m : ℕ). if1 ((fields_of (w.state_at m s)).present || (fields_of (w.state_at m s)).marked)) i
+      ∙ n in
+      let z : if1 ((fields_of (w.state_at k s)).present || (fields_of (w.state_at k s)).marked) ≡ 1 = ap if1 h
+      in absurd (omega arith)
+  lens k s false e h = let P : ℕ → Type 0 = λ m. w.length_at k s ≤ width (m - 1)
+      in subst P (sym (put_other w.class_at q k (c + 1) e)) (old.lengths k s h)

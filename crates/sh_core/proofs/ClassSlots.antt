@@ -13,25 +13,34 @@ use Rattle.sh_step.proofs.Truths.{lt_of}
 
 -- a class word that names a class, and one that is not 0
 pub under_class : (c : ℕ) → slots_under (c + 1) ≡ slots c
-under_class c = let some : (c + 1 == 0) ≡ false = grind (arith, nat_tests) in let less : c + 1 - 1 ≡ c = omega arith in rw (some, less) refl
+under_class c = let some : (c + 1 == 0) ≡ false = grind (arith, nat_tests) in let less : c + 1 - 1 ≡ c = omega arith
+    in rw (some, less) refl
 
 pub under_class_word : (n : ℕ) → (n == 0) ≡ false → slots_under n ≡ slots (n - 1)
 under_class_word n e = rw e refl
 
 pub room_is : (c t : ℕ) → if1 (nat_lt 0 c && nat_lt t (slots (c - 1))) ≡ if1 (nat_lt t (slots_under c))
 room_is c t = go (c == 0) refl where
-  go : (b : Bool) → (c == 0) ≡ b → if1 (nat_lt 0 c && nat_lt t (slots (c - 1))) ≡ if1 (nat_lt t (cond b 0 (slots (c - 1))))
-  go true e = let none : nat_lt 0 c ≡ false = grind (arith, nat_tests) in let z : nat_lt t 0 ≡ false = grind (arith, nat_tests) in rw (none, z) refl
+  go : (b : Bool) → (c == 0) ≡ b → if1 (nat_lt 0 c && nat_lt t (slots (c - 1)))
+      ≡ if1 (nat_lt t (cond b 0 (slots (c - 1))))
+  go true e = let none : nat_lt 0 c ≡ false = grind (arith, nat_tests) in let z : nat_lt t 0
+      ≡ false = grind (arith, nat_tests) in rw (none, z) refl
   go false e = let some : nat_lt 0 c ≡ true = grind (arith, nat_tests) in rw some refl
 
 -- where a slot has room, its page has a class, and it is one of its slots
-pub room_under : (w : Words) (x : Spot) → 0 < room w x → (0 < w.class_at x.page) × (x.slot < slots_under (w.class_at x.page))
-room_under w x some = (classed (w.class_at x.page) some, go (nat_lt x.slot (slots_under (w.class_at x.page))) refl (let is = room_is (w.class_at x.page) x.slot in omega arith)) where
+pub room_under : (w : Words) (x : Spot) → 0 < room w x → (0 < w.class_at x.page)
+    × (x.slot < slots_under (w.class_at x.page))
+room_under w x some = (
+  classed (w.class_at x.page) some,
+  go (nat_lt x.slot (slots_under (w.class_at x.page))) refl
+      (let is = room_is (w.class_at x.page) x.slot in omega arith),
+) where
   classed : (c : ℕ) → 0 < if1 (nat_lt 0 c && nat_lt x.slot (slots (c - 1))) → 0 < c
   classed zero h = absurd (omega arith)
   classed (suc c) h = omega arith
 
-  go : (b : Bool) → nat_lt x.slot (slots_under (w.class_at x.page)) ≡ b → 0 < if1 b → x.slot < slots_under (w.class_at x.page)
+  go : (b : Bool) → nat_lt x.slot (slots_under (w.class_at x.page)) ≡ b → 0 < if1 b
+      → x.slot < slots_under (w.class_at x.page)
   go true e h = lt_of x.slot (slots_under (w.class_at x.page)) e
   go false e h = absurd (omega arith)
 

@@ -1,5 +1,6 @@
 -- All that holds, over the kinds that store a value: Fill of a slot, Fill of a word.
-use Rattle.std.proofs.Common.{◌≡◌, ◌≢◌, ℕ, ◌+◌, ◌-◌, ◌*◌, ◌<◌, ◌≤◌, ◌==◌, ◌&&◌, ◌||◌, ◌⊎◌, inl, inr, ⊎_elim, Bool, true, false, List, length, get_or, sym, refl, ap, ◌∙◌, subst, arith, Some, None, slice_get}
+use Rattle.std.proofs.Common.{◌≡◌, ◌≢◌, ℕ, ◌+◌, ◌-◌, ◌*◌, ◌<◌, ◌≤◌, ◌==◌, ◌&&◌, ◌||◌, ◌⊎◌, inl, inr, ⊎_elim, Bool, true}
+use Rattle.std.proofs.Common.{false, List, length, get_or, sym, refl, ap, ◌∙◌, subst, arith, Some, None, slice_get}
 use Rattle.std.specs.Prelude.{nat_lt}
 use Rattle.std.proofs.lemmas.Bool.Decides.{nat_tests}
 use Rattle.sh_history.specs.declared.entry.Entry.{Entry}
@@ -33,21 +34,32 @@ use Rattle.sh_core.proofs.StackSteps.{put_same, put_other, same_page}
 use Rattle.sh_core.proofs.Payload.{rows_apart, words_other, fill_words}
 
 -- a step that changes value words of Empty slots alone
-pub keys_value : (plan : Plan) (w W : Words) (log : List Entry) → KeysFine plan w log → ((q s : ℕ) → W.state_at q s ≡ w.state_at q s)
-    → ((y : Spot) → (value_at W y.page y.slot ≡ value_at w y.page y.slot) ⊎ (((fields_of (w.state_at y.page y.slot)).present ≡ false) × ((fields_of (w.state_at y.page y.slot)).marked ≡ false))) → KeysFine plan W log
+pub keys_value : (plan : Plan) (w W : Words) (log : List Entry) → KeysFine plan w log
+    → ((q s : ℕ) → W.state_at q s ≡ w.state_at q s)
+    → ((y : Spot) → (value_at W y.page y.slot ≡ value_at w y.page y.slot)
+    ⊎ (((fields_of (w.state_at y.page y.slot)).present ≡ false)
+    × ((fields_of (w.state_at y.page y.slot)).marked ≡ false))) → KeysFine plan W log
 keys_value plan w W log old state others k z name = rw (state z.page z.slot) (⊎_elim
     (λ e. rw e (old k z name))
-    (λ n. story_fill (fields_of (w.state_at z.page z.slot)) z.generation (values k log) (removals k log) (value_at w z.page z.slot) (value_at W z.page z.slot) (old k z name) n.1 n.0)
+    (λ n. story_fill (fields_of (w.state_at z.page z.slot)) z.generation (values k log) (removals k log)
+    (value_at w z.page z.slot) (value_at W z.page z.slot) (old k z name) n.1 n.0)
     (others (spot_of z)))
 
-fill_due : (plan : Plan) (p : Body) (x : Spot) (v : List ℕ) → has (same_spot x) p.mine ≡ true → (y : Spot) (st : Fields) → same_spot y x ≡ false → due plan y st (hand (record p { mine = without (same_spot x) p.mine }) (Filling x v 0)) ≡ due plan y st (hand p Idle)
+fill_due : (plan : Plan) (p : Body) (x : Spot) (v : List ℕ) → has (same_spot x) p.mine ≡ true → (y : Spot) (st : Fields)
+    → same_spot y x ≡ false → due plan y st (hand (record p { mine = without (same_spot x) p.mine }) (Filling x v 0))
+    ≡ due plan y st (hand p Idle)
 fill_due plan p x v is y st h =
-    let t = total_without (λ u. if1 (same_spot y u)) (same_spot x) 0 (λ u e. let i : x ≡ u = same_spot-true u x e in let f : same_spot y u ≡ false = ap (same_spot y) (sym i) ∙ h in rw f refl) p.mine is in
+    let t = total_without (λ u. if1 (same_spot y u)) (same_spot x) 0
+    (λ u e. let i : x ≡ u = same_spot-true u x e in let f : same_spot y u ≡ false = ap (same_spot y) (sym i) ∙ h
+    in rw f refl) p.mine is in
     let n : if1 (same_spot y x) ≡ 0 = rw h refl in
-    tally_ext (due plan y st (hand (record p { mine = without (same_spot x) p.mine }) (Filling x v 0))) (due plan y st (hand p Idle)) (omega arith) n refl refl refl refl
+    tally_ext (due plan y st (hand (record p { mine = without (same_spot x) p.mine }) (Filling x v 0)))
+    (due plan y st (hand p Idle)) (omega arith) n refl refl refl refl
 
 -- a slot of `mine` is in no hand
-not_mine : (plan : Plan) (w : World) (l : PutLists) (a b : ℕ) (p q : Body) (x y : Spot) (u : List ℕ) (i : ℕ) → Good plan w l → slice_get w.parts a ≡ Some p → has (same_spot x) p.mine ≡ true → slice_get w.parts b ≡ Some q → q.hand ≡ Filling y u i → same_spot y x ≡ false
+not_mine : (plan : Plan) (w : World) (l : PutLists) (a b : ℕ) (p q : Body) (x y : Spot) (u : List ℕ) (i : ℕ)
+    → Good plan w l → slice_get w.parts a ≡ Some p → has (same_spot x) p.mine ≡ true → slice_get w.parts b ≡ Some q
+    → q.hand ≡ Filling y u i → same_spot y x ≡ false
 not_mine plan w l a b p q x y u i g at is at' e = go (same_spot y x) refl where
   go : (c : Bool) → same_spot y x ≡ c → c ≡ false
   go false h = refl
@@ -62,7 +74,9 @@ not_mine plan w l a b p q x y u i g at is at' e = go (same_spot y x) refl where
       let t : same_spot x y ≡ true = ap (same_spot x) s ∙ same_spot-refl x in
       let one : if1 (same_spot x y) ≡ 1 = rw t refl in absurd (omega arith)
 
-pub good_fill_slot : (plan : Plan) (w : World) (l : PutLists) (a : ℕ) (p : Body) (x : Spot) (v : List ℕ) → Good plan w l → slice_get w.parts a ≡ Some (hand p Idle) → has (same_spot x) p.mine ≡ true → class_word_noted p x.page ≡ w.words.class_at x.page → length v ≤ width (w.words.class_at x.page - 1)
+pub good_fill_slot : (plan : Plan) (w : World) (l : PutLists) (a : ℕ) (p : Body) (x : Spot) (v : List ℕ) → Good plan w l
+    → slice_get w.parts a ≡ Some (hand p Idle) → has (same_spot x) p.mine ≡ true → class_word_noted p x.page
+    ≡ w.words.class_at x.page → length v ≤ width (w.words.class_at x.page - 1)
     → Good plan (apply w a (fill_slot (hand p Idle) x v)) l
 unfolding apply value_at
 good_fill_slot plan w l a p x v g at is class fits =
@@ -72,22 +86,52 @@ good_fill_slot plan w l a p x v g at is class fits =
     let some = total_without (λ y. if1 (same_spot x y)) (same_spot x) 1 (λ y h. rw h refl) p.mine is in
     let mine = total_at (mine_at x) w.parts a (hand p Idle) at in
     let r = room_few w.words x in
-    let none = no_or (fields_of (w.words.state_at x.page x.slot)).present (fields_of (w.words.state_at x.page x.slot)).marked (omega arith) in
-    good_at plan w l l a (hand p Idle) (hand (record p { mine = without (same_spot x) p.mine }) (Filling x v 0)) (write w.words (Length x.page x.slot) (length v)) None g at
-    (slots_part plan w.words w.parts l l a (hand p Idle) (hand (record p { mine = without (same_spot x) p.mine }) (Filling x v 0)) x g.slots at (fill_due plan p x v is) (λ y h. refl) (fill_fine _ _ (fields_of (w.words.state_at x.page x.slot)) plan w.parts a p x v is at f))
-    (keys_value plan w.words (write w.words (Length x.page x.slot) (length v)) w.log g.keys (λ q s. refl) (λ y. apart y none (same_spot y x) refl))
-    tt (λ j. refl) ((g.parts a (hand p Idle) at).0, (put2_same w.words.length_at x.page x.slot (length v), omega arith, fits, refl, class))
+    let none = no_or (fields_of (w.words.state_at x.page x.slot)).present
+    (fields_of (w.words.state_at x.page x.slot)).marked (omega arith) in
+    good_at plan w l l a (hand p Idle) (hand (record p { mine = without (same_spot x) p.mine }) (Filling x v 0))
+    (write w.words (Length x.page x.slot) (length v)) None g at
+    (slots_part plan w.words w.parts l l a (hand p Idle) (hand (record p { mine = without (same_spot x) p.mine })
+    (Filling x v 0)) x g.slots at (fill_due plan p x v is) (λ y h. refl)
+    (fill_fine _ _ (fields_of (w.words.state_at x.page x.slot)) plan w.parts a p x v is at f))
+    (keys_value plan w.words (write w.words (Length x.page x.slot) (length v)) w.log g.keys (λ q s. refl)
+    (λ y. apart y none (same_spot y x) refl))
+    tt (λ j. refl) (
+      (g.parts a (hand p Idle) at).0,
+      (
+        put2_same w.words.length_at x.page x.slot (length v),
+        omega arith,
+        fits,
+        refl,
+        class,
+      ),
+    )
     (λ b q n at' h. others b q n at' (q.hand) refl h) where
-      others : (b : ℕ) (q : Body) → b ≢ a → slice_get w.parts b ≡ Some q → (h : Hand) → q.hand ≡ h → FillFine w.words q h → FillFine (write w.words (Length x.page x.slot) (length v)) q h
-      others b q n at' (Filling y u i) e h = (put2_other w.words.length_at x.page x.slot (length v) y.page y.slot (not_mine plan w l a b (hand p Idle) q x y u i g at is at' e) ∙ h.0, h.1, h.2, h.3, h.4)
+      others : (b : ℕ) (q : Body) → b ≢ a → slice_get w.parts b ≡ Some q → (h : Hand) → q.hand ≡ h
+          → FillFine w.words q h → FillFine (write w.words (Length x.page x.slot) (length v)) q h
+      others b q n at' (Filling y u i) e h = (
+        put2_other w.words.length_at x.page x.slot (length v) y.page y.slot
+            (not_mine plan w l a b (hand p Idle) q x y u i g at is at' e) ∙ h.0,
+        h.1,
+        h.2,
+        h.3,
+        h.4,
+      )
       others b q n at' _ e h = h
 
-      apart : (y : Spot) → ((fields_of (w.words.state_at x.page x.slot)).present ≡ false) × ((fields_of (w.words.state_at x.page x.slot)).marked ≡ false) → (b : Bool) → same_spot y x ≡ b → (value_at (write w.words (Length x.page x.slot) (length v)) y.page y.slot ≡ value_at w.words y.page y.slot) ⊎ (((fields_of (w.words.state_at y.page y.slot)).present ≡ false) × ((fields_of (w.words.state_at y.page y.slot)).marked ≡ false))
+      apart : (y : Spot) → ((fields_of (w.words.state_at x.page x.slot)).present ≡ false)
+          × ((fields_of (w.words.state_at x.page x.slot)).marked ≡ false) → (b : Bool) → same_spot y x ≡ b
+          → (value_at (write w.words (Length x.page x.slot) (length v)) y.page y.slot ≡ value_at w.words y.page y.slot)
+          ⊎ (((fields_of (w.words.state_at y.page y.slot)).present ≡ false)
+          × ((fields_of (w.words.state_at y.page y.slot)).marked ≡ false))
       apart y none true h = let e = same_spot-true x y h in inr (rw e none)
-      apart y none false h = inl (ap (λ (n : ℕ). words_from (w.words.payload_at y.page) (y.slot * width (w.words.class_at y.page - 1)) n) (put2_other w.words.length_at x.page x.slot (length v) y.page y.slot h))
+      apart y none false h = inl (ap (λ (n : ℕ). words_from (w.words.payload_at y.page)
+          (y.slot * width (w.words.class_at y.page - 1)) n) (put2_other w.words.length_at x.page x.slot (length v)
+          y.page y.slot h))
 
 -- a slot in a hand is in no other hand
-not_hand : (plan : Plan) (w : World) (l : PutLists) (a b : ℕ) (p q : Body) (x y : Spot) (v u : List ℕ) (i j : ℕ) → Good plan w l → b ≢ a → slice_get w.parts a ≡ Some p → p.hand ≡ Filling x v i → slice_get w.parts b ≡ Some q → q.hand ≡ Filling y u j → same_spot y x ≡ false
+not_hand : (plan : Plan) (w : World) (l : PutLists) (a b : ℕ) (p q : Body) (x y : Spot) (v u : List ℕ) (i j : ℕ)
+    → Good plan w l → b ≢ a → slice_get w.parts a ≡ Some p → p.hand ≡ Filling x v i → slice_get w.parts b ≡ Some q
+    → q.hand ≡ Filling y u j → same_spot y x ≡ false
 not_hand plan w l a b p q x y v u i j g n at d at' e = go (same_spot y x) refl where
   go : (c : Bool) → same_spot y x ≡ c → c ≡ false
   go false h = refl
@@ -104,26 +148,39 @@ not_hand plan w l a b p q x y v u i j g n at d at' e = go (same_spot y x) refl w
       let two : if1 (same_spot x x) ≡ 1 = rw o refl in absurd (omega arith)
 
 -- the words of another slot are other words
-row_other : (w : Words) (x y : Spot) (k v n W : ℕ) → same_spot y x ≡ false → k < W → n ≤ W → words_from ((write w (Payload x.page (x.slot * W + k)) v).payload_at y.page) (y.slot * W) n ≡ words_from (w.payload_at y.page) (y.slot * W) n
+row_other : (w : Words) (x y : Spot) (k v n W : ℕ) → same_spot y x ≡ false → k < W → n ≤ W
+    → words_from ((write w (Payload x.page (x.slot * W + k)) v).payload_at y.page) (y.slot * W) n
+    ≡ words_from (w.payload_at y.page) (y.slot * W) n
 unfolding put2
 row_other w x y k v n W h a b = go (y.page == x.page) refl where
-  go : (c : Bool) → (y.page == x.page) ≡ c → words_from ((write w (Payload x.page (x.slot * W + k)) v).payload_at y.page) (y.slot * W) n ≡ words_from (w.payload_at y.page) (y.slot * W) n
-  go false e = ap (λ (f : ℕ → ℕ). words_from f (y.slot * W) n) (put_other w.payload_at x.page y.page (put (w.payload_at x.page) (x.slot * W + k) v) e)
+  go : (c : Bool) → (y.page == x.page) ≡ c → words_from ((write w (Payload x.page (x.slot * W + k)) v).payload_at
+      y.page) (y.slot * W) n ≡ words_from (w.payload_at y.page) (y.slot * W) n
+  go false e = ap (λ (f : ℕ → ℕ). words_from f (y.slot * W) n)
+      (put_other w.payload_at x.page y.page (put (w.payload_at x.page) (x.slot * W + k) v) e)
   go true e =
       let i = same_page y.page x.page e in
       let s : (y.slot == x.slot) ≡ false = (let t : (true && (y.slot == x.slot)) ≡ false = rw e at h in t) in
       let d : y.slot ≢ x.slot = λ c. let t : (y.slot == x.slot) ≡ true = grind (arith, nat_tests) in cc in
-      ap (λ (f : ℕ → ℕ). words_from f (y.slot * W) n) (ap (put w.payload_at x.page (put (w.payload_at x.page) (x.slot * W + k) v)) i ∙ put_same w.payload_at x.page (put (w.payload_at x.page) (x.slot * W + k) v))
-      ∙ words_other (w.payload_at x.page) (x.slot * W + k) v (y.slot * W) n (λ j l c. rows_apart y.slot x.slot W j k d (omega arith) a c)
+      ap (λ (f : ℕ → ℕ). words_from f (y.slot * W) n) (ap (put w.payload_at x.page
+      (put (w.payload_at x.page) (x.slot * W + k) v)) i ∙ put_same w.payload_at x.page
+      (put (w.payload_at x.page) (x.slot * W + k) v))
+      ∙ words_other (w.payload_at x.page) (x.slot * W + k) v (y.slot * W) n
+      (λ j l c. rows_apart y.slot x.slot W j k d (omega arith) a c)
       ∙ ap (λ (q : ℕ). words_from (w.payload_at q) (y.slot * W) n) (sym i)
 
 -- the same where the pages may differ
-row_any : (w : Words) (x y : Spot) (k v n C D : ℕ) → same_spot y x ≡ false → k < C → (y.page ≡ x.page → (D ≡ C) × (n ≤ C)) → words_from ((write w (Payload x.page (x.slot * C + k)) v).payload_at y.page) (y.slot * D) n ≡ words_from (w.payload_at y.page) (y.slot * D) n
+row_any : (w : Words) (x y : Spot) (k v n C D : ℕ) → same_spot y x ≡ false → k < C
+    → (y.page ≡ x.page → (D ≡ C) × (n ≤ C)) → words_from ((write w (Payload x.page (x.slot * C + k)) v).payload_at
+    y.page) (y.slot * D) n ≡ words_from (w.payload_at y.page) (y.slot * D) n
 unfolding put2
 row_any w x y k v n C D h a page = go (y.page == x.page) refl where
-  go : (c : Bool) → (y.page == x.page) ≡ c → words_from ((write w (Payload x.page (x.slot * C + k)) v).payload_at y.page) (y.slot * D) n ≡ words_from (w.payload_at y.page) (y.slot * D) n
-  go false e = ap (λ (f : ℕ → ℕ). words_from f (y.slot * D) n) (put_other w.payload_at x.page y.page (put (w.payload_at x.page) (x.slot * C + k) v) e)
-  go true e = let q = page (same_page y.page x.page e) in let P : ℕ → Type 0 = λ d. words_from ((write w (Payload x.page (x.slot * C + k)) v).payload_at y.page) (y.slot * d) n ≡ words_from (w.payload_at y.page) (y.slot * d) n in
+  go : (c : Bool) → (y.page == x.page) ≡ c → words_from ((write w (Payload x.page (x.slot * C + k)) v).payload_at
+      y.page) (y.slot * D) n ≡ words_from (w.payload_at y.page) (y.slot * D) n
+  go false e = ap (λ (f : ℕ → ℕ). words_from f (y.slot * D) n)
+      (put_other w.payload_at x.page y.page (put (w.payload_at x.page) (x.slot * C + k) v) e)
+  go true e = let q = page (same_page y.page x.page e) in let P : ℕ
+      → Type 0 = λ d. words_from ((write w (Payload x.page (x.slot * C + k)) v).payload_at y.page) (y.slot * d) n
+      ≡ words_from (w.payload_at y.page) (y.slot * d) n in
       subst P (sym q.0) (row_other w x y k v n C h a q.1)
 
 row_here : (w : Words) (q k v : ℕ) → (write w (Payload q k) v).payload_at q ≡ put (w.payload_at q) k v
@@ -136,7 +193,8 @@ has_class w x h = go (nat_lt 0 (w.class_at x.page)) refl where
   go true e = grind (arith, nat_tests)
   go false e = absurd (let r : room w x ≡ 0 = rw e refl in omega arith)
 
-pub good_fill : (plan : Plan) (w : World) (l : PutLists) (a : ℕ) (p : Body) (x : Spot) (v : List ℕ) (i : ℕ) → Good plan w l → SoundOf plan w.words → slice_get w.parts a ≡ Some (hand p (Filling x v i)) → i < length v
+pub good_fill : (plan : Plan) (w : World) (l : PutLists) (a : ℕ) (p : Body) (x : Spot) (v : List ℕ) (i : ℕ)
+    → Good plan w l → SoundOf plan w.words → slice_get w.parts a ≡ Some (hand p (Filling x v i)) → i < length v
     → Good plan (apply w a (fill (hand p (Filling x v i)) x v i)) l
 unfolding apply value_at
 good_fill plan w l a p x v i g sound at less =
@@ -145,16 +203,31 @@ good_fill plan w l a p x v i g sound at less =
     let one : if1 (same_spot x x) ≡ 1 = rw e refl in
     let hands = total_at (in_hand x) w.parts a (hand p (Filling x v i)) at in
     let r = room_few w.words x in
-    let none = no_or (fields_of (w.words.state_at x.page x.slot)).present (fields_of (w.words.state_at x.page x.slot)).marked (omega arith) in
+    let none = no_or (fields_of (w.words.state_at x.page x.slot)).present
+    (fields_of (w.words.state_at x.page x.slot)).marked (omega arith) in
     let fm = (g.parts a (hand p (Filling x v i)) at).1 in
     let here = fm.0 in
     let fits = fm.2 in
-    let due_same = tally_same plan x (fields_of (w.words.state_at x.page x.slot)) w.parts a (hand p (Filling x v i)) (hand p (Filling x v (i + 1))) at refl in
+    let due_same = tally_same plan x (fields_of (w.words.state_at x.page x.slot)) w.parts a (hand p (Filling x v i))
+    (hand p (Filling x v (i + 1))) at refl in
     rw fm.4 (good_at plan w l l a (hand p (Filling x v i)) (hand p (Filling x v (i + 1))) W None g at
-    (slots_part plan w.words w.parts l l a (hand p (Filling x v i)) (hand p (Filling x v (i + 1))) x g.slots at (λ y st h. refl) (λ y h. refl) (rw due_same f))
-    (keys_value plan w.words W w.log g.keys (λ q s. refl) (λ y. apart y none (omega arith) (same_spot y x) ((fields_of (w.words.state_at y.page y.slot)).present || (fields_of (w.words.state_at y.page y.slot)).marked) refl refl))
-    tt (λ j. refl)
-    ((g.parts a (hand p (Filling x v i)) at).0, (here, omega arith, fits, ap (λ (f : ℕ → ℕ). words_from f (x.slot * C) (i + 1)) (row_here w.words x.page (x.slot * C + i) (get_or v i 0)) ∙ fill_words (w.words.payload_at x.page) x.slot C i v fm.3 less, fm.4))
+    (slots_part plan w.words w.parts l l a (hand p (Filling x v i)) (hand p (Filling x v (i + 1))) x g.slots at
+    (λ y st h. refl) (λ y h. refl) (rw due_same f))
+    (keys_value plan w.words W w.log g.keys (λ q s. refl) (λ y. apart y none (omega arith) (same_spot y x)
+    ((fields_of (w.words.state_at y.page y.slot)).present || (fields_of (w.words.state_at y.page y.slot)).marked)
+    refl refl))
+    tt (λ j. refl) (
+      (g.parts a (hand p (Filling x v i)) at).0,
+      (
+        here,
+        omega arith,
+        fits,
+        ap
+            (λ (f : ℕ → ℕ). words_from f (x.slot * C) (i + 1)) (row_here w.words x.page (x.slot * C + i) (get_or v i 0))
+            ∙ fill_words (w.words.payload_at x.page) x.slot C i v fm.3 less,
+        fm.4,
+      ),
+    )
     (λ b q n at' h. kept b q n at' q.hand refl h (omega arith))) where
       C : ℕ
       C = width (w.words.class_at x.page - 1)
@@ -162,18 +235,38 @@ good_fill plan w l a p x v i g sound at less =
       W : Words
       W = write w.words (Payload x.page (x.slot * C + i)) (get_or v i 0)
 
-      within : (y : Spot) → ((fields_of (w.words.state_at y.page y.slot)).present || (fields_of (w.words.state_at y.page y.slot)).marked) ≡ true → y.page ≡ x.page → w.words.length_at y.page y.slot ≤ C
-      within y there e = let P : ℕ → Type 0 = λ q. w.words.length_at y.page y.slot ≤ width (w.words.class_at q - 1) in subst P e (sound.lengths y.page y.slot there)
+      within : (y : Spot) → ((fields_of (w.words.state_at y.page y.slot)).present ||
+          (fields_of (w.words.state_at y.page y.slot)).marked) ≡ true → y.page ≡ x.page
+          → w.words.length_at y.page y.slot ≤ C
+      within y there e = let P : ℕ → Type 0 = λ q. w.words.length_at y.page y.slot ≤ width (w.words.class_at q - 1)
+          in subst P e (sound.lengths y.page y.slot there)
 
-      apart : (y : Spot) → ((fields_of (w.words.state_at x.page x.slot)).present ≡ false) × ((fields_of (w.words.state_at x.page x.slot)).marked ≡ false) → i < C → (b d : Bool) → same_spot y x ≡ b → ((fields_of (w.words.state_at y.page y.slot)).present || (fields_of (w.words.state_at y.page y.slot)).marked) ≡ d
-          → (value_at W y.page y.slot ≡ value_at w.words y.page y.slot) ⊎ (((fields_of (w.words.state_at y.page y.slot)).present ≡ false) × ((fields_of (w.words.state_at y.page y.slot)).marked ≡ false))
+      apart : (y : Spot) → ((fields_of (w.words.state_at x.page x.slot)).present ≡ false)
+          × ((fields_of (w.words.state_at x.page x.slot)).marked ≡ false) → i < C → (b d : Bool) → same_spot y x ≡ b
+          → ((fields_of (w.words.state_at y.page y.slot)).present ||
+          (fields_of (w.words.state_at y.page y.slot)).marked) ≡ d
+          → (value_at W y.page y.slot ≡ value_at w.words y.page y.slot)
+          ⊎ (((fields_of (w.words.state_at y.page y.slot)).present ≡ false)
+          × ((fields_of (w.words.state_at y.page y.slot)).marked ≡ false))
       apart y none c true d h k = let e = same_spot-true x y h in inr (rw e none)
-      apart y none c false false h k = inr (no_or (fields_of (w.words.state_at y.page y.slot)).present (fields_of (w.words.state_at y.page y.slot)).marked (rw k refl))
-      apart y none c false true h k = inl (row_any w.words x y i (get_or v i 0) (w.words.length_at y.page y.slot) C (width (w.words.class_at y.page - 1)) h c
+      apart y none c false false h k = inr (no_or (fields_of (w.words.state_at y.page y.slot)).present
+          (fields_of (w.words.state_at y.page y.slot)).marked (rw k refl))
+      apart y none c false true h k = inl (row_any w.words x y i (get_or v i 0) (w.words.length_at y.page y.slot) C
+          (width (w.words.class_at y.page - 1)) h c
           (λ e. (ap (λ (q : ℕ). width (w.words.class_at q - 1)) e, within y k e)))
 
-      kept : (b : ℕ) (q : Body) → b ≢ a → slice_get w.parts b ≡ Some q → (h : Hand) → q.hand ≡ h → FillFine w.words q h → i < C → FillFine W q h
-      kept b q n at' (Filling y u j) e h c = (h.0, h.1, h.2, row_any w.words x y i (get_or v i 0) j C (width (w.words.class_at y.page - 1)) (not_hand plan w l a b (hand p (Filling x v i)) q x y v u i j g n at refl at' e) c (λ d. (ap (λ (q : ℕ). width (w.words.class_at q - 1)) d, small y u j h d)) ∙ h.3, h.4) where
+      kept : (b : ℕ) (q : Body) → b ≢ a → slice_get w.parts b ≡ Some q → (h : Hand) → q.hand ≡ h → FillFine w.words q h
+          → i < C → FillFine W q h
+      kept b q n at' (Filling y u j) e h c = (
+        h.0,
+        h.1,
+        h.2,
+        row_any w.words x y i (get_or v i 0) j C
+            (width (w.words.class_at y.page - 1)) (not_hand plan w l a b (hand p (Filling x v i)) q x y v u i j g n at
+            refl at' e) c (λ d. (ap (λ (q : ℕ). width (w.words.class_at q - 1)) d, small y u j h d)) ∙ h.3,
+        h.4,
+      ) where
         small : (y : Spot) (u : List ℕ) (j : ℕ) → FillFine w.words q (Filling y u j) → y.page ≡ x.page → j ≤ C
-        small y u j h d = let a = h.1 in let b = h.2 in let P : ℕ → Type 0 = λ k. length u ≤ width (w.words.class_at k - 1) in let t : length u ≤ C = subst P d b in omega arith
+        small y u j h d = let a = h.1 in let b = h.2 in let P : ℕ → Type 0 = λ k. length u ≤ width
+            (w.words.class_at k - 1) in let t : length u ≤ C = subst P d b in omega arith
       kept b q n at' _ e h c = h

@@ -1,5 +1,6 @@
 -- What a kind owes, so that all that holds goes on.
-use Rattle.std.proofs.Common.{◌≡◌, ◌≢◌, ℕ, ◌+◌, ◌≤◌, ◌==◌, ⊎_elim, true, false, List, [], ◌∷◌, ◌++◌, length, set, refl, ◌∙◌, subst, arith, Option, Some, None, slice_get}
+use Rattle.std.proofs.Common.{◌≡◌, ◌≢◌, ℕ, ◌+◌, ◌≤◌, ◌==◌, ⊎_elim, true, false, List, [], ◌∷◌, ◌++◌, length, set, refl}
+use Rattle.std.proofs.Common.{◌∙◌, subst, arith, Option, Some, None, slice_get}
 use Rattle.std.proofs.lemmas.List.{length-set}
 use Rattle.std.proofs.lemmas.Bool.Decides.{nat_tests}
 use Rattle.sh_history.specs.declared.entry.Entry.{Entry}
@@ -45,16 +46,25 @@ by_other (Got c j v) a b k h n = let t = no_test a b n in (rw (h, t) refl, refl)
 by_other (Released c j) a b k h n = let t = no_test a b n in (refl, rw (h, t) refl)
 by_other _ a b k h n = (refl, refl)
 
-paid_holds : (ps : List Body) (log : List Entry) (a : ℕ) (p p' : Body) (e : Option Entry) → HoldsFine ps log → slice_get ps a ≡ Some p → Paid a p p' e → HoldsFine (set ps a p') (joined log e)
+paid_holds : (ps : List Body) (log : List Entry) (a : ℕ) (p p' : Body) (e : Option Entry) → HoldsFine ps log
+    → slice_get ps a ≡ Some p → Paid a p p' e → HoldsFine (set ps a p') (joined log e)
 unfolding total
-paid_holds ps log a p p' None old at paid = holds_step ps log log a p p' old at (λ k. let q = paid k in omega arith) (λ b k h. (refl, refl))
+paid_holds ps log a p p' None old at paid = holds_step ps log log a p p' old at (λ k. let q = paid k in omega arith)
+    (λ b k h. (refl, refl))
 paid_holds ps log a p p' (Some e) old at paid = holds_step ps log (log ++ e ∷ []) a p p' old at
-    (λ k. let q = paid.1 k in let o = by_own e a k paid.0 in omega (arith, total_append (got_by a k) log (e ∷ []), total_append (released_by a k) log (e ∷ [])))
-    (λ b k h. let o = by_other e a b k paid.0 h in (omega (arith, total_append (got_by b k) log (e ∷ [])), omega (arith, total_append (released_by b k) log (e ∷ []))))
+    (λ k. let q = paid.1 k in let o = by_own e a k paid.0 in omega
+    (arith, total_append (got_by a k) log (e ∷ []), total_append (released_by a k) log (e ∷ [])))
+    (λ b k h. let o = by_other e a b k paid.0 h in (
+      omega (arith, total_append (got_by b k) log (e ∷ [])),
+      omega
+          (arith, total_append (released_by b k) log (e ∷ [])),
+    ))
 
-paid_all : (ps : List Body) (log : List Entry) (a : ℕ) (p p' : Body) (e : Option Entry) → AllHoldsFine ps log → slice_get ps a ≡ Some p → Paid a p p' e → AllHoldsFine (set ps a p') (joined log e)
+paid_all : (ps : List Body) (log : List Entry) (a : ℕ) (p p' : Body) (e : Option Entry) → AllHoldsFine ps log
+    → slice_get ps a ≡ Some p → Paid a p p' e → AllHoldsFine (set ps a p') (joined log e)
 unfolding total
-paid_all ps log a p p' None old at paid k = let q = paid k in let o = old k in let t = total_set (λ (u : Body). times k u.holds) ps a p p' at in omega arith
+paid_all ps log a p p' None old at paid k = let q = paid k in let o = old k
+    in let t = total_set (λ (u : Body). times k u.holds) ps a p p' at in omega arith
 paid_all ps log a p p' (Some e) old at paid k =
     let q = paid.1 k in
     let o = old k in
@@ -62,8 +72,10 @@ paid_all ps log a p p' (Some e) old at paid k =
     omega (arith, total_append (got_in k) log (e ∷ []), total_append (released_in k) log (e ∷ []))
 
 -- One pass steps: what is owed of slots, keys, the entry, the holds and the part's own hand
-pub good_at : (plan : Plan) (w : World) (l l' : PutLists) (a : ℕ) (p p' : Body) (W : Words) (e : Option Entry) → Good plan w l → slice_get w.parts a ≡ Some p
-    → SlotsFine plan W (set w.parts a p') l' → KeysFine plan W (joined w.log e) → PermitsNext plan w.log e → Paid a p p' e
+pub good_at : (plan : Plan) (w : World) (l l' : PutLists) (a : ℕ) (p p' : Body) (W : Words) (e : Option Entry)
+    → Good plan w l → slice_get w.parts a ≡ Some p
+    → SlotsFine plan W (set w.parts a p') l' → KeysFine plan W (joined w.log e) → PermitsNext plan w.log e
+    → Paid a p p' e
     → (length p'.holds ≤ 16) × FillFine W p' p'.hand
     → ((b : ℕ) (q : Body) → b ≢ a → slice_get w.parts b ≡ Some q → FillFine w.words q q.hand → FillFine W q q.hand)
     → Good plan (record { words = W; parts = set w.parts a p'; log = joined w.log e }) l'
@@ -73,7 +85,8 @@ good_at plan w l l' a p p' W e g at slots keys allowed paid mine fills = record 
   keys = keys;
   holds = paid_holds w.parts w.log a p p' e g.holds at paid;
   all_holds = paid_all w.parts w.log a p p' e g.all_holds at paid;
-  parts = λ b q h. ⊎_elim (λ c. let T : Body → Type 0 = λ r. (length r.holds ≤ 16) × FillFine W r r.hand in subst T c.1 mine) (λ c. let o = g.parts b q c.1 in (o.0, fills b q c.0 c.1 o.1)) (get_set w.parts a b p' q h);
+  parts = λ b q h. ⊎_elim (λ c. let T : Body → Type 0 = λ r. (length r.holds ≤ 16) × FillFine W r r.hand
+      in subst T c.1 mine) (λ c. let o = g.parts b q c.1 in (o.0, fills b q c.0 c.1 o.1)) (get_set w.parts a b p' q h);
   passes = length-set w.parts a p' ∙ g.passes;
 } where
   next : (d : Option Entry) → PermitsNext plan w.log d → Legal plan.passes plan.keys.guard_max (joined w.log d)

@@ -19,9 +19,11 @@ use Rattle.sh_core.proofs.Permits.{value_one}
 use Rattle.sh_step.proofs.Truths.{lt_of}
 use Rattle.sh_core.proofs.RunRefines.{held_stands}
 
-pub has_room : (w : Words) (x : Spot) → 0 < room w x → (0 < w.class_at x.page) × (x.slot < slots (w.class_at x.page - 1))
+pub has_room : (w : Words) (x : Spot) → 0 < room w x → (0 < w.class_at x.page)
+    × (x.slot < slots (w.class_at x.page - 1))
 has_room w x h = go (nat_lt 0 (w.class_at x.page)) (nat_lt x.slot (slots (w.class_at x.page - 1))) refl refl where
-  go : (b c : Bool) → nat_lt 0 (w.class_at x.page) ≡ b → nat_lt x.slot (slots (w.class_at x.page - 1)) ≡ c → (0 < w.class_at x.page) × (x.slot < slots (w.class_at x.page - 1))
+  go : (b c : Bool) → nat_lt 0 (w.class_at x.page) ≡ b → nat_lt x.slot (slots (w.class_at x.page - 1)) ≡ c
+      → (0 < w.class_at x.page) × (x.slot < slots (w.class_at x.page - 1))
   go true true e f = (lt_of 0 (w.class_at x.page) e, lt_of x.slot (slots (w.class_at x.page - 1)) f)
   go true false e f = absurd (let z : room w x ≡ 0 = rw (e, f) refl in omega arith)
   go false c e f = absurd (let z : room w x ≡ 0 = rw e refl in omega arith)
@@ -31,7 +33,16 @@ module _ (plan : Plan) (w : World) (l : PutLists) (all : All plan w l) (know : A
   held a p k at some =
       let n = (know a p at).named k some in
       let h = held_stands plan w l all a p k n.0 at some n.1 in
-      record { name = n.0; unpacks = n.1; page = n.2; slot = n.3; present = h.0; generation = h.1; value = value_one k w.log (value_at w.words n.0.page n.0.slot) h.2 }
+      record {
+        name = n.0;
+        unpacks = n.1;
+        page = n.2;
+        slot = n.3;
+        present = h.0;
+        generation = h.1;
+        value = value_one k
+            w.log (value_at w.words n.0.page n.0.slot) h.2;
+      }
 
   pub reads : ReadsWithin plan w
   reads a p k n c m i at name width_is length_is less =

@@ -9,7 +9,8 @@ use Rattle.sh_core.specs.Placed.{All}
 use Rattle.sh_core.specs.Refines.{KeysAreTold, HoldsAreTold, PastIsRemoved}
 use Rattle.sh_core.specs.Stories.{removals}
 use Rattle.sh_core.specs.Worlds.{World, value_at}
-use Rattle.sh_core.proofs.Permits.{value_none, value_one, value_some, removed_by, gots_are, releases_are, gots_by_are, releases_by_are}
+use Rattle.sh_core.proofs.Permits.{value_none, value_one, value_some, removed_by, gots_are, releases_are, gots_by_are}
+use Rattle.sh_core.proofs.Permits.{releases_by_are}
 
 module _ (plan : Plan) (w : World) (l : PutLists) (all : All plan w l) where
   -- how often a key was removed says whether it was
@@ -33,6 +34,8 @@ module _ (plan : Plan) (w : World) (l : PutLists) (all : All plan w l) where
 
   pub holds_told : HoldsAreTold w
   holds_told = record {
-    of_pass = λ a p k at. let h = all.good.holds a p at k in let g = gots_by_are a k w.log in let r = releases_by_are a k w.log in omega arith;
-    together = λ k. let h = all.good.all_holds k in let g = gots_are k w.log in let r = releases_are k w.log in omega arith;
+    of_pass = λ a p k at. let h = all.good.holds a p at k in let g = gots_by_are a k w.log
+        in let r = releases_by_are a k w.log in omega arith;
+    together = λ k. let h = all.good.all_holds k in let g = gots_are k w.log in let r = releases_are k w.log
+        in omega arith;
   }

@@ -1,5 +1,6 @@
 -- What stands how often in a list: tests and notes, counted.
-use Rattle.std.proofs.Common.{◌≡◌, ℕ, zero, suc, ◌+◌, ◌<◌, ◌≤◌, ◌==◌, ◌&&◌, ◌||◌, Bool, true, false, cond, List, [], ◌∷◌, refl, sym, ap, ◌∙◌, subst, arith, Some, None}
+use Rattle.std.proofs.Common.{◌≡◌, ℕ, zero, suc, ◌+◌, ◌<◌, ◌≤◌, ◌==◌, ◌&&◌, ◌||◌, Bool, true, false, cond, List, []}
+use Rattle.std.proofs.Common.{◌∷◌, refl, sym, ap, ◌∙◌, subst, arith, Some, None}
 use Rattle.std.proofs.lemmas.Bool.Decides.{nat_tests}
 use Rattle.sh_slots.specs.declared.hand.Spot.{Spot}
 use Rattle.sh_slots.specs.Slots.{same_spot}
@@ -15,7 +16,8 @@ pub none_has : {A : Type 0} (f : A → Bool) (xs : List A) → total (λ y. if1 
 unfolding total has
 none_has f [] e = refl
 none_has f (x ∷ xs) e = go (f x) (none_has f xs) e where
-  go : (b : Bool) → (total (λ y. if1 (f y)) xs ≡ 0 → has f xs ≡ false) → if1 b + total (λ y. if1 (f y)) xs ≡ 0 → (b || has f xs) ≡ false
+  go : (b : Bool) → (total (λ y. if1 (f y)) xs ≡ 0 → has f xs ≡ false) → if1 b + total (λ y. if1 (f y)) xs ≡ 0
+      → (b || has f xs) ≡ false
   go true rest e = absurd (omega arith)
   go false rest e = rest (omega arith)
 
@@ -23,7 +25,8 @@ pub has_some : {A : Type 0} (f : A → Bool) (xs : List A) → has f xs ≡ true
 unfolding total has
 has_some f [] e = absurd (let z : ⊥ = cc in z)
 has_some f (x ∷ xs) e = go (f x) (has_some f xs) e where
-  go : (b : Bool) → (has f xs ≡ true → 0 < total (λ y. if1 (f y)) xs) → (b || has f xs) ≡ true → 0 < if1 b + total (λ y. if1 (f y)) xs
+  go : (b : Bool) → (has f xs ≡ true → 0 < total (λ y. if1 (f y)) xs) → (b || has f xs) ≡ true
+      → 0 < if1 b + total (λ y. if1 (f y)) xs
   go true rest e = omega arith
   go false rest e = let r = rest e in omega arith
 
@@ -32,7 +35,9 @@ pub once_only : {A : Type 0} (f : A → Bool) (xs : List A) → total (λ y. if1
 unfolding total has without
 once_only f [] e = refl
 once_only f (x ∷ xs) e = go (f x) refl (once_only f xs) (none_has f xs) e where
-  go : (b : Bool) → f x ≡ b → (total (λ y. if1 (f y)) xs ≤ 1 → has f (without f xs) ≡ false) → (total (λ y. if1 (f y)) xs ≡ 0 → has f xs ≡ false) → if1 b + total (λ y. if1 (f y)) xs ≤ 1 → has f (cond b xs (x ∷ without f xs)) ≡ false
+  go : (b : Bool) → f x ≡ b → (total (λ y. if1 (f y)) xs ≤ 1 → has f (without f xs) ≡ false)
+      → (total (λ y. if1 (f y)) xs ≡ 0 → has f xs ≡ false) → if1 b + total (λ y. if1 (f y)) xs ≤ 1
+      → has f (cond b xs (x ∷ without f xs)) ≡ false
   go true is rest none e = none (omega arith)
   go false is rest none e = ap (λ c. c || has f (without f xs)) is ∙ rest (omega arith)
 
@@ -41,12 +46,14 @@ once_only f (x ∷ xs) e = go (f x) refl (once_only f xs) (none_has f xs) e wher
 pub no_spots : (xs : List Spot) → ((x : Spot) → total (λ y. if1 (same_spot x y)) xs ≡ 0) → xs ≡ []
 unfolding total
 no_spots [] none = refl
-no_spots (x ∷ xs) none = absurd (let here = none x in let one : if1 (same_spot x x) ≡ 1 = rw (same_spot-refl x) refl in omega arith)
+no_spots (x ∷ xs) none = absurd (let here = none x in let one : if1 (same_spot x x) ≡ 1 = rw (same_spot-refl x) refl
+    in omega arith)
 
 pub no_numbers : (xs : List ℕ) → ((n : ℕ) → times n xs ≡ 0) → xs ≡ []
 unfolding total
 no_numbers [] none = refl
-no_numbers (x ∷ xs) none = absurd (let here = none x in let one : if1 (x == x) ≡ 1 = rw (page_same x) refl in omega arith)
+no_numbers (x ∷ xs) none = absurd (let here = none x in let one : if1 (x == x) ≡ 1 = rw (page_same x) refl
+    in omega arith)
 
 -- ---- notes: how often a number is noted at all, and with this value
 
@@ -59,13 +66,15 @@ times_noted_as q s xs = total (λ (c : ℕ × ℕ). if1 ((c.0 == q) && (c.1 == s
 pub no_notes : (xs : List (ℕ × ℕ)) → ((q s : ℕ) → times_noted_as q s xs ≡ 0) → xs ≡ []
 unfolding total
 no_notes [] none = refl
-no_notes (x ∷ xs) none = absurd (let here = none x.0 x.1 in let one : if1 ((x.0 == x.0) && (x.1 == x.1)) ≡ 1 = rw (page_same x.0, page_same x.1) refl in omega arith)
+no_notes (x ∷ xs) none = absurd (let here = none x.0 x.1 in let one : if1 ((x.0 == x.0) && (x.1 == x.1))
+    ≡ 1 = rw (page_same x.0, page_same x.1) refl in omega arith)
 
 pub none_noted : (q : ℕ) (xs : List (ℕ × ℕ)) → has (λ x. x.0 == q) xs ≡ false → noted q xs ≡ None
 unfolding has noted
 none_noted q [] e = refl
 none_noted q (x ∷ xs) e = go (x.0 == q) e (none_noted q xs) where
-  go : (b : Bool) → (b || has (λ y. y.0 == q) xs) ≡ false → (has (λ y. y.0 == q) xs ≡ false → noted q xs ≡ None) → cond b (Some x.1) (noted q xs) ≡ None
+  go : (b : Bool) → (b || has (λ y. y.0 == q) xs) ≡ false → (has (λ y. y.0 == q) xs ≡ false → noted q xs ≡ None)
+      → cond b (Some x.1) (noted q xs) ≡ None
   go true e rest = absurd (let z : ⊥ = cc in z)
   go false e rest = rest e
 
@@ -73,16 +82,20 @@ noted_as : (q : ℕ) (xs : List (ℕ × ℕ)) → 0 < times_noted q xs → (s : 
 unfolding total
 noted_as q [] h = absurd (omega arith)
 noted_as q (x ∷ xs) h = go (x.0 == q) h (noted_as q xs) where
-  go : (b : Bool) → 0 < if1 b + times_noted q xs → (0 < times_noted q xs → (s : ℕ) × (0 < times_noted_as q s xs)) → (s : ℕ) × (0 < if1 (b && (x.1 == s)) + times_noted_as q s xs)
+  go : (b : Bool) → 0 < if1 b + times_noted q xs → (0 < times_noted q xs → (s : ℕ) × (0 < times_noted_as q s xs))
+      → (s : ℕ) × (0 < if1 (b && (x.1 == s)) + times_noted_as q s xs)
   go true h rest = (x.1, let e : if1 (x.1 == x.1) ≡ 1 = rw (page_same x.1) refl in omega arith)
   go false h rest = let r = rest (omega arith) in (r.0, let z = r.1 in omega arith)
 
 -- where each value is noted once at most, and no two are, the number is noted once at most
-pub noted_once : (q : ℕ) (xs : List (ℕ × ℕ)) → ((s : ℕ) → times_noted_as q s xs ≤ 1) → ((s t : ℕ) → 0 < times_noted_as q s xs → 0 < times_noted_as q t xs → s ≡ t) → times_noted q xs ≤ 1
+pub noted_once : (q : ℕ) (xs : List (ℕ × ℕ)) → ((s : ℕ) → times_noted_as q s xs ≤ 1)
+    → ((s t : ℕ) → 0 < times_noted_as q s xs → 0 < times_noted_as q t xs → s ≡ t) → times_noted q xs ≤ 1
 unfolding total
 noted_once q [] one same = omega arith
 noted_once q (x ∷ xs) one same = go (x.0 == q) one same (λ o t. noted_once q xs o t) where
-  here : ((s : ℕ) → if1 (x.1 == s) + times_noted_as q s xs ≤ 1) → ((s t : ℕ) → 0 < if1 (x.1 == s) + times_noted_as q s xs → 0 < if1 (x.1 == t) + times_noted_as q t xs → s ≡ t) → (n : ℕ) → times_noted q xs ≡ n → 1 + n ≤ 1
+  here : ((s : ℕ) → if1 (x.1 == s) + times_noted_as q s xs ≤ 1) →
+      ((s t : ℕ) → 0 < if1 (x.1 == s) + times_noted_as q s xs → 0 < if1 (x.1 == t) + times_noted_as q t xs → s ≡ t)
+      → (n : ℕ) → times_noted q xs ≡ n → 1 + n ≤ 1
   here one same zero e = omega arith
   here one same (suc n) e =
       let r = noted_as q xs (omega arith) in
@@ -93,10 +106,14 @@ noted_once q (x ∷ xs) one same = go (x.0 == q) one same (λ o t. noted_once q 
       let most = one r.0 in
       absurd (omega arith)
 
-  go : (b : Bool) → ((s : ℕ) → if1 (b && (x.1 == s)) + times_noted_as q s xs ≤ 1) → ((s t : ℕ) → 0 < if1 (b && (x.1 == s)) + times_noted_as q s xs → 0 < if1 (b && (x.1 == t)) + times_noted_as q t xs → s ≡ t)
-      → (((s : ℕ) → times_noted_as q s xs ≤ 1) → ((s t : ℕ) → 0 < times_noted_as q s xs → 0 < times_noted_as q t xs → s ≡ t) → times_noted q xs ≤ 1) → if1 b + times_noted q xs ≤ 1
+  go : (b : Bool) → ((s : ℕ) → if1 (b && (x.1 == s)) + times_noted_as q s xs ≤ 1)
+      → ((s t : ℕ) → 0 < if1 (b && (x.1 == s)) + times_noted_as q s xs
+      → 0 < if1 (b && (x.1 == t)) + times_noted_as q t xs → s ≡ t)
+      → (((s : ℕ) → times_noted_as q s xs ≤ 1) → ((s t : ℕ) → 0 < times_noted_as q s xs → 0 < times_noted_as q t xs → s
+      ≡ t) → times_noted q xs ≤ 1) → if1 b + times_noted q xs ≤ 1
   go true one same rest = here one same (times_noted q xs) refl
-  go false one same rest = let k = rest (λ s. let z = one s in omega arith) (λ s t h i. same s t (omega arith) (omega arith)) in omega arith
+  go false one same rest = let k = rest (λ s. let z = one s in omega arith)
+      (λ s t h i. same s t (omega arith) (omega arith)) in omega arith
 
 -- ---- the first of a list
 

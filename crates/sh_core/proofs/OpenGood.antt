@@ -1,5 +1,6 @@
 -- All that holds, holds as the heap opens.
-use Rattle.std.proofs.Common.{◌≡◌, ℕ, zero, suc, ◌+◌, ◌^◌, ◌≤◌, length, refl, subst, arith, Some, None, slice_get, replicate}
+use Rattle.std.proofs.Common.{◌≡◌, ℕ, zero, suc, ◌+◌, ◌^◌, ◌≤◌, length, refl, subst, arith, Some, None, slice_get}
+use Rattle.std.proofs.Common.{replicate}
 use Rattle.std.proofs.lemmas.List.{length-replicate}
 use Rattle.sh_word.specs.Fields.{fields_of}
 use Rattle.sh_step.specs.Plans.{Plan, Lawful}
@@ -33,9 +34,18 @@ good_open plan laws = record {
       let d = none_new (visits plan x) plan.passes refl in
       let e = none_new (lost plan x (fields_of (2 ^ 32))) plan.passes refl in
       record { kinds = omega arith; counts = omega arith; none_lost = e; owed = λ p m n. cc };
-  keys = λ k n h. let g = laws.begins k n h in record { before = λ c. absurd (omega arith); value = λ c d. cc; fresh = λ c d. refl; mark = λ c. refl; later = λ c. (refl, refl) };
-  holds = λ a p h k. let e = part_new plan.passes a p h in let P : Body → Type 0 = λ q. 0 ≡ 0 + times k q.holds in subst P e (omega arith);
+  keys = λ k n h. let g = laws.begins k n h in record {
+    before = λ c. absurd (omega arith);
+    value = λ c d. cc;
+    fresh = λ
+        c d. refl;
+    mark = λ c. refl;
+    later = λ c. (refl, refl);
+  };
+  holds = λ a p h k. let e = part_new plan.passes a p h in let P : Body → Type 0 = λ q. 0 ≡ 0 + times k q.holds
+      in subst P e (omega arith);
   all_holds = λ k. let z = none_new (λ p. times k p.holds) plan.passes refl in omega arith;
-  parts = λ a p h. let e = part_new plan.passes a p h in let P : Body → Type 0 = λ q. (length q.holds ≤ 16) × Rattle.sh_core.specs.Good.FillFine (open_world plan).words q q.hand in subst P e (omega arith, tt);
+  parts = λ a p h. let e = part_new plan.passes a p h in let P : Body → Type 0 = λ q. (length q.holds ≤ 16)
+      × Rattle.sh_core.specs.Good.FillFine (open_world plan).words q q.hand in subst P e (omega arith, tt);
   passes = length-replicate plan.passes newcomer;
 }

@@ -2,7 +2,8 @@
 use Rattle.std.proofs.Common.{◌≡◌, ℕ, ◌+◌, ◌^◌, ◌<◌, ◌≤◌, sym, subst, arith}
 use Rattle.sh_word.specs.Fields.{fields_of}
 use Rattle.sh_step.specs.declared.operation.Operation.{Operation}
-use Rattle.sh_step.specs.declared.operation.Operation.TheVariants.{FetchAdd, FetchSub, FetchOr, Swap, Store, CompareExchange, Load}
+use Rattle.sh_step.specs.declared.operation.Operation.TheVariants.{FetchAdd, FetchSub, FetchOr, Swap, Store}
+use Rattle.sh_step.specs.declared.operation.Operation.TheVariants.{CompareExchange, Load}
 use Rattle.sh_step.specs.Operations.{HasRoom}
 use Rattle.sh_core.specs.Within.{CountFits, CountsLeaveRoom}
 
@@ -25,4 +26,5 @@ fits_room (CompareExchange a b) n h f = tt
 fits_room Load n h f = tt
 
 pub has_room : (o o' : Operation) (n n' : ℕ) → o ≡ o' → n ≡ n' → n < 2 ^ 64 → CountFits o' n' → HasRoom o n
-has_room o o' n n' e f h c = fits_room o n h (let P : Operation → Type 0 = λ x. CountFits x n in subst P (sym e) (let Q : ℕ → Type 0 = λ x. CountFits o' x in subst Q (sym f) c))
+has_room o o' n n' e f h c = fits_room o n h (let P : Operation → Type 0 = λ x. CountFits x n
+    in subst P (sym e) (let Q : ℕ → Type 0 = λ x. CountFits o' x in subst Q (sym f) c))

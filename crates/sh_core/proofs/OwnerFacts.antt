@@ -1,5 +1,6 @@
 -- What a pass owns: one owner a shard, and what it has lies within its shard.
-use Rattle.std.proofs.Common.{◌≡◌, ◌≢◌, ℕ, ◌%◌, ◌<◌, ◌≤◌, ◌==◌, Bool, true, false, refl, sym, ap, ◌∙◌, arith, Option, Some, None, slice_get}
+use Rattle.std.proofs.Common.{◌≡◌, ◌≢◌, ℕ, ◌%◌, ◌<◌, ◌≤◌, ◌==◌, Bool, true, false, refl, sym, ap, ◌∙◌, arith, Option}
+use Rattle.std.proofs.Common.{Some, None, slice_get}
 use Rattle.std.proofs.lemmas.Bool.Decides.{nat_tests}
 use Rattle.sh_slots.specs.declared.hand.Spot.{Spot}
 use Rattle.sh_step.specs.Collections.{total, if1, noted}
@@ -18,7 +19,8 @@ use Rattle.sh_core.specs.Worlds.{World}
 use Rattle.sh_core.proofs.BellKinds.{owned_at}
 use Rattle.sh_core.proofs.ClassSlots.{room_under}
 use Rattle.sh_core.proofs.LinkFacts.{homed}
-use Rattle.sh_core.proofs.ListCounts.{once_only, no_spots, no_numbers, no_notes, none_noted, noted_once, times_noted, first_few, first_one, first_times}
+use Rattle.sh_core.proofs.ListCounts.{once_only, no_spots, no_numbers, no_notes, none_noted, noted_once, times_noted}
+use Rattle.sh_core.proofs.ListCounts.{first_few, first_one, first_times}
 use Rattle.sh_core.proofs.PlacesWithin.{noted_at}
 use Rattle.sh_core.proofs.RestSteps.{alone_armed}
 use Rattle.sh_core.proofs.SlotGood.{room_few}
@@ -41,7 +43,8 @@ owns_is n p some = go p.owned refl some where
 -- ---- one owner a shard
 
 module _ (plan : Plan) (w : World) (l : PutLists) (all : All plan w l) where
-  alone : (a b : ℕ) (p r : Body) (n : ℕ) → slice_get w.parts a ≡ Some p → slice_get w.parts b ≡ Some r → p.owned ≡ Some n → r.owned ≡ Some n → a ≡ b
+  alone : (a b : ℕ) (p r : Body) (n : ℕ) → slice_get w.parts a ≡ Some p → slice_get w.parts b ≡ Some r → p.owned
+      ≡ Some n → r.owned ≡ Some n → a ≡ b
   alone a b p r n at at' mine mine' = go (a == b) refl where
     go : (c : Bool) → (a == b) ≡ c → a ≡ b
     go true e = grind (arith, nat_tests)
@@ -57,7 +60,8 @@ module _ (plan : Plan) (w : World) (l : PutLists) (all : All plan w l) where
   pub one_owner : OneOwner w
   one_owner = record {
     word = λ n. (all.rest.owned n).1;
-    owned = λ n is. let count = (all.rest.owned n).0 in let u = some_part (owns n) w.parts (omega arith) in (u.0, u.1, u.2, owns_is n u.1 u.3);
+    owned = λ n is. let count = (all.rest.owned n).0 in let u = some_part (owns n) w.parts (omega arith)
+        in (u.0, u.1, u.2, owns_is n u.1 u.3);
     owner = λ a p n at mine.
         let one = owns_here n p mine in
         let t = total_at (owns n) w.parts a p at in
@@ -78,29 +82,37 @@ module _ (plan : Plan) (w : World) (l : PutLists) (all : All plan w l) where
 
 -- ---- what one pass has
 
-module _ (plan : Plan) (w : World) (l : PutLists) (laws : Lawful plan) (all : All plan w l) (know : AllKnow plan w) (within : AllWithin plan w) (a : ℕ) (p : Body) (at : slice_get w.parts a ≡ Some p) where
+module _ (plan : Plan) (w : World) (l : PutLists) (laws : Lawful plan) (all : All plan w l) (know : AllKnow plan w)
+    (within : AllWithin plan w) (a : ℕ) (p : Body) (at : slice_get w.parts a ≡ Some p) where
   -- what is not zero is not that of another's page
   own_or : (b : Bool) (n : ℕ) → 0 < n → (b ≡ false → n ≡ 0) → b ≡ true
   own_or true n some h = refl
   own_or false n some h = let z = h refl in absurd (omega arith)
 
   -- a slot that has room is one of a page of the heap
-  placed : (x : Spot) → 0 < room w.words x → (x.page < heap_pages plan) × (x.slot < slots_under (w.words.class_at x.page))
+  placed : (x : Spot) → 0 < room w.words x → (x.page < heap_pages plan)
+      × (x.slot < slots_under (w.words.class_at x.page))
   placed x some = let r = room_under w.words x some in let c = all.sound.classes x.page in (c.1 r.0, r.1)
 
-  own_mine : (x : Spot) → 0 < mine_at x p → (mine_at x p ≡ 1) × (own plan p x.page ≡ true) × (x.page < heap_pages plan) × (x.slot < slots_under (w.words.class_at x.page))
+  own_mine : (x : Spot) → 0 < mine_at x p → (mine_at x p ≡ 1) × (own plan p x.page ≡ true) × (x.page < heap_pages plan)
+      × (x.slot < slots_under (w.words.class_at x.page))
   own_mine x some =
       let t = total_at (mine_at x) w.parts a p at in
       let fine = all.good.slots x in
       let few = room_few w.words x in
-      let there = placed x (omega arith) in
-      (omega arith, own_or (own plan p x.page) (mine_at x p) some (λ e. (all.rest.homed a p at).mines x e), there.0, there.1)
+      let there = placed x (omega arith) in (
+        omega arith,
+        own_or (own plan p x.page) (mine_at x p) some (λ e. (all.rest.homed a p at).mines x e),
+        there.0,
+        there.1,
+      )
 
   -- a cursor is at the first of the chain
   first : (q s : ℕ) → cursor_at q s p ≤ first_is (l.chain q) s
   first q s = let t = total_at (cursor_at q s) w.parts a p at in let c = all.rest.stacks.cursors q s in omega arith
 
-  own_cursor : (q s : ℕ) → noted q p.cursors ≡ Some s → (own plan p q ≡ true) × (q < heap_pages plan) × (s < slots_under (w.words.class_at q)) × (mine_at (spot q s) p ≡ 0)
+  own_cursor : (q s : ℕ) → noted q p.cursors ≡ Some s → (own plan p q ≡ true) × (q < heap_pages plan)
+      × (s < slots_under (w.words.class_at q)) × (mine_at (spot q s) p ≡ 0)
   own_cursor q s is =
       let here = noted_at q s p.cursors is in
       let f = first q s in
@@ -108,8 +120,13 @@ module _ (plan : Plan) (w : World) (l : PutLists) (laws : Lawful plan) (all : Al
       let fine = all.good.slots (spot q s) in
       let few = room_few w.words (spot q s) in
       let there = placed (spot q s) (omega arith) in
-      let m = total_at (mine_at (spot q s)) w.parts a p at in
-      (own_or (own plan p q) (cursor_at q s p) here (λ e. (all.rest.homed a p at).points q s e), there.0, there.1, omega arith)
+      let m = total_at (mine_at (spot q s)) w.parts a p at in (
+        own_or (own plan p q) (cursor_at q s p) here (λ e. (all.rest.homed a p at).points q s e),
+        there.0,
+        there.1,
+        omega
+            arith,
+      )
 
   one_cursor : (q : ℕ) → noted q (unpoint q p.cursors) ≡ None
   one_cursor q =
@@ -120,13 +137,17 @@ module _ (plan : Plan) (w : World) (l : PutLists) (laws : Lawful plan) (all : Al
 
   -- who owns the shard has armed what is armed there
   armed_here : (q : ℕ) → own plan p q ≡ true → total (armed_at q) w.parts ≡ times q p.armed
-  armed_here q mine = alone_armed plan w.words.class_at w.words.head_at w.words.page_link_at w.words.bell_at w.words.owner_at w.words.link_at w.parts l a p all.rest at q mine
+  armed_here q mine = alone_armed plan w.words.class_at w.words.head_at w.words.page_link_at w.words.bell_at
+      w.words.owner_at w.words.link_at w.parts l a p all.rest at q mine
 
   own_armed : (q : ℕ) → 0 < times q p.armed → (times q p.armed ≡ 1) × (own plan p q ≡ true) × (q < heap_pages plan)
   own_armed q some =
       let t = total_at (armed_at q) w.parts a p at in
-      let few = (all.rest.duty q).1 in
-      (omega arith, own_or (own plan p q) (times q p.armed) some (λ e. (all.rest.homed a p at).arms q e), (within a p at).armed q some)
+      let few = (all.rest.duty q).1 in (
+        omega arith,
+        own_or (own plan p q) (times q p.armed) some (λ e. (all.rest.homed a p at).arms q e),
+        (within a p at).armed q some,
+      )
 
   unarmed : (q : ℕ) → own plan p q ≡ true → times q p.armed ≡ 0 → w.words.head_at q % 2 ≡ 0
   unarmed q mine none = let here = armed_here q mine in let duty = (all.rest.duty q).0 in omega arith
@@ -136,13 +157,16 @@ module _ (plan : Plan) (w : World) (l : PutLists) (laws : Lawful plan) (all : Al
     go : (o : Option ℕ) → p.owned ≡ o → (own plan p q ≡ true) × (q < heap_pages plan) × (times q p.armed ≡ 1)
     go None none = absurd (let z : None ≡ Some q = sym ((all.rest.homed a p at).bell none) ∙ is in cc)
     go (Some n) owned =
-        let here : bell_cursor_at n q p ≡ 1 = owned_at n n p.owned (is_at p.bell_cursor q) owned ∙ rw (page_same n, is, page_same q) refl in
+        let here : bell_cursor_at n q p ≡ 1 = owned_at n n p.owned (is_at p.bell_cursor q) owned
+        ∙ rw (page_same n, is, page_same q) refl in
         let t = total_at (bell_cursor_at n q) w.parts a p at in
         let c = all.rest.bells.cursors n q in
         let f = first_times (l.bell_chain n) q in
         let at_home : home plan q ≡ n = homed plan w l laws all know within n q (omega arith) in
-        let chain : times q (l.bell_chain (home plan q)) ≡ times q (l.bell_chain n) = ap (λ (k : ℕ). times q (l.bell_chain k)) at_home in
-        let mine : own plan p q ≡ true = ap (λ (o : Option ℕ). owned_by plan o q) owned ∙ ap (λ (k : ℕ). n == k) at_home ∙ page_same n in
+        let chain : times q (l.bell_chain (home plan q)) ≡ times q (l.bell_chain n) = ap
+        (λ (k : ℕ). times q (l.bell_chain k)) at_home in
+        let mine : own plan p q ≡ true = ap (λ (o : Option ℕ). owned_by plan o q) owned ∙ ap (λ (k : ℕ). n == k) at_home
+        ∙ page_same n in
         let duty = (all.rest.duty q).0 in
         let armed = armed_here q mine in
         let o = own_armed q (omega arith) in (mine, o.2, o.0)

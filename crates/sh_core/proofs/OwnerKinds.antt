@@ -1,5 +1,6 @@
 -- What is kept of lists, bells, duties and owners, over Adopt, Leave, ReadPage, and a change of a page's class.
-use Rattle.std.proofs.Common.{◌≡◌, ◌≢◌, ℕ, zero, suc, ◌+◌, ◌<◌, ◌≤◌, ◌==◌, ⊎_elim, Bool, true, false, cond, List, [], ◌∷◌, ◌++◌, length, set, sym, refl, ap, ◌∙◌, subst, arith, Option, Some, None, slice_get}
+use Rattle.std.proofs.Common.{◌≡◌, ◌≢◌, ℕ, zero, suc, ◌+◌, ◌<◌, ◌≤◌, ◌==◌, ⊎_elim, Bool, true, false, cond, List, []}
+use Rattle.std.proofs.Common.{◌∷◌, ◌++◌, length, set, sym, refl, ap, ◌∙◌, subst, arith, Option, Some, None, slice_get}
 use Rattle.std.proofs.lemmas.Bool.Decides.{nat_tests}
 use Rattle.sh_slots.specs.declared.hand.Spot.{Spot}
 use Rattle.sh_core.specs.Words.{Words, write, put}
@@ -19,13 +20,20 @@ use Rattle.sh_core.proofs.StackSteps.{put_same, put_other, same_page, page_same,
 use Rattle.sh_core.proofs.RestSteps.{homed_set, rest_frame, other_owner}
 
 -- the owner changes, and with it what it has
-pub rest_owner : (plan : Plan) (w : Words) (ps : List Body) (l : PutLists) (a : ℕ) (p p' : Body) (n m : ℕ) → RestOf plan w ps l → slice_get ps a ≡ Some p → p'.hand ≡ p.hand
-    → ((q s : ℕ) → cursor_at q s p' ≡ cursor_at q s p) → ((k q : ℕ) → bell_cursor_at k q p' ≡ bell_cursor_at k q p) → ((q : ℕ) → armed_at q p' ≡ armed_at q p)
-    → ((k : ℕ) → (put w.owner_at n m k + owns k p ≡ w.owner_at k + owns k p') × (put w.owner_at n m k ≤ 1)) → HomedPart plan w.class_at p' → RestOf plan (write w (Owner n) m) (set ps a p') l
+pub rest_owner : (plan : Plan) (w : Words) (ps : List Body) (l : PutLists) (a : ℕ) (p p' : Body) (n m : ℕ)
+    → RestOf plan w ps l → slice_get ps a ≡ Some p → p'.hand ≡ p.hand
+    → ((q s : ℕ) → cursor_at q s p' ≡ cursor_at q s p) → ((k q : ℕ) → bell_cursor_at k q p' ≡ bell_cursor_at k q p)
+    → ((q : ℕ) → armed_at q p' ≡ armed_at q p)
+    → ((k : ℕ) → (put w.owner_at n m k + owns k p ≡ w.owner_at k + owns k p') × (put w.owner_at n m k ≤ 1))
+    → HomedPart plan w.class_at p' → RestOf plan (write w (Owner n) m) (set ps a p') l
 rest_owner plan w ps l a p p' n m r at same cs bs arms own mine = record {
-  stacks = chains_same _ _ _ _ _ _ _ _ _ _ _ _ _ _ r.stacks (λ q. refl) (λ q s. refl) (λ q s. total_same (tying (spot q s)) ps a p p' at (rw same refl)) (λ q s. total_same (ties_of (spot q s)) ps a p p' at (rw same refl))
+  stacks = chains_same _ _ _ _ _ _ _ _ _ _ _ _ _ _ r.stacks (λ q. refl) (λ q s. refl)
+      (λ q s. total_same (tying (spot q s)) ps a p p' at (rw same refl))
+      (λ q s. total_same (ties_of (spot q s)) ps a p p' at (rw same refl))
       (λ q s. total_same (cursor_at q s) ps a p p' at (cs q s)) (λ q. refl) (λ q. refl);
-  bells = chains_same _ _ _ _ _ _ _ _ _ _ _ _ _ _ r.bells (λ q. refl) (λ q s. refl) (λ q s. total_same (ring_tying plan q s) ps a p p' at (rw same refl)) (λ q s. total_same (ring_ties plan q s) ps a p p' at (rw same refl))
+  bells = chains_same _ _ _ _ _ _ _ _ _ _ _ _ _ _ r.bells (λ q. refl) (λ q s. refl)
+      (λ q s. total_same (ring_tying plan q s) ps a p p' at (rw same refl))
+      (λ q s. total_same (ring_ties plan q s) ps a p p' at (rw same refl))
       (λ q s. total_same (bell_cursor_at q s) ps a p p' at (bs q s)) (λ q. refl) (λ q. refl);
   duty = λ q.
       let x = total_same (armed_at q) ps a p p' at (arms q) in
@@ -33,7 +41,8 @@ rest_owner plan w ps l a p p' n m r at same cs bs arms own mine = record {
       let d = r.duty q in
       let d0 = d.0 in
       let d1 = d.1 in (omega arith, omega arith);
-  owned = λ k. let x = total_set (owns k) ps a p p' at in let d = r.owned k in let d0 = d.0 in let o = own k in let o0 = o.0 in let o1 = o.1 in (omega arith, o1);
+  owned = λ k. let x = total_set (owns k) ps a p p' at in let d = r.owned k in let d0 = d.0 in let o = own k
+      in let o0 = o.0 in let o1 = o.1 in (omega arith, o1);
   homed = homed_set plan w.class_at ps a p' r.homed mine;
 }
 
@@ -44,7 +53,8 @@ adopted p n = record p { owned = Some n; classes = []; mine = []; cursors = []; 
 pub none_owned : (plan : Plan) (o : Option ℕ) (q : ℕ) → o ≡ None → owned_by plan o q ≡ false
 none_owned plan o q e = rw e refl
 
-bell_none : (k q : ℕ) (o b : Option ℕ) → b ≡ None → (elim o as (λ _. ℕ) [ Some n ↦ cond (n == k) (is_at b q) 0 | None ↦ 0 ]) ≡ 0
+bell_none : (k q : ℕ) (o b : Option ℕ) → b ≡ None → (elim o as (λ _. ℕ)
+    [ Some n ↦ cond (n == k) (is_at b q) 0 | None ↦ 0 ]) ≡ 0
 bell_none k q (Some n) b e = rw e (go (n == k)) where
   go : (c : Bool) → cond {A = ℕ} c 0 0 ≡ 0
   go true = refl
@@ -54,14 +64,26 @@ bell_none k q None b e = refl
 pub owns_nobody : (k : ℕ) (o : Option ℕ) → o ≡ None → (elim o as (λ _. ℕ) [ Some n ↦ if1 (n == k) | None ↦ 0 ]) ≡ 0
 owns_nobody k o e = rw e refl
 
-pub adopt_rest : (plan : Plan) (w : Words) (ps : List Body) (l : PutLists) (a : ℕ) (p : Body) (n : ℕ) → RestOf plan w ps l → slice_get ps a ≡ Some p → p.owned ≡ None → w.owner_at n ≡ 0 → RestOf plan (write w (Owner n) 1) (set ps a (adopted p n)) l
+pub adopt_rest : (plan : Plan) (w : Words) (ps : List Body) (l : PutLists) (a : ℕ) (p : Body) (n : ℕ)
+    → RestOf plan w ps l → slice_get ps a ≡ Some p → p.owned ≡ None → w.owner_at n ≡ 0
+    → RestOf plan (write w (Owner n) 1) (set ps a (adopted p n)) l
 unfolding total noted
 adopt_rest plan w ps l a p n r at none free =
     let o = r.homed a p at in
-    rest_owner plan w ps l a p (adopted p n) n 1 r at refl (λ q s. sym (o.points q s (none_owned plan p.owned q none))) (λ k q. bell_none k q (Some n) None refl ∙ sym (bell_none k q p.owned p.bell_cursor (o.bell none))) (λ q. sym (o.arms q (none_owned plan p.owned q none)))
+    rest_owner plan w ps l a p (adopted p n) n 1 r at refl (λ q s. sym (o.points q s (none_owned plan p.owned q none)))
+    (λ k q. bell_none k q (Some n) None refl ∙ sym (bell_none k q p.owned p.bell_cursor (o.bell none)))
+    (λ q. sym (o.arms q (none_owned plan p.owned q none)))
     (λ k. let z = owns_nobody k p.owned none in let d = r.owned k in let d1 = d.1 in go k z d1 (k == n) refl)
-    (record { mines = λ x e. refl; points = λ q s e. refl; arms = λ q e. refl; bell = λ e. refl; notes = λ q c e h. absurd (let z : None ≡ Some c = h in cc) }) where
-      go : (k : ℕ) → owns k p ≡ 0 → w.owner_at k ≤ 1 → (b : Bool) → (k == n) ≡ b → (put w.owner_at n 1 k + owns k p ≡ w.owner_at k + if1 (n == k)) × (put w.owner_at n 1 k ≤ 1)
+    (record {
+      mines = λ x e. refl;
+      points = λ q s e. refl;
+      arms = λ q e. refl;
+      bell = λ e. refl;
+      notes = λ q c e h.
+          absurd (let z : None ≡ Some c = h in cc);
+    }) where
+      go : (k : ℕ) → owns k p ≡ 0 → w.owner_at k ≤ 1 → (b : Bool) → (k == n) ≡ b
+          → (put w.owner_at n 1 k + owns k p ≡ w.owner_at k + if1 (n == k)) × (put w.owner_at n 1 k ≤ 1)
       go k z d true e =
           let i = same_page k n e in
           let x : put w.owner_at n 1 k ≡ 1 = rw i (put_same w.owner_at n 1) in
@@ -78,20 +100,32 @@ nil_of : {A : Type 0} (xs : List A) → (length xs == 0) ≡ true → xs ≡ []
 nil_of [] h = refl
 nil_of (x ∷ xs) h = absurd (let z : suc (length xs) ≡ 0 = grind (arith, nat_tests) in omega arith)
 
-pub leave_rest : (plan : Plan) (w : Words) (ps : List Body) (l : PutLists) (a : ℕ) (p : Body) (n : ℕ) → RestOf plan w ps l → slice_get ps a ≡ Some p → p.owned ≡ Some n → (length p.mine == 0) ≡ true → (length p.cursors == 0) ≡ true → (length p.armed == 0) ≡ true → p.bell_cursor ≡ None
+pub leave_rest : (plan : Plan) (w : Words) (ps : List Body) (l : PutLists) (a : ℕ) (p : Body) (n : ℕ)
+    → RestOf plan w ps l → slice_get ps a ≡ Some p → p.owned ≡ Some n → (length p.mine == 0) ≡ true
+    → (length p.cursors == 0) ≡ true → (length p.armed == 0) ≡ true → p.bell_cursor ≡ None
     → RestOf plan (write w (Owner n) 0) (set ps a (left p)) l
 unfolding total
 leave_rest plan w ps l a p n r at mine no_mine no_cursors no_armed no_bell =
     let e1 = nil_of p.mine no_mine in
     let e2 = nil_of p.cursors no_cursors in
     let e3 = nil_of p.armed no_armed in
-    rest_owner plan w ps l a p (left p) n 0 r at refl (λ q s. refl) (λ k q. sym (bell_none k q p.owned p.bell_cursor no_bell)) (λ q. refl)
-    (λ k. let d = r.owned k in let d0 = d.0 in let d1 = d.1 in let t = total_at (owns k) ps a p at in go k d1 (owns_is k p.owned mine) (omega arith) (k == n) refl)
-    (record { mines = λ x e. rw e1 refl; points = λ q s e. rw e2 refl; arms = λ q e. rw e3 refl; bell = λ e. no_bell; notes = λ q c e h. absurd (let z : false ≡ true = e in cc) }) where
-      owns_is : (k : ℕ) (o : Option ℕ) → o ≡ Some n → (elim o as (λ _. ℕ) [ Some m ↦ if1 (m == k) | None ↦ 0 ]) ≡ if1 (n == k)
+    rest_owner plan w ps l a p (left p) n 0 r at refl (λ q s. refl)
+    (λ k q. sym (bell_none k q p.owned p.bell_cursor no_bell)) (λ q. refl)
+    (λ k. let d = r.owned k in let d0 = d.0 in let d1 = d.1 in let t = total_at (owns k) ps a p at
+    in go k d1 (owns_is k p.owned mine) (omega arith) (k == n) refl)
+    (record {
+      mines = λ x e. rw e1 refl;
+      points = λ q s e. rw e2 refl;
+      arms = λ q e. rw e3 refl;
+      bell = λ e. no_bell;
+      notes = λ q c e h. absurd (let z : false ≡ true = e in cc);
+    }) where
+      owns_is : (k : ℕ) (o : Option ℕ) → o ≡ Some n → (elim o as (λ _. ℕ) [ Some m ↦ if1 (m == k) | None ↦ 0 ])
+          ≡ if1 (n == k)
       owns_is k o e = rw e refl
 
-      go : (k : ℕ) → w.owner_at k ≤ 1 → owns k p ≡ if1 (n == k) → owns k p ≤ w.owner_at k → (b : Bool) → (k == n) ≡ b → (put w.owner_at n 0 k + owns k p ≡ w.owner_at k + 0) × (put w.owner_at n 0 k ≤ 1)
+      go : (k : ℕ) → w.owner_at k ≤ 1 → owns k p ≡ if1 (n == k) → owns k p ≤ w.owner_at k → (b : Bool) → (k == n) ≡ b
+          → (put w.owner_at n 0 k + owns k p ≡ w.owner_at k + 0) × (put w.owner_at n 0 k ≤ 1)
       go k d z m true e =
           let i = same_page k n e in
           let x : put w.owner_at n 0 k ≡ 0 = rw i (put_same w.owner_at n 0) in
@@ -101,27 +135,44 @@ leave_rest plan w ps l a p n r at mine no_mine no_cursors no_armed no_bell =
           let v : if1 (n == k) ≡ 0 = rw (eq_sym n k, e) refl in (omega arith, omega arith)
 
 -- Adopt that finds the shard taken
-pub taken_rest_owner : (plan : Plan) (w : Words) (ps : List Body) (l : PutLists) (a : ℕ) (p : Body) (n : ℕ) → RestOf plan w ps l → slice_get ps a ≡ Some p → (w.owner_at n == 0) ≡ false → RestOf plan (write w (Owner n) 1) (set ps a p) l
-taken_rest_owner plan w ps l a p n r at some = rest_owner plan w ps l a p p n 1 r at refl (λ q s. refl) (λ k q. refl) (λ q. refl) (λ k. let d = r.owned k in let d1 = d.1 in go k d1 (k == n) refl) (r.homed a p at) where
-  go : (k : ℕ) → w.owner_at k ≤ 1 → (b : Bool) → (k == n) ≡ b → (put w.owner_at n 1 k + owns k p ≡ w.owner_at k + owns k p) × (put w.owner_at n 1 k ≤ 1)
-  go k d true e =
-      let i = same_page k n e in
-      let x : put w.owner_at n 1 k ≡ 1 = rw i (put_same w.owner_at n 1) in
-      let f : (w.owner_at k == 0) ≡ false = rw i some in
-      let y : 0 < w.owner_at k = grind (arith, nat_tests) in (omega arith, omega arith)
-  go k d false e = let x = put_other w.owner_at n k 1 e in (omega arith, omega arith)
+pub taken_rest_owner : (plan : Plan) (w : Words) (ps : List Body) (l : PutLists) (a : ℕ) (p : Body) (n : ℕ)
+    → RestOf plan w ps l → slice_get ps a ≡ Some p → (w.owner_at n == 0) ≡ false
+    → RestOf plan (write w (Owner n) 1) (set ps a p) l
+taken_rest_owner plan w ps l a p n r at some = rest_owner plan w ps l a p p n 1 r at refl (λ q s. refl) (λ k q. refl)
+    (λ q. refl) (λ k. let d = r.owned k in let d1 = d.1 in go k d1 (k == n) refl) (r.homed a p at) where
+      go : (k : ℕ) → w.owner_at k ≤ 1 → (b : Bool) → (k == n) ≡ b →
+          (put w.owner_at n 1 k + owns k p ≡ w.owner_at k + owns k p) × (put w.owner_at n 1 k ≤ 1)
+      go k d true e =
+          let i = same_page k n e in
+          let x : put w.owner_at n 1 k ≡ 1 = rw i (put_same w.owner_at n 1) in
+          let f : (w.owner_at k == 0) ≡ false = rw i some in
+          let y : 0 < w.owner_at k = grind (arith, nat_tests) in (omega arith, omega arith)
+      go k d false e = let x = put_other w.owner_at n k 1 e in (omega arith, omega arith)
 
 -- ReadPage notes the class that stands
-pub read_page_rest : (plan : Plan) (w : Words) (ps : List Body) (l : PutLists) (a : ℕ) (p : Body) (q : ℕ) → RestOf plan w ps l → slice_get ps a ≡ Some p → q < heap_pages plan → RestOf plan w (set ps a (record p { classes = (q, w.class_at q) ∷ p.classes })) l
+pub read_page_rest : (plan : Plan) (w : Words) (ps : List Body) (l : PutLists) (a : ℕ) (p : Body) (q : ℕ)
+    → RestOf plan w ps l → slice_get ps a ≡ Some p → q < heap_pages plan
+    → RestOf plan w (set ps a (record p { classes = (q, w.class_at q) ∷ p.classes })) l
 unfolding noted
 read_page_rest plan w ps l a p q r at small =
     let o = r.homed a p at in
-    rest_frame plan _ _ _ _ _ _ ps l a p (record p { classes = (q, w.class_at q) ∷ p.classes }) r at refl (record { mines = o.mines; points = o.points; arms = o.arms; bell = o.bell; notes = λ k c e h. go k c e (q == k) refl h }) where
-      go : (k c : ℕ) → own plan p k ≡ true → (b : Bool) → (q == k) ≡ b → cond b (Some (w.class_at q)) (noted k p.classes) ≡ Some c → (w.class_at k ≡ c) × (k < heap_pages plan)
-      go k c e true f h = let i = same_page q k f in let z : w.class_at q ≡ c = cc in (ap w.class_at (sym i) ∙ z, omega arith)
+    rest_frame plan _ _ _ _ _ _ ps l a p (record p { classes = (q, w.class_at q) ∷ p.classes }) r at refl
+    (record {
+      mines = o.mines;
+      points = o.points;
+      arms = o.arms;
+      bell = o.bell;
+      notes = λ k c e h. go k c e (q == k)
+          refl h;
+    }) where
+      go : (k c : ℕ) → own plan p k ≡ true → (b : Bool) → (q == k) ≡ b
+          → cond b (Some (w.class_at q)) (noted k p.classes) ≡ Some c → (w.class_at k ≡ c) × (k < heap_pages plan)
+      go k c e true f h = let i = same_page q k f in let z : w.class_at q ≡ c = cc
+          in (ap w.class_at (sym i) ∙ z, omega arith)
       go k c e false f h = (r.homed a p at).notes k c e h
 
-pub times_drop : (x : Spot) (q : ℕ) (xs : List Spot) → total (λ y. if1 (same_spot x y)) (off (λ y. y.page == q) xs) ≡ cond (x.page == q) 0 (total (λ y. if1 (same_spot x y)) xs)
+pub times_drop : (x : Spot) (q : ℕ) (xs : List Spot) → total (λ y. if1 (same_spot x y)) (off (λ y. y.page == q) xs)
+    ≡ cond (x.page == q) 0 (total (λ y. if1 (same_spot x y)) xs)
 unfolding total off
 times_drop x q [] = go (x.page == q) where
   go : (b : Bool) → 0 ≡ cond {A = ℕ} b 0 0
@@ -132,29 +183,44 @@ times_drop x q (y ∷ ys) = go (y.page == q) (x.page == q) refl refl (times_drop
   apart a b = let i = same_page y.page q b in let z : (x.page == y.page) ≡ false = rw i a in rw z refl
 
   apart2 : (x.page == q) ≡ true → (y.page == q) ≡ false → same_spot x y ≡ false
-  apart2 a b = let i = same_page x.page q a in let z : (x.page == y.page) ≡ false = rw (eq_sym x.page y.page, i) b in rw z refl
+  apart2 a b = let i = same_page x.page q a in let z : (x.page == y.page) ≡ false = rw (eq_sym x.page y.page, i) b
+      in rw z refl
 
-  go : (b c : Bool) → (y.page == q) ≡ b → (x.page == q) ≡ c → total (λ y. if1 (same_spot x y)) (off (λ y. y.page == q) ys) ≡ cond c 0 (total (λ y. if1 (same_spot x y)) ys) → total (λ y. if1 (same_spot x y)) (cond b (off (λ y. y.page == q) ys) (y ∷ off (λ y. y.page == q) ys)) ≡ cond c 0 (if1 (same_spot x y) + total (λ y. if1 (same_spot x y)) ys)
+  go : (b c : Bool) → (y.page == q) ≡ b → (x.page == q) ≡ c → total (λ y. if1 (same_spot x y))
+      (off (λ y. y.page == q) ys) ≡ cond c 0 (total (λ y. if1 (same_spot x y)) ys)
+      → total (λ y. if1 (same_spot x y)) (cond b (off (λ y. y.page == q) ys) (y ∷ off (λ y. y.page == q) ys))
+      ≡ cond c 0 (if1 (same_spot x y) + total (λ y. if1 (same_spot x y)) ys)
   go true true e f h = h
   go true false e f h = let z : if1 (same_spot x y) ≡ 0 = rw (apart f e) refl in omega arith
   go false true e f h = let z : if1 (same_spot x y) ≡ 0 = rw (apart2 f e) refl in omega arith
   go false false e f h = omega arith
 
 abbrev pub classed : Body → ℕ → ℕ → Body
-classed p q c = record p { classes = (q, c + 1) ∷ p.classes; mine = spots q 0 (slots c) ++ off (λ x. x.page == q) p.mine }
+classed p q c = record p {
+  classes = (q, c + 1) ∷ p.classes;
+  mine = spots q 0 (slots c)
+      ++ off (λ x. x.page == q) p.mine;
+}
 
 pub spots_else : (x : Spot) (q s n : ℕ) → (x.page == q) ≡ false → total (λ y. if1 (same_spot x y)) (spots q s n) ≡ 0
 unfolding total spots
 spots_else x q s zero h = refl
-spots_else x q s (suc n) h = let r = spots_else x q (s + 1) n h in let z : if1 (same_spot x (record { page = q; slot = s })) ≡ 0 = rw h refl in omega arith
+spots_else x q s (suc n) h = let r = spots_else x q (s + 1) n h in let z : if1
+    (same_spot x (record { page = q; slot = s })) ≡ 0 = rw h refl in omega arith
 
-pub set_class_rest : (plan : Plan) (w : Words) (ps : List Body) (l : PutLists) (a : ℕ) (p : Body) (q c : ℕ) → RestOf plan w ps l → slice_get ps a ≡ Some p → own plan p q ≡ true → q < heap_pages plan → RestOf plan (write w (Class q) (c + 1)) (set ps a (classed p q c)) l
+pub set_class_rest : (plan : Plan) (w : Words) (ps : List Body) (l : PutLists) (a : ℕ) (p : Body) (q c : ℕ)
+    → RestOf plan w ps l → slice_get ps a ≡ Some p → own plan p q ≡ true → q < heap_pages plan
+    → RestOf plan (write w (Class q) (c + 1)) (set ps a (classed p q c)) l
 unfolding total noted
 set_class_rest plan w ps l a p q c r at mine small =
     record {
-      stacks = chains_same _ _ _ _ _ _ _ _ _ _ _ _ _ _ r.stacks (λ q. refl) (λ q s. refl) (λ q s. total_same (tying (spot q s)) ps a p p' at refl) (λ q s. total_same (ties_of (spot q s)) ps a p p' at refl)
+      stacks = chains_same _ _ _ _ _ _ _ _ _ _ _ _ _ _ r.stacks (λ q. refl) (λ q s. refl)
+          (λ q s. total_same (tying (spot q s)) ps a p p' at refl)
+          (λ q s. total_same (ties_of (spot q s)) ps a p p' at refl)
           (λ q s. total_same (cursor_at q s) ps a p p' at refl) (λ q. refl) (λ q. refl);
-      bells = chains_same _ _ _ _ _ _ _ _ _ _ _ _ _ _ r.bells (λ q. refl) (λ q s. refl) (λ q s. total_same (ring_tying plan q s) ps a p p' at refl) (λ q s. total_same (ring_ties plan q s) ps a p p' at refl)
+      bells = chains_same _ _ _ _ _ _ _ _ _ _ _ _ _ _ r.bells (λ q. refl) (λ q s. refl)
+          (λ q s. total_same (ring_tying plan q s) ps a p p' at refl)
+          (λ q s. total_same (ring_ties plan q s) ps a p p' at refl)
           (λ q s. total_same (bell_cursor_at q s) ps a p p' at refl) (λ q. refl) (λ q. refl);
       duty = λ q.
           let x = total_same (armed_at q) ps a p p' at refl in
@@ -163,7 +229,8 @@ set_class_rest plan w ps l a p q c r at mine small =
           let d0 = d.0 in
           let d1 = d.1 in (omega arith, omega arith);
       owned = λ n. let x = total_same (owns n) ps a p p' at refl in let d = r.owned n in (d.0 ∙ sym x, d.1);
-      homed = λ b u h. ⊎_elim (λ e. let P : Body → Type 0 = λ v. HomedPart plan (put w.class_at q (c + 1)) v in subst P e.1 here) (λ e. others b u e.0 e.1) (get_set ps a b p' u h);
+      homed = λ b u h. ⊎_elim (λ e. let P : Body → Type 0 = λ v. HomedPart plan (put w.class_at q (c + 1)) v
+          in subst P e.1 here) (λ e. others b u e.0 e.1) (get_set ps a b p' u h);
     } where
       p' : Body
       p' = classed p q c
@@ -174,24 +241,37 @@ set_class_rest plan w ps l a p q c r at mine small =
       here : HomedPart plan (put w.class_at q (c + 1)) p'
       here = record {
         mines = λ x e.
-            let k : (x.page == q) ≡ false = eq_sym x.page q ∙ Rattle.sh_core.proofs.StackKinds.apart_pages plan p.owned q x.page mine e in
-            let m : total (λ y. if1 (same_spot x y)) (off (λ y. y.page == q) p.mine) ≡ total (λ y. if1 (same_spot x y)) p.mine = times_drop x q p.mine ∙ ap (λ (b : Bool). cond b 0 (total (λ y. if1 (same_spot x y)) p.mine)) k in
+            let k : (x.page == q) ≡ false = eq_sym x.page q ∙ Rattle.sh_core.proofs.StackKinds.apart_pages plan p.owned
+            q x.page mine e in
+            let m : total (λ y. if1 (same_spot x y)) (off (λ y. y.page == q) p.mine)
+            ≡ total (λ y. if1 (same_spot x y)) p.mine = times_drop x q p.mine
+            ∙ ap (λ (b : Bool). cond b 0 (total (λ y. if1 (same_spot x y)) p.mine)) k in
             let z = o.mines x e in
             let s = spots_else x q 0 (slots c) k in
-            let t = total_append (λ y. if1 (same_spot x y)) (spots q 0 (slots c)) (off (λ y. y.page == q) p.mine) in omega arith;
+            let t = total_append (λ y. if1 (same_spot x y)) (spots q 0 (slots c)) (off (λ y. y.page == q) p.mine)
+            in omega arith;
         points = o.points;
         arms = o.arms;
         bell = o.bell;
         notes = λ k d e h. go k d e (q == k) refl h;
       } where
-        go : (k d : ℕ) → own plan p k ≡ true → (b : Bool) → (q == k) ≡ b → cond b (Some (c + 1)) (noted k p.classes) ≡ Some d → (put w.class_at q (c + 1) k ≡ d) × (k < heap_pages plan)
-        go k d e true f h = let i = same_page q k f in let z : c + 1 ≡ d = cc in (rw (← i) (put_same w.class_at q (c + 1)) ∙ z, omega arith)
+        go : (k d : ℕ) → own plan p k ≡ true → (b : Bool) → (q == k) ≡ b → cond b (Some (c + 1)) (noted k p.classes)
+            ≡ Some d → (put w.class_at q (c + 1) k ≡ d) × (k < heap_pages plan)
+        go k d e true f h = let i = same_page q k f in let z : c + 1 ≡ d = cc
+            in (rw (← i) (put_same w.class_at q (c + 1)) ∙ z, omega arith)
         go k d e false f h = let n = o.notes k d e h in (put_other w.class_at q k (c + 1) (eq_sym k q ∙ f) ∙ n.0, n.1)
 
       others : (b : ℕ) (u : Body) → b ≢ a → slice_get ps b ≡ Some u → HomedPart plan (put w.class_at q (c + 1)) u
       others b u n h =
           let v = r.homed b u h in
           let lone = other_owner plan _ _ _ _ _ _ ps l a p r at b q u n h mine in
-          record { mines = v.mines; points = v.points; arms = v.arms; bell = v.bell; notes = λ k d e m. let t = v.notes k d e m in (put_other w.class_at q k (c + 1) (eq_sym k q ∙ away k u e lone) ∙ t.0, t.1) } where
+          record {
+            mines = v.mines;
+            points = v.points;
+            arms = v.arms;
+            bell = v.bell;
+            notes = λ k d e m. let t = v.notes
+                k d e m in (put_other w.class_at q k (c + 1) (eq_sym k q ∙ away k u e lone) ∙ t.0, t.1);
+          } where
             away : (k : ℕ) (u : Body) → own plan u k ≡ true → own plan u q ≡ false → (q == k) ≡ false
             away k u e lone = eq_sym q k ∙ Rattle.sh_core.proofs.StackKinds.apart_pages plan u.owned k q e lone

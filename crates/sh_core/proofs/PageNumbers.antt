@@ -17,7 +17,8 @@ over_local plan q =
 pub over_next : (plan : Plan) (n m : ℕ) → over_heap plan n 2 (m + 1) ≡ over_heap plan n 1 m + 1
 unfolding over_heap
 over_next plan n m = go (nat_lt m 1) refl where
-  go : (b : Bool) → nat_lt m 1 ≡ b → cond (nat_lt (m + 1) 2) (m + 1) (page_number plan n (m + 1 - 2) + 2) ≡ cond b m (page_number plan n (m - 1) + 1) + 1
+  go : (b : Bool) → nat_lt m 1 ≡ b → cond (nat_lt (m + 1) 2) (m + 1) (page_number plan n (m + 1 - 2) + 2)
+      ≡ cond b m (page_number plan n (m - 1) + 1) + 1
   go true e = let f : nat_lt (m + 1) 2 ≡ true = grind (arith, nat_tests) in rw f refl
   go false e =
       let f : nat_lt (m + 1) 2 ≡ false = grind (arith, nat_tests) in

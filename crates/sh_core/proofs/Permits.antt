@@ -1,21 +1,26 @@
 -- What allows an entry, counted in sums, and that the history then stays legal.
-use Rattle.std.proofs.Common.{◌≡◌, ℕ, ◌+◌, ◌<◌, ◌==◌, ◌||◌, ◌⊎◌, inl, inr, Bool, true, false, cond, List, [], ◌∷◌, ◌++◌, length, sym, refl, ap, ◌∙◌, subst, arith, Option, Some, None, append_assoc}
+use Rattle.std.proofs.Common.{◌≡◌, ℕ, ◌+◌, ◌<◌, ◌==◌, ◌||◌, ◌⊎◌, inl, inr, Bool, true, false, cond, List, [], ◌∷◌, ◌++◌}
+use Rattle.std.proofs.Common.{length, sym, refl, ap, ◌∙◌, subst, arith, Option, Some, None, append_assoc}
 use Rattle.std.specs.Prelude.{IsSome, count_by}
 use Rattle.std.proofs.lemmas.List.{append-nil}
 use Rattle.sh_history.specs.declared.entry.Entry.{Entry}
 use Rattle.sh_history.specs.declared.entry.Entry.TheVariants.{Insert, Got, Gone, Crowded, Removed, Released}
-use Rattle.sh_history.specs.History.{value_of, is_removed, is_removal_of, is_got_of, is_release_of, is_got_by, is_release_by, got_count, released_count, got_count_by, released_count_by, Allowed as IsAllowed, LegalAfter}
+use Rattle.sh_history.specs.History.{value_of, is_removed, is_removal_of, is_got_of, is_release_of, is_got_by}
+use Rattle.sh_history.specs.History.{is_release_by, got_count, released_count, got_count_by, released_count_by}
+use Rattle.sh_history.specs.History.{Allowed as IsAllowed, LegalAfter}
 use Rattle.sh_history.proofs.LogLaws.{count_by-cons}
 use Rattle.sh_step.specs.Collections.{total, if1}
 use Rattle.sh_step.specs.Plans.{Plan}
-use Rattle.sh_core.specs.Stories.{values, removed_in, got_in, released_in, removals, gots, releases, got_by, released_by, gots_by, releases_by}
+use Rattle.sh_core.specs.Stories.{values, removed_in, got_in, released_in, removals, gots, releases, got_by}
+use Rattle.sh_core.specs.Stories.{released_by, gots_by, releases_by}
 
 -- what allows an entry
 abbrev pub Permits : Plan → List Entry → Entry → Type 0
 Permits plan F (Insert a k v) = values k F ≡ []
 Permits plan F (Got a k v) = (values k F ≡ v ∷ []) × (removals k F ≡ 0)
 Permits plan F (Gone a k) = (values k F ≡ []) ⊎ (0 < removals k F)
-Permits plan F (Crowded a k) = (0 < length (values k F)) × (removals k F ≡ 0) × (plan.keys.guard_max + releases k F < gots k F + plan.passes)
+Permits plan F (Crowded a k) = (0 < length (values k F)) × (removals k F ≡ 0)
+    × (plan.keys.guard_max + releases k F < gots k F + plan.passes)
 Permits plan F (Removed a k) = (0 < length (values k F)) × (removals k F ≡ 0)
 Permits plan F (Released a k) = releases_by a k F < gots_by a k F
 
@@ -29,7 +34,8 @@ pub value_first : (k : ℕ) (es : List Entry) → value_of es k ≡ first (value
 unfolding values first
 value_first k [] = refl
 value_first k (Insert a j v ∷ es) = go (j == k) (value_first k es) where
-  go : (b : Bool) → value_of es k ≡ first (values k es) → cond b (Some v) (value_of es k) ≡ first (cond b (v ∷ values k es) (values k es))
+  go : (b : Bool) → value_of es k ≡ first (values k es) → cond b (Some v) (value_of es k)
+      ≡ first (cond b (v ∷ values k es) (values k es))
   go true rest = refl
   go false rest = rest
 value_first k (Got a j v ∷ es) = value_first k es
@@ -61,18 +67,23 @@ removal_is k (Crowded a j) = refl
 removal_is k (Removed a j) = refl
 removal_is k (Released a j) = refl
 
-pub removed_by : (k : ℕ) (es : List Entry) → (removals k es ≡ 0 → is_removed es k ≡ false) × (0 < removals k es → is_removed es k ≡ true)
+pub removed_by : (k : ℕ) (es : List Entry) → (removals k es ≡ 0 → is_removed es k ≡ false)
+    × (0 < removals k es → is_removed es k ≡ true)
 unfolding total
 removed_by k [] = (λ h. refl, λ h. absurd (omega arith))
 removed_by k (e ∷ es) = go (is_removal_of k e) (removal_is k e) (removed_by k es) where
-  go : (b : Bool) → removed_in k e ≡ if1 b → (removals k es ≡ 0 → is_removed es k ≡ false) × (0 < removals k es → is_removed es k ≡ true) → (removed_in k e + removals k es ≡ 0 → (b || is_removed es k) ≡ false) × (0 < removed_in k e + removals k es → (b || is_removed es k) ≡ true)
+  go : (b : Bool) → removed_in k e ≡ if1 b → (removals k es ≡ 0 → is_removed es k ≡ false)
+      × (0 < removals k es → is_removed es k ≡ true) → (removed_in k e + removals k es ≡ 0 → (b || is_removed es k)
+      ≡ false) × (0 < removed_in k e + removals k es → (b || is_removed es k) ≡ true)
   go true i rest = (λ h. absurd (omega arith), λ h. refl)
   go false i rest = (λ h. rest.0 (omega arith), λ h. rest.1 (omega arith))
 
-counted : {A : Type 0} (p : A → Bool) (f : A → ℕ) → ((x : A) → f x ≡ if1 (p x)) → (xs : List A) → count_by p xs ≡ total f xs
+counted : {A : Type 0} (p : A → Bool) (f : A → ℕ) → ((x : A) → f x ≡ if1 (p x)) → (xs : List A) → count_by p xs
+    ≡ total f xs
 unfolding total
 counted p f same [] = refl
-counted p f same (x ∷ xs) = let c = count_by-cons p x xs in let e = same x in let rest = counted p f same xs in omega arith
+counted p f same (x ∷ xs) = let c = count_by-cons p x xs in let e = same x in let rest = counted p f same xs
+    in omega arith
 
 got_is : (k : ℕ) (e : Entry) → got_in k e ≡ if1 (is_got_of k e)
 got_is k (Insert a j v) = refl
@@ -120,15 +131,27 @@ releases_by_are a k es = counted (is_release_by a k) (released_by a k) (release_
 
 -- ---- so what is permitted is allowed
 
-pub permits_allowed : (plan : Plan) (F : List Entry) (e : Entry) → Permits plan F e → IsAllowed plan.passes plan.keys.guard_max F e
+pub permits_allowed : (plan : Plan) (F : List Entry) (e : Entry) → Permits plan F e
+    → IsAllowed plan.passes plan.keys.guard_max F e
 permits_allowed plan F (Insert a k v) h = value_none k F h
 permits_allowed plan F (Got a k v) h = (value_one k F v h.0, (removed_by k F).0 h.1)
 permits_allowed plan F (Gone a k) (inl h) = inl (value_none k F h)
 permits_allowed plan F (Gone a k) (inr h) = inr ((removed_by k F).1 h)
-permits_allowed plan F (Crowded a k) h = let g = gots_are k F in let r = releases_are k F in let m = h.2 in (value_some k F h.0, (removed_by k F).0 h.1, omega arith)
+permits_allowed plan F (Crowded a k) h = let g = gots_are k F in let r = releases_are k F in let m = h.2
+    in (value_some k F h.0, (removed_by k F).0 h.1, omega arith)
 permits_allowed plan F (Removed a k) h = (value_some k F h.0, (removed_by k F).0 h.1)
 permits_allowed plan F (Released a k) h = let g = gots_by_are a k F in let r = releases_by_are a k F in omega arith
 
-pub legal_snoc : (passes guard_max : ℕ) (F es : List Entry) (e : Entry) → LegalAfter passes guard_max F es → IsAllowed passes guard_max (F ++ es) e → LegalAfter passes guard_max F (es ++ e ∷ [])
-legal_snoc passes guard_max F [] e l h = (let P : List Entry → Type 0 = λ xs. IsAllowed passes guard_max xs e in subst P (append-nil F) h, tt)
-legal_snoc passes guard_max F (d ∷ es) e l h = (l.0, legal_snoc passes guard_max (F ++ d ∷ []) es e l.1 (let P : List Entry → Type 0 = λ xs. IsAllowed passes guard_max xs e in subst P (sym (append_assoc F (d ∷ []) es)) h))
+pub legal_snoc : (passes guard_max : ℕ) (F es : List Entry) (e : Entry) → LegalAfter passes guard_max F es
+    → IsAllowed passes guard_max (F ++ es) e → LegalAfter passes guard_max F (es ++ e ∷ [])
+legal_snoc passes guard_max F [] e l h = (
+  let P : List Entry → Type 0 = λ xs. IsAllowed passes guard_max xs e
+      in subst P (append-nil F) h,
+  tt,
+)
+legal_snoc passes guard_max F (d ∷ es) e l h = (
+  l.0,
+  legal_snoc passes guard_max (F ++ d ∷ []) es e l.1
+      (let P : List Entry → Type 0 = λ xs. IsAllowed passes guard_max xs e
+      in subst P (sym (append_assoc F (d ∷ []) es)) h),
+)

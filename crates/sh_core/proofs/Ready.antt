@@ -1,10 +1,12 @@
 -- A step on the words that are kept: what is read there, and that a row may be done.
-use Rattle.std.proofs.Common.{◌≡◌, ℕ, ◌-◌, ◌<◌, ◌==◌, Bool, true, false, cond, List, refl, sym, ap, ◌∙◌, subst, arith, Option, Some, None, slice_get}
+use Rattle.std.proofs.Common.{◌≡◌, ℕ, ◌-◌, ◌<◌, ◌==◌, Bool, true, false, cond, List, refl, sym, ap, ◌∙◌, subst, arith}
+use Rattle.std.proofs.Common.{Option, Some, None, slice_get}
 use Rattle.std.specs.Prelude.{not, nat_lt}
 use Rattle.sh_key.specs.Layout.{Layout}
 use Rattle.sh_word.specs.Fields.{fields_of}
 use Rattle.sh_shape.specs.declared.places.Place.{Place}
-use Rattle.sh_shape.specs.declared.places.Place.TheVariants.{Class, Head, PageLink, State, Link, Length, Payload, Owner, Bell}
+use Rattle.sh_shape.specs.declared.places.Place.TheVariants.{Class, Head, PageLink, State, Link, Length, Payload, Owner}
+use Rattle.sh_shape.specs.declared.places.Place.TheVariants.{Bell}
 use Rattle.sh_shape.specs.Shape.{Numbers}
 use Rattle.sh_shape.specs.Places.{IsPlace}
 use Rattle.sh_slots.specs.declared.hand.Name.{Name}
@@ -12,7 +14,10 @@ use Rattle.sh_slots.specs.declared.reply.Reply.{Reply}
 use Rattle.sh_slots.specs.declared.reply.Reply.TheVariants as reply
 use Rattle.sh_slots.specs.Slots.{live_at}
 use Rattle.sh_step.specs.declared.action.Action.{Action}
-use Rattle.sh_step.specs.declared.action.Action.TheVariants.{EnterGet, EnterRemove, Mark, Drop, DropHold, Finish, FillSlot, Fill, Publish, ReadClass, ReadLength, ReadWord, ReadPage, SetClass, Take, Follow, Put, PutSlot, Tie, Adopt, Leave, Arm, Ring, RingTie, TakeBell, FollowBell}
+use Rattle.sh_step.specs.declared.action.Action.TheVariants.{EnterGet, EnterRemove, Mark, Drop, DropHold, Finish}
+use Rattle.sh_step.specs.declared.action.Action.TheVariants.{FillSlot, Fill, Publish, ReadClass, ReadLength, ReadWord}
+use Rattle.sh_step.specs.declared.action.Action.TheVariants.{ReadPage, SetClass, Take, Follow, Put, PutSlot, Tie, Adopt}
+use Rattle.sh_step.specs.declared.action.Action.TheVariants.{Leave, Arm, Ring, RingTie, TakeBell, FollowBell}
 use Rattle.sh_step.specs.declared.body.Body.{Body}
 use Rattle.sh_step.specs.Fits.{WordFits}
 use Rattle.sh_step.specs.Plans.{Plan, plan_of}
@@ -43,7 +48,8 @@ marks k true = refl
 marks k false = refl
 
 -- only where the value is there
-got_live : (k j : ℕ) (a b : Bool) → Some (cond a (cond b (reply.Got k) (reply.Crowded k)) (reply.Gone k)) ≡ Some (reply.Got j) → a ≡ true
+got_live : (k j : ℕ) (a b : Bool) → Some (cond a (cond b (reply.Got k) (reply.Crowded k)) (reply.Gone k))
+    ≡ Some (reply.Got j) → a ≡ true
 got_live k j true b h = refl
 got_live k j false b h = absurd (let z : false ≡ true = ap gets_key h in cc)
 
@@ -52,22 +58,27 @@ abbrev pub Live : Row → ℕ → Type 0
 Live r n = (q : ℕ) × (s : ℕ) × (r.place ≡ State q s) × ((fields_of n).present ≡ true)
 
 module _ (plan : Plan) (p : Body) where
-  no_get : {A : Type 0} (r m : Row) (j n : ℕ) → m ≡ r → gets_key (r.reply n) ≡ false → m.reply n ≡ Some (reply.Got j) → A
+  no_get : {A : Type 0} (r m : Row) (j n : ℕ) → m ≡ r → gets_key (r.reply n) ≡ false → m.reply n ≡ Some (reply.Got j)
+      → A
   no_get r m j n e none some =
       let here : m.reply n ≡ r.reply n = ap (λ (u : Row). u.reply n) e in
-      let z : true ≡ false = sym (ap gets_key some) ∙ (ap gets_key here ∙ none) in absurd (let y : true ≡ false = z in cc)
+      let z : true ≡ false = sym (ap gets_key some) ∙ (ap gets_key here ∙ none)
+      in absurd (let y : true ≡ false = z in cc)
 
   got_at : (k : ℕ) (x : Name) (m : Row) (j n : ℕ) → m ≡ enter_get plan p k x → m.reply n ≡ Some (reply.Got j) → Live m n
   got_at k x m j n e g =
       let here : m.reply n ≡ (enter_get plan p k x).reply n = ap (λ (u : Row). u.reply n) e in
-      let live = got_live k j (live_at x.generation n) (nat_lt (fields_of n).count plan.keys.guard_max) (sym here ∙ g) in
-      let there = and3 (fields_of n).present (not (fields_of n).marked) ((fields_of n).generation == x.generation) live in
+      let live = got_live k j (live_at x.generation n) (nat_lt (fields_of n).count plan.keys.guard_max) (sym here ∙ g)
+      in
+      let there = and3 (fields_of n).present (not (fields_of n).marked) ((fields_of n).generation == x.generation) live
+      in
       (x.page, x.slot, ap (λ (u : Row). u.place) e, there.0)
 
   pub gets : (x : Action) (m : Row) (j n : ℕ) → row plan p x ≡ Some m → m.reply n ≡ Some (reply.Got j) → Live m n
   unfolding Meets
   gets (EnterGet k) m j n e g = let h = meets plan p (EnterGet k) m e in got_at k h.0 m j n h.4 g
-  gets (EnterRemove k) m j n e g = let h = meets plan p (EnterRemove k) m e in no_get _ m j n h.3 (removing k (live_at h.0.generation n)) g
+  gets (EnterRemove k) m j n e g = let h = meets plan p (EnterRemove k) m e
+      in no_get _ m j n h.3 (removing k (live_at h.0.generation n)) g
   gets Mark m j n e g = let h = meets plan p Mark m e in no_get _ m j n h.4 (marks h.0 (fields_of n).marked) g
   gets Drop m j n e g = let h = meets plan p Drop m e in no_get _ m j n h.2 refl g
   gets (DropHold k) m j n e g = let h = meets plan p (DropHold k) m e in no_get _ m j n h.4 refl g
@@ -111,7 +122,8 @@ word_fits plan w h (PageLink q) = h.1 q
 word_fits plan w h _ = tt
 
 -- where a slot has a value in the world, one stands in the list
-keeps : (layout : Layout) (k : KeptWorld) (w : World) (q s : ℕ) → StandsFor k w → ValuesFit (plan_of layout k.shape) w → (fields_of (w.words.state_at q s)).present ≡ true → SlotHasValue k.shape k.words (record { page = q; slot = s })
+keeps : (layout : Layout) (k : KeptWorld) (w : World) (q s : ℕ) → StandsFor k w → ValuesFit (plan_of layout k.shape) w
+    → (fields_of (w.words.state_at q s)).present ≡ true → SlotHasValue k.shape k.words (record { page = q; slot = s })
 keeps layout k w q s st fits there =
     let v = fits (record { page = q; slot = s }) (rw there refl) in
     let c : word_at k.shape k.words (Class q) ≡ w.words.class_at q = st.words.at (Class q) v.2 in
@@ -127,12 +139,14 @@ keeps layout k w q s st fits there =
     }
 
 -- where the condition of an action holds, its row may be done
-pub ready : (layout : Layout) (k : KeptWorld) (a : ℕ) (p : Body) (x : Action) (r : Row) → FromEvents layout k → slice_get k.parts a ≡ Some p → row (plan_of layout k.shape) p x ≡ Some r → IsReady layout k.shape k.words r
+pub ready : (layout : Layout) (k : KeptWorld) (a : ℕ) (p : Body) (x : Action) (r : Row) → FromEvents layout k
+    → slice_get k.parts a ≡ Some p → row (plan_of layout k.shape) p x ≡ Some r → IsReady layout k.shape k.words r
 ready layout k a p x r reached at e =
     let plan : Plan = plan_of layout k.shape in
     let w : World = run plan reached.events in
     let st : StandsFor k w = reached.stands in
-    let f : Refines plan w (lists_of plan reached.events) = theorem layout k.shape reached.is_layout reached.is_shape reached.fits reached.events in
+    let f : Refines plan w (lists_of plan reached.events) = theorem layout k.shape reached.is_layout reached.is_shape
+    reached.fits reached.events in
     let here : slice_get w.parts a ≡ Some p = rw (← st.parts) at in
     let place : IsPlace k.shape r.place = is_place layout k.shape r.place (f.places a p x r here e) in
     let n : word_at k.shape k.words r.place ≡ read w.words r.place = st.words.at r.place place in
@@ -142,7 +156,9 @@ ready layout k a p x r reached at e =
         place = place;
         stores = f.stores a p x r here e;
         word = subst (WordFits plan r.place) (sym n) (word_fits plan w f.bells r.place);
-        issues = let P : ℕ → Type 0 = λ m. (j : ℕ) (v : List ℕ) (q s : ℕ) → r.reply m ≡ Some (reply.Insert j v) → r.place ≡ State q s → plan.keys.unpack j ≡ Some (record { page = q; slot = s; generation = (fields_of m).generation }) in
+        issues = let P : ℕ → Type 0 = λ m. (j : ℕ) (v : List ℕ) (q s : ℕ) → r.reply m ≡ Some (reply.Insert j v)
+            → r.place ≡ State q s → plan.keys.unpack j ≡ Some
+            (record { page = q; slot = s; generation = (fields_of m).generation }) in
             subst P (sym n) (λ j v q s c d. f.issues a p x r j v q s here e c d);
       };
       counts = subst (CountFits r.operation) (sym n) (f.counts a p x r here e);

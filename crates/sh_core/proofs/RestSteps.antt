@@ -1,5 +1,6 @@
 -- What is kept of lists, bells, duties and owners: what stays where a part keeps its face, and what an owner alone has.
-use Rattle.std.proofs.Common.{◌≡◌, ◌≢◌, ℕ, zero, suc, ◌+◌, ◌-◌, ◌<◌, ◌≤◌, ◌==◌, ◌&&◌, ⊎_elim, Bool, true, false, cond, List, [], ◌∷◌, set, drop, sym, refl, ap, ◌∙◌, subst, arith, Option, Some, None, slice_get}
+use Rattle.std.proofs.Common.{◌≡◌, ◌≢◌, ℕ, zero, suc, ◌+◌, ◌-◌, ◌<◌, ◌≤◌, ◌==◌, ◌&&◌, ⊎_elim, Bool, true, false, cond}
+use Rattle.std.proofs.Common.{List, [], ◌∷◌, set, drop, sym, refl, ap, ◌∙◌, subst, arith, Option, Some, None, slice_get}
 use Rattle.std.specs.Prelude.{nat_lt}
 use Rattle.std.proofs.lemmas.Bool.Decides.{nat_tests}
 use Rattle.sh_slots.specs.declared.hand.Spot.{Spot}
@@ -11,7 +12,8 @@ use Rattle.sh_step.specs.Collections.{total, if1, without, noted}
 use Rattle.sh_step.specs.declared.body.Body.{Body}
 use Rattle.sh_core.specs.Lists.{PutLists}
 use Rattle.sh_step.specs.Plans.{over_heap}
-use Rattle.sh_core.specs.Stacks.{spot, top, link_to, first_is, tying, ties_of, cursor_at, ring_tying, ring_ties, is_at, bell_cursor_at}
+use Rattle.sh_core.specs.Stacks.{spot, top, link_to, first_is, tying, ties_of, cursor_at, ring_tying, ring_ties, is_at}
+use Rattle.sh_core.specs.Stacks.{bell_cursor_at}
 use Rattle.sh_core.specs.Bells.{rings, armed_at, owns}
 use Rattle.sh_core.specs.Placed.{HomedPart, Rest}
 use Rattle.sh_step.specs.Rows.{hand, own, owned_by, point, unpoint}
@@ -43,10 +45,15 @@ face plan p = record {
   owning = λ n. owns n p;
 }
 
-pub homed_set : (plan : Plan) (class : ℕ → ℕ) (ps : List Body) (a : ℕ) (p' : Body) → ((b : ℕ) (u : Body) → slice_get ps b ≡ Some u → HomedPart plan class u) → HomedPart plan class p' → (b : ℕ) (u : Body) → slice_get (set ps a p') b ≡ Some u → HomedPart plan class u
-homed_set plan class ps a p' old new b u at = ⊎_elim (λ h. let P : Body → Type 0 = λ v. HomedPart plan class v in subst P h.1 new) (λ h. old b u h.1) (get_set ps a b p' u at)
+pub homed_set : (plan : Plan) (class : ℕ → ℕ) (ps : List Body) (a : ℕ) (p' : Body)
+    → ((b : ℕ) (u : Body) → slice_get ps b ≡ Some u → HomedPart plan class u) → HomedPart plan class p'
+    → (b : ℕ) (u : Body) → slice_get (set ps a p') b ≡ Some u → HomedPart plan class u
+homed_set plan class ps a p' old new b u at = ⊎_elim (λ h. let P : Body → Type 0 = λ v. HomedPart plan class v
+    in subst P h.1 new) (λ h. old b u h.1) (get_set ps a b p' u at)
 
-pub rest_frame : (plan : Plan) (class head page_link bell owner : ℕ → ℕ) (link : ℕ → ℕ → ℕ) (ps : List Body) (l : PutLists) (a : ℕ) (p p' : Body) → Rest plan class head page_link bell owner link ps l → slice_get ps a ≡ Some p → face plan p' ≡ face plan p → HomedPart plan class p'
+pub rest_frame : (plan : Plan) (class head page_link bell owner : ℕ → ℕ) (link : ℕ → ℕ → ℕ) (ps : List Body)
+    (l : PutLists) (a : ℕ) (p p' : Body) → Rest plan class head page_link bell owner link ps l → slice_get ps a ≡ Some p
+    → face plan p' ≡ face plan p → HomedPart plan class p'
     → Rest plan class head page_link bell owner link (set ps a p') l
 rest_frame plan class head page_link bell owner link ps l a p p' r at same mine = record {
   stacks = chains_same _ _ _ _ _ _ _ _ _ _ _ _ _ _ r.stacks (λ q. refl) (λ q s. refl)
@@ -56,24 +63,30 @@ rest_frame plan class head page_link bell owner link ps l a p p' r at same mine 
   bells = chains_same _ _ _ _ _ _ _ _ _ _ _ _ _ _ r.bells (λ q. refl) (λ q s. refl)
       (λ q s. total_same (ring_tying plan q s) ps a p p' at (ap (λ (f : Face). f.bell_owed q s) same))
       (λ q s. total_same (ring_ties plan q s) ps a p p' at (ap (λ (f : Face). f.bell_tied q s) same))
-      (λ q s. total_same (bell_cursor_at q s) ps a p p' at (ap (λ (f : Face). f.bell_cursor q s) same)) (λ q. refl) (λ q. refl);
+      (λ q s. total_same (bell_cursor_at q s) ps a p p' at (ap (λ (f : Face). f.bell_cursor q s) same)) (λ q. refl)
+      (λ q. refl);
   duty = λ q.
       let x = total_same (armed_at q) ps a p p' at (ap (λ (f : Face). f.armed q) same) in
       let y = total_same (rings q) ps a p p' at (ap (λ (f : Face). f.ringing q) same) in
       let d = r.duty q in
       let d0 = d.0 in
       let d1 = d.1 in (omega arith, omega arith);
-  owned = λ n. let x = total_same (owns n) ps a p p' at (ap (λ (f : Face). f.owning n) same) in let d = r.owned n in (d.0 ∙ sym x, d.1);
+  owned = λ n. let x = total_same (owns n) ps a p p' at (ap (λ (f : Face). f.owning n) same) in let d = r.owned n
+      in (d.0 ∙ sym x, d.1);
   homed = homed_set plan class ps a p' r.homed mine;
 }
 
 -- where only those who own have something and there is one owner, what all have is what it has
-pub zero_all : {A : Type 0} (f g : A → ℕ) → (xs : List A) → ((j : ℕ) (x : A) → slice_get xs j ≡ Some x → g x ≡ 0 → f x ≡ 0) → total g xs ≡ 0 → total f xs ≡ 0
+pub zero_all : {A : Type 0} (f g : A → ℕ) → (xs : List A) → ((j : ℕ) (x : A) → slice_get xs j ≡ Some x → g x ≡ 0 → f x
+    ≡ 0) → total g xs ≡ 0 → total f xs ≡ 0
 unfolding total
 zero_all f g [] h e = refl
-zero_all f g (x ∷ xs) h e = let a = h 0 x refl (omega arith) in let b = zero_all f g xs (λ j y at. h (suc j) y at) (omega arith) in omega arith
+zero_all f g (x ∷ xs) h e = let a = h 0 x refl (omega arith) in let b = zero_all f g xs (λ j y at. h (suc j) y at)
+    (omega arith) in omega arith
 
-pub total_alone : {A : Type 0} (f g : A → ℕ) (xs : List A) (i : ℕ) (v : A) → ((j : ℕ) (x : A) → slice_get xs j ≡ Some x → g x ≡ 0 → f x ≡ 0) → slice_get xs i ≡ Some v → total g xs ≤ 1 → 0 < g v → total f xs ≡ f v
+pub total_alone : {A : Type 0} (f g : A → ℕ) (xs : List A) (i : ℕ) (v : A)
+    → ((j : ℕ) (x : A) → slice_get xs j ≡ Some x → g x ≡ 0 → f x ≡ 0) → slice_get xs i ≡ Some v → total g xs ≤ 1
+    → 0 < g v → total f xs ≡ f v
 unfolding total
 total_alone f g [] i v h e one some = absurd (let z : None ≡ Some v = e in cc)
 total_alone f g (x ∷ xs) zero v h e one some =
@@ -100,22 +113,27 @@ owns_none plan (Some k) q h = go (k == home plan q) h where
   go false e = refl
 owns_none plan None q h = refl
 
-module _ (plan : Plan) (class head page_link bell owner : ℕ → ℕ) (link : ℕ → ℕ → ℕ) (ps : List Body) (l : PutLists) (a : ℕ) (p : Body) (r : Rest plan class head page_link bell owner link ps l) (at : slice_get ps a ≡ Some p) where
+module _ (plan : Plan) (class head page_link bell owner : ℕ → ℕ) (link : ℕ → ℕ → ℕ) (ps : List Body) (l : PutLists)
+    (a : ℕ) (p : Body) (r : Rest plan class head page_link bell owner link ps l) (at : slice_get ps a ≡ Some p) where
   one_owner : (n : ℕ) → total (owns n) ps ≤ 1
   one_owner n = let d = r.owned n in let d0 = d.0 in let d1 = d.1 in omega arith
 
   pub alone_cursor : (q s : ℕ) → own plan p q ≡ true → total (cursor_at q s) ps ≡ cursor_at q s p
   alone_cursor q s mine = let o = owns_one plan p.owned q mine in let f = one_owner (home plan q) in
-      total_alone (cursor_at q s) (owns (home plan q)) ps a p (λ j u h z. (r.homed j u h).points q s (owns_none plan u.owned q z)) at f (omega arith)
+      total_alone (cursor_at q s) (owns (home plan q)) ps a p
+      (λ j u h z. (r.homed j u h).points q s (owns_none plan u.owned q z)) at f (omega arith)
 
   pub alone_armed : (q : ℕ) → own plan p q ≡ true → total (armed_at q) ps ≡ armed_at q p
   alone_armed q mine = let o = owns_one plan p.owned q mine in let f = one_owner (home plan q) in
-      total_alone (armed_at q) (owns (home plan q)) ps a p (λ j u h z. (r.homed j u h).arms q (owns_none plan u.owned q z)) at f (omega arith)
+      total_alone (armed_at q) (owns (home plan q)) ps a p (λ j u h z. (r.homed j u h).arms q
+      (owns_none plan u.owned q z)) at f (omega arith)
 
   pub alone_bell : (n q : ℕ) → p.owned ≡ Some n → total (bell_cursor_at n q) ps ≡ bell_cursor_at n q p
   alone_bell n q mine = let f = one_owner n in
-      total_alone (bell_cursor_at n q) (owns n) ps a p (λ j u h z. none u.owned u.bell_cursor z) at f (let o : owns n p ≡ 1 = rw (mine, page_same n) refl in omega arith) where
-        none : (o b : Option ℕ) → owns_by n o ≡ 0 → (elim o as (λ _. ℕ) [ Some k ↦ cond (k == n) (is_at b q) 0 | None ↦ 0 ]) ≡ 0
+      total_alone (bell_cursor_at n q) (owns n) ps a p (λ j u h z. none u.owned u.bell_cursor z) at f
+      (let o : owns n p ≡ 1 = rw (mine, page_same n) refl in omega arith) where
+        none : (o b : Option ℕ) → owns_by n o ≡ 0 → (elim o as (λ _. ℕ)
+            [ Some k ↦ cond (k == n) (is_at b q) 0 | None ↦ 0 ]) ≡ 0
         none (Some k) b z = go (k == n) z where
           go : (c : Bool) → if1 c ≡ 0 → cond c (is_at b q) 0 ≡ 0
           go true e = absurd (omega arith)
@@ -134,30 +152,34 @@ module _ (plan : Plan) (class head page_link bell owner : ℕ → ℕ) (link : �
 pub no_ties : (x : Spot) (ps : List Body) → total (ties_of x) ps ≡ 0 → total (tying x) ps ≡ 0
 unfolding total
 no_ties x [] h = refl
-no_ties x (p ∷ ps) h = let one = each (p.hand) in let rest = no_ties x ps (omega arith) in let here = one (omega arith) in omega arith where
-  each : (h : Hand) → ties_of x (hand p h) ≡ 0 → tying x (hand p h) ≡ 0
-  each (Tying y l r) e = go (same_spot x y) e where
-    go : (b : Bool) → if1 b ≡ 0 → cond b l 0 ≡ 0
-    go true c = absurd (omega arith)
-    go false c = refl
-  each _ e = refl
+no_ties x (p ∷ ps) h = let one = each (p.hand) in let rest = no_ties x ps (omega arith) in let here = one (omega arith)
+    in omega arith where
+      each : (h : Hand) → ties_of x (hand p h) ≡ 0 → tying x (hand p h) ≡ 0
+      each (Tying y l r) e = go (same_spot x y) e where
+        go : (b : Bool) → if1 b ≡ 0 → cond b l 0 ≡ 0
+        go true c = absurd (omega arith)
+        go false c = refl
+      each _ e = refl
 
-pub no_ring_ties : (plan : Plan) (n q : ℕ) (ps : List Body) → total (ring_ties plan n q) ps ≡ 0 → total (ring_tying plan n q) ps ≡ 0
+pub no_ring_ties : (plan : Plan) (n q : ℕ) (ps : List Body) → total (ring_ties plan n q) ps ≡ 0
+    → total (ring_tying plan n q) ps ≡ 0
 unfolding total
 no_ring_ties plan n q [] h = refl
-no_ring_ties plan n q (p ∷ ps) h = let one = each (p.hand) in let rest = no_ring_ties plan n q ps (omega arith) in let here = one (omega arith) in omega arith where
-  each : (h : Hand) → ring_ties plan n q (hand p h) ≡ 0 → ring_tying plan n q (hand p h) ≡ 0
-  each (RingTying k l) e = go ((n == home plan k) && (q == k)) e where
-    go : (b : Bool) → if1 b ≡ 0 → cond b (over_heap plan n 2 l) 0 ≡ 0
-    go true c = absurd (omega arith)
-    go false c = refl
-  each _ e = refl
+no_ring_ties plan n q (p ∷ ps) h = let one = each (p.hand) in let rest = no_ring_ties plan n q ps (omega arith)
+    in let here = one (omega arith) in omega arith where
+      each : (h : Hand) → ring_ties plan n q (hand p h) ≡ 0 → ring_tying plan n q (hand p h) ≡ 0
+      each (RingTying k l) e = go ((n == home plan k) && (q == k)) e where
+        go : (b : Bool) → if1 b ≡ 0 → cond b (over_heap plan n 2 l) 0 ≡ 0
+        go true c = absurd (omega arith)
+        go false c = refl
+      each _ e = refl
 
 abbrev pub cursor_test : ℕ → ℕ → ℕ × ℕ → ℕ
 cursor_test k t c = if1 ((c.0 == k) && (c.1 == t))
 
 -- a cursor made from the number of a list's top
-pub point_total : (q k t : ℕ) (xs : List ℕ) (cs : List (ℕ × ℕ)) → total (cursor_test k t) (point 1 q (top xs) cs) ≡ total (cursor_test k t) cs + cond (q == k) (first_is xs t) 0
+pub point_total : (q k t : ℕ) (xs : List ℕ) (cs : List (ℕ × ℕ)) → total (cursor_test k t) (point 1 q (top xs) cs)
+    ≡ total (cursor_test k t) cs + cond (q == k) (first_is xs t) 0
 unfolding total
 point_total q k t [] cs = go (q == k) where
   go : (b : Bool) → total (cursor_test k t) cs ≡ total (cursor_test k t) cs + cond b 0 0
@@ -172,7 +194,8 @@ point_total q k t (s ∷ xs) cs =
       go false c = omega arith
 
 -- the same from the link word of the item above it
-pub point_link : (q k t : ℕ) (xs : List ℕ) (cs : List (ℕ × ℕ)) → total (cursor_test k t) (point 2 q (link_to xs) cs) ≡ total (cursor_test k t) cs + cond (q == k) (first_is xs t) 0
+pub point_link : (q k t : ℕ) (xs : List ℕ) (cs : List (ℕ × ℕ)) → total (cursor_test k t) (point 2 q (link_to xs) cs)
+    ≡ total (cursor_test k t) cs + cond (q == k) (first_is xs t) 0
 unfolding total
 point_link q k t [] cs = go (q == k) where
   go : (b : Bool) → total (cursor_test k t) cs ≡ total (cursor_test k t) cs + cond b 0 0
@@ -186,11 +209,14 @@ point_link q k t (s ∷ xs) cs =
       go true c = omega arith
       go false c = omega arith
 
-pub unpoint_total : (f : ℕ × ℕ → ℕ) (q s : ℕ) (cs : List (ℕ × ℕ)) → noted q cs ≡ Some s → total f (unpoint q cs) + f (q, s) ≡ total f cs
+pub unpoint_total : (f : ℕ × ℕ → ℕ) (q s : ℕ) (cs : List (ℕ × ℕ)) → noted q cs ≡ Some s
+    → total f (unpoint q cs) + f (q, s) ≡ total f cs
 unfolding total noted without
 unpoint_total f q s [] e = absurd (let z : None ≡ Some s = e in cc)
 unpoint_total f q s (c ∷ cs) e = go (c.0 == q) refl e (λ h. unpoint_total f q s cs h) where
-  go : (b : Bool) → (c.0 == q) ≡ b → cond b (Some c.1) (noted q cs) ≡ Some s → (noted q cs ≡ Some s → total f (unpoint q cs) + f (q, s) ≡ total f cs) → total f (cond b cs (c ∷ unpoint q cs)) + f (q, s) ≡ f c + total f cs
+  go : (b : Bool) → (c.0 == q) ≡ b → cond b (Some c.1) (noted q cs) ≡ Some s
+      → (noted q cs ≡ Some s → total f (unpoint q cs) + f (q, s) ≡ total f cs)
+      → total f (cond b cs (c ∷ unpoint q cs)) + f (q, s) ≡ f c + total f cs
   go true i h rest =
       let a : c.0 ≡ q = same_page c.0 q i in
       let b : c.1 ≡ s = cc in
@@ -201,7 +227,8 @@ pub no_point : (q s : ℕ) (cs : List (ℕ × ℕ)) → noted q cs ≡ None → 
 unfolding total noted
 no_point q s [] e = refl
 no_point q s (c ∷ cs) e = go (c.0 == q) refl e (λ h. no_point q s cs h) where
-  go : (b : Bool) → (c.0 == q) ≡ b → cond b (Some c.1) (noted q cs) ≡ None → (noted q cs ≡ None → total (cursor_test q s) cs ≡ 0) → if1 (b && (c.1 == s)) + total (cursor_test q s) cs ≡ 0
+  go : (b : Bool) → (c.0 == q) ≡ b → cond b (Some c.1) (noted q cs) ≡ None
+      → (noted q cs ≡ None → total (cursor_test q s) cs ≡ 0) → if1 (b && (c.1 == s)) + total (cursor_test q s) cs ≡ 0
   go true i h rest = absurd (let z : Some c.1 ≡ None = h in cc)
   go false i h rest = let r = rest h in omega arith
 

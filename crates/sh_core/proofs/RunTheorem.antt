@@ -42,7 +42,12 @@ unfolding total noted
 know_open plan a p at =
     let e = part_new plan.passes a p at in
     let P : Body → Type 0 = λ u. KnowsPart plan (open_world plan).words u in
-    subst P e (record { named = λ k h. absurd (omega arith); classed = λ k c h. absurd (let z : None ≡ Some c = h in cc); measured = λ k c h. absurd (let z : None ≡ Some c = h in cc) })
+    subst P e (record {
+      named = λ k h. absurd (omega arith);
+      classed = λ k c h. absurd
+          (let z : None ≡ Some c = h in cc);
+      measured = λ k c h. absurd (let z : None ≡ Some c = h in cc);
+    })
 
 -- all six are kept along a run
 pub record Kept (plan : Plan) (w : World) (l : PutLists) : Type 0 where
@@ -53,10 +58,22 @@ pub record Kept (plan : Plan) (w : World) (l : PutLists) : Type 0 where
   pub told : AllTold w
   pub beside : Beside plan w
 
-kept_from : (plan : Plan) (w : World) (l : PutLists) (es : List Event) → Lawful plan → Kept plan w l → Kept plan (run_from plan w es) (lists_from plan w l es)
+kept_from : (plan : Plan) (w : World) (l : PutLists) (es : List Event) → Lawful plan → Kept plan w l
+    → Kept plan (run_from plan w es) (lists_from plan w l es)
 unfolding run_from lists_from
 kept_from plan w l [] laws k = k
-kept_from plan w l (e ∷ es) laws k = kept_from plan (step plan w e) (list_step plan w e l) es laws (record { all = all_step plan w l e laws k.all; know = know_step plan w l e k.all k.know; within = within_step plan w e (λ q s. (k.all.sound.generations q s).1) k.within; few = few_step plan w l e k.all.good k.few; told = told_step plan w l e k.all k.know k.told; beside = beside_step plan w l e k.all (counts_fit plan w l laws k.all k.know k.within) k.beside })
+kept_from plan w l (e ∷ es) laws k = kept_from plan (step plan w e) (list_step plan w e l) es laws
+    (record {
+      all = all_step plan w l e laws k.all;
+      know = know_step plan w l e k.all k.know;
+      within = within_step plan
+          w e (λ q s. (k.all.sound.generations q s).1) k.within;
+      few = few_step plan w l e k.all.good k.few;
+      told = told_step
+          plan w l e k.all k.know k.told;
+      beside = beside_step plan w l e k.all
+          (counts_fit plan w l laws k.all k.know k.within) k.beside;
+    })
 
 module _ (plan : Plan) (w : World) (l : PutLists) (laws : Lawful plan) (kept : Kept plan w l) where
   abbrev all : All plan w l
@@ -128,13 +145,24 @@ module _ (plan : Plan) (w : World) (l : PutLists) (laws : Lawful plan) (kept : K
   }
 
 -- every run of every heap
-pub theorem : (layout : Layout) (shape : Numbers) → IsLayout layout → IsShape shape → Fits layout shape → (es : List Event) → Refines (plan_of layout shape) (run (plan_of layout shape) es) (lists_of (plan_of layout shape) es)
+pub theorem : (layout : Layout) (shape : Numbers) → IsLayout layout → IsShape shape → Fits layout shape
+    → (es : List Event) → Refines (plan_of layout shape) (run (plan_of layout shape) es)
+    (lists_of (plan_of layout shape) es)
 theorem layout shape a b c es =
     let plan : Plan = plan_of layout shape in
     let laws : Lawful plan = plan_lawful layout shape a b c in
-    refines plan (run plan es) (lists_of plan es) laws (kept_from plan (open_world plan) no_lists es laws (record { all = all_open plan laws; know = know_open plan; within = within_open plan; few = few_open plan; told = told_open plan; beside = beside_open plan }))
+    refines plan (run plan es) (lists_of plan es) laws (kept_from plan (open_world plan) no_lists es laws
+    (record {
+      all = all_open plan laws;
+      know = know_open plan;
+      within = within_open plan;
+      few = few_open plan;
+      told = told_open plan;
+      beside = beside_open plan;
+    }))
 
 -- its log, in the layout's own number of holds
-pub legal_of : (layout : Layout) (shape : Numbers) → IsLayout layout → IsShape shape → Fits layout shape → (es : List Event) → Legal shape.passes layout.guard_max (run (plan_of layout shape) es).log
+pub legal_of : (layout : Layout) (shape : Numbers) → IsLayout layout → IsShape shape → Fits layout shape
+    → (es : List Event) → Legal shape.passes layout.guard_max (run (plan_of layout shape) es).log
 unfolding keys_of
 legal_of layout shape a b c es = (theorem layout shape a b c es).legal

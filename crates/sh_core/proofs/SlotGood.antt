@@ -1,5 +1,6 @@
 -- All that holds, over the kinds that step on a state word.
-use Rattle.std.proofs.Common.{◌≡◌, ℕ, suc, ◌+◌, ◌-◌, ◌*◌, ◌^◌, ◌<◌, ◌≤◌, ◌==◌, ◌&&◌, ◌||◌, Bool, true, false, cond, List, [], ◌∷◌, ◌++◌, length, sym, refl, ap, ◌∙◌, subst, arith, Some, None, slice_get}
+use Rattle.std.proofs.Common.{◌≡◌, ℕ, suc, ◌+◌, ◌-◌, ◌*◌, ◌^◌, ◌<◌, ◌≤◌, ◌==◌, ◌&&◌, ◌||◌, Bool, true, false, cond}
+use Rattle.std.proofs.Common.{List, [], ◌∷◌, ◌++◌, length, sym, refl, ap, ◌∙◌, subst, arith, Some, None, slice_get}
 use Rattle.std.specs.Prelude.{nat_lt, bit_or}
 use Rattle.std.proofs.lemmas.List.{take_all}
 use Rattle.std.proofs.lemmas.Bool.Decides.{nat_tests}
@@ -28,39 +29,53 @@ use Rattle.sh_core.proofs.StateWords.{fields_of-entered}
 use Rattle.sh_word.proofs.Words.{fields_of-sub, fields_of-or_present}
 use Rattle.sh_core.proofs.Slots.{slots_state, same_spot-refl}
 use Rattle.sh_core.proofs.SlotSteps.{drop_slots, leaving, enter_slots, get_fine, get_due, holding, publish_fine}
-use Rattle.sh_core.proofs.Logs.{keys_state, keys_quiet, story_same, story_publish, gone_permitted, got_permitted, values_append, values_none, removals_snoc, live_parts}
+use Rattle.sh_core.proofs.Logs.{keys_state, keys_quiet, story_same, story_publish, gone_permitted, got_permitted}
+use Rattle.sh_core.proofs.Logs.{values_append, values_none, removals_snoc, live_parts}
 use Rattle.sh_core.proofs.MarkStep.{same_key, apart_key, other_key}
 use Rattle.sh_core.proofs.GoodStep.{good_at}
 
 -- a step that leaves generation, M and P, with no entry
 pub keys_still : (plan : Plan) (w : Words) (log : List Entry) (x : Spot) (n : ℕ) → KeysFine plan w log
-    → (fields_of n).generation ≡ (fields_of (w.state_at x.page x.slot)).generation → (fields_of n).marked ≡ (fields_of (w.state_at x.page x.slot)).marked → (fields_of n).present ≡ (fields_of (w.state_at x.page x.slot)).present
+    → (fields_of n).generation ≡ (fields_of (w.state_at x.page x.slot)).generation → (fields_of n).marked
+    ≡ (fields_of (w.state_at x.page x.slot)).marked → (fields_of n).present
+    ≡ (fields_of (w.state_at x.page x.slot)).present
     → KeysFine plan (write w (State x.page x.slot) n) log
 keys_still plan w log x n old a b c =
     keys_state plan w log log x n old (λ k z name h. (refl, refl)) (λ k z name h.
-    let P : Spot → Type 0 = λ y. Story (fields_of (w.state_at y.page y.slot)) z.generation (values k log) (removals k log) (value_at w y.page y.slot) in
-    story_same (fields_of (w.state_at x.page x.slot)) (fields_of n) z.generation (values k log) (removals k log) (value_at w x.page x.slot) a b c (subst P h (old k z name)))
+    let P : Spot → Type 0 = λ y. Story (fields_of (w.state_at y.page y.slot)) z.generation (values k log)
+    (removals k log) (value_at w y.page y.slot) in
+    story_same (fields_of (w.state_at x.page x.slot)) (fields_of n) z.generation (values k log) (removals k log)
+    (value_at w x.page x.slot) a b c (subst P h (old k z name)))
 
 fill_none : (w : Words) (p : Body) (b : Bool) (x : Spot) (g : ℕ) → FillFine w p (cond b (Finishing x g) Idle)
 fill_none w p true x g = tt
 fill_none w p false x g = tt
 
 -- Drop of a visit
-pub good_drop : (plan : Plan) (w : World) (l : PutLists) (a : ℕ) (p : Body) (x : Spot) → Good plan w l → slice_get w.parts a ≡ Some (hand p (Leaving x)) → Good plan (apply w a (drop_hand (hand p (Leaving x)) x)) l
+pub good_drop : (plan : Plan) (w : World) (l : PutLists) (a : ℕ) (p : Body) (x : Spot) → Good plan w l
+    → slice_get w.parts a ≡ Some (hand p (Leaving x)) → Good plan (apply w a (drop_hand (hand p (Leaving x)) x)) l
 unfolding apply
 good_drop plan w l a p x g at =
     let f = g.slots x in
     let v = leaving plan w.parts a p x at in
     let some : 0 < (fields_of n).count = omega arith in
-    good_at plan w l l a (hand p (Leaving x)) (hand p (after_drop x n)) (write w.words (State x.page x.slot) (n - 1)) None g at
+    good_at plan w l l a (hand p (Leaving x)) (hand p (after_drop x n)) (write w.words (State x.page x.slot) (n - 1))
+    None g at
     (drop_slots plan w.words w.parts l a p x g.slots at)
-    (keys_still plan w.words w.log x (n - 1) g.keys (ap (λ (t : Fields). t.generation) (fields_of-sub n some)) (ap (λ (t : Fields). t.marked) (fields_of-sub n some)) (ap (λ (t : Fields). t.present) (fields_of-sub n some)))
-    tt (λ k. refl) ((g.parts a (hand p (Leaving x)) at).0, fill_none (write w.words (State x.page x.slot) (n - 1)) (hand p (after_drop x n)) ((fields_of n).present && (fields_of n).marked && ((fields_of n).count == 1)) x (fields_of n).generation) (λ b q _ _ h. h) where
+    (keys_still plan w.words w.log x (n - 1) g.keys (ap (λ (t : Fields). t.generation) (fields_of-sub n some))
+    (ap (λ (t : Fields). t.marked) (fields_of-sub n some)) (ap (λ (t : Fields). t.present) (fields_of-sub n some)))
+    tt (λ k. refl) (
+      (g.parts a (hand p (Leaving x)) at).0,
+      fill_none (write w.words (State x.page x.slot) (n - 1))
+          (hand p (after_drop x n)) ((fields_of n).present && (fields_of n).marked && ((fields_of n).count == 1)) x
+          (fields_of n).generation,
+    ) (λ b q _ _ h. h) where
       n : ℕ
       n = w.words.state_at x.page x.slot
 
 -- few enough passes and holds that a count has room
-pub total_few : {A : Type 0} (f : A → ℕ) (m : ℕ) (xs : List A) → ((a : ℕ) (x : A) → slice_get xs a ≡ Some x → f x ≤ m) → total f xs ≤ length xs * m
+pub total_few : {A : Type 0} (f : A → ℕ) (m : ℕ) (xs : List A) → ((a : ℕ) (x : A) → slice_get xs a ≡ Some x → f x ≤ m)
+    → total f xs ≤ length xs * m
 unfolding total
 total_few f m [] h = omega arith
 total_few f m (x ∷ xs) h = let one = h 0 x refl in let rest = total_few f m xs (λ a y e. h (suc a) y e) in omega arith
@@ -79,10 +94,13 @@ visits_few plan x p (Removing k) = if1_few (at_spot x (plan.keys.unpack k))
 visits_few plan x p (Leaving y) = if1_few (same_spot x y)
 visits_few plan x p _ = omega arith
 
-pub room_to_enter : (plan : Plan) (w : World) (l : PutLists) (x : Spot) → Lawful plan → Good plan w l → (fields_of (w.words.state_at x.page x.slot)).count + 1 < 2 ^ 30
+pub room_to_enter : (plan : Plan) (w : World) (l : PutLists) (x : Spot) → Lawful plan → Good plan w l
+    → (fields_of (w.words.state_at x.page x.slot)).count + 1 < 2 ^ 30
 room_to_enter plan w l x laws g =
     let f = g.slots x in
-    let h = total_few (held plan x) 16 w.parts (λ a p at. let n = total_length (λ k. if1 (at_spot x (plan.keys.unpack k))) (λ k. if1_few (at_spot x (plan.keys.unpack k))) p.holds in let m = (g.parts a p at).0 in omega arith) in
+    let h = total_few (held plan x) 16 w.parts (λ a p at. let n = total_length
+    (λ k. if1 (at_spot x (plan.keys.unpack k))) (λ k. if1_few (at_spot x (plan.keys.unpack k))) p.holds
+    in let m = (g.parts a p at).0 in omega arith) in
     let v = total_length (visits plan x) (λ p. visits_few plan x p p.hand) w.parts in
     let n = g.passes in
     let m = laws.passes in omega arith
@@ -96,22 +114,31 @@ unfolding values
 none_got a k v j = (refl, refl)
 
 -- Enter of a get that meets no live value of its key
-pub good_gone : (plan : Plan) (w : World) (l : PutLists) (a : ℕ) (p : Body) (k : ℕ) (y : Name) → Lawful plan → Good plan w l → slice_get w.parts a ≡ Some (hand p Idle) → plan.keys.unpack k ≡ Some y
-    → live_at y.generation (w.words.state_at y.page y.slot) ≡ false → Good plan (apply w a (enter_get plan (hand p Idle) k y)) l
+pub good_gone : (plan : Plan) (w : World) (l : PutLists) (a : ℕ) (p : Body) (k : ℕ) (y : Name) → Lawful plan
+    → Good plan w l → slice_get w.parts a ≡ Some (hand p Idle) → plan.keys.unpack k ≡ Some y
+    → live_at y.generation (w.words.state_at y.page y.slot) ≡ false
+    → Good plan (apply w a (enter_get plan (hand p Idle) k y)) l
 unfolding apply
 good_gone plan w l a p k y laws g at name dead =
     let few = room_to_enter plan w l (spot_of y) laws g in
     let add = fields_of-entered n few in
-    rw dead (good_at plan w l l a (hand p Idle) (hand p (Leaving (spot_of y))) (write w.words (State y.page y.slot) (n + 1)) (Some (Gone a k)) g at
+    rw dead (good_at plan w l l a (hand p Idle) (hand p (Leaving (spot_of y)))
+    (write w.words (State y.page y.slot) (n + 1)) (Some (Gone a k)) g at
     (enter_slots plan w.words w.parts l a p (spot_of y) g.slots at few)
-    (keys_quiet plan w.words w.log (Gone a k) (spot_of y) (n + 1) g.keys (none_gone a k) (ap (λ (t : Fields). t.generation) add) (ap (λ (t : Fields). t.marked) add) (ap (λ (t : Fields). t.present) add))
-    (gone_permitted plan w.log a k y n (value_at w.words y.page y.slot) (g.keys k y name) dead) (refl, λ j. refl) ((g.parts a (hand p Idle) at).0, tt) (λ b q _ _ h. h)) where
+    (keys_quiet plan w.words w.log (Gone a k) (spot_of y) (n + 1) g.keys (none_gone a k)
+    (ap (λ (t : Fields). t.generation) add) (ap (λ (t : Fields). t.marked) add)
+    (ap (λ (t : Fields). t.present) add))
+    (gone_permitted plan w.log a k y n (value_at w.words y.page y.slot) (g.keys k y name) dead) (refl, λ j. refl)
+    ((g.parts a (hand p Idle) at).0, tt) (λ b q _ _ h. h)) where
       n : ℕ
       n = w.words.state_at y.page y.slot
 
 -- Enter of a get that takes a hold
-pub good_got : (plan : Plan) (w : World) (l : PutLists) (a : ℕ) (p : Body) (k : ℕ) (y : Name) → Lawful plan → Good plan w l → slice_get w.parts a ≡ Some (hand p Idle) → plan.keys.unpack k ≡ Some y → length p.holds < 16
-    → live_at y.generation (w.words.state_at y.page y.slot) ≡ true → nat_lt (fields_of (w.words.state_at y.page y.slot)).count plan.keys.guard_max ≡ true → Good plan (apply w a (enter_get plan (hand p Idle) k y)) l
+pub good_got : (plan : Plan) (w : World) (l : PutLists) (a : ℕ) (p : Body) (k : ℕ) (y : Name) → Lawful plan
+    → Good plan w l → slice_get w.parts a ≡ Some (hand p Idle) → plan.keys.unpack k ≡ Some y → length p.holds < 16
+    → live_at y.generation (w.words.state_at y.page y.slot) ≡ true
+    → nat_lt (fields_of (w.words.state_at y.page y.slot)).count plan.keys.guard_max ≡ true
+    → Good plan (apply w a (enter_get plan (hand p Idle) k y)) l
 unfolding apply total
 good_got plan w l a p k y laws g at name fewer live under =
     let few = room_to_enter plan w l (spot_of y) laws g in
@@ -119,19 +146,27 @@ good_got plan w l a p k y laws g at name fewer live under =
     let c = live_parts (fields_of n).present (fields_of n).marked (fields_of n).generation y.generation live in
     let t : (y.generation == (fields_of n).generation) ≡ true = let d = c.2 in grind (arith, nat_tests) in
     let now : current (fields_of n) (Some y) ≡ true = rw (c.0, t) refl in
-    rw (live, under) (good_at plan w l l a (hand p Idle) (hand (holding p k) Idle) (write w.words (State y.page y.slot) (n + 1)) (Some (Got a k (value_at w.words y.page y.slot))) g at
-    (slots_state plan w.words w.parts l a (hand p Idle) (hand (holding p k) Idle) (spot_of y) (n + 1) g.slots at (get_due plan p k y name) (rw add (get_fine _ _ (fields_of n) plan w.parts a p k y name now at (g.slots (spot_of y)))))
-    (keys_quiet plan w.words w.log (Got a k (value_at w.words y.page y.slot)) (spot_of y) (n + 1) g.keys (none_got a k _) (ap (λ (t : Fields). t.generation) add) (ap (λ (t : Fields). t.marked) add) (ap (λ (t : Fields). t.present) add))
-    (got_permitted plan w.log a k y n (value_at w.words y.page y.slot) (g.keys k y name) live) (refl, λ j. omega arith) (omega arith, tt) (λ b q _ _ h. h)) where
+    rw (live, under) (good_at plan w l l a (hand p Idle) (hand (holding p k) Idle)
+    (write w.words (State y.page y.slot) (n + 1)) (Some (Got a k (value_at w.words y.page y.slot))) g at
+    (slots_state plan w.words w.parts l a (hand p Idle) (hand (holding p k) Idle) (spot_of y) (n + 1) g.slots at
+    (get_due plan p k y name) (rw add (get_fine _ _ (fields_of n) plan w.parts a p k y name now at
+    (g.slots (spot_of y)))))
+    (keys_quiet plan w.words w.log (Got a k (value_at w.words y.page y.slot)) (spot_of y) (n + 1) g.keys
+    (none_got a k _) (ap (λ (t : Fields). t.generation) add) (ap (λ (t : Fields). t.marked) add)
+    (ap (λ (t : Fields). t.present) add))
+    (got_permitted plan w.log a k y n (value_at w.words y.page y.slot) (g.keys k y name) live) (refl, λ j. omega arith)
+    (omega arith, tt) (λ b q _ _ h. h)) where
       n : ℕ
       n = w.words.state_at y.page y.slot
 
 -- Publish: the value that was filled is inserted under a key that was never issued
-filled : (w : Words) (p : Body) (x : Spot) (v : List ℕ) (i : ℕ) → FillFine w p (Filling x v i) → length v ≤ i → value_at w x.page x.slot ≡ v
+filled : (w : Words) (p : Body) (x : Spot) (v : List ℕ) (i : ℕ) → FillFine w p (Filling x v i) → length v ≤ i
+    → value_at w x.page x.slot ≡ v
 unfolding value_at
 filled w p x v i f all =
     let same : i ≡ length v = let b = f.1 in omega arith in
-    let t : words_from (w.payload_at x.page) (x.slot * width (w.class_at x.page - 1)) i ≡ v = f.3 ∙ take_all i v (omega arith) in
+    let t : words_from (w.payload_at x.page) (x.slot * width (w.class_at x.page - 1)) i ≡ v = f.3
+    ∙ take_all i v (omega arith) in
     rw (f.0, ← same) t
 
 pub no_or : (b c : Bool) → if1 (b || c) ≡ 0 → (b ≡ false) × (c ≡ false)
@@ -143,14 +178,17 @@ pub room_few : (w : Words) (x : Spot) → room w x ≤ 1
 room_few w x = if1_few (nat_lt 0 (w.class_at x.page) && nat_lt x.slot (slots (w.class_at x.page - 1)))
 
 -- the slot in the hand is Empty
-empty : (plan : Plan) (ps : List Body) (a : ℕ) (p : Body) (x : Spot) (v : List ℕ) (i r q : ℕ) (st : Fields) → slice_get ps a ≡ Some (hand p (Filling x v i)) → Fine r q st (tally plan x st ps) → r ≤ 1 → (st.present ≡ false) × (st.marked ≡ false)
+empty : (plan : Plan) (ps : List Body) (a : ℕ) (p : Body) (x : Spot) (v : List ℕ) (i r q : ℕ) (st : Fields)
+    → slice_get ps a ≡ Some (hand p (Filling x v i)) → Fine r q st (tally plan x st ps) → r ≤ 1 → (st.present ≡ false)
+    × (st.marked ≡ false)
 empty plan ps a p x v i r q st at f small =
     let e = same_spot-refl x in
     let one : if1 (same_spot x x) ≡ 1 = rw e refl in
     let t = total_at (in_hand x) ps a (hand p (Filling x v i)) at in
     no_or st.present st.marked (omega arith)
 
-publish_due : (plan : Plan) (p : Body) (x y : Spot) (v : List ℕ) (i : ℕ) (st : Fields) → same_spot y x ≡ false → due plan y st (hand p Idle) ≡ due plan y st (hand p (Filling x v i))
+publish_due : (plan : Plan) (p : Body) (x y : Spot) (v : List ℕ) (i : ℕ) (st : Fields) → same_spot y x ≡ false
+    → due plan y st (hand p Idle) ≡ due plan y st (hand p (Filling x v i))
 publish_due plan p x y v i st h = rw h refl
 
 values_one : (a k : ℕ) (v : List ℕ) (j : ℕ) → (k == j) ≡ true → values j (Insert a k v ∷ []) ≡ v ∷ []
@@ -173,31 +211,51 @@ apart_tests k j h = go (k == j) h where
   go true h = absurd (omega arith)
   go false h = refl
 
-publish_keys : (plan : Plan) (w : Words) (log : List Entry) (a k : ℕ) (v : List ℕ) (x : Spot) (y : Name) → Lawful plan → plan.keys.unpack k ≡ Some y → KeysFine plan w log → spot_of y ≡ x → y.generation ≡ (fields_of (w.state_at x.page x.slot)).generation
-    → (fields_of (w.state_at x.page x.slot)).marked ≡ false → (fields_of (w.state_at x.page x.slot)).present ≡ false → value_at w x.page x.slot ≡ v → KeysFine plan (write w (State x.page x.slot) (bit_or (w.state_at x.page x.slot) (2 ^ 30))) (log ++ Insert a k v ∷ [])
+publish_keys : (plan : Plan) (w : Words) (log : List Entry) (a k : ℕ) (v : List ℕ) (x : Spot) (y : Name) → Lawful plan
+    → plan.keys.unpack k ≡ Some y → KeysFine plan w log → spot_of y ≡ x → y.generation
+    ≡ (fields_of (w.state_at x.page x.slot)).generation
+    → (fields_of (w.state_at x.page x.slot)).marked ≡ false → (fields_of (w.state_at x.page x.slot)).present ≡ false
+    → value_at w x.page x.slot ≡ v → KeysFine plan (write w (State x.page x.slot)
+    (bit_or (w.state_at x.page x.slot) (2 ^ 30))) (log ++ Insert a k v ∷ [])
 publish_keys plan w log a k v x y laws name old is gen m p now =
     let n : ℕ = w.state_at x.page x.slot in
     keys_state plan w log (log ++ Insert a k v ∷ []) x (bit_or n (2 ^ 30)) old
     (λ j z u h.
-    let o = other_key plan k j y z name u (ap (same_spot (spot_of z)) is ∙ h) in (values_none j log (Insert a k v) (values_zero a k v j o), omega (arith, removals_snoc j log (Insert a k v))))
+    let o = other_key plan k j y z name u (ap (same_spot (spot_of z)) is ∙ h)
+    in (
+      values_none j log (Insert a k v) (values_zero a k v j o),
+      omega
+          (arith, removals_snoc j log (Insert a k v)),
+    ))
     (λ j z u h.
-    let P : Spot → Type 0 = λ s. Story (fields_of (w.state_at s.page s.slot)) z.generation (values j log) (removals j log) (value_at w s.page s.slot) in
+    let P : Spot → Type 0 = λ s. Story (fields_of (w.state_at s.page s.slot)) z.generation (values j log)
+    (removals j log) (value_at w s.page s.slot) in
     let t = subst P h (old j z u) in
-    let r : removals j (log ++ Insert a k v ∷ []) ≡ removals j log = omega (arith, removals_snoc j log (Insert a k v)) in
-    rw (fields_of-or_present n, r, values_append j log (Insert a k v ∷ [])) (story_publish (fields_of n) z.generation (values j log) (values j (Insert a k v ∷ [])) (removals j log) (value_at w x.page x.slot) t m p
+    let r : removals j (log ++ Insert a k v ∷ []) ≡ removals j log = omega (arith, removals_snoc j log (Insert a k v))
+    in
+    rw (fields_of-or_present n, r, values_append j log (Insert a k v ∷ []))
+    (story_publish (fields_of n) z.generation (values j log) (values j (Insert a k v ∷ [])) (removals j log)
+    (value_at w x.page x.slot) t m p
     (λ e. rw now (values_one a k v j (same_tests k j (same_key plan k j y z laws name u (h ∙ sym is) (e ∙ sym gen)))))
     (λ e. values_zero a k v j (apart_tests k j (apart_key plan k j y z name u (λ c. e (sym c ∙ gen)))))))
 
-pub good_publish : (plan : Plan) (w : World) (l : PutLists) (a : ℕ) (p : Body) (x : Spot) (v : List ℕ) (i : ℕ) → Lawful plan → Good plan w l → slice_get w.parts a ≡ Some (hand p (Filling x v i)) → length v ≤ i
-    → plan.keys.unpack (plan.keys.pack (name_at x (fields_of (w.words.state_at x.page x.slot)).generation)) ≡ Some (name_at x (fields_of (w.words.state_at x.page x.slot)).generation) → Good plan (apply w a (publish plan (hand p (Filling x v i)) x v)) l
+pub good_publish : (plan : Plan) (w : World) (l : PutLists) (a : ℕ) (p : Body) (x : Spot) (v : List ℕ) (i : ℕ)
+    → Lawful plan → Good plan w l → slice_get w.parts a ≡ Some (hand p (Filling x v i)) → length v ≤ i
+    → plan.keys.unpack (plan.keys.pack (name_at x (fields_of (w.words.state_at x.page x.slot)).generation))
+    ≡ Some (name_at x (fields_of (w.words.state_at x.page x.slot)).generation)
+    → Good plan (apply w a (publish plan (hand p (Filling x v i)) x v)) l
 unfolding apply
 good_publish plan w l a p x v i laws g at all name =
     let f = g.slots x in
     let pub_at = fields_of-or_present n in
     let c = empty plan w.parts a p x v i (room w.words x) (queued l x) (fields_of n) at f (room_few w.words x) in
-    let now : value_at w.words x.page x.slot ≡ v = filled w.words (hand p (Filling x v i)) x v i (g.parts a (hand p (Filling x v i)) at).1 all in
-    good_at plan w l l a (hand p (Filling x v i)) (hand p Idle) (write w.words (State x.page x.slot) (bit_or n (2 ^ 30))) (Some (Insert a k v)) g at
-    (slots_state plan w.words w.parts l a (hand p (Filling x v i)) (hand p Idle) x (bit_or n (2 ^ 30)) g.slots at (λ y st h. publish_due plan p x y v i st h) (rw pub_at (publish_fine _ _ (fields_of n) plan w.parts a p x v i (room_few w.words x) at f)))
+    let now : value_at w.words x.page x.slot ≡ v = filled w.words (hand p (Filling x v i)) x v i
+    (g.parts a (hand p (Filling x v i)) at).1 all in
+    good_at plan w l l a (hand p (Filling x v i)) (hand p Idle)
+    (write w.words (State x.page x.slot) (bit_or n (2 ^ 30))) (Some (Insert a k v)) g at
+    (slots_state plan w.words w.parts l a (hand p (Filling x v i)) (hand p Idle) x (bit_or n (2 ^ 30)) g.slots at
+    (λ y st h. publish_due plan p x y v i st h) (rw pub_at
+    (publish_fine _ _ (fields_of n) plan w.parts a p x v i (room_few w.words x) at f)))
     (publish_keys plan w.words w.log a k v x y laws name g.keys refl refl c.1 c.0 now)
     ((g.keys k (name_at x (fields_of n).generation) name).fresh refl (rw (c.0, c.1) refl))
     (refl, λ j. refl) ((g.parts a (hand p (Filling x v i)) at).0, tt) (λ b q _ _ h. h) where

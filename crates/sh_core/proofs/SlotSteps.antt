@@ -1,5 +1,6 @@
 -- What is kept of each slot, kind by kind.
-use Rattle.std.proofs.Common.{◌≡◌, ℕ, ◌+◌, ◌-◌, ◌^◌, ◌<◌, ◌≤◌, ◌==◌, ◌&&◌, ◌||◌, Bool, true, false, cond, List, ◌∷◌, set, refl, arith, Option, Some, slice_get}
+use Rattle.std.proofs.Common.{◌≡◌, ℕ, ◌+◌, ◌-◌, ◌^◌, ◌<◌, ◌≤◌, ◌==◌, ◌&&◌, ◌||◌, Bool, true, false, cond, List, ◌∷◌}
+use Rattle.std.proofs.Common.{set, refl, arith, Option, Some, slice_get}
 use Rattle.std.proofs.lemmas.Bool.Decides.{nat_tests}
 use Rattle.sh_slots.specs.declared.hand.Spot.{Spot}
 use Rattle.sh_slots.specs.declared.hand.Name.{Name}
@@ -24,9 +25,11 @@ was_last true true n _ _ c d e = grind (arith, nat_tests)
 was_last true false n _ b c d e = cc
 was_last false m n a b c d e = cc
 
-pub drop_fine : (b : Bool) (r q : ℕ) (st : Fields) (plan : Plan) (ps : List Body) (a : ℕ) (p : Body) (x : Spot) → slice_get ps a ≡ Some (hand p (Leaving x))
+pub drop_fine : (b : Bool) (r q : ℕ) (st : Fields) (plan : Plan) (ps : List Body) (a : ℕ) (p : Body) (x : Spot)
+    → slice_get ps a ≡ Some (hand p (Leaving x))
     → Fine r q st (tally plan x st ps) → 0 < st.count → (st.present && st.marked && (st.count == 1)) ≡ b
-    → Fine r q (record st { count = st.count - 1 }) (tally plan x (record st { count = st.count - 1 }) (set ps a (hand p (cond b (Finishing x st.generation) Idle))))
+    → Fine r q (record st { count = st.count - 1 }) (tally plan x (record st { count = st.count - 1 })
+    (set ps a (hand p (cond b (Finishing x st.generation) Idle))))
 drop_fine true r q st plan ps a p x at f some is =
     let m = tally_set plan x st ps a (hand p (Leaving x)) (hand p (Finishing x st.generation)) at in
     let e = same_spot-refl x in
@@ -37,20 +40,34 @@ drop_fine false r q st plan ps a p x at f some is =
     let m = tally_set plan x st ps a (hand p (Leaving x)) (hand p Idle) at in
     let e = same_spot-refl x in
     let here : if1 (same_spot x x) ≡ 1 = rw e refl in
-    record { kinds = omega arith; counts = omega arith; none_lost = omega arith; owed = λ c d n. absurd (was_last st.present st.marked st.count c d some n is) }
+    record {
+      kinds = omega arith;
+      counts = omega arith;
+      none_lost = omega arith;
+      owed = λ c d n. absurd
+          (was_last st.present st.marked st.count c d some n is);
+    }
 
-pub drop_due : (b : Bool) (g : ℕ) (plan : Plan) (p : Body) (x y : Spot) (st : Fields) → same_spot y x ≡ false → due plan y st (hand p (cond b (Finishing x g) Idle)) ≡ due plan y st (hand p (Leaving x))
+pub drop_due : (b : Bool) (g : ℕ) (plan : Plan) (p : Body) (x y : Spot) (st : Fields) → same_spot y x ≡ false
+    → due plan y st (hand p (cond b (Finishing x g) Idle)) ≡ due plan y st (hand p (Leaving x))
 drop_due true g plan p x y st h = rw h refl
 drop_due false g plan p x y st h = rw h refl
 
 -- a pass that leaves a slot is one of its visitors
-pub leaving : (plan : Plan) (ps : List Body) (a : ℕ) (p : Body) (x : Spot) → slice_get ps a ≡ Some (hand p (Leaving x)) → 0 < total (visits plan x) ps
-leaving plan ps a p x at = let e = same_spot-refl x in let here : if1 (same_spot x x) ≡ 1 = rw e refl in let t = total_at (visits plan x) ps a (hand p (Leaving x)) at in omega arith
+pub leaving : (plan : Plan) (ps : List Body) (a : ℕ) (p : Body) (x : Spot) → slice_get ps a ≡ Some (hand p (Leaving x))
+    → 0 < total (visits plan x) ps
+leaving plan ps a p x at = let e = same_spot-refl x in let here : if1 (same_spot x x) ≡ 1 = rw e refl
+    in let t = total_at (visits plan x) ps a (hand p (Leaving x)) at in omega arith
 
-pub drop_slots : (plan : Plan) (w : Words) (ps : List Body) (l : PutLists) (a : ℕ) (p : Body) (x : Spot) → SlotsFine plan w ps l → slice_get ps a ≡ Some (hand p (Leaving x))
-    → SlotsFine plan (write w (State x.page x.slot) (w.state_at x.page x.slot - 1)) (set ps a (hand p (after_drop x (w.state_at x.page x.slot)))) l
-drop_slots plan w ps l a p x old at = let f = old x in let v = leaving plan ps a p x at in let some : 0 < (fields_of n).count = omega arith in
-    slots_state plan w ps l a (hand p (Leaving x)) (hand p (after_drop x n)) x (n - 1) old at (λ y st h. drop_due b (fields_of n).generation plan p x y st h) (rw (fields_of-sub n some) (drop_fine b _ _ (fields_of n) plan ps a p x at f some refl)) where
+pub drop_slots : (plan : Plan) (w : Words) (ps : List Body) (l : PutLists) (a : ℕ) (p : Body) (x : Spot)
+    → SlotsFine plan w ps l → slice_get ps a ≡ Some (hand p (Leaving x))
+    → SlotsFine plan (write w (State x.page x.slot) (w.state_at x.page x.slot - 1))
+    (set ps a (hand p (after_drop x (w.state_at x.page x.slot)))) l
+drop_slots plan w ps l a p x old at = let f = old x in let v = leaving plan ps a p x at
+    in let some : 0 < (fields_of n).count = omega arith in
+    slots_state plan w ps l a (hand p (Leaving x)) (hand p (after_drop x n)) x (n - 1) old at
+    (λ y st h. drop_due b (fields_of n).generation plan p x y st h)
+    (rw (fields_of-sub n some) (drop_fine b _ _ (fields_of n) plan ps a p x at f some refl)) where
       n : ℕ
       n = w.state_at x.page x.slot
 
@@ -58,18 +75,23 @@ drop_slots plan w ps l a p x old at = let f = old x in let v = leaving plan ps a
       b = (fields_of n).present && (fields_of n).marked && ((fields_of n).count == 1)
 
 -- Enter, where the pass only visits: one visitor more
-pub enter_fine : (r q : ℕ) (st : Fields) (plan : Plan) (ps : List Body) (a : ℕ) (p : Body) (x : Spot) → slice_get ps a ≡ Some (hand p Idle) → Fine r q st (tally plan x st ps)
-    → Fine r q (record st { count = st.count + 1 }) (tally plan x (record st { count = st.count + 1 }) (set ps a (hand p (Leaving x))))
+pub enter_fine : (r q : ℕ) (st : Fields) (plan : Plan) (ps : List Body) (a : ℕ) (p : Body) (x : Spot) → slice_get ps a
+    ≡ Some (hand p Idle) → Fine r q st (tally plan x st ps)
+    → Fine r q (record st { count = st.count + 1 }) (tally plan x (record st { count = st.count + 1 })
+    (set ps a (hand p (Leaving x))))
 enter_fine r q st plan ps a p x at f =
     let m = tally_set plan x st ps a (hand p Idle) (hand p (Leaving x)) at in
     let e = same_spot-refl x in
     let here : if1 (same_spot x x) ≡ 1 = rw e refl in
     record { kinds = omega arith; counts = omega arith; none_lost = omega arith; owed = λ c d n. absurd (omega arith) }
 
-pub enter_slots : (plan : Plan) (w : Words) (ps : List Body) (l : PutLists) (a : ℕ) (p : Body) (x : Spot) → SlotsFine plan w ps l → slice_get ps a ≡ Some (hand p Idle) → (fields_of (w.state_at x.page x.slot)).count + 1 < 2 ^ 30
+pub enter_slots : (plan : Plan) (w : Words) (ps : List Body) (l : PutLists) (a : ℕ) (p : Body) (x : Spot)
+    → SlotsFine plan w ps l → slice_get ps a ≡ Some (hand p Idle) → (fields_of (w.state_at x.page x.slot)).count + 1 < 2
+    ^ 30
     → SlotsFine plan (write w (State x.page x.slot) (w.state_at x.page x.slot + 1)) (set ps a (hand p (Leaving x))) l
 enter_slots plan w ps l a p x old at few = let f = old x in
-    slots_state plan w ps l a (hand p Idle) (hand p (Leaving x)) x (n + 1) old at (λ y st h. rw h refl) (rw (fields_of-entered n few) (enter_fine _ _ (fields_of n) plan ps a p x at f)) where
+    slots_state plan w ps l a (hand p Idle) (hand p (Leaving x)) x (n + 1) old at (λ y st h. rw h refl)
+    (rw (fields_of-entered n few) (enter_fine _ _ (fields_of n) plan ps a p x at f)) where
       n : ℕ
       n = w.state_at x.page x.slot
 
@@ -77,9 +99,11 @@ abbrev pub holding : Body → ℕ → Body
 holding p k = record p { holds = k ∷ p.holds }
 
 -- Enter that gets: one hold more, of the present generation
-pub get_fine : (r q : ℕ) (st : Fields) (plan : Plan) (ps : List Body) (a : ℕ) (p : Body) (k : ℕ) (y : Name) → plan.keys.unpack k ≡ Some y → current st (Some y) ≡ true
+pub get_fine : (r q : ℕ) (st : Fields) (plan : Plan) (ps : List Body) (a : ℕ) (p : Body) (k : ℕ) (y : Name)
+    → plan.keys.unpack k ≡ Some y → current st (Some y) ≡ true
     → slice_get ps a ≡ Some (hand p Idle) → Fine r q st (tally plan (spot_of y) st ps)
-    → Fine r q (record st { count = st.count + 1 }) (tally plan (spot_of y) (record st { count = st.count + 1 }) (set ps a (hand (holding p k) Idle)))
+    → Fine r q (record st { count = st.count + 1 }) (tally plan (spot_of y) (record st { count = st.count + 1 })
+    (set ps a (hand (holding p k) Idle)))
 unfolding total
 get_fine r q st plan ps a p k y name now at f =
     let x : Spot = spot_of y in
@@ -89,7 +113,8 @@ get_fine r q st plan ps a p k y name now at f =
     let fresh : stale st x (plan.keys.unpack k) ≡ 0 = rw (name, e, now) refl in
     record { kinds = omega arith; counts = omega arith; none_lost = omega arith; owed = λ c d n. absurd (omega arith) }
 
-pub get_due : (plan : Plan) (p : Body) (k : ℕ) (z : Name) → plan.keys.unpack k ≡ Some z → (y : Spot) (st : Fields) → same_spot y (spot_of z) ≡ false → due plan y st (hand (holding p k) Idle) ≡ due plan y st (hand p Idle)
+pub get_due : (plan : Plan) (p : Body) (k : ℕ) (z : Name) → plan.keys.unpack k ≡ Some z → (y : Spot) (st : Fields)
+    → same_spot y (spot_of z) ≡ false → due plan y st (hand (holding p k) Idle) ≡ due plan y st (hand p Idle)
 unfolding total
 get_due plan p k z name y st h =
     let a : if1 (at_spot y (plan.keys.unpack k)) ≡ 0 = rw (name, h) refl in
@@ -97,9 +122,11 @@ get_due plan p k z name y st h =
     tally_ext _ _ refl refl (omega arith) refl (omega arith) refl
 
 -- Mark: the pass that removes goes on as a visitor
-pub mark_fine : (r q : ℕ) (st : Fields) (plan : Plan) (ps : List Body) (a : ℕ) (p : Body) (k : ℕ) (y : Name) → plan.keys.unpack k ≡ Some y → st.present ≡ true
+pub mark_fine : (r q : ℕ) (st : Fields) (plan : Plan) (ps : List Body) (a : ℕ) (p : Body) (k : ℕ) (y : Name)
+    → plan.keys.unpack k ≡ Some y → st.present ≡ true
     → slice_get ps a ≡ Some (hand p (Removing k)) → Fine r q st (tally plan (spot_of y) st ps)
-    → Fine r q (record st { marked = true }) (tally plan (spot_of y) (record st { marked = true }) (set ps a (hand p (Leaving (spot_of y)))))
+    → Fine r q (record st { marked = true }) (tally plan (spot_of y) (record st { marked = true })
+    (set ps a (hand p (Leaving (spot_of y)))))
 mark_fine r q st plan ps a p k y name there at f =
     let x : Spot = spot_of y in
     let m = tally_set plan x st ps a (hand p (Removing k)) (hand p (Leaving x)) at in
@@ -111,16 +138,21 @@ mark_fine r q st plan ps a p k y name there at f =
     let v = total_at (visits plan x) ps a (hand p (Removing k)) at in
     record { kinds = omega arith; counts = omega arith; none_lost = omega arith; owed = λ c d n. absurd (omega arith) }
 
-pub mark_due : (plan : Plan) (p : Body) (k : ℕ) (z : Name) → plan.keys.unpack k ≡ Some z → (y : Spot) (st : Fields) → same_spot y (spot_of z) ≡ false → due plan y st (hand p (Leaving (spot_of z))) ≡ due plan y st (hand p (Removing k))
+pub mark_due : (plan : Plan) (p : Body) (k : ℕ) (z : Name) → plan.keys.unpack k ≡ Some z → (y : Spot) (st : Fields)
+    → same_spot y (spot_of z) ≡ false → due plan y st (hand p (Leaving (spot_of z)))
+    ≡ due plan y st (hand p (Removing k))
 mark_due plan p k z name y st h = rw (name, h) refl
 
-pub remove_due : (plan : Plan) (p : Body) (k : ℕ) (z : Name) → plan.keys.unpack k ≡ Some z → (y : Spot) (st : Fields) → same_spot y (spot_of z) ≡ false → due plan y st (hand p (Removing k)) ≡ due plan y st (hand p Idle)
+pub remove_due : (plan : Plan) (p : Body) (k : ℕ) (z : Name) → plan.keys.unpack k ≡ Some z → (y : Spot) (st : Fields)
+    → same_spot y (spot_of z) ≡ false → due plan y st (hand p (Removing k)) ≡ due plan y st (hand p Idle)
 remove_due plan p k z name y st h = rw (name, h) refl
 
 -- Enter that goes on to remove
-pub remove_fine : (r q : ℕ) (st : Fields) (plan : Plan) (ps : List Body) (a : ℕ) (p : Body) (k : ℕ) (y : Name) → plan.keys.unpack k ≡ Some y → current st (Some y) ≡ true
+pub remove_fine : (r q : ℕ) (st : Fields) (plan : Plan) (ps : List Body) (a : ℕ) (p : Body) (k : ℕ) (y : Name)
+    → plan.keys.unpack k ≡ Some y → current st (Some y) ≡ true
     → slice_get ps a ≡ Some (hand p Idle) → Fine r q st (tally plan (spot_of y) st ps)
-    → Fine r q (record st { count = st.count + 1 }) (tally plan (spot_of y) (record st { count = st.count + 1 }) (set ps a (hand p (Removing k))))
+    → Fine r q (record st { count = st.count + 1 }) (tally plan (spot_of y) (record st { count = st.count + 1 })
+    (set ps a (hand p (Removing k))))
 remove_fine r q st plan ps a p k y name now at f =
     let x : Spot = spot_of y in
     let m = tally_set plan x st ps a (hand p Idle) (hand p (Removing k)) at in
@@ -133,7 +165,8 @@ remove_fine r q st plan ps a p k y name now at f =
 abbrev pub reused : ℕ → Fields
 reused g = record { generation = g + 1; marked = false; present = false; count = 0 }
 
-pub finish_mine : (r q : ℕ) (st : Fields) (plan : Plan) (ps : List Body) (a : ℕ) (p : Body) (x : Spot) (g : ℕ) → st.present ≡ true → st.count ≡ 0
+pub finish_mine : (r q : ℕ) (st : Fields) (plan : Plan) (ps : List Body) (a : ℕ) (p : Body) (x : Spot) (g : ℕ)
+    → st.present ≡ true → st.count ≡ 0
     → slice_get ps a ≡ Some (hand p (Finishing x g)) → Fine r q st (tally plan x st ps)
     → Fine r q (reused g) (tally plan x (reused g) (set ps a (hand (record p { mine = x ∷ p.mine }) Idle)))
 unfolding total
@@ -145,7 +178,8 @@ finish_mine r q st plan ps a p x g there none at f =
     let few = lost_le plan x (reused g) (set ps a (hand (record p { mine = x ∷ p.mine }) Idle)) in
     record { kinds = omega arith; counts = omega arith; none_lost = omega arith; owed = λ c d n. cc }
 
-pub finish_hand : (r q : ℕ) (st : Fields) (plan : Plan) (ps : List Body) (a : ℕ) (p : Body) (x : Spot) (g : ℕ) → st.present ≡ true → st.count ≡ 0
+pub finish_hand : (r q : ℕ) (st : Fields) (plan : Plan) (ps : List Body) (a : ℕ) (p : Body) (x : Spot) (g : ℕ)
+    → st.present ≡ true → st.count ≡ 0
     → slice_get ps a ≡ Some (hand p (Finishing x g)) → Fine r q st (tally plan x st ps)
     → Fine r q (reused g) (tally plan x (reused g) (set ps a (hand p (ToPut x))))
 unfolding total
@@ -158,7 +192,8 @@ finish_hand r q st plan ps a p x g there none at f =
     record { kinds = omega arith; counts = omega arith; none_lost = omega arith; owed = λ c d n. cc }
 
 -- Publish: the slot in the hand is Empty, and is Live then
-pub publish_fine : (r q : ℕ) (st : Fields) (plan : Plan) (ps : List Body) (a : ℕ) (p : Body) (x : Spot) (v : List ℕ) (i : ℕ) → r ≤ 1
+pub publish_fine : (r q : ℕ) (st : Fields) (plan : Plan) (ps : List Body) (a : ℕ) (p : Body) (x : Spot) (v : List ℕ)
+    (i : ℕ) → r ≤ 1
     → slice_get ps a ≡ Some (hand p (Filling x v i)) → Fine r q st (tally plan x st ps)
     → Fine r q (record st { present = true }) (tally plan x (record st { present = true }) (set ps a (hand p Idle)))
 publish_fine r q st plan ps a p x v i small at f =
@@ -182,38 +217,60 @@ publish_fine r q st plan ps a p x v i small at f =
       no_or2 false false h = refl
 
 -- Fill of a slot of `mine`
-pub fill_fine : (r q : ℕ) (st : Fields) (plan : Plan) (ps : List Body) (a : ℕ) (p : Body) (x : Spot) (v : List ℕ) → has (same_spot x) p.mine ≡ true
+pub fill_fine : (r q : ℕ) (st : Fields) (plan : Plan) (ps : List Body) (a : ℕ) (p : Body) (x : Spot) (v : List ℕ)
+    → has (same_spot x) p.mine ≡ true
     → slice_get ps a ≡ Some (hand p Idle) → Fine r q st (tally plan x st ps)
     → Fine r q st (tally plan x st (set ps a (hand (record p { mine = without (same_spot x) p.mine }) (Filling x v 0))))
 fill_fine r q st plan ps a p x v is at f =
-    let m = tally_set plan x st ps a (hand p Idle) (hand (record p { mine = without (same_spot x) p.mine }) (Filling x v 0)) at in
+    let m = tally_set plan x st ps a (hand p Idle) (hand (record p { mine = without (same_spot x) p.mine })
+    (Filling x v 0)) at in
     let e = same_spot-refl x in
     let one : if1 (same_spot x x) ≡ 1 = rw e refl in
     let less = total_without (λ y. if1 (same_spot x y)) (same_spot x) 1 (λ y h. rw h refl) p.mine is in
-    record { kinds = omega arith; counts = omega arith; none_lost = omega arith; owed = λ c d n. let o = f.owed c d n in omega arith }
+    record {
+      kinds = omega arith;
+      counts = omega arith;
+      none_lost = omega arith;
+      owed = λ c d n. let o = f.owed c d n
+          in omega arith;
+    }
 
 -- Drop of a hold
 
-named_by : (plan : Plan) (k : ℕ) (x : Spot) (f : Option Name → ℕ) (n : ℕ) → f (plan.keys.unpack k) ≡ n → (j : ℕ) → (j == k) ≡ true → f (plan.keys.unpack j) ≡ n
+named_by : (plan : Plan) (k : ℕ) (x : Spot) (f : Option Name → ℕ) (n : ℕ) → f (plan.keys.unpack k) ≡ n → (j : ℕ)
+    → (j == k) ≡ true → f (plan.keys.unpack j) ≡ n
 named_by plan k x f n e j h = let i : j ≡ k = grind (arith, nat_tests) in rw i e
 
-pub drop_key_fine : (b : Bool) (r q : ℕ) (st : Fields) (plan : Plan) (ps : List Body) (a : ℕ) (p : Body) (k : ℕ) (y : Name) → plan.keys.unpack k ≡ Some y → has (λ j. j == k) p.holds ≡ true
-    → slice_get ps a ≡ Some (hand p Idle) → Fine r q st (tally plan (spot_of y) st ps) → 0 < st.count → (st.present && st.marked && (st.count == 1)) ≡ b
-    → Fine r q (record st { count = st.count - 1 }) (tally plan (spot_of y) (record st { count = st.count - 1 }) (set ps a (hand (freed p k) (cond b (Finishing (spot_of y) st.generation) Idle))))
+pub drop_key_fine : (b : Bool) (r q : ℕ) (st : Fields) (plan : Plan) (ps : List Body) (a : ℕ) (p : Body) (k : ℕ)
+    (y : Name) → plan.keys.unpack k ≡ Some y → has (λ j. j == k) p.holds ≡ true
+    → slice_get ps a ≡ Some (hand p Idle) → Fine r q st (tally plan (spot_of y) st ps) → 0 < st.count
+    → (st.present && st.marked && (st.count == 1)) ≡ b
+    → Fine r q (record st { count = st.count - 1 }) (tally plan (spot_of y) (record st { count = st.count - 1 })
+    (set ps a (hand (freed p k) (cond b (Finishing (spot_of y) st.generation) Idle))))
 drop_key_fine true r q st plan ps a p k y name is at f some last =
     let x : Spot = spot_of y in
     let m = tally_set plan x st ps a (hand p Idle) (hand (freed p k) (Finishing x st.generation)) at in
     let e = same_spot-refl x in
     let there : if1 (same_spot x x && (st.generation == st.generation)) ≡ 1 = grind (arith, nat_tests) in
     let here : if1 (at_spot x (plan.keys.unpack k)) ≡ 1 = rw (name, e) refl in
-    let less = total_without (λ j. if1 (at_spot x (plan.keys.unpack j))) (λ j. j == k) 1 (named_by plan k x (λ o. if1 (at_spot x o)) 1 here) p.holds is in
-    let less' = total_without (λ j. stale st x (plan.keys.unpack j)) (λ j. j == k) (stale st x (plan.keys.unpack k)) (named_by plan k x (stale st x) (stale st x (plan.keys.unpack k)) refl) p.holds is in
+    let less = total_without (λ j. if1 (at_spot x (plan.keys.unpack j))) (λ j. j == k) 1
+    (named_by plan k x (λ o. if1 (at_spot x o)) 1 here) p.holds is in
+    let less' = total_without (λ j. stale st x (plan.keys.unpack j)) (λ j. j == k) (stale st x (plan.keys.unpack k))
+    (named_by plan k x (stale st x) (stale st x (plan.keys.unpack k)) refl) p.holds is in
     record { kinds = omega arith; counts = omega arith; none_lost = omega arith; owed = λ c d n. omega arith }
 drop_key_fine false r q st plan ps a p k y name is at f some last =
     let x : Spot = spot_of y in
     let m = tally_set plan x st ps a (hand p Idle) (hand (freed p k) Idle) at in
     let e = same_spot-refl x in
     let here : if1 (at_spot x (plan.keys.unpack k)) ≡ 1 = rw (name, e) refl in
-    let less = total_without (λ j. if1 (at_spot x (plan.keys.unpack j))) (λ j. j == k) 1 (named_by plan k x (λ o. if1 (at_spot x o)) 1 here) p.holds is in
-    let less' = total_without (λ j. stale st x (plan.keys.unpack j)) (λ j. j == k) (stale st x (plan.keys.unpack k)) (named_by plan k x (stale st x) (stale st x (plan.keys.unpack k)) refl) p.holds is in
-    record { kinds = omega arith; counts = omega arith; none_lost = omega arith; owed = λ c d n. absurd (was_last st.present st.marked st.count c d some n last) }
+    let less = total_without (λ j. if1 (at_spot x (plan.keys.unpack j))) (λ j. j == k) 1
+    (named_by plan k x (λ o. if1 (at_spot x o)) 1 here) p.holds is in
+    let less' = total_without (λ j. stale st x (plan.keys.unpack j)) (λ j. j == k) (stale st x (plan.keys.unpack k))
+    (named_by plan k x (stale st x) (stale st x (plan.keys.unpack k)) refl) p.holds is in
+    record {
+      kinds = omega arith;
+      counts = omega arith;
+      none_lost = omega arith;
+      owed = λ c d n. absurd
+          (was_last st.present st.marked st.count c d some n last);
+    }

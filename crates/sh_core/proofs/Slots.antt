@@ -1,5 +1,6 @@
 -- What is kept of each slot, over a step on one state word.
-use Rattle.std.proofs.Common.{◌≡◌, ℕ, ◌+◌, ◌≤◌, Bool, true, false, cond, List, set, refl, ap, arith, Option, Some, None, slice_get}
+use Rattle.std.proofs.Common.{◌≡◌, ℕ, ◌+◌, ◌≤◌, Bool, true, false, cond, List, set, refl, ap, arith, Option, Some, None}
+use Rattle.std.proofs.Common.{slice_get}
 use Rattle.std.proofs.lemmas.Bool.Decides.{nat_tests}
 use Rattle.sh_slots.specs.declared.hand.Spot.{Spot}
 use Rattle.sh_core.specs.Words.{Words, write}
@@ -20,7 +21,8 @@ use Rattle.std.specs.Prelude.{not}
 use Rattle.sh_core.proofs.Totals.{total_same, total_set, total_le, total_plus}
 use Rattle.sh_core.proofs.StateWords.{put2_same, put2_other}
 
-pub tally_same : (plan : Plan) (x : Spot) (st : Fields) (ps : List Body) (a : ℕ) (p p' : Body) → slice_get ps a ≡ Some p → due plan x st p' ≡ due plan x st p → tally plan x st (set ps a p') ≡ tally plan x st ps
+pub tally_same : (plan : Plan) (x : Spot) (st : Fields) (ps : List Body) (a : ℕ) (p p' : Body) → slice_get ps a ≡ Some p
+    → due plan x st p' ≡ due plan x st p → tally plan x st (set ps a p') ≡ tally plan x st ps
 tally_same plan x st ps a p p' at e = λ i. record {
   mine = total_same (mine_at x) ps a p p' at (ap (λ d. d.mine) e) i;
   hand = total_same (in_hand x) ps a p p' at (ap (λ d. d.hand) e) i;
@@ -30,8 +32,16 @@ tally_same plan x st ps a p p' at e = λ i. record {
   finishing = total_same (finishing x st.generation) ps a p p' at (ap (λ d. d.finishing) e) i;
 }
 
-pub tally_ext : (t u : Tally) → t.mine ≡ u.mine → t.hand ≡ u.hand → t.held ≡ u.held → t.visits ≡ u.visits → t.lost ≡ u.lost → t.finishing ≡ u.finishing → t ≡ u
-tally_ext t u a b c d e f = λ i. record { mine = a i; hand = b i; held = c i; visits = d i; lost = e i; finishing = f i }
+pub tally_ext : (t u : Tally) → t.mine ≡ u.mine → t.hand ≡ u.hand → t.held ≡ u.held → t.visits ≡ u.visits → t.lost
+    ≡ u.lost → t.finishing ≡ u.finishing → t ≡ u
+tally_ext t u a b c d e f = λ i. record {
+  mine = a i;
+  hand = b i;
+  held = c i;
+  visits = d i;
+  lost = e i;
+  finishing = f i;
+}
 
 -- the sums before and after a change of one pass
 pub record Moved (t t' d d' : Tally) : Type 0 where
@@ -42,7 +52,8 @@ pub record Moved (t t' d d' : Tally) : Type 0 where
   pub lost : t'.lost + d.lost ≡ t.lost + d'.lost
   pub finishing : t'.finishing + d.finishing ≡ t.finishing + d'.finishing
 
-pub tally_set : (plan : Plan) (x : Spot) (st : Fields) (ps : List Body) (a : ℕ) (p p' : Body) → slice_get ps a ≡ Some p → Moved (tally plan x st ps) (tally plan x st (set ps a p')) (due plan x st p) (due plan x st p')
+pub tally_set : (plan : Plan) (x : Spot) (st : Fields) (ps : List Body) (a : ℕ) (p p' : Body) → slice_get ps a ≡ Some p
+    → Moved (tally plan x st ps) (tally plan x st (set ps a p')) (due plan x st p) (due plan x st p')
 tally_set plan x st ps a p p' at = record {
   mine = total_set (mine_at x) ps a p p' at;
   hand = total_set (in_hand x) ps a p p' at;
@@ -76,25 +87,40 @@ stale_most st st' x e (Some n) = rw e (one (at_spot x (Some n)) (current st' (So
   one true false = omega arith
   one false c = omega arith
 
-lost_le1 : (plan : Plan) (x : Spot) (st : Fields) (p : Body) (h : Hand) → lost plan x st (hand p h) ≤ held plan x (hand p h) + visits plan x (hand p h)
-lost_le1 plan x st p (Removing k) = let t = total_le (λ k. stale st x (plan.keys.unpack k)) (λ k. if1 (at_spot x (plan.keys.unpack k))) (λ k. stale_le st x (plan.keys.unpack k)) p.holds in omega (arith, stale_le st x (plan.keys.unpack k))
-lost_le1 plan x st p _ = let t = total_le (λ k. stale st x (plan.keys.unpack k)) (λ k. if1 (at_spot x (plan.keys.unpack k))) (λ k. stale_le st x (plan.keys.unpack k)) p.holds in omega arith
+lost_le1 : (plan : Plan) (x : Spot) (st : Fields) (p : Body) (h : Hand)
+    → lost plan x st (hand p h) ≤ held plan x (hand p h) + visits plan x (hand p h)
+lost_le1 plan x st p (Removing k) = let t = total_le (λ k. stale st x (plan.keys.unpack k))
+    (λ k. if1 (at_spot x (plan.keys.unpack k))) (λ k. stale_le st x (plan.keys.unpack k)) p.holds
+    in omega (arith, stale_le st x (plan.keys.unpack k))
+lost_le1 plan x st p _ = let t = total_le (λ k. stale st x (plan.keys.unpack k))
+    (λ k. if1 (at_spot x (plan.keys.unpack k))) (λ k. stale_le st x (plan.keys.unpack k)) p.holds in omega arith
 
-lost_most1 : (plan : Plan) (x : Spot) (st st' : Fields) → st.present ≡ false → (p : Body) (h : Hand) → lost plan x st' (hand p h) ≤ lost plan x st (hand p h)
-lost_most1 plan x st st' e p (Removing k) = let t = total_le (λ k. stale st' x (plan.keys.unpack k)) (λ k. stale st x (plan.keys.unpack k)) (λ k. stale_most st st' x e (plan.keys.unpack k)) p.holds in omega (arith, stale_most st st' x e (plan.keys.unpack k))
-lost_most1 plan x st st' e p _ = let t = total_le (λ k. stale st' x (plan.keys.unpack k)) (λ k. stale st x (plan.keys.unpack k)) (λ k. stale_most st st' x e (plan.keys.unpack k)) p.holds in omega arith
+lost_most1 : (plan : Plan) (x : Spot) (st st' : Fields) → st.present ≡ false → (p : Body) (h : Hand)
+    → lost plan x st' (hand p h) ≤ lost plan x st (hand p h)
+lost_most1 plan x st st' e p (Removing k) = let t = total_le (λ k. stale st' x (plan.keys.unpack k))
+    (λ k. stale st x (plan.keys.unpack k)) (λ k. stale_most st st' x e (plan.keys.unpack k)) p.holds
+    in omega (arith, stale_most st st' x e (plan.keys.unpack k))
+lost_most1 plan x st st' e p _ = let t = total_le (λ k. stale st' x (plan.keys.unpack k))
+    (λ k. stale st x (plan.keys.unpack k)) (λ k. stale_most st st' x e (plan.keys.unpack k)) p.holds in omega arith
 
 -- nothing is lost on a slot that no hold and no visit names
-pub lost_le : (plan : Plan) (x : Spot) (st : Fields) (ps : List Body) → (tally plan x st ps).lost ≤ (tally plan x st ps).held + (tally plan x st ps).visits
+pub lost_le : (plan : Plan) (x : Spot) (st : Fields) (ps : List Body)
+    → (tally plan x st ps).lost ≤ (tally plan x st ps).held + (tally plan x st ps).visits
 lost_le plan x st ps =
-    let t : total (lost plan x st) ps ≤ total (λ p. held plan x p + visits plan x p) ps = total_le (lost plan x st) (λ p. held plan x p + visits plan x p) (λ p. lost_le1 plan x st p (p.hand)) ps in omega (arith, total_plus (held plan x) (visits plan x) ps)
+    let t : total (lost plan x st) ps ≤ total (λ p. held plan x p + visits plan x p) ps = total_le (lost plan x st)
+    (λ p. held plan x p + visits plan x p) (λ p. lost_le1 plan x st p (p.hand)) ps
+    in omega (arith, total_plus (held plan x) (visits plan x) ps)
 
 -- with no value there, each hold is lost
-pub lost_most : (plan : Plan) (x : Spot) (st st' : Fields) (ps : List Body) → st.present ≡ false → (tally plan x st' ps).lost ≤ (tally plan x st ps).lost
-lost_most plan x st st' ps e = total_le (lost plan x st') (lost plan x st) (λ p. lost_most1 plan x st st' e p (p.hand)) ps
+pub lost_most : (plan : Plan) (x : Spot) (st st' : Fields) (ps : List Body) → st.present ≡ false
+    → (tally plan x st' ps).lost ≤ (tally plan x st ps).lost
+lost_most plan x st st' ps e = total_le (lost plan x st') (lost plan x st) (λ p. lost_most1 plan x st st' e p (p.hand))
+    ps
 
--- a step on the state word of x, by the pass a: what is kept of x is owed, and the other slots must mean to p' what they meant to p
-pub slots_state : (plan : Plan) (w : Words) (ps : List Body) (l : PutLists) (a : ℕ) (p p' : Body) (x : Spot) (n : ℕ) → SlotsFine plan w ps l → slice_get ps a ≡ Some p
+-- a step on the state word of x, by the pass a: what is kept of x is owed, and the other slots must mean to p' what
+-- they meant to p
+pub slots_state : (plan : Plan) (w : Words) (ps : List Body) (l : PutLists) (a : ℕ) (p p' : Body) (x : Spot) (n : ℕ)
+    → SlotsFine plan w ps l → slice_get ps a ≡ Some p
     → ((y : Spot) (st : Fields) → same_spot y x ≡ false → due plan y st p' ≡ due plan y st p)
     → Fine (room w x) (queued l x) (fields_of n) (tally plan x (fields_of n) (set ps a p'))
     → SlotsFine plan (write w (State x.page x.slot) n) (set ps a p') l
@@ -102,17 +128,29 @@ slots_state plan w ps l a p p' x n old at others this y = go (same_spot y x) ref
   W : Words
   W = write w (State x.page x.slot) n
 
-  go : (b : Bool) → same_spot y x ≡ b → Fine (room W y) (queued l y) (fields_of (W.state_at y.page y.slot)) (tally plan y (fields_of (W.state_at y.page y.slot)) (set ps a p'))
+  go : (b : Bool) → same_spot y x ≡ b → Fine (room W y) (queued l y) (fields_of (W.state_at y.page y.slot))
+      (tally plan y (fields_of (W.state_at y.page y.slot)) (set ps a p'))
   go true h = let e : y ≡ x = same_spot-true x y h in rw (e, put2_same w.state_at x.page x.slot n) this
-  go false h = rw (put2_other w.state_at x.page x.slot n y.page y.slot h, tally_same plan y (fields_of (w.state_at y.page y.slot)) ps a p p' at (others y (fields_of (w.state_at y.page y.slot)) h)) (old y)
+  go false h = rw (
+    put2_other w.state_at x.page x.slot n y.page y.slot h,
+    tally_same plan y
+        (fields_of (w.state_at y.page y.slot)) ps a p p' at (others y (fields_of (w.state_at y.page y.slot)) h),
+  ) (old y)
 
 -- a step that leaves the state words and the classes
-pub slots_part : (plan : Plan) (w : Words) (ps : List Body) (l l' : PutLists) (a : ℕ) (p p' : Body) (x : Spot) → SlotsFine plan w ps l → slice_get ps a ≡ Some p
+pub slots_part : (plan : Plan) (w : Words) (ps : List Body) (l l' : PutLists) (a : ℕ) (p p' : Body) (x : Spot)
+    → SlotsFine plan w ps l → slice_get ps a ≡ Some p
     → ((y : Spot) (st : Fields) → same_spot y x ≡ false → due plan y st p' ≡ due plan y st p)
     → ((y : Spot) → same_spot y x ≡ false → queued l' y ≡ queued l y)
-    → Fine (room w x) (queued l' x) (fields_of (w.state_at x.page x.slot)) (tally plan x (fields_of (w.state_at x.page x.slot)) (set ps a p'))
+    → Fine (room w x) (queued l' x) (fields_of (w.state_at x.page x.slot))
+    (tally plan x (fields_of (w.state_at x.page x.slot)) (set ps a p'))
     → SlotsFine plan w (set ps a p') l'
 slots_part plan w ps l l' a p p' x old at others lists this y = go (same_spot y x) refl where
-  go : (b : Bool) → same_spot y x ≡ b → Fine (room w y) (queued l' y) (fields_of (w.state_at y.page y.slot)) (tally plan y (fields_of (w.state_at y.page y.slot)) (set ps a p'))
+  go : (b : Bool) → same_spot y x ≡ b → Fine (room w y) (queued l' y) (fields_of (w.state_at y.page y.slot))
+      (tally plan y (fields_of (w.state_at y.page y.slot)) (set ps a p'))
   go true h = let e : y ≡ x = same_spot-true x y h in rw e this
-  go false h = rw (lists y h, tally_same plan y (fields_of (w.state_at y.page y.slot)) ps a p p' at (others y (fields_of (w.state_at y.page y.slot)) h)) (old y)
+  go false h = rw (
+    lists y h,
+    tally_same plan y (fields_of (w.state_at y.page y.slot)) ps a p p' at
+        (others y (fields_of (w.state_at y.page y.slot)) h),
+  ) (old y)

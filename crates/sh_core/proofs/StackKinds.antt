@@ -1,5 +1,6 @@
 -- What is kept of lists, bells, duties and owners, over Put, Tie, Take, Arm and Follow.
-use Rattle.std.proofs.Common.{◌≡◌, ℕ, zero, suc, ◌+◌, ◌*◌, ◌/◌, ◌%◌, ◌<◌, ◌≤◌, ◌==◌, ◌&&◌, Bool, true, false, cond, List, [], ◌∷◌, set, drop, sym, refl, ap, ◌∙◌, arith, Option, Some, None, slice_get}
+use Rattle.std.proofs.Common.{◌≡◌, ℕ, zero, suc, ◌+◌, ◌*◌, ◌/◌, ◌%◌, ◌<◌, ◌≤◌, ◌==◌, ◌&&◌, Bool, true, false, cond}
+use Rattle.std.proofs.Common.{List, [], ◌∷◌, set, drop, sym, refl, ap, ◌∙◌, arith, Option, Some, None, slice_get}
 use Rattle.sh_slots.specs.declared.hand.Spot.{Spot}
 use Rattle.sh_slots.specs.declared.hand.Hand.TheVariants.{Idle, Tying, Ringing}
 use Rattle.sh_core.specs.Words.{Words, write, put, put2}
@@ -9,7 +10,8 @@ use Rattle.sh_slots.specs.Slots.{same_spot}
 use Rattle.sh_step.specs.Collections.{total, if1, noted}
 use Rattle.sh_step.specs.declared.body.Body.{Body}
 use Rattle.sh_core.specs.Lists.{PutLists, times, pushed, taken}
-use Rattle.sh_core.specs.Stacks.{spot, link_to, first_is, tying, ties_of, cursor_at, ring_tying, ring_ties, bell_cursor_at}
+use Rattle.sh_core.specs.Stacks.{spot, link_to, first_is, tying, ties_of, cursor_at, ring_tying, ring_ties}
+use Rattle.sh_core.specs.Stacks.{bell_cursor_at}
 use Rattle.sh_core.specs.Bells.{rings, armed_at, owns, Duty}
 use Rattle.sh_core.specs.Placed.{RestOf}
 use Rattle.sh_step.specs.Rows.{hand, own, owned_by, no_cursor, point, unpoint}
@@ -17,8 +19,10 @@ use Rattle.sh_core.specs.Tallies.{queued}
 use Rattle.sh_core.proofs.Totals.{total_same, total_set, total_at}
 use Rattle.sh_core.proofs.StateWords.{put2_same, put2_other}
 use Rattle.sh_core.proofs.Slots.{same_spot-refl}
-use Rattle.sh_core.proofs.StackSteps.{put_same, put_other, same_page, page_same, eq_sym, chains_same, chains_push, chains_tie, chains_take, chains_follow, chain_link, owes}
-use Rattle.sh_core.proofs.RestSteps.{homed_set, alone_cursor, alone_armed, no_ties, cursor_test, point_total, point_link, unpoint_total, no_point, no_first, a_first}
+use Rattle.sh_core.proofs.StackSteps.{put_same, put_other, same_page, page_same, eq_sym, chains_same, chains_push}
+use Rattle.sh_core.proofs.StackSteps.{chains_tie, chains_take, chains_follow, chain_link, owes}
+use Rattle.sh_core.proofs.RestSteps.{homed_set, alone_cursor, alone_armed, no_ties, cursor_test, point_total}
+use Rattle.sh_core.proofs.RestSteps.{point_link, unpoint_total, no_point, no_first, a_first}
 
 pub odd : (m : ℕ) → m < 2 → cond (m == 1) 1 0 ≡ m
 odd zero h = refl
@@ -33,7 +37,8 @@ no_flag true c h = rw h refl
 no_flag false c h = refl
 
 -- Put takes the flag over, and owes the link to the old top
-module _ (plan : Plan) (w : Words) (ps : List Body) (l : PutLists) (a : ℕ) (p : Body) (x : Spot) (old : RestOf plan w ps l) (at : slice_get ps a ≡ Some (hand p Idle)) (none : queued l x ≡ 0) where
+module _ (plan : Plan) (w : Words) (ps : List Body) (l : PutLists) (a : ℕ) (p : Body) (x : Spot)
+    (old : RestOf plan w ps l) (at : slice_get ps a ≡ Some (hand p Idle)) (none : queued l x ≡ 0) where
   abbrev n : ℕ
   n = (x.slot + 1) * 2
 
@@ -60,7 +65,9 @@ module _ (plan : Plan) (w : Words) (ps : List Body) (l : PutLists) (a : ℕ) (p 
     d : total (armed_at q) (set ps a after) ≡ total (armed_at q) ps
     d = total_same (armed_at q) ps a (hand p Idle) after at refl
 
-    go : (b : Bool) → (q == x.page) ≡ b → (total (armed_at q) (set ps a after) ≡ put w.head_at x.page n q % 2 + total (rings q) (set ps a after) + times q (l.bells (home plan q)) + times q (l.bell_chain (home plan q))) × (total (armed_at q) (set ps a after) ≤ 1)
+    go : (b : Bool) → (q == x.page) ≡ b → (total (armed_at q) (set ps a after)
+        ≡ put w.head_at x.page n q % 2 + total (rings q) (set ps a after) + times q (l.bells (home plan q)) + times q
+        (l.bell_chain (home plan q))) × (total (armed_at q) (set ps a after) ≤ 1)
     go true e =
         let i = same_page q x.page e in
         let f = flag_to (w.head_at x.page % 2 == 1) (x.page == q) (eq_sym x.page q ∙ e) in
@@ -83,31 +90,45 @@ module _ (plan : Plan) (w : Words) (ps : List Body) (l : PutLists) (a : ℕ) (p 
 
   pub put_rest : RestOf plan (write w (Head x.page) n) (set ps a after) (pushed l x)
   put_rest = record {
-    stacks = chains_push (λ q. w.head_at q / 2) (λ q. put w.head_at x.page n q / 2) w.link_at (λ q s. total (tying (spot q s)) ps) (λ q s. total (tying (spot q s)) (set ps a after)) (λ q s. total (ties_of (spot q s)) ps) (λ q s. total (ties_of (spot q s)) (set ps a after))
-        (λ q s. total (cursor_at q s) ps) (λ q s. total (cursor_at q s) (set ps a after)) l.stack l.chain x.page x.slot old.stacks (no_ties x ps) none
-        (let e = put_same w.head_at x.page n in omega arith) (λ g e. let f = put_other w.head_at x.page g n e in ap (λ (m : ℕ). m / 2) f) put_owed put_tied
-        (λ g i e. (total_same (tying (spot g i)) ps a (hand p Idle) after at (rw e refl), total_same (ties_of (spot g i)) ps a (hand p Idle) after at (rw e refl)))
+    stacks = chains_push (λ q. w.head_at q / 2) (λ q. put w.head_at x.page n q / 2) w.link_at
+        (λ q s. total (tying (spot q s)) ps) (λ q s. total (tying (spot q s)) (set ps a after))
+        (λ q s. total (ties_of (spot q s)) ps) (λ q s. total (ties_of (spot q s)) (set ps a after))
+        (λ q s. total (cursor_at q s) ps) (λ q s. total (cursor_at q s) (set ps a after)) l.stack l.chain x.page x.slot
+        old.stacks (no_ties x ps) none
+        (let e = put_same w.head_at x.page n in omega arith)
+        (λ g e. let f = put_other w.head_at x.page g n e in ap (λ (m : ℕ). m / 2) f) put_owed put_tied
+        (λ g i e. (
+          total_same (tying (spot g i)) ps a (hand p Idle) after at (rw e refl),
+          total_same
+              (ties_of (spot g i)) ps a (hand p Idle) after at (rw e refl),
+        ))
         (λ g i. total_same (cursor_at g i) ps a (hand p Idle) after at refl);
-    bells = chains_same _ _ _ _ _ _ _ _ _ _ _ _ _ _ old.bells (λ q. refl) (λ q s. refl) (λ q s. total_same (ring_tying plan q s) ps a (hand p Idle) after at refl) (λ q s. total_same (ring_ties plan q s) ps a (hand p Idle) after at refl)
+    bells = chains_same _ _ _ _ _ _ _ _ _ _ _ _ _ _ old.bells (λ q. refl) (λ q s. refl)
+        (λ q s. total_same (ring_tying plan q s) ps a (hand p Idle) after at refl)
+        (λ q s. total_same (ring_ties plan q s) ps a (hand p Idle) after at refl)
         (λ q s. total_same (bell_cursor_at q s) ps a (hand p Idle) after at refl) (λ q. refl) (λ q. refl);
     duty = put_duty;
-    owned = λ m. let z = total_same (owns m) ps a (hand p Idle) after at refl in let d = old.owned m in (d.0 ∙ sym z, d.1);
+    owned = λ m. let z = total_same (owns m) ps a (hand p Idle) after at refl in let d = old.owned m
+        in (d.0 ∙ sym z, d.1);
     homed = homed_set plan w.class_at ps a after old.homed (old.homed a (hand p Idle) at);
   }
 
 -- Tie stores the link, and hands the duty on to the hand that rings
-module _ (plan : Plan) (w : Words) (ps : List Body) (l : PutLists) (a : ℕ) (p : Body) (x : Spot) (n : ℕ) (r : Bool) (old : RestOf plan w ps l) (at : slice_get ps a ≡ Some (hand p (Tying x n r))) (once : queued l x ≤ 1) where
+module _ (plan : Plan) (w : Words) (ps : List Body) (l : PutLists) (a : ℕ) (p : Body) (x : Spot) (n : ℕ) (r : Bool)
+    (old : RestOf plan w ps l) (at : slice_get ps a ≡ Some (hand p (Tying x n r))) (once : queued l x ≤ 1) where
   abbrev before2 : Body
   before2 = hand p (Tying x n r)
 
   abbrev after2 : Body
   after2 = hand p (cond r (Ringing x.page) Idle)
 
-  quiet : (b : Bool) (y : Spot) → (tying y (hand p (cond b (Ringing x.page) Idle)) ≡ 0) × (ties_of y (hand p (cond b (Ringing x.page) Idle)) ≡ 0)
+  quiet : (b : Bool) (y : Spot) → (tying y (hand p (cond b (Ringing x.page) Idle)) ≡ 0)
+      × (ties_of y (hand p (cond b (Ringing x.page) Idle)) ≡ 0)
   quiet true y = (refl, refl)
   quiet false y = (refl, refl)
 
-  bell_quiet : (b : Bool) (m q : ℕ) → (ring_tying plan m q (hand p (cond b (Ringing x.page) Idle)) ≡ 0) × (ring_ties plan m q (hand p (cond b (Ringing x.page) Idle)) ≡ 0)
+  bell_quiet : (b : Bool) (m q : ℕ) → (ring_tying plan m q (hand p (cond b (Ringing x.page) Idle)) ≡ 0)
+      × (ring_ties plan m q (hand p (cond b (Ringing x.page) Idle)) ≡ 0)
   bell_quiet true m q = (refl, refl)
   bell_quiet false m q = (refl, refl)
 
@@ -133,22 +154,31 @@ module _ (plan : Plan) (w : Words) (ps : List Body) (l : PutLists) (a : ℕ) (p 
   tie_some =
       let t = tie_tied in
       let o = tie_owed in
-      let k = owes (λ q. w.head_at q / 2) w.link_at (λ q s. total (tying (spot q s)) ps) (λ q s. total (ties_of (spot q s)) ps) (λ q s. total (cursor_at q s) ps) l.stack l.chain x.page x.slot old.stacks once (omega arith) in
+      let k = owes (λ q. w.head_at q / 2) w.link_at (λ q s. total (tying (spot q s)) ps)
+      (λ q s. total (ties_of (spot q s)) ps) (λ q s. total (cursor_at q s) ps) l.stack l.chain x.page x.slot
+      old.stacks once (omega arith) in
       let tt' = old.stacks.ties x.page x.slot in
       let z = no_ties x (set ps a after2) (omega arith) in omega arith
 
   pub tie_rest : RestOf plan (write w (Link x.page x.slot) n) (set ps a after2) l
   tie_rest = record {
-    stacks = chains_tie (λ q. w.head_at q / 2) w.link_at (put2 w.link_at x.page x.slot n) (λ q s. total (tying (spot q s)) ps) (λ q s. total (tying (spot q s)) (set ps a after2)) (λ q s. total (ties_of (spot q s)) ps) (λ q s. total (ties_of (spot q s)) (set ps a after2))
-        (λ q s. total (cursor_at q s) ps) (λ q s. total (cursor_at q s) (set ps a after2)) l.stack l.chain x.page x.slot n old.stacks once tie_some
+    stacks = chains_tie (λ q. w.head_at q / 2) w.link_at (put2 w.link_at x.page x.slot n)
+        (λ q s. total (tying (spot q s)) ps) (λ q s. total (tying (spot q s)) (set ps a after2))
+        (λ q s. total (ties_of (spot q s)) ps) (λ q s. total (ties_of (spot q s)) (set ps a after2))
+        (λ q s. total (cursor_at q s) ps) (λ q s. total (cursor_at q s) (set ps a after2)) l.stack l.chain x.page x.slot
+        n old.stacks once tie_some
         (put2_same w.link_at x.page x.slot n) tie_owed tie_tied
         (λ g i e. (
           put2_other w.link_at x.page x.slot n g i e,
-          total_same (tying (spot g i)) ps a before2 after2 at ((quiet r (spot g i)).0 ∙ sym (let z : cond (same_spot (spot g i) x) n 0 ≡ 0 = rw e refl in z)),
-          total_same (ties_of (spot g i)) ps a before2 after2 at ((quiet r (spot g i)).1 ∙ sym (let z : if1 (same_spot (spot g i) x) ≡ 0 = rw e refl in z)),
+          total_same (tying (spot g i)) ps a before2 after2 at
+              ((quiet r (spot g i)).0 ∙ sym (let z : cond (same_spot (spot g i) x) n 0 ≡ 0 = rw e refl in z)),
+          total_same (ties_of (spot g i)) ps a before2 after2 at
+              ((quiet r (spot g i)).1 ∙ sym (let z : if1 (same_spot (spot g i) x) ≡ 0 = rw e refl in z)),
         ))
         (λ g i. total_same (cursor_at g i) ps a before2 after2 at refl);
-    bells = chains_same _ _ _ _ _ _ _ _ _ _ _ _ _ _ old.bells (λ q. refl) (λ q s. refl) (λ q s. total_same (ring_tying plan q s) ps a before2 after2 at (bell_quiet r q s).0) (λ q s. total_same (ring_ties plan q s) ps a before2 after2 at (bell_quiet r q s).1)
+    bells = chains_same _ _ _ _ _ _ _ _ _ _ _ _ _ _ old.bells (λ q. refl) (λ q s. refl)
+        (λ q s. total_same (ring_tying plan q s) ps a before2 after2 at (bell_quiet r q s).0)
+        (λ q s. total_same (ring_ties plan q s) ps a before2 after2 at (bell_quiet r q s).1)
         (λ q s. total_same (bell_cursor_at q s) ps a before2 after2 at refl) (λ q. refl) (λ q. refl);
     duty = λ q.
         let c = total_same (rings q) ps a before2 after2 at (rings_on r q) in
@@ -160,7 +190,8 @@ module _ (plan : Plan) (w : Words) (ps : List Body) (l : PutLists) (a : ℕ) (p 
     homed = homed_set plan w.class_at ps a after2 old.homed (old.homed a before2 at);
   }
 
-pub apart_pages : (plan : Plan) (o : Option ℕ) (q k : ℕ) → owned_by plan o q ≡ true → owned_by plan o k ≡ false → (q == k) ≡ false
+pub apart_pages : (plan : Plan) (o : Option ℕ) (q k : ℕ) → owned_by plan o q ≡ true → owned_by plan o k ≡ false
+    → (q == k) ≡ false
 apart_pages plan o q k a b = go (q == k) refl where
   go : (c : Bool) → (q == k) ≡ c → c ≡ false
   go false e = refl
@@ -171,14 +202,19 @@ no_cursor_none None h = refl
 no_cursor_none (Some x) h = absurd (let z : false ≡ true = h in cc)
 
 -- Take and Arm: the stack becomes the chain; of the page's flag and of what is armed the duty speaks
-module _ (plan : Plan) (w : Words) (ps : List Body) (l : PutLists) (a : ℕ) (p : Body) (q m : ℕ) (arms : List ℕ) (old : RestOf plan w ps l) (at : slice_get ps a ≡ Some p) (mine : own plan p q ≡ true) (no : no_cursor p q ≡ true) (small : m < 2)
+module _ (plan : Plan) (w : Words) (ps : List Body) (l : PutLists) (a : ℕ) (p : Body) (q m : ℕ) (arms : List ℕ)
+    (old : RestOf plan w ps l) (at : slice_get ps a ≡ Some p) (mine : own plan p q ≡ true) (no : no_cursor p q ≡ true)
+    (small : m < 2)
     (homes : (k : ℕ) → own plan p k ≡ false → times k arms ≡ 0)
-    (here : times q arms + w.head_at q % 2 ≡ times q p.armed + m) (there : (k : ℕ) → (k == q) ≡ false → times k arms ≡ times k p.armed) (one : times q arms ≤ 1) where
+    (here : times q arms + w.head_at q % 2 ≡ times q p.armed + m)
+    (there : (k : ℕ) → (k == q) ≡ false → times k arms ≡ times k p.armed) (one : times q arms ≤ 1) where
   abbrev after3 : Body
   after3 = record p { cursors = point 1 q (w.head_at q / 2) p.cursors; armed = arms }
 
   pub no_chain : l.chain q ≡ []
-  no_chain = no_first (l.chain q) (λ s. sym (old.stacks.cursors q s) ∙ alone_cursor plan _ _ _ _ _ _ ps l a p old at q s mine ∙ no_point q s p.cursors (no_cursor_none (noted q p.cursors) no))
+  no_chain = no_first (l.chain q) (λ s. sym (old.stacks.cursors q s)
+      ∙ alone_cursor plan _ _ _ _ _ _ ps l a p old at q s mine ∙ no_point q s p.cursors
+      (no_cursor_none (noted q p.cursors) no))
 
   added : (k s : ℕ) → cursor_at k s after3 ≡ cursor_at k s p + cond (q == k) (first_is (l.stack q) s) 0
   added k s = rw (old.stacks.tops q) (point_total q k s (l.stack q) p.cursors)
@@ -191,7 +227,9 @@ module _ (plan : Plan) (w : Words) (ps : List Body) (l : PutLists) (a : ℕ) (p 
     d : total (armed_at k) (set ps a after3) + times k p.armed ≡ total (armed_at k) ps + times k arms
     d = total_set (armed_at k) ps a p after3 at
 
-    go : (b : Bool) → (k == q) ≡ b → (total (armed_at k) (set ps a after3) ≡ put w.head_at q m k % 2 + total (rings k) (set ps a after3) + times k (l.bells (home plan k)) + times k (l.bell_chain (home plan k))) × (total (armed_at k) (set ps a after3) ≤ 1)
+    go : (b : Bool) → (k == q) ≡ b → (total (armed_at k) (set ps a after3)
+        ≡ put w.head_at q m k % 2 + total (rings k) (set ps a after3) + times k (l.bells (home plan k)) + times k
+        (l.bell_chain (home plan k))) × (total (armed_at k) (set ps a after3) ≤ 1)
     go true e =
         let i = same_page k q e in
         let h : put w.head_at q m k ≡ m = rw i (put_same w.head_at q m) in
@@ -215,19 +253,30 @@ module _ (plan : Plan) (w : Words) (ps : List Body) (l : PutLists) (a : ℕ) (p 
 
   pub taken_rest : RestOf plan (write w (Head q) m) (set ps a after3) (taken l q)
   taken_rest = record {
-    stacks = chains_take (λ k. w.head_at k / 2) (λ k. put w.head_at q m k / 2) w.link_at (λ q s. total (tying (spot q s)) ps) (λ q s. total (tying (spot q s)) (set ps a after3)) (λ q s. total (ties_of (spot q s)) ps) (λ q s. total (ties_of (spot q s)) (set ps a after3))
-        (λ q s. total (cursor_at q s) ps) (λ q s. total (cursor_at q s) (set ps a after3)) l.stack l.chain q old.stacks no_chain
-        (let e = put_same w.head_at q m in omega arith) (λ g e. let f = put_other w.head_at q g m e in ap (λ (m : ℕ). m / 2) f)
-        (λ g i. total_same (tying (spot g i)) ps a p after3 at refl) (λ g i. total_same (ties_of (spot g i)) ps a p after3 at refl)
-        (λ i. let t = total_set (cursor_at q i) ps a p after3 at in let u = added q i in let v : cond (q == q) (first_is (l.stack q) i) 0 ≡ first_is (l.stack q) i = rw (page_same q) refl in omega arith)
-        (λ g i e. let f : (q == g) ≡ false = eq_sym q g ∙ e in total_same (cursor_at g i) ps a p after3 at (let u = added g i in let v : cond (q == g) (first_is (l.stack q) i) 0 ≡ 0 = rw f refl in omega arith));
-    bells = chains_same _ _ _ _ _ _ _ _ _ _ _ _ _ _ old.bells (λ q. refl) (λ q s. refl) (λ q s. total_same (ring_tying plan q s) ps a p after3 at refl) (λ q s. total_same (ring_ties plan q s) ps a p after3 at refl)
+    stacks = chains_take (λ k. w.head_at k / 2) (λ k. put w.head_at q m k / 2) w.link_at
+        (λ q s. total (tying (spot q s)) ps) (λ q s. total (tying (spot q s)) (set ps a after3))
+        (λ q s. total (ties_of (spot q s)) ps) (λ q s. total (ties_of (spot q s)) (set ps a after3))
+        (λ q s. total (cursor_at q s) ps) (λ q s. total (cursor_at q s) (set ps a after3)) l.stack l.chain q old.stacks
+        no_chain
+        (let e = put_same w.head_at q m in omega arith) (λ g e. let f = put_other w.head_at q g m e
+        in ap (λ (m : ℕ). m / 2) f)
+        (λ g i. total_same (tying (spot g i)) ps a p after3 at refl)
+        (λ g i. total_same (ties_of (spot g i)) ps a p after3 at refl)
+        (λ i. let t = total_set (cursor_at q i) ps a p after3 at in let u = added q i
+        in let v : cond (q == q) (first_is (l.stack q) i) 0 ≡ first_is (l.stack q) i = rw (page_same q) refl
+        in omega arith)
+        (λ g i e. let f : (q == g) ≡ false = eq_sym q g ∙ e in total_same (cursor_at g i) ps a p after3 at
+        (let u = added g i in let v : cond (q == g) (first_is (l.stack q) i) 0 ≡ 0 = rw f refl in omega arith));
+    bells = chains_same _ _ _ _ _ _ _ _ _ _ _ _ _ _ old.bells (λ q. refl) (λ q s. refl)
+        (λ q s. total_same (ring_tying plan q s) ps a p after3 at refl)
+        (λ q s. total_same (ring_ties plan q s) ps a p after3 at refl)
         (λ q s. total_same (bell_cursor_at q s) ps a p after3 at refl) (λ q. refl) (λ q. refl);
     duty = taken_duty;
     owned = λ m. let z = total_same (owns m) ps a p after3 at refl in let d = old.owned m in (d.0 ∙ sym z, d.1);
     homed = let o = old.homed a p at in homed_set plan w.class_at ps a after3 old.homed (record {
       mines = o.mines;
-      points = λ k s e. let f = apart_pages plan p.owned q k mine e in let x = added k s in let y = o.points k s e in let v : cond (q == k) (first_is (l.stack q) s) 0 ≡ 0 = rw f refl in omega arith;
+      points = λ k s e. let f = apart_pages plan p.owned q k mine e in let x = added k s in let y = o.points k s e
+          in let v : cond (q == k) (first_is (l.stack q) s) 0 ≡ 0 = rw f refl in omega arith;
       arms = homes;
       bell = o.bell;
       notes = o.notes;
@@ -235,7 +284,9 @@ module _ (plan : Plan) (w : Words) (ps : List Body) (l : PutLists) (a : ℕ) (p 
   }
 
 -- Follow that finds a link
-module _ (plan : Plan) (w : Words) (ps : List Body) (l : PutLists) (a : ℕ) (p : Body) (q s : ℕ) (old : RestOf plan w ps l) (at : slice_get ps a ≡ Some p) (mine : own plan p q ≡ true) (has_cursor : noted q p.cursors ≡ Some s) where
+module _ (plan : Plan) (w : Words) (ps : List Body) (l : PutLists) (a : ℕ) (p : Body) (q s : ℕ)
+    (old : RestOf plan w ps l) (at : slice_get ps a ≡ Some p) (mine : own plan p q ≡ true)
+    (has_cursor : noted q p.cursors ≡ Some s) where
   cursor_one : 0 < total (cursor_at q s) ps
   cursor_one =
       let u = unpoint_total (cursor_test q s) q s p.cursors has_cursor in
@@ -248,12 +299,16 @@ module _ (plan : Plan) (w : Words) (ps : List Body) (l : PutLists) (a : ℕ) (p 
   abbrev after4 : Body
   after4 = record p { cursors = point 2 q (w.link_at q s) (unpoint q p.cursors); mine = spot q s ∷ p.mine }
 
-  pub follow_rest : queued l (spot q s) ≤ 1 → (w.link_at q s == 0) ≡ false → RestOf plan (write w (Link q s) 0) (set ps a after4) (record l { chain = put l.chain q (drop 1 (l.chain q)) })
+  pub follow_rest : queued l (spot q s) ≤ 1 → (w.link_at q s == 0) ≡ false
+      → RestOf plan (write w (Link q s) 0) (set ps a after4) (record l { chain = put l.chain q (drop 1 (l.chain q)) })
   unfolding total
   follow_rest once found =
       record {
-        stacks = chains_follow (λ k. w.head_at k / 2) w.link_at (put2 w.link_at q s 0) (λ q s. total (tying (spot q s)) ps) (λ q s. total (tying (spot q s)) (set ps a after4)) (λ q s. total (ties_of (spot q s)) ps) (λ q s. total (ties_of (spot q s)) (set ps a after4))
-            (λ q s. total (cursor_at q s) ps) (λ q s. total (cursor_at q s) (set ps a after4)) l.stack l.chain q s rest old.stacks chain_is (no_ties (spot q s) ps) once found
+        stacks = chains_follow (λ k. w.head_at k / 2) w.link_at (put2 w.link_at q s 0)
+            (λ q s. total (tying (spot q s)) ps) (λ q s. total (tying (spot q s)) (set ps a after4))
+            (λ q s. total (ties_of (spot q s)) ps) (λ q s. total (ties_of (spot q s)) (set ps a after4))
+            (λ q s. total (cursor_at q s) ps) (λ q s. total (cursor_at q s) (set ps a after4)) l.stack l.chain q s rest
+            old.stacks chain_is (no_ties (spot q s) ps) once found
             (put2_same w.link_at q s 0) (λ g i e. put2_other w.link_at q s 0 g i e) owed_same tied_same
             (λ i.
             let t = total_set (cursor_at q i) ps a p after4 at in
@@ -266,7 +321,9 @@ module _ (plan : Plan) (w : Words) (ps : List Body) (l : PutLists) (a : ℕ) (p 
             let v : cond (q == g) (first_is rest i) 0 ≡ 0 = rw f refl in
             let x : if1 ((q == g) && (s == i)) ≡ 0 = rw f refl in
             total_same (cursor_at g i) ps a p after4 at (omega arith));
-        bells = chains_same _ _ _ _ _ _ _ _ _ _ _ _ _ _ old.bells (λ q. refl) (λ q s. refl) (λ q s. total_same (ring_tying plan q s) ps a p after4 at refl) (λ q s. total_same (ring_ties plan q s) ps a p after4 at refl)
+        bells = chains_same _ _ _ _ _ _ _ _ _ _ _ _ _ _ old.bells (λ q. refl) (λ q s. refl)
+            (λ q s. total_same (ring_tying plan q s) ps a p after4 at refl)
+            (λ q s. total_same (ring_ties plan q s) ps a p after4 at refl)
             (λ q s. total_same (bell_cursor_at q s) ps a p after4 at refl) (λ q. refl) (λ q. refl);
         duty = λ k.
             let c = total_same (rings k) ps a p after4 at refl in
@@ -276,8 +333,10 @@ module _ (plan : Plan) (w : Words) (ps : List Body) (l : PutLists) (a : ℕ) (p 
             let o1 = o.1 in (omega arith, omega arith);
         owned = λ m. let z = total_same (owns m) ps a p after4 at refl in let d = old.owned m in (d.0 ∙ sym z, d.1);
         homed = let o = old.homed a p at in homed_set plan w.class_at ps a after4 old.homed (record {
-          mines = λ y e. let f = apart_pages plan p.owned q y.page mine e in let x = o.mines y e in let g : if1 (same_spot y (spot q s)) ≡ 0 = rw (eq_sym y.page q, f) refl in omega arith;
-          points = λ k t e. let f = apart_pages plan p.owned q k mine e in let x = changed k t in let y = o.points k t e in let v : cond (q == k) (first_is rest t) 0 ≡ 0 = rw f refl in omega arith;
+          mines = λ y e. let f = apart_pages plan p.owned q y.page mine e in let x = o.mines y e
+              in let g : if1 (same_spot y (spot q s)) ≡ 0 = rw (eq_sym y.page q, f) refl in omega arith;
+          points = λ k t e. let f = apart_pages plan p.owned q k mine e in let x = changed k t in let y = o.points k t e
+              in let v : cond (q == k) (first_is rest t) 0 ≡ 0 = rw f refl in omega arith;
           arms = o.arms;
           bell = o.bell;
           notes = o.notes;
@@ -293,10 +352,16 @@ module _ (plan : Plan) (w : Words) (ps : List Body) (l : PutLists) (a : ℕ) (p 
         tied_same g i = total_same (ties_of (spot g i)) ps a p after4 at refl
 
         link_is : w.link_at q s ≡ link_to rest
-        link_is = chain_link (λ k. w.head_at k / 2) w.link_at (put2 w.link_at q s 0) (λ q s. total (tying (spot q s)) ps) (λ q s. total (tying (spot q s)) (set ps a after4)) (λ q s. total (ties_of (spot q s)) ps) (λ q s. total (ties_of (spot q s)) (set ps a after4))
-            (λ q s. total (cursor_at q s) ps) (λ q s. total (cursor_at q s) (set ps a after4)) l.stack l.chain q s rest old.stacks chain_is (no_ties (spot q s) ps) once found (put2_same w.link_at q s 0) (λ g i e. put2_other w.link_at q s 0 g i e) owed_same tied_same
+        link_is = chain_link (λ k. w.head_at k / 2) w.link_at (put2 w.link_at q s 0)
+            (λ q s. total (tying (spot q s)) ps) (λ q s. total (tying (spot q s)) (set ps a after4))
+            (λ q s. total (ties_of (spot q s)) ps) (λ q s. total (ties_of (spot q s)) (set ps a after4))
+            (λ q s. total (cursor_at q s) ps) (λ q s. total (cursor_at q s) (set ps a after4)) l.stack l.chain q s rest
+            old.stacks chain_is (no_ties (spot q s) ps) once found (put2_same w.link_at q s 0)
+            (λ g i e. put2_other w.link_at q s 0 g i e) owed_same tied_same
 
-        changed : (k t : ℕ) → cursor_at k t after4 + if1 ((q == k) && (s == t)) ≡ cursor_at k t p + cond (q == k) (first_is rest t) 0
+        changed : (k t : ℕ) → cursor_at k t after4 + if1 ((q == k) && (s == t))
+            ≡ cursor_at k t p + cond (q == k) (first_is rest t) 0
         changed k t =
-            let c : cursor_at k t after4 ≡ total (cursor_test k t) (unpoint q p.cursors) + cond (q == k) (first_is rest t) 0 = rw link_is (point_link q k t rest (unpoint q p.cursors)) in
+            let c : cursor_at k t after4 ≡ total (cursor_test k t) (unpoint q p.cursors) + cond (q == k)
+            (first_is rest t) 0 = rw link_is (point_link q k t rest (unpoint q p.cursors)) in
             let u = unpoint_total (cursor_test k t) q s p.cursors has_cursor in omega arith

@@ -1,5 +1,6 @@
 -- The stacks and chains of numbered items, over a push, a tie, a take and a follow.
-use Rattle.std.proofs.Common.{◌≡◌, ℕ, zero, suc, ◌+◌, ◌<◌, ◌≤◌, ◌==◌, ◌&&◌, Bool, true, false, List, [], ◌∷◌, refl, ap, ◌∙◌, arith}
+use Rattle.std.proofs.Common.{◌≡◌, ℕ, zero, suc, ◌+◌, ◌<◌, ◌≤◌, ◌==◌, ◌&&◌, Bool, true, false, List, [], ◌∷◌, refl, ap}
+use Rattle.std.proofs.Common.{◌∙◌, arith}
 use Rattle.std.specs.Prelude.{not}
 use Rattle.std.proofs.lemmas.Bool.Decides.{nat_tests}
 use Rattle.sh_core.specs.Words.{put}
@@ -30,7 +31,8 @@ eq_sym a b = go (a == b) (b == a) refl refl where
   go false false e f = refl
 
 -- a list whose items' links and debts add up to what they did
-pub chained_same : (word word' owed owed' : ℕ → ℕ) (xs : List ℕ) → Chained word owed xs → ((s : ℕ) → 0 < times s xs → word' s + owed' s ≡ word s + owed s) → Chained word' owed' xs
+pub chained_same : (word word' owed owed' : ℕ → ℕ) (xs : List ℕ) → Chained word owed xs
+    → ((s : ℕ) → 0 < times s xs → word' s + owed' s ≡ word s + owed s) → Chained word' owed' xs
 unfolding total
 chained_same word word' owed owed' [] old same = tt
 chained_same word word' owed owed' (s ∷ xs) old same =
@@ -54,26 +56,34 @@ pub apart_item : (s i : ℕ) (xs : List ℕ) → times s xs ≡ 0 → 0 < times 
 apart_item s i xs none some = go (i == s) refl where
   go : (b : Bool) → (i == s) ≡ b → b ≡ false
   go false e = refl
-  go true e = let j = same_page i s e in let t : times i xs ≡ times s xs = ap (λ k. times k xs) j in absurd (omega arith)
+  go true e = let j = same_page i s e in let t : times i xs ≡ times s xs = ap (λ k. times k xs) j
+      in absurd (omega arith)
 
 zero_if : (n : ℕ) → if1 (not (n == 0)) ≡ 0 → n ≡ 0
 zero_if n h = grind (arith, nat_tests)
 
 -- nothing changes
-pub chains_same : (h h' : ℕ → ℕ) (k k' o o' t t' c c' : ℕ → ℕ → ℕ) (st st' ch ch' : ℕ → List ℕ) → Chains h k o t c st ch → ((q : ℕ) → h' q ≡ h q) → ((q s : ℕ) → k' q s ≡ k q s) → ((q s : ℕ) → o' q s ≡ o q s) → ((q s : ℕ) → t' q s ≡ t q s) → ((q s : ℕ) → c' q s ≡ c q s)
+pub chains_same : (h h' : ℕ → ℕ) (k k' o o' t t' c c' : ℕ → ℕ → ℕ) (st st' ch ch' : ℕ → List ℕ) → Chains h k o t c st ch
+    → ((q : ℕ) → h' q ≡ h q) → ((q s : ℕ) → k' q s ≡ k q s) → ((q s : ℕ) → o' q s ≡ o q s)
+    → ((q s : ℕ) → t' q s ≡ t q s) → ((q s : ℕ) → c' q s ≡ c q s)
     → ((q : ℕ) → st' q ≡ st q) → ((q : ℕ) → ch' q ≡ ch q) → Chains h' k' o' t' c' st' ch'
 chains_same h h' k k' o o' t t' c c' st st' ch ch' old hs ks os ts cs ss es = record {
   tops = λ q. rw (ss q) (hs q ∙ old.tops q);
-  stacks = λ q. rw (ss q) (chained_same (k q) (k' q) (o q) (o' q) (st q) (old.stacks q) (λ s _. let a = ks q s in let b = os q s in omega arith));
-  chains = λ q. rw (es q) (chained_same (k q) (k' q) (o q) (o' q) (ch q) (old.chains q) (λ s _. let a = ks q s in let b = os q s in omega arith));
+  stacks = λ q. rw (ss q) (chained_same (k q) (k' q) (o q) (o' q) (st q) (old.stacks q)
+      (λ s _. let a = ks q s in let b = os q s in omega arith));
+  chains = λ q. rw (es q) (chained_same (k q) (k' q) (o q) (o' q) (ch q) (old.chains q)
+      (λ s _. let a = ks q s in let b = os q s in omega arith));
   ties = λ q s. rw (ks q s, ts q s, ss q, es q) (old.ties q s);
   cursors = λ q s. rw (es q) (cs q s ∙ old.cursors q s);
 }
 
 -- A push: the item becomes the top, and its pass owes its link
-module _ (h h' : ℕ → ℕ) (k o o' t t' c c' : ℕ → ℕ → ℕ) (st ch : ℕ → List ℕ) (q s : ℕ) (old : Chains h k o t c st ch) (no_debt : t q s ≡ 0 → o q s ≡ 0) (none : times s (st q) + times s (ch q) ≡ 0)
-    (head_new : h' q ≡ s + 1) (heads : (g : ℕ) → (g == q) ≡ false → h' g ≡ h g) (owed_new : o' q s ≡ o q s + (h q + 1)) (tied_new : t' q s ≡ t q s + 1)
-    (others : (g i : ℕ) → ((g == q) && (i == s)) ≡ false → (o' g i ≡ o g i) × (t' g i ≡ t g i)) (cursors_same : (g i : ℕ) → c' g i ≡ c g i) where
+module _ (h h' : ℕ → ℕ) (k o o' t t' c c' : ℕ → ℕ → ℕ) (st ch : ℕ → List ℕ) (q s : ℕ) (old : Chains h k o t c st ch)
+    (no_debt : t q s ≡ 0 → o q s ≡ 0) (none : times s (st q) + times s (ch q) ≡ 0)
+    (head_new : h' q ≡ s + 1) (heads : (g : ℕ) → (g == q) ≡ false → h' g ≡ h g) (owed_new : o' q s ≡ o q s + (h q + 1))
+    (tied_new : t' q s ≡ t q s + 1)
+    (others : (g i : ℕ) → ((g == q) && (i == s)) ≡ false → (o' g i ≡ o g i) × (t' g i ≡ t g i))
+    (cursors_same : (g i : ℕ) → c' g i ≡ c g i) where
   unlinked : k q s ≡ 0
   unlinked = let a = old.ties q s in zero_if (k q s) (omega arith)
 
@@ -81,12 +91,13 @@ module _ (h h' : ℕ → ℕ) (k o o' t t' c c' : ℕ → ℕ → ℕ) (st ch : 
   untied = let a = old.ties q s in no_debt (omega arith)
 
   kept : (g : ℕ) (xs : List ℕ) → (g ≡ q → times s xs ≡ 0) → Chained (k g) (o g) xs → Chained (k g) (o' g) xs
-  kept g xs out old' = chained_same (k g) (k g) (o g) (o' g) xs old' (λ i some. let z = (others g i (apart g i xs out some)).0 in omega arith) where
-    apart : (g i : ℕ) (xs : List ℕ) → (g ≡ q → times s xs ≡ 0) → 0 < times i xs → ((g == q) && (i == s)) ≡ false
-    apart g i xs out some = go (g == q) refl where
-      go : (b : Bool) → (g == q) ≡ b → (b && (i == s)) ≡ false
-      go true e = apart_item s i xs (out (same_page g q e)) some
-      go false e = refl
+  kept g xs out old' = chained_same (k g) (k g) (o g) (o' g) xs old'
+      (λ i some. let z = (others g i (apart g i xs out some)).0 in omega arith) where
+        apart : (g i : ℕ) (xs : List ℕ) → (g ≡ q → times s xs ≡ 0) → 0 < times i xs → ((g == q) && (i == s)) ≡ false
+        apart g i xs out some = go (g == q) refl where
+          go : (b : Bool) → (g == q) ≡ b → (b && (i == s)) ≡ false
+          go true e = apart_item s i xs (out (same_page g q e)) some
+          go false e = refl
 
   at_top : Chained (k q) (o' q) (s ∷ st q)
   at_top =
@@ -100,7 +111,8 @@ module _ (h h' : ℕ → ℕ) (k o o' t t' c c' : ℕ → ℕ → ℕ) (st ch : 
   push_stacks g = go (g == q) refl where
     go : (b : Bool) → (g == q) ≡ b → Chained (k g) (o' g) (put st q (s ∷ st q) g)
     go true e = let i = same_page g q e in rw (i, put_same st q (s ∷ st q)) at_top
-    go false e = rw (put_other st q g (s ∷ st q) e) (kept g (st g) (λ i. absurd (let z : (g == q) ≡ true = rw i (page_same q) in cc)) (old.stacks g))
+    go false e = rw (put_other st q g (s ∷ st q) e) (kept g (st g)
+        (λ i. absurd (let z : (g == q) ≡ true = rw i (page_same q) in cc)) (old.stacks g))
 
   push_tops : (g : ℕ) → h' g ≡ top (put st q (s ∷ st q) g)
   push_tops g = go (g == q) refl where
@@ -110,7 +122,8 @@ module _ (h h' : ℕ → ℕ) (k o o' t t' c c' : ℕ → ℕ → ℕ) (st ch : 
 
   push_ties : (g i : ℕ) → if1 (not (k g i == 0)) + t' g i ≡ times i (put st q (s ∷ st q) g) + times i (ch g)
   push_ties g i = go (g == q) (i == s) refl refl where
-    go : (b d : Bool) → (g == q) ≡ b → (i == s) ≡ d → if1 (not (k g i == 0)) + t' g i ≡ times i (put st q (s ∷ st q) g) + times i (ch g)
+    go : (b d : Bool) → (g == q) ≡ b → (i == s) ≡ d → if1 (not (k g i == 0)) + t' g i
+        ≡ times i (put st q (s ∷ st q) g) + times i (ch g)
     go true true e f =
         let a = same_page g q e in
         let b = same_page i s f in
@@ -140,16 +153,19 @@ module _ (h h' : ℕ → ℕ) (k o o' t t' c c' : ℕ → ℕ → ℕ) (st ch : 
   }
 
 -- A tie: what was owed is stored
-module _ (h : ℕ → ℕ) (k k' o o' t t' c c' : ℕ → ℕ → ℕ) (st ch : ℕ → List ℕ) (q s n : ℕ) (old : Chains h k o t c st ch) (once : times s (st q) + times s (ch q) ≤ 1) (some : 0 < n)
+module _ (h : ℕ → ℕ) (k k' o o' t t' c c' : ℕ → ℕ → ℕ) (st ch : ℕ → List ℕ) (q s n : ℕ) (old : Chains h k o t c st ch)
+    (once : times s (st q) + times s (ch q) ≤ 1) (some : 0 < n)
     (link_new : k' q s ≡ n) (owed_new : o' q s + n ≡ o q s) (tied_new : t' q s + 1 ≡ t q s)
-    (others : (g i : ℕ) → ((g == q) && (i == s)) ≡ false → (k' g i ≡ k g i) × (o' g i ≡ o g i) × (t' g i ≡ t g i)) (cursors_same : (g i : ℕ) → c' g i ≡ c g i) where
+    (others : (g i : ℕ) → ((g == q) && (i == s)) ≡ false → (k' g i ≡ k g i) × (o' g i ≡ o g i) × (t' g i ≡ t g i))
+    (cursors_same : (g i : ℕ) → c' g i ≡ c g i) where
   was_unlinked : k q s ≡ 0
   was_unlinked = let a = old.ties q s in zero_if (k q s) (omega arith)
 
   both : (g i : ℕ) → k' g i + o' g i ≡ k g i + o g i
   both g i = go (g == q) (i == s) refl refl where
     go : (b d : Bool) → (g == q) ≡ b → (i == s) ≡ d → k' g i + o' g i ≡ k g i + o g i
-    go true true e f = let a = same_page g q e in let b = same_page i s f in let u = was_unlinked in let v = link_new in let w = owed_new in rw (a, b) (omega arith)
+    go true true e f = let a = same_page g q e in let b = same_page i s f in let u = was_unlinked in let v = link_new
+        in let w = owed_new in rw (a, b) (omega arith)
     go true false e f = let z = others g i (rw (e, f) refl) in let y = z.0 in let x = z.1 in omega arith
     go false d e f = let z = others g i (rw e refl) in let y = z.0 in let x = z.1 in omega arith
 
@@ -184,9 +200,12 @@ module _ (h : ℕ → ℕ) (k k' o o' t t' c c' : ℕ → ℕ → ℕ) (st ch : 
   }
 
 -- A take: the stack becomes the chain
-module _ (h h' : ℕ → ℕ) (k o o' t t' c c' : ℕ → ℕ → ℕ) (st ch : ℕ → List ℕ) (q : ℕ) (old : Chains h k o t c st ch) (empty : ch q ≡ [])
-    (head_new : h' q ≡ 0) (heads : (g : ℕ) → (g == q) ≡ false → h' g ≡ h g) (os : (g i : ℕ) → o' g i ≡ o g i) (ts : (g i : ℕ) → t' g i ≡ t g i)
-    (cursor_new : (i : ℕ) → c' q i ≡ c q i + first_is (st q) i) (cursors_else : (g i : ℕ) → (g == q) ≡ false → c' g i ≡ c g i) where
+module _ (h h' : ℕ → ℕ) (k o o' t t' c c' : ℕ → ℕ → ℕ) (st ch : ℕ → List ℕ) (q : ℕ) (old : Chains h k o t c st ch)
+    (empty : ch q ≡ [])
+    (head_new : h' q ≡ 0) (heads : (g : ℕ) → (g == q) ≡ false → h' g ≡ h g) (os : (g i : ℕ) → o' g i ≡ o g i)
+    (ts : (g i : ℕ) → t' g i ≡ t g i)
+    (cursor_new : (i : ℕ) → c' q i ≡ c q i + first_is (st q) i)
+    (cursors_else : (g i : ℕ) → (g == q) ≡ false → c' g i ≡ c g i) where
   still : (g : ℕ) (xs : List ℕ) → Chained (k g) (o g) xs → Chained (k g) (o' g) xs
   still g xs x = chained_same (k g) (k g) (o g) (o' g) xs x (λ i _. let z = os g i in omega arith)
 
@@ -212,7 +231,8 @@ module _ (h h' : ℕ → ℕ) (k o o' t t' c c' : ℕ → ℕ → ℕ) (st ch : 
 
     ties : (g i : ℕ) → if1 (not (k g i == 0)) + t' g i ≡ times i (put st q [] g) + times i (put ch q (st q) g)
     ties g i = go (g == q) refl where
-      go : (b : Bool) → (g == q) ≡ b → if1 (not (k g i == 0)) + t' g i ≡ times i (put st q [] g) + times i (put ch q (st q) g)
+      go : (b : Bool) → (g == q) ≡ b → if1 (not (k g i == 0)) + t' g i
+          ≡ times i (put st q [] g) + times i (put ch q (st q) g)
       go true e =
           let j = same_page g q e in
           let x = old.ties q i in
@@ -234,13 +254,17 @@ module _ (h h' : ℕ → ℕ) (k o o' t t' c c' : ℕ → ℕ → ℕ) (st ch : 
       go false e = rw (put_other ch q g (st q) e) (cursors_else g i e ∙ old.cursors g i)
 
 -- A follow that finds a link: the chain's first item comes off
-module _ (h : ℕ → ℕ) (k k' o o' t t' c c' : ℕ → ℕ → ℕ) (st ch : ℕ → List ℕ) (q s : ℕ) (rest : List ℕ) (old : Chains h k o t c st ch) (is : ch q ≡ s ∷ rest) (no_debt : t q s ≡ 0 → o q s ≡ 0) (once : times s (st q) + times s (ch q) ≤ 1) (found : (k q s == 0) ≡ false)
-    (link_new : k' q s ≡ 0) (links : (g i : ℕ) → ((g == q) && (i == s)) ≡ false → k' g i ≡ k g i) (os : (g i : ℕ) → o' g i ≡ o g i) (ts : (g i : ℕ) → t' g i ≡ t g i) where
+module _ (h : ℕ → ℕ) (k k' o o' t t' c c' : ℕ → ℕ → ℕ) (st ch : ℕ → List ℕ) (q s : ℕ) (rest : List ℕ)
+    (old : Chains h k o t c st ch) (is : ch q ≡ s ∷ rest) (no_debt : t q s ≡ 0 → o q s ≡ 0)
+    (once : times s (st q) + times s (ch q) ≤ 1) (found : (k q s == 0) ≡ false)
+    (link_new : k' q s ≡ 0) (links : (g i : ℕ) → ((g == q) && (i == s)) ≡ false → k' g i ≡ k g i)
+    (os : (g i : ℕ) → o' g i ≡ o g i) (ts : (g i : ℕ) → t' g i ≡ t g i) where
   here : times s (ch q) ≡ 1 + times s rest
   here = let e : if1 (s == s) ≡ 1 = rw (page_same s) refl in rw (is, times_cons s s rest) (omega arith)
 
   out : (times s (st q) ≡ 0) × (times s rest ≡ 0) × (t q s ≡ 0)
-  out = let a = here in let b = old.ties q s in let d : if1 (not (k q s == 0)) ≡ 1 = rw found refl in (omega arith, omega arith, omega arith)
+  out = let a = here in let b = old.ties q s in let d : if1 (not (k q s == 0)) ≡ 1 = rw found refl
+      in (omega arith, omega arith, omega arith)
 
   -- the link that it found
   pub chain_link : k q s ≡ link_to rest
@@ -250,15 +274,24 @@ module _ (h : ℕ → ℕ) (k k' o o' t t' c c' : ℕ → ℕ → ℕ) (st ch : 
       let z = no_debt out.2 in omega arith
 
   keep : (g : ℕ) (xs : List ℕ) → (g ≡ q → times s xs ≡ 0) → Chained (k g) (o g) xs → Chained (k' g) (o' g) xs
-  keep g xs none x = chained_same (k g) (k' g) (o g) (o' g) xs x (λ i some. let z = os g i in let y = links g i (apart i some) in omega arith) where
-    apart : (i : ℕ) → 0 < times i xs → ((g == q) && (i == s)) ≡ false
-    apart i some = go (g == q) refl where
-      go : (b : Bool) → (g == q) ≡ b → (b && (i == s)) ≡ false
-      go true e = apart_item s i xs (none (same_page g q e)) some
-      go false e = refl
+  keep g xs none x = chained_same (k g) (k' g) (o g) (o' g) xs x
+      (λ i some. let z = os g i in let y = links g i (apart i some) in omega arith) where
+        apart : (i : ℕ) → 0 < times i xs → ((g == q) && (i == s)) ≡ false
+        apart i some = go (g == q) refl where
+          go : (b : Bool) → (g == q) ≡ b → (b && (i == s)) ≡ false
+          go true e = apart_item s i xs (none (same_page g q e)) some
+          go false e = refl
 
-  pub chains_follow : ((i : ℕ) → c' q i + if1 (s == i) ≡ c q i + first_is rest i) → ((g i : ℕ) → (g == q) ≡ false → c' g i ≡ c g i) → Chains h k' o' t' c' st (put ch q rest)
-  chains_follow cursor_new cursors_else = record { tops = old.tops; stacks = λ g. keep g (st g) (λ i. rw i out.0) (old.stacks g); chains = chains; ties = ties; cursors = cursors } where
+  pub chains_follow : ((i : ℕ) → c' q i + if1 (s == i) ≡ c q i + first_is rest i)
+      → ((g i : ℕ) → (g == q) ≡ false → c' g i ≡ c g i) → Chains h k' o' t' c' st (put ch q rest)
+  chains_follow cursor_new cursors_else = record {
+    tops = old.tops;
+    stacks = λ g. keep g (st g) (λ i. rw i out.0)
+        (old.stacks g);
+    chains = chains;
+    ties = ties;
+    cursors = cursors;
+  } where
     chains : (g : ℕ) → Chained (k' g) (o' g) (put ch q rest g)
     chains g = go (g == q) refl where
       go : (b : Bool) → (g == q) ≡ b → Chained (k' g) (o' g) (put ch q rest g)
@@ -266,11 +299,13 @@ module _ (h : ℕ → ℕ) (k k' o o' t t' c c' : ℕ → ℕ → ℕ) (st ch : 
           let i = same_page g q e in
           let x : Chained (k q) (o q) (s ∷ rest) = rw is at (old.chains q) in
           rw (i, put_same ch q rest) (keep q rest (λ _. out.1) x.1)
-      go false e = rw (put_other ch q g rest e) (keep g (ch g) (λ i. absurd (let z : (g == q) ≡ true = rw i (page_same q) in cc)) (old.chains g))
+      go false e = rw (put_other ch q g rest e) (keep g (ch g)
+          (λ i. absurd (let z : (g == q) ≡ true = rw i (page_same q) in cc)) (old.chains g))
 
     ties : (g i : ℕ) → if1 (not (k' g i == 0)) + t' g i ≡ times i (st g) + times i (put ch q rest g)
     ties g i = go (g == q) (i == s) refl refl where
-      go : (b d : Bool) → (g == q) ≡ b → (i == s) ≡ d → if1 (not (k' g i == 0)) + t' g i ≡ times i (st g) + times i (put ch q rest g)
+      go : (b d : Bool) → (g == q) ≡ b → (i == s) ≡ d → if1 (not (k' g i == 0)) + t' g i
+          ≡ times i (st g) + times i (put ch q rest g)
       go true true e f =
           let a = same_page g q e in
           let b = same_page i s f in
@@ -286,7 +321,8 @@ module _ (h : ℕ → ℕ) (k k' o o' t t' c c' : ℕ → ℕ → ℕ) (st ch : 
           let z : times i (ch q) ≡ times i rest = rw (is, times_cons i s rest, eq_sym s i, f) (omega arith) in
           let y : ((q == q) && (i == s)) ≡ false = rw (page_same q) f in
           rw (a, links q i y, ts q i, put_same ch q rest) (omega arith)
-      go false d e f = let y : ((g == q) && (i == s)) ≡ false = rw e refl in rw (links g i y, ts g i, put_other ch q g rest e) (old.ties g i)
+      go false d e f = let y : ((g == q) && (i == s)) ≡ false = rw e refl
+          in rw (links g i y, ts g i, put_other ch q g rest e) (old.ties g i)
 
     cursors : (g i : ℕ) → c' g i ≡ first_is (put ch q rest g) i
     cursors g i = go (g == q) refl where
@@ -300,20 +336,24 @@ module _ (h : ℕ → ℕ) (k k' o o' t t' c c' : ℕ → ℕ → ℕ) (st ch : 
       go false e = rw (put_other ch q g rest e) (cursors_else g i e ∙ old.cursors g i)
 
 -- each item of a list has a link or a debt
-pub chained_pos : (word owed : ℕ → ℕ) (s : ℕ) (xs : List ℕ) → Chained word owed xs → 0 < times s xs → 0 < word s + owed s
+pub chained_pos : (word owed : ℕ → ℕ) (s : ℕ) (xs : List ℕ) → Chained word owed xs → 0 < times s xs
+    → 0 < word s + owed s
 unfolding total
 chained_pos word owed s [] x m = absurd (omega arith)
 chained_pos word owed s (i ∷ xs) x m = at (i == s) refl m (λ n. chained_pos word owed s xs x.1 n) where
   at : (b : Bool) → (i == s) ≡ b → 0 < if1 b + times s xs → (0 < times s xs → 0 < word s + owed s) → 0 < word s + owed s
-  at true e m rest = let j = same_page i s e in let y = x.0 in let f = link_to_top xs in let z : word i + owed i ≡ word s + owed s = ap (λ n. word n + owed n) j in omega arith
+  at true e m rest = let j = same_page i s e in let y = x.0 in let f = link_to_top xs in let z : word i + owed i
+      ≡ word s + owed s = ap (λ n. word n + owed n) j in omega arith
   at false e m rest = rest (omega arith)
 
 -- what is tied has no link yet, and owes one
-pub owes : (h : ℕ → ℕ) (k o t c : ℕ → ℕ → ℕ) (st ch : ℕ → List ℕ) (q s : ℕ) → Chains h k o t c st ch → times s (st q) + times s (ch q) ≤ 1 → 0 < t q s → 0 < o q s
+pub owes : (h : ℕ → ℕ) (k o t c : ℕ → ℕ → ℕ) (st ch : ℕ → List ℕ) (q s : ℕ) → Chains h k o t c st ch
+    → times s (st q) + times s (ch q) ≤ 1 → 0 < t q s → 0 < o q s
 owes h k o t c st ch q s old once tied =
     let a = old.ties q s in
     let z : k q s ≡ 0 = zero_if (k q s) (omega arith) in
     go (times s (st q)) refl z where
       go : (n : ℕ) → times s (st q) ≡ n → k q s ≡ 0 → 0 < o q s
-      go zero e z = let a = old.ties q s in let m = chained_pos (k q) (o q) s (ch q) (old.chains q) (omega arith) in omega arith
+      go zero e z = let a = old.ties q s in let m = chained_pos (k q) (o q) s (ch q) (old.chains q) (omega arith)
+          in omega arith
       go (suc n) e z = let m = chained_pos (k q) (o q) s (st q) (old.stacks q) (omega arith) in omega arith

@@ -5,7 +5,8 @@ use Rattle.sh_word.specs.Fields.{fields_of}
 use Rattle.sh_word.proofs.Words.{fields_of-add}
 use Rattle.sh_core.specs.Words.{put, put2}
 
-pub fields_of-entered : (n : ℕ) → (fields_of n).count + 1 < 2 ^ 30 → fields_of (n + 1) ≡ record (fields_of n) { count = (fields_of n).count + 1 }
+pub fields_of-entered : (n : ℕ) → (fields_of n).count + 1 < 2 ^ 30 → fields_of (n + 1)
+    ≡ record (fields_of n) { count = (fields_of n).count + 1 }
 fields_of-entered n h = fields_of-add n (omega arith)
 
 pub put2_same : (f : ℕ → ℕ → ℕ) (q s n : ℕ) → put2 f q s n q s ≡ n

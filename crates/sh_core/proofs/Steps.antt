@@ -1,5 +1,6 @@
 -- A step, once its part and its move are known.
-use Rattle.std.proofs.Common.{◌≡◌, ◌≢◌, ℕ, ◌==◌, true, false, cond, List, [], ◌∷◌, ◌++◌, refl, ap, ◌∙◌, arith, Option, Some, None, slice_get}
+use Rattle.std.proofs.Common.{◌≡◌, ◌≢◌, ℕ, ◌==◌, true, false, cond, List, [], ◌∷◌, ◌++◌, refl, ap, ◌∙◌, arith, Option}
+use Rattle.std.proofs.Common.{Some, None, slice_get}
 use Rattle.std.proofs.lemmas.Bool.Decides.{nat_tests}
 use Rattle.sh_step.specs.declared.action.Event.{Event}
 use Rattle.sh_step.specs.Plans.{Plan}
@@ -12,23 +13,35 @@ use Rattle.sh_core.specs.Trails.{trodden, trail_from, trail_of, TrailGrows, Othe
 use Rattle.sh_core.specs.Words.{read}
 use Rattle.sh_core.specs.Worlds.{World, step, apply, run, run_from, open_world}
 
-pub step_moves : (plan : Plan) (w : World) (e : Event) (p : Body) (m : Row) → slice_get w.parts e.pass ≡ Some p → row plan p e.action ≡ Some m → step plan w e ≡ apply w e.pass m
+pub step_moves : (plan : Plan) (w : World) (e : Event) (p : Body) (m : Row) → slice_get w.parts e.pass ≡ Some p
+    → row plan p e.action ≡ Some m → step plan w e ≡ apply w e.pass m
 unfolding step
 step_moves plan w e p m at is =
-    ap (λ (o : Option Body). elim o as (λ _. World) [ Some p ↦ elim (row plan p e.action) [ Some m ↦ apply w e.pass m | None ↦ w ] | None ↦ w ]) at
+    ap (λ (o : Option Body). elim o as (λ _. World) [
+      | Some p ↦ elim (row plan p e.action)
+          [ Some m ↦ apply w e.pass m | None ↦ w ]
+      | None ↦ w
+    ]) at
     ∙ ap (λ (o : Option Row). elim o as (λ _. World) [ Some m ↦ apply w e.pass m | None ↦ w ]) is
 
-pub step_skips : (plan : Plan) (w : World) (e : Event) (p : Body) → slice_get w.parts e.pass ≡ Some p → row plan p e.action ≡ None → step plan w e ≡ w
+pub step_skips : (plan : Plan) (w : World) (e : Event) (p : Body) → slice_get w.parts e.pass ≡ Some p
+    → row plan p e.action ≡ None → step plan w e ≡ w
 unfolding step
 step_skips plan w e p at is =
-    ap (λ (o : Option Body). elim o as (λ _. World) [ Some p ↦ elim (row plan p e.action) [ Some m ↦ apply w e.pass m | None ↦ w ] | None ↦ w ]) at
+    ap (λ (o : Option Body). elim o as (λ _. World) [
+      | Some p ↦ elim (row plan p e.action)
+          [ Some m ↦ apply w e.pass m | None ↦ w ]
+      | None ↦ w
+    ]) at
     ∙ ap (λ (o : Option Row). elim o as (λ _. World) [ Some m ↦ apply w e.pass m | None ↦ w ]) is
 
 pub step_past : (plan : Plan) (w : World) (e : Event) → slice_get w.parts e.pass ≡ None → step plan w e ≡ w
 unfolding step
-step_past plan w e at = ap (λ (o : Option Body). elim o as (λ _. World) [ Some p ↦ elim (row plan p e.action) [ Some m ↦ apply w e.pass m | None ↦ w ] | None ↦ w ]) at
+step_past plan w e at = ap (λ (o : Option Body). elim o as (λ _. World)
+    [ Some p ↦ elim (row plan p e.action) [ Some m ↦ apply w e.pass m | None ↦ w ] | None ↦ w ]) at
 
-pub run_snoc : (plan : Plan) (w : World) (es : List Event) (e : Event) → run_from plan w (es ++ e ∷ []) ≡ step plan (run_from plan w es) e
+pub run_snoc : (plan : Plan) (w : World) (es : List Event) (e : Event) → run_from plan w (es ++ e ∷ [])
+    ≡ step plan (run_from plan w es) e
 unfolding run_from
 run_snoc plan w [] e = refl
 run_snoc plan w (d ∷ es) e = run_snoc plan (step plan w d) es e
@@ -39,22 +52,30 @@ run_none plan w = refl
 
 -- ---- one more event: what it adds to each trail
 
-trail_snoc : (plan : Plan) (w : World) (a : ℕ) (steps : List Footstep) (es : List Event) (e : Event) → trail_from plan w a steps (es ++ e ∷ []) ≡ trodden plan (run_from plan w es) e a (trail_from plan w a steps es)
+trail_snoc : (plan : Plan) (w : World) (a : ℕ) (steps : List Footstep) (es : List Event) (e : Event)
+    → trail_from plan w a steps (es ++ e ∷ []) ≡ trodden plan (run_from plan w es) e a (trail_from plan w a steps es)
 unfolding trail_from run_from
 trail_snoc plan w a steps [] e = refl
 trail_snoc plan w a steps (d ∷ es) e = trail_snoc plan (step plan w d) a (trodden plan w d a steps) es e
 
 -- what the row of an event adds, where it has one
 adds : World → Event → ℕ → List Footstep → Option Row → List Footstep
-adds w e a steps o = elim o [ Some m ↦ cond (e.pass == a) (steps ++ footstep_of e.action m (read w.words m.place) ∷ []) steps | None ↦ steps ]
+adds w e a steps o = elim o [
+  | Some m ↦ cond (e.pass == a) (steps ++ footstep_of e.action m (read w.words m.place) ∷ [])
+      steps
+  | None ↦ steps
+]
 
-one_more : (plan : Plan) (es : List Event) (e : Event) (a : ℕ) → trail_of plan (es ++ e ∷ []) a ≡ adds (run plan es) e a (trail_of plan es a) (row_of_event plan (run plan es) e)
+one_more : (plan : Plan) (es : List Event) (e : Event) (a : ℕ) → trail_of plan (es ++ e ∷ []) a
+    ≡ adds (run plan es) e a (trail_of plan es a) (row_of_event plan (run plan es) e)
 unfolding adds
 one_more plan es e a = trail_snoc plan (open_world plan) a [] es e
 
-pub row_of_at : (plan : Plan) (w : World) (e : Event) (p : Body) → slice_get w.parts e.pass ≡ Some p → row_of_event plan w e ≡ row plan p e.action
+pub row_of_at : (plan : Plan) (w : World) (e : Event) (p : Body) → slice_get w.parts e.pass ≡ Some p
+    → row_of_event plan w e ≡ row plan p e.action
 unfolding row_of_event
-row_of_at plan w e p at = ap (λ (o : Option Body). elim o as (λ _. Option Row) [ Some p ↦ row plan p e.action | None ↦ None ]) at
+row_of_at plan w e p at = ap (λ (o : Option Body). elim o as (λ _. Option Row)
+    [ Some p ↦ row plan p e.action | None ↦ None ]) at
 
 pub trail_grows : TrailGrows
 unfolding adds
@@ -66,7 +87,8 @@ trail_grows plan es a x p r at is =
     let self : (a == a) ≡ true = grind (arith, nat_tests) in
     one_more plan es e a ∙ (ap (adds w e a old) (row_of_at plan w e p at ∙ is) ∙ ap (λ b. cond b new old) self)
 
-others_stay : (w : World) (e : Event) (a : ℕ) (steps : List Footstep) (o : Option Row) → e.pass ≢ a → adds w e a steps o ≡ steps
+others_stay : (w : World) (e : Event) (a : ℕ) (steps : List Footstep) (o : Option Row) → e.pass ≢ a → adds w e a steps o
+    ≡ steps
 unfolding adds
 others_stay w e a steps (Some m) other =
     let apart : (e.pass == a) ≡ false = grind (arith, nat_tests) in
@@ -74,7 +96,8 @@ others_stay w e a steps (Some m) other =
 others_stay w e a steps None other = refl
 
 pub others_trails_stay : OthersTrailsStay
-others_trails_stay plan es e a other = one_more plan es e a ∙ others_stay (run plan es) e a (trail_of plan es a) (row_of_event plan (run plan es) e) other
+others_trails_stay plan es e a other = one_more plan es e a ∙ others_stay (run plan es) e a (trail_of plan es a)
+    (row_of_event plan (run plan es) e) other
 
 pub skips_leave_trails : SkipsLeaveTrails
 unfolding adds

@@ -2,7 +2,10 @@
 use Rattle.std.specs.Prelude.{None, ℕ, ◌≡◌, List, [], ◌∷◌, ◌++◌, Some, refl}
 use Rattle.sh_history.specs.declared.entry.Entry.TheVariants.{Insert, Gone, Removed}
 use Rattle.sh_step.specs.declared.action.Action.{Action}
-use Rattle.sh_step.specs.declared.action.Action.TheVariants.{EnterGet, EnterRemove, Mark, Drop, Finish, FillSlot, Fill, Publish, ReadPage, SetClass, Take, Follow, Put, PutSlot, Tie, Adopt, Leave, Arm, Ring, RingTie, TakeBell, FollowBell}
+use Rattle.sh_step.specs.declared.action.Action.TheVariants.{EnterGet, EnterRemove, Mark, Drop, Finish, FillSlot, Fill}
+use Rattle.sh_step.specs.declared.action.Action.TheVariants.{Publish, ReadPage, SetClass, Take, Follow, Put, PutSlot}
+use Rattle.sh_step.specs.declared.action.Action.TheVariants.{Tie, Adopt, Leave, Arm, Ring, RingTie, TakeBell}
+use Rattle.sh_step.specs.declared.action.Action.TheVariants.{FollowBell}
 use Rattle.sh_step.specs.declared.action.Event.{Event}
 use Rattle.sh_step.specs.declared.action.PageName.{PageName}
 use Rattle.sh_step.specs.declared.action.SlotName.{SlotName}
@@ -53,32 +56,44 @@ abbrev words : ℕ → List Event → Words
 words n es = (run (small n) es).words
 
 unfoldable pub everything : ℕ
-unfolding fields_of word_of put put2 total without has noted off every home spots row apply step run_from value_at keys_of page_number local over_heap accounts listed list_step lists_from row_of_event outcome_of outcomes_from
+unfolding fields_of word_of put put2 total without has noted off every home spots row apply step run_from value_at
+    keys_of page_number local over_heap accounts listed list_step lists_from row_of_event outcome_of outcomes_from
 everything = 0
 
 -- a page of three slots, with the value 5 in the first
 abbrev opened : List Event
-opened = ev 0 (Adopt 0) ∷ ev 0 (ReadPage (page 0 0)) ∷ ev 0 (SetClass (page 0 0) 7) ∷ ev 0 (FillSlot (at 0 0 0) (5 ∷ [])) ∷ ev 0 Fill ∷ ev 0 Publish ∷ []
+opened = ev 0 (Adopt 0) ∷ ev 0 (ReadPage (page 0 0)) ∷ ev 0 (SetClass (page 0 0) 7) ∷ ev 0
+    (FillSlot (at 0 0 0) (5 ∷ [])) ∷ ev 0 Fill ∷ ev 0 Publish ∷ []
 
 -- each step is done, and the last one inserts
-opened_ends : ends 2 opened ≡ (moved ∷ moved ∷ moved ∷ moved ∷ moved ∷ Replied (Insert 0 4096 (5 ∷ [])) ∷ [], acc 7 1 0 0 2 0 0)
+opened_ends : ends 2 opened ≡ (
+  moved ∷ moved ∷ moved ∷ moved ∷ moved ∷ Replied (Insert 0 4096 (5 ∷ [])) ∷ [],
+  acc 7 1 0
+      0 2 0 0,
+)
 unfolding everything
 opened_ends = refl
 
 -- its words
-opened_words : (words 2 opened).class_at 0 ∷ (words 2 opened).state_at 0 0 ∷ (words 2 opened).length_at 0 0 ∷ (words 2 opened).payload_at 0 0 ∷ (words 2 opened).owner_at 0 ∷ [] ≡ 8 ∷ 5368709120 ∷ 1 ∷ 5 ∷ 1 ∷ []
+opened_words : (words 2 opened).class_at 0 ∷ (words 2 opened).state_at 0 0 ∷ (words 2 opened).length_at 0 0 ∷
+    (words 2 opened).payload_at 0 0 ∷ (words 2 opened).owner_at 0 ∷ [] ≡ 8 ∷ 5368709120 ∷ 1 ∷ 5 ∷ 1 ∷ []
 unfolding everything
 opened_words = refl
 
 -- of two passes that remove one key the first mark decides
 two_removers : ends 2 (opened ++ ev 0 (EnterRemove 4096) ∷ ev 1 (EnterRemove 4096) ∷ ev 1 Mark ∷ ev 0 Mark ∷ [])
-    ≡ (moved ∷ moved ∷ moved ∷ moved ∷ moved ∷ Replied (Insert 0 4096 (5 ∷ [])) ∷ moved ∷ moved ∷ Replied (Removed 1 4096) ∷ Replied (Gone 0 4096) ∷ [], acc 7 0 1 0 2 0 0)
+    ≡ (
+      moved ∷ moved ∷ moved ∷ moved ∷ moved ∷ Replied (Insert 0 4096 (5 ∷ [])) ∷ moved ∷ moved ∷ Replied
+          (Removed 1 4096) ∷ Replied (Gone 0 4096) ∷ [],
+      acc 7 0 1 0 2 0 0,
+    )
 unfolding everything
 two_removers = refl
 
 -- a slot that is used again while a pass leaves it
 abbrev again : List Event
-again = opened ++ ev 0 (EnterRemove 4096) ∷ ev 0 Mark ∷ ev 0 Drop ∷ ev 0 Finish ∷ ev 0 (FillSlot (at 0 0 0) (6 ∷ [])) ∷ ev 0 Fill ∷ ev 0 Publish ∷ ev 1 (EnterGet 4096) ∷ ev 0 (EnterRemove 8192) ∷ ev 0 Mark ∷ ev 0 Drop ∷ []
+again = opened ++ ev 0 (EnterRemove 4096) ∷ ev 0 Mark ∷ ev 0 Drop ∷ ev 0 Finish ∷ ev 0 (FillSlot (at 0 0 0) (6 ∷ [])) ∷
+    ev 0 Fill ∷ ev 0 Publish ∷ ev 1 (EnterGet 4096) ∷ ev 0 (EnterRemove 8192) ∷ ev 0 Mark ∷ ev 0 Drop ∷ []
 
 -- marked, with one pass on it
 again_word : (words 2 again).state_at 0 0 ≡ 11811160065
@@ -90,86 +105,149 @@ abbrev ended : List Event
 ended = again ++ ev 1 Drop ∷ ev 1 Finish ∷ ev 1 Put ∷ ev 1 Tie ∷ []
 
 -- an old key stays gone, and the last to leave ends the removal
-again_ends : ends 2 ended ≡ (moved ∷ moved ∷ moved ∷ moved ∷ moved ∷ Replied (Insert 0 4096 (5 ∷ [])) ∷ moved ∷ Replied (Removed 0 4096) ∷ moved ∷ moved ∷ moved ∷ moved ∷ Replied (Insert 0 8192 (6 ∷ [])) ∷ Replied (Gone 1 4096) ∷ moved ∷ Replied (Removed 0 8192) ∷ moved ∷ moved ∷ moved ∷ moved ∷ moved ∷ [], acc 7 0 0 0 2 0 1)
+again_ends : ends 2 ended ≡ (
+  moved ∷ moved ∷ moved ∷ moved ∷ moved ∷ Replied (Insert 0 4096 (5 ∷ [])) ∷ moved ∷ Replied
+      (Removed 0 4096) ∷ moved ∷ moved ∷ moved ∷ moved ∷ Replied (Insert 0 8192 (6 ∷ [])) ∷ Replied (Gone 1 4096) ∷ moved
+      ∷ Replied (Removed 0 8192) ∷ moved ∷ moved ∷ moved ∷ moved ∷ moved ∷ [],
+  acc 7 0 0 0 2 0 1,
+)
 unfolding everything
 again_ends = refl
 
 -- the slot is empty in its third generation, and on the stack
-again_words : (words 2 ended).state_at 0 0 ∷ (words 2 ended).head_at 0 ∷ (words 2 ended).link_at 0 0 ∷ [] ≡ 12884901888 ∷ 2 ∷ 1 ∷ []
+again_words : (words 2 ended).state_at 0 0 ∷ (words 2 ended).head_at 0 ∷ (words 2 ended).link_at 0 0 ∷ []
+    ≡ 12884901888 ∷ 2 ∷ 1 ∷ []
 unfolding everything
 again_words = refl
 
 -- an exchange that finds another pass on the slot changes nothing; that pass ends the removal
-late_finish : ends 2 (opened ++ ev 0 (EnterRemove 4096) ∷ ev 0 Mark ∷ ev 0 Drop ∷ ev 1 (EnterGet 4096) ∷ ev 0 Finish ∷ ev 1 Drop ∷ ev 1 Finish ∷ [])
-    ≡ (moved ∷ moved ∷ moved ∷ moved ∷ moved ∷ Replied (Insert 0 4096 (5 ∷ [])) ∷ moved ∷ Replied (Removed 0 4096) ∷ moved ∷ Replied (Gone 1 4096) ∷ moved ∷ moved ∷ moved ∷ [], acc 7 0 0 0 2 1 0)
+late_finish : ends 2 (opened ++ ev 0 (EnterRemove 4096) ∷ ev 0 Mark ∷ ev 0 Drop ∷ ev 1 (EnterGet 4096) ∷ ev 0 Finish ∷
+    ev 1 Drop ∷ ev 1 Finish ∷ [])
+    ≡ (
+      moved ∷ moved ∷ moved ∷ moved ∷ moved ∷ Replied (Insert 0 4096 (5 ∷ [])) ∷ moved ∷ Replied (Removed 0 4096) ∷
+          moved ∷ Replied (Gone 1 4096) ∷ moved ∷ moved ∷ moved ∷ [],
+      acc 7 0 0 0 2 1 0,
+    )
 unfolding everything
 late_finish = refl
 
 -- two freed slots, of which the lower one is not tied yet
 abbrev untied : List Event
-untied = ev 0 (Adopt 0) ∷ ev 0 (ReadPage (page 0 0)) ∷ ev 0 (SetClass (page 0 0) 7) ∷ ev 0 (FillSlot (at 0 0 0) ([])) ∷ ev 0 Publish ∷ ev 0 (FillSlot (at 0 0 1) ([])) ∷ ev 0 Publish ∷ ev 1 (EnterRemove 4096) ∷ ev 1 Mark ∷ ev 1 Drop ∷ ev 1 Finish ∷ ev 1 Put ∷ ev 2 (EnterRemove 4097) ∷ ev 2 Mark ∷ ev 2 Drop ∷ ev 2 Finish ∷ ev 2 Put ∷ ev 2 Tie ∷ ev 0 (Take (page 0 0)) ∷ ev 0 (Follow (page 0 0)) ∷ ev 0 (Follow (page 0 0)) ∷ []
+untied = ev 0 (Adopt 0) ∷ ev 0 (ReadPage (page 0 0)) ∷ ev 0 (SetClass (page 0 0) 7) ∷ ev 0 (FillSlot (at 0 0 0) ([])) ∷
+    ev 0 Publish ∷ ev 0 (FillSlot (at 0 0 1) ([])) ∷ ev 0 Publish ∷ ev 1 (EnterRemove 4096) ∷ ev 1 Mark ∷ ev 1 Drop ∷ ev
+    1 Finish ∷ ev 1 Put ∷ ev 2 (EnterRemove 4097) ∷ ev 2 Mark ∷ ev 2 Drop ∷ ev 2 Finish ∷ ev 2 Put ∷ ev 2 Tie ∷ ev 0
+    (Take (page 0 0)) ∷ ev 0 (Follow (page 0 0)) ∷ ev 0 (Follow (page 0 0)) ∷ []
 
 -- following stops at a link that is not written
-untied_ends : ends 3 untied ≡ (moved ∷ moved ∷ moved ∷ moved ∷ Replied (Insert 0 4096 []) ∷ moved ∷ Replied (Insert 0 4097 []) ∷ moved ∷ Replied (Removed 1 4096) ∷ moved ∷ moved ∷ moved ∷ moved ∷ Replied (Removed 2 4097) ∷ moved ∷ moved ∷ moved ∷ moved ∷ moved ∷ moved ∷ moved ∷ [], acc 7 0 0 0 2 0 1)
+untied_ends : ends 3 untied ≡ (
+  moved ∷ moved ∷ moved ∷ moved ∷ Replied (Insert 0 4096 []) ∷ moved ∷ Replied
+      (Insert 0 4097 []) ∷ moved ∷ Replied (Removed 1 4096) ∷ moved ∷ moved ∷ moved ∷ moved ∷ Replied (Removed 2 4097) ∷
+      moved ∷ moved ∷ moved ∷ moved ∷ moved ∷ moved ∷ moved ∷ [],
+  acc 7 0 0 0 2 0 1,
+)
 unfolding everything
 untied_ends = refl
 
 -- nothing is left on the stack, and no link is written
-untied_words : (words 3 untied).head_at 0 ∷ (words 3 untied).link_at 0 0 ∷ (words 3 untied).link_at 0 1 ∷ [] ≡ 0 ∷ 0 ∷ 0 ∷ []
+untied_words : (words 3 untied).head_at 0 ∷ (words 3 untied).link_at 0 0 ∷ (words 3 untied).link_at 0 1 ∷ []
+    ≡ 0 ∷ 0 ∷ 0 ∷ []
 unfolding everything
 untied_words = refl
 
 -- and goes on once it is tied
 tied_later : ends 3 (untied ++ ev 1 Tie ∷ ev 0 (Follow (page 0 0)) ∷ [])
-    ≡ (moved ∷ moved ∷ moved ∷ moved ∷ Replied (Insert 0 4096 []) ∷ moved ∷ Replied (Insert 0 4097 []) ∷ moved ∷ Replied (Removed 1 4096) ∷ moved ∷ moved ∷ moved ∷ moved ∷ Replied (Removed 2 4097) ∷ moved ∷ moved ∷ moved ∷ moved ∷ moved ∷ moved ∷ moved ∷ moved ∷ moved ∷ [], acc 7 0 0 0 3 0 0)
+    ≡ (
+      moved ∷ moved ∷ moved ∷ moved ∷ Replied (Insert 0 4096 []) ∷ moved ∷ Replied (Insert 0 4097 []) ∷ moved ∷ Replied
+          (Removed 1 4096) ∷ moved ∷ moved ∷ moved ∷ moved ∷ Replied (Removed 2 4097) ∷ moved ∷ moved ∷ moved ∷ moved ∷
+          moved ∷ moved ∷ moved ∷ moved ∷ moved ∷ [],
+      acc 7 0 0 0 3 0 0,
+    )
 unfolding everything
 tied_later = refl
 
 -- an owner leaves only what it has put back, and the next one finds it
-left_and_adopted : ends 3 (untied ++ ev 0 Leave ∷ ev 1 Tie ∷ ev 0 (Follow (page 0 0)) ∷ ev 0 (PutSlot (at 0 0 0)) ∷ ev 0 Tie ∷ ev 0 (PutSlot (at 0 0 1)) ∷ ev 0 Tie ∷ ev 0 (PutSlot (at 0 0 2)) ∷ ev 0 Tie ∷ ev 0 Leave ∷ ev 1 (Adopt 0) ∷ ev 1 (ReadPage (page 0 0)) ∷ ev 1 (Take (page 0 0)) ∷ ev 1 (Follow (page 0 0)) ∷ ev 1 (Follow (page 0 0)) ∷ ev 1 (FillSlot (at 0 0 1) (9 ∷ [])) ∷ ev 1 Fill ∷ ev 1 Publish ∷ [])
-    ≡ (moved ∷ moved ∷ moved ∷ moved ∷ Replied (Insert 0 4096 []) ∷ moved ∷ Replied (Insert 0 4097 []) ∷ moved ∷ Replied (Removed 1 4096) ∷ moved ∷ moved ∷ moved ∷ moved ∷ Replied (Removed 2 4097) ∷ moved ∷ moved ∷ moved ∷ moved ∷ moved ∷ moved ∷ moved ∷ skipped ∷ moved ∷ moved ∷ moved ∷ moved ∷ moved ∷ moved ∷ moved ∷ moved ∷ moved ∷ moved ∷ moved ∷ moved ∷ moved ∷ moved ∷ moved ∷ moved ∷ Replied (Insert 1 8193 (9 ∷ [])) ∷ [], acc 7 1 0 0 1 0 1)
+left_and_adopted : ends 3 (untied ++ ev 0 Leave ∷ ev 1 Tie ∷ ev 0 (Follow (page 0 0)) ∷ ev 0 (PutSlot (at 0 0 0)) ∷ ev 0
+    Tie ∷ ev 0 (PutSlot (at 0 0 1)) ∷ ev 0 Tie ∷ ev 0 (PutSlot (at 0 0 2)) ∷ ev 0 Tie ∷ ev 0 Leave ∷ ev 1 (Adopt 0) ∷ ev
+    1 (ReadPage (page 0 0)) ∷ ev 1 (Take (page 0 0)) ∷ ev 1 (Follow (page 0 0)) ∷ ev 1 (Follow (page 0 0)) ∷ ev 1
+    (FillSlot (at 0 0 1) (9 ∷ [])) ∷ ev 1 Fill ∷ ev 1 Publish ∷ [])
+    ≡ (
+      moved ∷ moved ∷ moved ∷ moved ∷ Replied (Insert 0 4096 []) ∷ moved ∷ Replied (Insert 0 4097 []) ∷ moved ∷ Replied
+          (Removed 1 4096) ∷ moved ∷ moved ∷ moved ∷ moved ∷ Replied (Removed 2 4097) ∷ moved ∷ moved ∷ moved ∷ moved ∷
+          moved ∷ moved ∷ moved ∷ skipped ∷ moved ∷ moved ∷ moved ∷ moved ∷ moved ∷ moved ∷ moved ∷ moved ∷ moved ∷ moved
+          ∷ moved ∷ moved ∷ moved ∷ moved ∷ moved ∷ moved ∷ Replied (Insert 1 8193 (9 ∷ [])) ∷ [],
+      acc 7 1 0 0 1 0 1,
+    )
 unfolding everything
 left_and_adopted = refl
 
 -- the first free into an armed page rings
 abbrev rung : List Event
-rung = opened ++ ev 0 (Arm (page 0 0)) ∷ ev 1 (EnterRemove 4096) ∷ ev 1 Mark ∷ ev 1 Drop ∷ ev 1 Finish ∷ ev 1 Put ∷ ev 1 Tie ∷ ev 1 Ring ∷ ev 0 TakeBell ∷ ev 0 FollowBell ∷ ev 0 (Arm (page 0 0)) ∷ ev 1 RingTie ∷ ev 0 FollowBell ∷ ev 0 (Arm (page 0 0)) ∷ []
+rung = opened ++ ev 0 (Arm (page 0 0)) ∷ ev 1 (EnterRemove 4096) ∷ ev 1 Mark ∷ ev 1 Drop ∷ ev 1 Finish ∷ ev 1 Put ∷ ev 1
+    Tie ∷ ev 1 Ring ∷ ev 0 TakeBell ∷ ev 0 FollowBell ∷ ev 0 (Arm (page 0 0)) ∷ ev 1 RingTie ∷ ev 0 FollowBell ∷ ev 0
+    (Arm (page 0 0)) ∷ []
 
 -- the page stays armed until its ring is read
-rung_ends : ends 2 rung ≡ (moved ∷ moved ∷ moved ∷ moved ∷ moved ∷ Replied (Insert 0 4096 (5 ∷ [])) ∷ moved ∷ moved ∷ Replied (Removed 1 4096) ∷ moved ∷ moved ∷ moved ∷ moved ∷ moved ∷ moved ∷ moved ∷ skipped ∷ moved ∷ moved ∷ moved ∷ [], acc 7 0 0 0 2 0 1)
+rung_ends : ends 2 rung ≡ (
+  moved ∷ moved ∷ moved ∷ moved ∷ moved ∷ Replied (Insert 0 4096 (5 ∷ [])) ∷ moved ∷ moved ∷
+      Replied (Removed 1 4096) ∷ moved ∷ moved ∷ moved ∷ moved ∷ moved ∷ moved ∷ moved ∷ skipped ∷ moved ∷ moved ∷ moved ∷
+      [],
+  acc 7 0 0 0 2 0 1,
+)
 unfolding everything
 rung_ends = refl
 
 -- armed again, and the bell empty
-rung_words : (words 2 rung).head_at 0 ∷ (words 2 rung).link_at 0 0 ∷ (words 2 rung).page_link_at 0 ∷ (words 2 rung).bell_at 0 ∷ [] ≡ 1 ∷ 1 ∷ 0 ∷ 0 ∷ []
+rung_words : (words 2 rung).head_at 0 ∷ (words 2 rung).link_at 0 0 ∷ (words 2 rung).page_link_at 0 ∷
+    (words 2 rung).bell_at 0 ∷ [] ≡ 1 ∷ 1 ∷ 0 ∷ 0 ∷ []
 unfolding everything
 rung_words = refl
 
 -- a stack that is taken without its flag leaves the page armed
-taken_before_tied : ends 2 (opened ++ ev 0 (Arm (page 0 0)) ∷ ev 1 (EnterRemove 4096) ∷ ev 1 Mark ∷ ev 1 Drop ∷ ev 1 Finish ∷ ev 1 Put ∷ ev 0 (Take (page 0 0)) ∷ ev 1 Tie ∷ ev 1 Ring ∷ ev 0 TakeBell ∷ ev 0 FollowBell ∷ ev 0 (Arm (page 0 0)) ∷ ev 1 RingTie ∷ ev 0 FollowBell ∷ ev 0 (Arm (page 0 0)) ∷ [])
-    ≡ (moved ∷ moved ∷ moved ∷ moved ∷ moved ∷ Replied (Insert 0 4096 (5 ∷ [])) ∷ moved ∷ moved ∷ Replied (Removed 1 4096) ∷ moved ∷ moved ∷ moved ∷ moved ∷ moved ∷ moved ∷ moved ∷ moved ∷ skipped ∷ moved ∷ moved ∷ skipped ∷ [], acc 7 0 0 0 2 0 1)
+taken_before_tied : ends 2 (opened ++ ev 0 (Arm (page 0 0)) ∷ ev 1 (EnterRemove 4096) ∷ ev 1 Mark ∷ ev 1 Drop ∷ ev 1
+    Finish ∷ ev 1 Put ∷ ev 0 (Take (page 0 0)) ∷ ev 1 Tie ∷ ev 1 Ring ∷ ev 0 TakeBell ∷ ev 0 FollowBell ∷ ev 0
+    (Arm (page 0 0)) ∷ ev 1 RingTie ∷ ev 0 FollowBell ∷ ev 0 (Arm (page 0 0)) ∷ [])
+    ≡ (
+      moved ∷ moved ∷ moved ∷ moved ∷ moved ∷ Replied (Insert 0 4096 (5 ∷ [])) ∷ moved ∷ moved ∷ Replied
+          (Removed 1 4096) ∷ moved ∷ moved ∷ moved ∷ moved ∷ moved ∷ moved ∷ moved ∷ moved ∷ skipped ∷ moved ∷ moved ∷
+          skipped ∷ [],
+      acc 7 0 0 0 2 0 1,
+    )
 unfolding everything
 taken_before_tied = refl
 
 -- only the owner reads a page for itself
-only_owners : ends 2 (ev 0 (Adopt 0) ∷ ev 1 (Adopt 0) ∷ ev 1 (ReadPage (page 0 0)) ∷ ev 0 (ReadPage (page 0 0)) ∷ []) ≡ (moved ∷ moved ∷ skipped ∷ moved ∷ [], blank)
+only_owners : ends 2 (ev 0 (Adopt 0) ∷ ev 1 (Adopt 0) ∷ ev 1 (ReadPage (page 0 0)) ∷ ev 0 (ReadPage (page 0 0)) ∷ [])
+    ≡ (moved ∷ moved ∷ skipped ∷ moved ∷ [], blank)
 unfolding everything
 only_owners = refl
 
 -- a page with a value keeps its class
 class_is_kept : ends 2 (opened ++ ev 0 (SetClass (page 0 0) 7) ∷ ev 0 (SetClass (page 0 0) 0) ∷ [])
-    ≡ (moved ∷ moved ∷ moved ∷ moved ∷ moved ∷ Replied (Insert 0 4096 (5 ∷ [])) ∷ skipped ∷ skipped ∷ [], acc 7 1 0 0 2 0 0)
+    ≡ (
+      moved ∷ moved ∷ moved ∷ moved ∷ moved ∷ Replied (Insert 0 4096 (5 ∷ [])) ∷ skipped ∷ skipped ∷ [],
+      acc 7 1 0 0 2
+          0 0,
+    )
 unfolding everything
 class_is_kept = refl
 
 -- a page that is wholly its owner's gets another class
-class_changes : ends 2 (opened ++ ev 0 (EnterRemove 4096) ∷ ev 0 Mark ∷ ev 0 Drop ∷ ev 0 Finish ∷ ev 0 (SetClass (page 0 0) 0) ∷ [])
-    ≡ (moved ∷ moved ∷ moved ∷ moved ∷ moved ∷ Replied (Insert 0 4096 (5 ∷ [])) ∷ moved ∷ Replied (Removed 0 4096) ∷ moved ∷ moved ∷ moved ∷ [], acc 0 0 0 0 48 0 0)
+class_changes : ends 2 (opened ++ ev 0 (EnterRemove 4096) ∷ ev 0 Mark ∷ ev 0 Drop ∷ ev 0 Finish ∷ ev 0
+    (SetClass (page 0 0) 0) ∷ [])
+    ≡ (
+      moved ∷ moved ∷ moved ∷ moved ∷ moved ∷ Replied (Insert 0 4096 (5 ∷ [])) ∷ moved ∷ Replied (Removed 0 4096) ∷
+          moved ∷ moved ∷ moved ∷ [],
+      acc 0 0 0 0 48 0 0,
+    )
 unfolding everything
 class_changes = refl
 
 -- an adopter reads a page before it gives it a class, and leaves with nothing of its own
-adopter_knows_nothing : ends 2 (ev 0 (Adopt 0) ∷ ev 0 Leave ∷ ev 0 Leave ∷ ev 1 (Adopt 0) ∷ ev 1 (ReadPage (page 0 0)) ∷ ev 1 (SetClass (page 0 0) 7) ∷ ev 1 Leave ∷ []) ≡ (moved ∷ moved ∷ skipped ∷ moved ∷ moved ∷ moved ∷ skipped ∷ [], acc 7 0 0 0 3 0 0)
+adopter_knows_nothing : ends 2 (ev 0 (Adopt 0) ∷ ev 0 Leave ∷ ev 0 Leave ∷ ev 1 (Adopt 0) ∷ ev 1 (ReadPage (page 0 0)) ∷
+    ev 1 (SetClass (page 0 0) 7) ∷ ev 1 Leave ∷ []) ≡ (
+      moved ∷ moved ∷ skipped ∷ moved ∷ moved ∷ moved ∷ skipped ∷ [],
+      acc 7 0 0 0 3 0 0,
+    )
 unfolding everything
 adopter_knows_nothing = refl
 
@@ -193,14 +271,17 @@ stopped_after_dropping : stopped (ev 1 (EnterRemove 4096) ∷ ev 1 Mark ∷ ev 1
 unfolding everything
 stopped_after_dropping = refl
 
-stopped_after_finishing : stopped (ev 1 (EnterRemove 4096) ∷ ev 1 Mark ∷ ev 1 Drop ∷ ev 1 Finish ∷ []) ≡ acc 7 0 0 0 2 1 0
+stopped_after_finishing : stopped (ev 1 (EnterRemove 4096) ∷ ev 1 Mark ∷ ev 1 Drop ∷ ev 1 Finish ∷ [])
+    ≡ acc 7 0 0 0 2 1 0
 unfolding everything
 stopped_after_finishing = refl
 
-stopped_after_putting : stopped (ev 1 (EnterRemove 4096) ∷ ev 1 Mark ∷ ev 1 Drop ∷ ev 1 Finish ∷ ev 1 Put ∷ []) ≡ acc 7 0 0 0 2 0 1
+stopped_after_putting : stopped (ev 1 (EnterRemove 4096) ∷ ev 1 Mark ∷ ev 1 Drop ∷ ev 1 Finish ∷ ev 1 Put ∷ [])
+    ≡ acc 7 0 0 0 2 0 1
 unfolding everything
 stopped_after_putting = refl
 
-stopped_after_tying : stopped (ev 1 (EnterRemove 4096) ∷ ev 1 Mark ∷ ev 1 Drop ∷ ev 1 Finish ∷ ev 1 Put ∷ ev 1 Tie ∷ []) ≡ acc 7 0 0 0 2 0 1
+stopped_after_tying : stopped (ev 1 (EnterRemove 4096) ∷ ev 1 Mark ∷ ev 1 Drop ∷ ev 1 Finish ∷ ev 1 Put ∷ ev 1 Tie ∷ [])
+    ≡ acc 7 0 0 0 2 0 1
 unfolding everything
 stopped_after_tying = refl

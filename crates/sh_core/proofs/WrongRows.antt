@@ -1,11 +1,15 @@
 -- The theorem refuses wrong tables: of each, a clause that some list of events breaks.
-use Rattle.std.proofs.Common.{◌≡◌, ℕ, ◌+◌, ◌<◌, ◌≤◌, true, false, List, [], ◌∷◌, ◌++◌, refl, sym, ◌∙◌, subst, arith, Some, None, slice_get}
+use Rattle.std.proofs.Common.{◌≡◌, ℕ, ◌+◌, ◌<◌, ◌≤◌, true, false, List, [], ◌∷◌, ◌++◌, refl, sym, ◌∙◌, subst, arith}
+use Rattle.std.proofs.Common.{Some, None, slice_get}
 use Rattle.sh_history.specs.declared.entry.Entry.TheVariants.{Insert, Crowded, Removed}
 use Rattle.sh_history.specs.History.{Legal}
 use Rattle.sh_key.specs.Layouts.{tiny, tiny_numbers}
 use Rattle.sh_slots.specs.declared.hand.Name.{Name}
 use Rattle.sh_slots.specs.Slots.{spot_of}
-use Rattle.sh_step.specs.declared.action.Action.TheVariants.{EnterGet, EnterRemove, Mark, Drop, DropHold, Finish, FillSlot, Publish, ReadClass, ReadPage, SetClass, Take, Follow, Put, Tie, Adopt, Leave, Arm, Ring, RingTie, TakeBell}
+use Rattle.sh_step.specs.declared.action.Action.TheVariants.{EnterGet, EnterRemove, Mark, Drop, DropHold, Finish}
+use Rattle.sh_step.specs.declared.action.Action.TheVariants.{FillSlot, Publish, ReadClass, ReadPage, SetClass, Take}
+use Rattle.sh_step.specs.declared.action.Action.TheVariants.{Follow, Put, Tie, Adopt, Leave, Arm, Ring, RingTie}
+use Rattle.sh_step.specs.declared.action.Action.TheVariants.{TakeBell}
 use Rattle.sh_step.specs.declared.action.Event.{Event}
 use Rattle.sh_step.specs.declared.body.Body.{Body}
 use Rattle.sh_step.specs.Plans.{Plan, plan_of, keys_of}
@@ -14,20 +18,26 @@ use Rattle.sh_core.specs.Worlds.{World, step, run_from, run, open_world}
 use Rattle.sh_step.specs.Parts.{newcomer}
 use Rattle.sh_core.specs.Lists.{PutLists, list_step, lists_from, lists_of, no_lists, state_of, times}
 use Rattle.sh_core.specs.Stacks.{spot}
-use Rattle.sh_core.specs.Refines.{Always, OneKind, HeldStands, NotesAreTrue, Counted, GenerationsEnd, Finished, Armed, LeftEmpty, Linked, OwnPartsStand, ClassesAreKnown}
+use Rattle.sh_core.specs.Refines.{Always, OneKind, HeldStands, NotesAreTrue, Counted, GenerationsEnd, Finished, Armed}
+use Rattle.sh_core.specs.Refines.{LeftEmpty, Linked, OwnPartsStand, ClassesAreKnown}
 use Rattle.sh_core.specs.Variants.{Table, step_by, run_from_by, run_by, list_step_by, lists_from_by, lists_by, AlwaysBy}
-use Rattle.sh_core.specs.WrongRows.{crowds_at_once, both_remove, marks_and_stays, drops_and_forgets, knows_after_hold, keeps_generation, ignores_count, wraps_generation, never_retires, ties_first, ends_at_unwritten, leaves_link, follows_twice, never_rings, leaves_slots, leaves_bell, forgets_last_slot, gives_any_class}
+use Rattle.sh_core.specs.WrongRows.{crowds_at_once, both_remove, marks_and_stays, drops_and_forgets, knows_after_hold}
+use Rattle.sh_core.specs.WrongRows.{keeps_generation, ignores_count, wraps_generation, never_retires, ties_first}
+use Rattle.sh_core.specs.WrongRows.{ends_at_unwritten, leaves_link, follows_twice, never_rings, leaves_slots}
+use Rattle.sh_core.specs.WrongRows.{leaves_bell, forgets_last_slot, gives_any_class}
 use Rattle.sh_step.proofs.Truths.{no_bool}
 use Rattle.sh_core.proofs.Worked.{small, ev, at, page, everything}
 
 -- ---- over the right table it is the run
 
-same_from : (plan : Plan) (w : World) (l : PutLists) (es : List Event) → (run_from_by row plan w es ≡ run_from plan w es) × (lists_from_by row plan w l es ≡ lists_from plan w l es)
+same_from : (plan : Plan) (w : World) (l : PutLists) (es : List Event)
+    → (run_from_by row plan w es ≡ run_from plan w es) × (lists_from_by row plan w l es ≡ lists_from plan w l es)
 unfolding step_by step run_from_by run_from list_step_by list_step lists_from_by lists_from
 same_from plan w l [] = (refl, refl)
 same_from plan w l (e ∷ es) = same_from plan (step plan w e) (list_step plan w e l) es
 
-pub same_run : (plan : Plan) (es : List Event) → (run_by row plan es ≡ run plan es) × (lists_by row plan es ≡ lists_of plan es)
+pub same_run : (plan : Plan) (es : List Event) → (run_by row plan es ≡ run plan es)
+    × (lists_by row plan es ≡ lists_of plan es)
 same_run plan es = same_from plan (open_world plan) no_lists es
 
 -- so what always holds holds of it
@@ -41,10 +51,19 @@ same_always P always layout shape a b c es =
 abbrev pub IsLegal : Plan → World → PutLists → Type 0
 IsLegal plan w l = Legal plan.passes plan.keys.guard_max w.log
 
-refuted : (rows : Table) (P : Plan → World → PutLists → Type 0) (n : ℕ) → 1 ≤ n → n ≤ 64 → (es : List Event) → ¬ P (small n) (run_by rows (small n) es) (lists_by rows (small n) es) → ¬ AlwaysBy rows P
-refuted rows P n some few es fails always = fails (always tiny (record { shards = 1; segments = 1; passes = n }) tiny_numbers.lawful (record { some_shard = omega arith; some_segment = omega arith; few_segments = omega arith; some_pass = some; few_passes = few }) (record { shards_fit = omega arith; pages_fit = omega arith }) es)
+refuted : (rows : Table) (P : Plan → World → PutLists → Type 0) (n : ℕ) → 1 ≤ n → n ≤ 64 → (es : List Event)
+    → ¬ P (small n) (run_by rows (small n) es) (lists_by rows (small n) es) → ¬ AlwaysBy rows P
+refuted rows P n some few es fails always = fails (always tiny (record { shards = 1; segments = 1; passes = n })
+    tiny_numbers.lawful (record {
+      some_shard = omega arith;
+      some_segment = omega arith;
+      few_segments = omega arith;
+      some_pass = some;
+      few_passes = few;
+    }) (record { shards_fit = omega arith; pages_fit = omega arith }) es)
 
--- a page of three slots; a value in one of its slots; a key that pass a removes, up to the end of its generation, and up to its slot's place on the stack
+-- a page of three slots; a value in one of its slots; a key that pass a removes, up to the end of its generation, and
+-- up to its slot's place on the stack
 abbrev opened : List Event
 opened = ev 0 (Adopt 0) ∷ ev 0 (ReadPage (page 0 0)) ∷ ev 0 (SetClass (page 0 0) 7) ∷ []
 
@@ -58,7 +77,9 @@ abbrev put_back : ℕ → ℕ → List Event
 put_back a k = removed a k ++ ev a Put ∷ ev a Tie ∷ []
 
 wrongly : ℕ
-unfolding everything step_by run_from_by list_step_by lists_from_by crowds_at_once both_remove marks_and_stays drops_and_forgets knows_after_hold keeps_generation ignores_count wraps_generation never_retires ties_first ends_at_unwritten leaves_link follows_twice never_rings leaves_slots leaves_bell forgets_last_slot gives_any_class
+unfolding everything step_by run_from_by list_step_by lists_from_by crowds_at_once both_remove marks_and_stays
+    drops_and_forgets knows_after_hold keeps_generation ignores_count wraps_generation never_retires ties_first
+    ends_at_unwritten leaves_link follows_twice never_rings leaves_slots leaves_bell forgets_last_slot gives_any_class
 wrongly = 0
 
 -- a key is issued twice where the end of a generation leaves it
@@ -71,23 +92,30 @@ reissued = refl
 
 pub kept_generation_issues_twice : ¬ AlwaysBy keeps_generation IsLegal
 unfolding keys_of
-kept_generation_issues_twice = refuted keeps_generation IsLegal 1 (omega arith) (omega arith) reissuing (λ h. let t : Legal 1 4 (Insert 0 4096 [] ∷ Removed 0 4096 ∷ Insert 0 4096 [] ∷ []) = subst (Legal 1 4) reissued h in let z : Some [] ≡ None = t.1.1.0 in cc)
+kept_generation_issues_twice = refuted keeps_generation IsLegal 1 (omega arith) (omega arith) reissuing
+    (λ h. let t : Legal 1 4 (Insert 0 4096 [] ∷ Removed 0 4096 ∷ Insert 0 4096 [] ∷ []) = subst (Legal 1 4) reissued h
+    in let z : Some [] ≡ None = t.1.1.0 in cc)
 
 -- and where the last generation is followed by the first
 abbrev wrapping : List Event
-wrapping = opened ++ inserted 0 ++ removed 0 4096 ++ inserted 0 ++ removed 0 8192 ++ inserted 0 ++ removed 0 12288 ++ inserted 0
+wrapping = opened ++ inserted 0 ++ removed 0 4096 ++ inserted 0 ++ removed 0 8192 ++ inserted 0 ++ removed 0 12288
+    ++ inserted 0
 
-wrapped : (run_by wraps_generation (small 1) wrapping).log ≡ Insert 0 4096 [] ∷ Removed 0 4096 ∷ Insert 0 8192 [] ∷ Removed 0 8192 ∷ Insert 0 12288 [] ∷ Removed 0 12288 ∷ Insert 0 4096 [] ∷ []
+wrapped : (run_by wraps_generation (small 1) wrapping).log ≡ Insert 0 4096 [] ∷ Removed 0 4096 ∷ Insert 0 8192 [] ∷
+    Removed 0 8192 ∷ Insert 0 12288 [] ∷ Removed 0 12288 ∷ Insert 0 4096 [] ∷ []
 unfolding wrongly
 wrapped = refl
 
 pub wrapped_generation_issues_twice : ¬ AlwaysBy wraps_generation IsLegal
 unfolding keys_of
 wrapped_generation_issues_twice = refuted wraps_generation IsLegal 1 (omega arith) (omega arith) wrapping
-    (λ h. let t : Legal 1 4 (Insert 0 4096 [] ∷ Removed 0 4096 ∷ Insert 0 8192 [] ∷ Removed 0 8192 ∷ Insert 0 12288 [] ∷ Removed 0 12288 ∷ Insert 0 4096 [] ∷ []) = subst (Legal 1 4) wrapped h in let z : Some [] ≡ None = t.1.1.1.1.1.1.0 in cc)
+    (λ h. let t : Legal 1 4 (Insert 0 4096 [] ∷ Removed 0 4096 ∷ Insert 0 8192 [] ∷ Removed 0 8192 ∷ Insert 0 12288 [] ∷
+    Removed 0 12288 ∷ Insert 0 4096 [] ∷ []) = subst (Legal 1 4) wrapped h in let z : Some []
+    ≡ None = t.1.1.1.1.1.1.0 in cc)
 
 -- what is held of a key of this name stands in its slot
-present : (plan : Plan) (w : World) (a : ℕ) (p : Body) (k : ℕ) (n : Name) → HeldStands plan w → slice_get w.parts a ≡ Some p → 0 < times k p.holds → plan.keys.unpack k ≡ Some n → (state_of w (spot_of n)).present ≡ true
+present : (plan : Plan) (w : World) (a : ℕ) (p : Body) (k : ℕ) (n : Name) → HeldStands plan w → slice_get w.parts a
+    ≡ Some p → 0 < times k p.holds → plan.keys.unpack k ≡ Some n → (state_of w (spot_of n)).present ≡ true
 present plan w a p k n h at some name =
     let s = h a p k at some in
     let e : Some s.name ≡ Some n = sym s.unpacks ∙ name in
@@ -96,16 +124,25 @@ present plan w a p k n h at some name =
 
 -- a held value goes where a late end overwrites whatever stands there
 abbrev overwriting : List Event
-overwriting = opened ++ inserted 0 ++ ev 1 (EnterRemove 4096) ∷ ev 1 Mark ∷ ev 1 Drop ∷ ev 0 (EnterGet 4096) ∷ ev 0 Drop ∷ ev 0 Finish ∷ inserted 0 ++ ev 0 (EnterGet 8192) ∷ ev 1 Finish ∷ []
+overwriting = opened ++ inserted 0 ++ ev 1 (EnterRemove 4096) ∷ ev 1 Mark ∷ ev 1 Drop ∷ ev 0 (EnterGet 4096) ∷ ev 0 Drop
+    ∷ ev 0 Finish ∷ inserted 0 ++ ev 0 (EnterGet 8192) ∷ ev 1 Finish ∷ []
 
 abbrev holder : Body
-holder = record newcomer { holds = 8192 ∷ []; owned = Some 0; classes = (0, 8) ∷ (0, 0) ∷ []; mine = spot 0 1 ∷ spot 0 2 ∷ [] }
+holder = record newcomer {
+  holds = 8192 ∷ [];
+  owned = Some 0;
+  classes = (0, 8) ∷ (0, 0) ∷ [];
+  mine = spot 0 1 ∷ spot 0 2
+      ∷ [];
+}
 
 pub ignored_count_loses_held : ¬ AlwaysBy ignores_count (λ plan w l. HeldStands plan w)
 unfolding wrongly
-ignored_count_loses_held = refuted ignores_count (λ plan w l. HeldStands plan w) 2 (omega arith) (omega arith) overwriting (λ h.
+ignored_count_loses_held = refuted ignores_count (λ plan w l. HeldStands plan w) 2 (omega arith) (omega arith)
+    overwriting (λ h.
     let some : 0 < 1 = omega arith in
-    let z : false ≡ true = present (small 2) (run_by ignores_count (small 2) overwriting) 0 holder 8192 (record { page = 0; slot = 0; generation = 2 }) h refl some refl in no_bool z)
+    let z : false ≡ true = present (small 2) (run_by ignores_count (small 2) overwriting) 0 holder 8192
+    (record { page = 0; slot = 0; generation = 2 }) h refl some refl in no_bool z)
 
 -- a link that is stored before its slot is put names nothing under it
 abbrev putting : List Event
@@ -113,23 +150,29 @@ putting = opened ++ inserted 0 ++ inserted 1 ++ put_back 1 4096 ++ put_back 1 40
 
 pub early_link_is_wrong : ¬ AlwaysBy ties_first Linked
 unfolding wrongly
-early_link_is_wrong = refuted ties_first Linked 2 (omega arith) (omega arith) putting (λ h. let z : 1 ≡ 2 = (h.0.stacks 0).0 in absurd (omega arith))
+early_link_is_wrong = refuted ties_first Linked 2 (omega arith) (omega arith) putting
+    (λ h. let z : 1 ≡ 2 = (h.0.stacks 0).0 in absurd (omega arith))
 
 -- the slots under a link that is not written yet are lost where it is taken for the end
 abbrev following : List Event
-following = opened ++ inserted 0 ++ inserted 1 ++ put_back 1 4096 ++ removed 1 4097 ++ ev 1 Put ∷ ev 0 (Take (page 0 0)) ∷ ev 0 (Follow (page 0 0)) ∷ []
+following = opened ++ inserted 0 ++ inserted 1 ++ put_back 1 4096 ++ removed 1 4097
+    ++ ev 1 Put ∷ ev 0 (Take (page 0 0)) ∷ ev 0 (Follow (page 0 0)) ∷ []
 
 pub unwritten_end_loses_slots : ¬ AlwaysBy ends_at_unwritten Linked
 unfolding wrongly
-unwritten_end_loses_slots = refuted ends_at_unwritten Linked 2 (omega arith) (omega arith) following (λ h. let z : 0 ≡ 1 = h.0.cursors 0 1 in absurd (omega arith))
+unwritten_end_loses_slots = refuted ends_at_unwritten Linked 2 (omega arith) (omega arith) following
+    (λ h. let z : 0 ≡ 1 = h.0.cursors 0 1 in absurd (omega arith))
 
 -- and where an old link still stands
 abbrev following_again : List Event
-following_again = opened ++ inserted 0 ++ inserted 1 ++ put_back 1 4096 ++ ev 0 (Take (page 0 0)) ∷ ev 0 (Follow (page 0 0)) ∷ inserted 0 ++ put_back 1 4097 ++ removed 1 8192 ++ ev 1 Put ∷ ev 0 (Take (page 0 0)) ∷ ev 0 (Follow (page 0 0)) ∷ []
+following_again = opened ++ inserted 0 ++ inserted 1 ++ put_back 1 4096
+    ++ ev 0 (Take (page 0 0)) ∷ ev 0 (Follow (page 0 0)) ∷ inserted 0 ++ put_back 1 4097 ++ removed 1 8192
+    ++ ev 1 Put ∷ ev 0 (Take (page 0 0)) ∷ ev 0 (Follow (page 0 0)) ∷ []
 
 pub old_link_loses_slots : ¬ AlwaysBy leaves_link Linked
 unfolding wrongly
-old_link_loses_slots = refuted leaves_link Linked 2 (omega arith) (omega arith) following_again (λ h. let z : 0 ≡ 1 = h.0.cursors 0 1 in absurd (omega arith))
+old_link_loses_slots = refuted leaves_link Linked 2 (omega arith) (omega arith) following_again
+    (λ h. let z : 0 ≡ 1 = h.0.cursors 0 1 in absurd (omega arith))
 
 -- an armed page whose flag was found has no ring to wait for where nobody rings
 abbrev freeing : List Event
@@ -137,17 +180,20 @@ freeing = opened ++ inserted 0 ++ ev 0 (Arm (page 0 0)) ∷ put_back 1 4096
 
 pub silent_freer_loses_ring : ¬ AlwaysBy never_rings Armed
 unfolding wrongly
-silent_freer_loses_ring = refuted never_rings Armed 2 (omega arith) (omega arith) freeing (λ h. let z : 1 ≡ 0 = (h 0).0 in absurd (omega arith))
+silent_freer_loses_ring = refuted never_rings Armed 2 (omega arith) (omega arith) freeing
+    (λ h. let z : 1 ≡ 0 = (h 0).0 in absurd (omega arith))
 
 -- slots stay with a pass that owns nothing where it leaves with them
 pub leaver_keeps_slots : ¬ AlwaysBy leaves_slots (λ plan w l. LeftEmpty plan w)
 unfolding wrongly
-leaver_keeps_slots = refuted leaves_slots (λ plan w l. LeftEmpty plan w) 1 (omega arith) (omega arith) (opened ++ ev 0 Leave ∷ []) (λ h. let z : 1 ≡ 0 = (h 0 refl).0 (spot 0 0) refl in absurd (omega arith))
+leaver_keeps_slots = refuted leaves_slots (λ plan w l. LeftEmpty plan w) 1 (omega arith) (omega arith)
+    (opened ++ ev 0 Leave ∷ []) (λ h. let z : 1 ≡ 0 = (h 0 refl).0 (spot 0 0) refl in absurd (omega arith))
 
 -- a slot with a value is its owner's too where its page gets another class
 pub forgotten_slot_has_two_kinds : ¬ AlwaysBy forgets_last_slot (λ plan w l. OneKind w l)
 unfolding wrongly
-forgotten_slot_has_two_kinds = refuted forgets_last_slot (λ plan w l. OneKind w l) 1 (omega arith) (omega arith) (opened ++ inserted 2 ++ ev 0 (SetClass (page 0 0) 6) ∷ []) (λ h.
+forgotten_slot_has_two_kinds = refuted forgets_last_slot (λ plan w l. OneKind w l) 1 (omega arith) (omega arith)
+    (opened ++ inserted 2 ++ ev 0 (SetClass (page 0 0) 6) ∷ []) (λ h.
     let small : 2 < 4 = omega arith in
     let z : 2 ≡ 1 = (h (spot 0 2) 6 refl).0 small in absurd (omega arith))
 
@@ -161,7 +207,9 @@ crowded = refl
 
 pub crowded_too_early : ¬ AlwaysBy crowds_at_once IsLegal
 unfolding keys_of
-crowded_too_early = refuted crowds_at_once IsLegal 1 (omega arith) (omega arith) getting (λ h. let t : Legal 1 4 (Insert 0 4096 [] ∷ Crowded 0 4096 ∷ []) = subst (Legal 1 4) crowded h in let z : 4 < 0 + 1 = t.1.0.2 in absurd (omega arith))
+crowded_too_early = refuted crowds_at_once IsLegal 1 (omega arith) (omega arith) getting
+    (λ h. let t : Legal 1 4 (Insert 0 4096 [] ∷ Crowded 0 4096 ∷ []) = subst (Legal 1 4) crowded h
+    in let z : 4 < 0 + 1 = t.1.0.2 in absurd (omega arith))
 
 -- two passes remove one key
 abbrev removing : List Event
@@ -173,33 +221,48 @@ removed_both = refl
 
 pub key_is_removed_twice : ¬ AlwaysBy both_remove IsLegal
 unfolding keys_of
-key_is_removed_twice = refuted both_remove IsLegal 2 (omega arith) (omega arith) removing (λ h. let t : Legal 2 4 (Insert 0 4096 [] ∷ Removed 0 4096 ∷ Removed 1 4096 ∷ []) = subst (Legal 2 4) removed_both h in let z : true ≡ false = t.1.1.0.1 in cc)
+key_is_removed_twice = refuted both_remove IsLegal 2 (omega arith) (omega arith) removing
+    (λ h. let t : Legal 2 4 (Insert 0 4096 [] ∷ Removed 0 4096 ∷ Removed 1 4096 ∷ []) = subst (Legal 2 4) removed_both h
+    in let z : true ≡ false = t.1.1.0.1 in cc)
 
 -- a count that nobody takes back
 pub stayed_count_is_nobodys : ¬ AlwaysBy marks_and_stays (λ plan w l. Counted plan w)
 unfolding wrongly
-stayed_count_is_nobodys = refuted marks_and_stays (λ plan w l. Counted plan w) 1 (omega arith) (omega arith) (opened ++ inserted 0 ++ ev 0 (EnterRemove 4096) ∷ ev 0 Mark ∷ []) (λ h. let z : 1 ≡ 0 = h (spot 0 0) in absurd (omega arith))
+stayed_count_is_nobodys = refuted marks_and_stays (λ plan w l. Counted plan w) 1 (omega arith) (omega arith)
+    (opened ++ inserted 0 ++ ev 0 (EnterRemove 4096) ∷ ev 0 Mark ∷ [])
+    (λ h. let z : 1 ≡ 0 = h (spot 0 0) in absurd (omega arith))
 
 -- a marked slot that nobody finishes
 pub forgotten_end_never_comes : ¬ AlwaysBy drops_and_forgets (λ plan w l. Finished plan w)
 unfolding wrongly
-forgotten_end_never_comes = refuted drops_and_forgets (λ plan w l. Finished plan w) 1 (omega arith) (omega arith) (opened ++ inserted 0 ++ ev 0 (EnterRemove 4096) ∷ ev 0 Mark ∷ ev 0 Drop ∷ []) (λ h. let z : 0 < 0 = h (spot 0 0) refl refl refl in absurd (omega arith))
+forgotten_end_never_comes = refuted drops_and_forgets (λ plan w l. Finished plan w) 1 (omega arith) (omega arith)
+    (opened ++ inserted 0 ++ ev 0 (EnterRemove 4096) ∷ ev 0 Mark ∷ ev 0 Drop ∷ [])
+    (λ h. let z : 0 < 0 = h (spot 0 0) refl refl refl in absurd (omega arith))
 
 -- the class of a key that is held no more
 abbrev knowing : List Event
 knowing = opened ++ inserted 0 ++ ev 0 (EnterGet 4096) ∷ ev 0 (ReadClass 4096) ∷ ev 0 (DropHold 4096) ∷ []
 
 abbrev knower : Body
-knower = record newcomer { owned = Some 0; classes = (0, 8) ∷ (0, 0) ∷ []; mine = spot 0 1 ∷ spot 0 2 ∷ []; widths = (4096, 8) ∷ [] }
+knower = record newcomer {
+  owned = Some 0;
+  classes = (0, 8) ∷ (0, 0) ∷ [];
+  mine = spot 0 1 ∷ spot 0 2 ∷ [];
+  widths =
+      (4096, 8) ∷ [];
+}
 
 pub known_key_is_not_held : ¬ AlwaysBy knows_after_hold (λ plan w l. NotesAreTrue plan w)
 unfolding wrongly
-known_key_is_not_held = refuted knows_after_hold (λ plan w l. NotesAreTrue plan w) 1 (omega arith) (omega arith) knowing (λ h. let z : 0 < 0 = ((h 0 knower refl).widths 4096 8 refl).0 in absurd (omega arith))
+known_key_is_not_held = refuted knows_after_hold (λ plan w l. NotesAreTrue plan w) 1 (omega arith) (omega arith) knowing
+    (λ h. let z : 0 < 0 = ((h 0 knower refl).widths 4096 8 refl).0 in absurd (omega arith))
 
 -- a fourth generation, of which tiny has three
 pub unretired_slot_has_no_key : ¬ AlwaysBy never_retires (λ plan w l. GenerationsEnd plan w)
 unfolding wrongly
-unretired_slot_has_no_key = refuted never_retires (λ plan w l. GenerationsEnd plan w) 1 (omega arith) (omega arith) (opened ++ inserted 0 ++ removed 0 4096 ++ inserted 0 ++ removed 0 8192 ++ inserted 0 ++ removed 0 12288) (λ h. let z : 4 ≤ 3 = (h (spot 0 0)).1 in absurd (omega arith))
+unretired_slot_has_no_key = refuted never_retires (λ plan w l. GenerationsEnd plan w) 1 (omega arith) (omega arith)
+    (opened ++ inserted 0 ++ removed 0 4096 ++ inserted 0 ++ removed 0 8192 ++ inserted 0 ++ removed 0 12288)
+    (λ h. let z : 4 ≤ 3 = (h (spot 0 0)).1 in absurd (omega arith))
 
 -- a slot that stands twice among its owner's
 abbrev collecting : List Event
@@ -207,22 +270,27 @@ collecting = opened ++ inserted 0 ++ put_back 1 4096 ++ ev 0 (Take (page 0 0)) �
 
 pub followed_twice_is_mine_twice : ¬ AlwaysBy follows_twice (λ plan w l. OneKind w l)
 unfolding wrongly
-followed_twice_is_mine_twice = refuted follows_twice (λ plan w l. OneKind w l) 2 (omega arith) (omega arith) collecting (λ h.
+followed_twice_is_mine_twice = refuted follows_twice (λ plan w l. OneKind w l) 2 (omega arith) (omega arith) collecting
+    (λ h.
     let small : 0 < 3 = omega arith in
     let z : 2 ≡ 1 = (h (spot 0 0) 7 refl).0 small in absurd (omega arith))
 
 -- what was rung for is followed by nobody where its owner left
 abbrev ringing : List Event
-ringing = opened ++ inserted 0 ++ inserted 1 ++ inserted 2 ++ ev 0 (Arm (page 0 0)) ∷ put_back 1 4096 ++ ev 1 Ring ∷ ev 1 RingTie ∷ ev 0 TakeBell ∷ ev 0 Leave ∷ []
+ringing = opened ++ inserted 0 ++ inserted 1 ++ inserted 2 ++ ev 0 (Arm (page 0 0)) ∷ put_back 1 4096
+    ++ ev 1 Ring ∷ ev 1 RingTie ∷ ev 0 TakeBell ∷ ev 0 Leave ∷ []
 
 abbrev gone : Body
 gone = record newcomer { classes = (0, 8) ∷ (0, 0) ∷ []; armed = 0 ∷ []; bell_cursor = Some 0 }
 
 pub left_bell_is_nobodys : ¬ AlwaysBy leaves_bell (λ plan w l. OwnPartsStand plan w)
 unfolding wrongly
-left_bell_is_nobodys = refuted leaves_bell (λ plan w l. OwnPartsStand plan w) 2 (omega arith) (omega arith) ringing (λ h. let z : false ≡ true = ((h 0 gone refl).bell 0 refl).0 in no_bool z)
+left_bell_is_nobodys = refuted leaves_bell (λ plan w l. OwnPartsStand plan w) 2 (omega arith) (omega arith) ringing
+    (λ h. let z : false ≡ true = ((h 0 gone refl).bell 0 refl).0 in no_bool z)
 
 -- a page of a ninth class
 pub ninth_class_is_none : ¬ AlwaysBy gives_any_class (λ plan w l. ClassesAreKnown plan w)
 unfolding wrongly
-ninth_class_is_none = refuted gives_any_class (λ plan w l. ClassesAreKnown plan w) 1 (omega arith) (omega arith) (ev 0 (Adopt 0) ∷ ev 0 (ReadPage (page 0 0)) ∷ ev 0 (SetClass (page 0 0) 8) ∷ []) (λ h. let z : 9 ≤ 8 = (h 0).0 in absurd (omega arith))
+ninth_class_is_none = refuted gives_any_class (λ plan w l. ClassesAreKnown plan w) 1 (omega arith) (omega arith)
+    (ev 0 (Adopt 0) ∷ ev 0 (ReadPage (page 0 0)) ∷ ev 0 (SetClass (page 0 0) 8) ∷ [])
+    (λ h. let z : 9 ≤ 8 = (h 0).0 in absurd (omega arith))

@@ -20,4 +20,5 @@ abbrev pub Owned : (ℕ → ℕ) → List Body → Type 0
 Owned owner ps = (n : ℕ) → (owner n ≡ total (owns n) ps) × (owner n ≤ 1)
 
 abbrev pub Duty : Plan → (ℕ → ℕ) → List Body → PutLists → Type 0
-Duty plan head ps l = (q : ℕ) → (total (armed_at q) ps ≡ head q % 2 + total (rings q) ps + times q (l.bells (home plan q)) + times q (l.bell_chain (home plan q))) × (total (armed_at q) ps ≤ 1)
+Duty plan head ps l = (q : ℕ) → (total (armed_at q) ps ≡ head q % 2 + total (rings q) ps + times q
+    (l.bells (home plan q)) + times q (l.bell_chain (home plan q))) × (total (armed_at q) ps ≤ 1)

@@ -14,7 +14,9 @@ use Rattle.sh_core.specs.Stories.{KeysFine, HoldsFine, AllHoldsFine}
 use Rattle.sh_history.specs.History.{Legal}
 
 abbrev pub FillFine : Words → Body → Hand → Type 0
-FillFine w p (Filling x v i) = (w.length_at x.page x.slot ≡ length v) × (i ≤ length v) × (length v ≤ width (w.class_at x.page - 1)) × (words_from (w.payload_at x.page) (x.slot * width (w.class_at x.page - 1)) i ≡ take i v) × (class_word_noted p x.page ≡ w.class_at x.page)
+FillFine w p (Filling x v i) = (w.length_at x.page x.slot ≡ length v) × (i ≤ length v)
+    × (length v ≤ width (w.class_at x.page - 1)) × (words_from (w.payload_at x.page)
+    (x.slot * width (w.class_at x.page - 1)) i ≡ take i v) × (class_word_noted p x.page ≡ w.class_at x.page)
 FillFine w p _ = Unit {0}
 
 abbrev pub PartsFine : Words → List Body → Type 0

@@ -1,5 +1,6 @@
 -- The world as the code keeps it: one list of words, and what it stands for.
-use Rattle.std.specs.Prelude.{ℕ, ◌≡◌, ◌≢◌, ◌-◌, ◌*◌, ◌<◌, ◌≤◌, List, [], ◌⊎◌, length, get_or, slice_get, slice_set, Option, Some, IsSome, Result, Ok, Err}
+use Rattle.std.specs.Prelude.{ℕ, ◌≡◌, ◌≢◌, ◌-◌, ◌*◌, ◌<◌, ◌≤◌, List, [], ◌⊎◌, length, get_or, slice_get, slice_set}
+use Rattle.std.specs.Prelude.{Option, Some, IsSome, Result, Ok, Err}
 use Rattle.sh_history.specs.declared.entry.Entry.{Entry}
 use Rattle.sh_key.specs.Layout.{Layout, IsLayout}
 use Rattle.sh_shape.specs.declared.places.Place.{Place}
@@ -41,9 +42,11 @@ pub record HoldsWords (shape : Numbers) (list : List ℕ) (words : Words) : Type
 abbrev pub word_at : Numbers → List ℕ → Place → ℕ
 word_at shape list place = get_or list (number shape place) 0
 
--- the value that stands in a slot's words, and that one stands there: the slot is one of its page's class, and the value is no longer than that allows
+-- the value that stands in a slot's words, and that one stands there: the slot is one of its page's class, and the
+-- value is no longer than that allows
 abbrev pub value_in : Numbers → List ℕ → Spot → List ℕ
-value_in shape list x = words_from (λ i. word_at shape list (Payload x.page i)) (x.slot * width (word_at shape list (Class x.page) - 1)) (word_at shape list (Length x.page x.slot))
+value_in shape list x = words_from (λ i. word_at shape list (Payload x.page i))
+    (x.slot * width (word_at shape list (Class x.page) - 1)) (word_at shape list (Length x.page x.slot))
 
 pub record SlotHasValue (shape : Numbers) (list : List ℕ) (x : Spot) : Type 0 where
   pub page : x.page < all_pages shape
@@ -61,27 +64,31 @@ abbrev pub KeepsValue : Numbers → List ℕ → Place → Type 0
 KeepsValue shape list (State q s) = SlotHasValue shape list (record { page = q; slot = s })
 KeepsValue shape list _ = ⊥
 
--- a row may be done on the list: its place is one of the shape, the count of a slot has room, and where it gets a value one stands there
+-- a row may be done on the list: its place is one of the shape, the count of a slot has room, and where it gets a value
+-- one stands there
 pub record IsReady (layout : Layout) (shape : Numbers) (list : List ℕ) (r : Row) : Type 0 where
   pub count : length list ≡ words_of shape
   pub row : RowFits shape (plan_of layout shape) r (word_at shape list r.place)
   pub counts : CountFits r.operation (word_at shape list r.place)
   pub gets : (k : ℕ) → r.reply (word_at shape list r.place) ≡ Some (Got k) → KeepsValue shape list r.place
 
--- the row asks for memory where it finds the word n: it replies, so that an entry joins the log, or a list of the part grows
+-- the row asks for memory where it finds the word n: it replies, so that an entry joins the log, or a list of the part
+-- grows
 abbrev pub AsksMemory : Row → Body → ℕ → Type 0
 AsksMemory r p n = IsSome (r.reply n) ⊎ ListGrows p (r.part n)
 
 -- the event has such a row
 abbrev pub NeedsMemory : Layout → KeptWorld → Event → Type 0
-NeedsMemory layout k e = (p : Body) × (r : Row) × (slice_get k.parts e.pass ≡ Some p) × (row (plan_of layout k.shape) p e.action ≡ Some r) × AsksMemory r p (word_at k.shape k.words r.place)
+NeedsMemory layout k e = (p : Body) × (r : Row) × (slice_get k.parts e.pass ≡ Some p)
+    × (row (plan_of layout k.shape) p e.action ≡ Some r) × AsksMemory r p (word_at k.shape k.words r.place)
 
 -- what joins the log where a pass does the row
 abbrev pub new_entry : Numbers → List ℕ → ℕ → Row → Option Entry
 new_entry shape list a r = entry_of a (value_kept shape list r.place) (r.reply (word_at shape list r.place))
 
 -- what it leaves of the list, the pass's part and the log, and what came of it
-pub record DoesRow (shape : Numbers) (a : ℕ) (r : Row) (list : List ℕ) (entries : List Entry) (came : Outcome) (list' : List ℕ) (part' : Body) (entries' : List Entry) : Type 0 where
+pub record DoesRow (shape : Numbers) (a : ℕ) (r : Row) (list : List ℕ) (entries : List Entry) (came : Outcome)
+    (list' : List ℕ) (part' : Body) (entries' : List Entry) : Type 0 where
   pub words : list' ≡ slice_set list (number shape r.place) (operate r.operation (word_at shape list r.place))
   pub part : part' ≡ r.part (word_at shape list r.place)
   pub log : entries' ≡ joined entries (new_entry shape list a r)
@@ -102,7 +109,8 @@ pub record FromEvents (layout : Layout) (k : KeptWorld) : Type 0 where
   pub stands : StandsFor k (run (plan_of layout k.shape) events)
 
 -- what an event leaves, and what came of it
-pub record StepsWorld (layout : Layout) (before : KeptWorld) (e : Event) (outcome : Outcome) (after : KeptWorld) : Type 0 where
+pub record StepsWorld (layout : Layout) (before : KeptWorld) (e : Event) (outcome : Outcome) (after : KeptWorld) : Type
+    0 where
   pub shape : after.shape ≡ before.shape
   pub world : (w : World) → StandsFor before w → StandsFor after (step (plan_of layout before.shape) w e)
   pub outcome_is : (w : World) → StandsFor before w → outcome ≡ outcome_of (plan_of layout before.shape) w e

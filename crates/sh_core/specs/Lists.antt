@@ -2,7 +2,8 @@
 use Rattle.std.specs.Prelude.{ℕ, ◌+◌, ◌-◌, ◌==◌, cond, not, ◌&&◌, List, [], ◌∷◌, Option, Some, None, slice_get, drop}
 use Rattle.sh_step.specs.declared.action.Event.{Event}
 use Rattle.sh_step.specs.declared.action.Action.{Action}
-use Rattle.sh_step.specs.declared.action.Action.TheVariants.{Take, Follow, Put, PutSlot, Arm, Ring, TakeBell, FollowBell}
+use Rattle.sh_step.specs.declared.action.Action.TheVariants.{Take, Follow, Put, PutSlot, Arm, Ring, TakeBell}
+use Rattle.sh_step.specs.declared.action.Action.TheVariants.{FollowBell}
 use Rattle.sh_slots.specs.declared.hand.Hand.TheVariants.{ToPut, Filling, Ringing}
 use Rattle.sh_slots.specs.declared.hand.Spot.{Spot}
 use Rattle.sh_core.specs.declared.accounts.Accounts.{Accounts}
@@ -16,7 +17,8 @@ use Rattle.sh_step.specs.declared.body.Body.{Body}
 use Rattle.sh_step.specs.Rows.{row}
 use Rattle.sh_core.specs.Worlds.{World, step, open_world}
 
--- Of page q: what was put since its last Take or Arm, newest first, and what its owner's cursor has yet to follow. Of shard n the same of pages
+-- Of page q: what was put since its last Take or Arm, newest first, and what its owner's cursor has yet to follow. Of
+-- shard n the same of pages
 pub record PutLists : Type 0 where
   pub stack : ℕ → List ℕ
   pub chain : ℕ → List ℕ
@@ -42,9 +44,17 @@ listed plan p (PutSlot x) n l = pushed l (slot_of plan x)
 listed plan p (Take x) n l = taken l (page_of plan x)
 listed plan p (Arm x) n l = taken l (page_of plan x)
 listed plan p (Follow x) n l = cond (n == 0) l (chain_followed l (page_of plan x))
-listed plan p Ring n l = elim (p.hand) [ Ringing q ↦ record l { bells = put l.bells (home plan q) (q ∷ l.bells (home plan q)) } | _ ↦ l ]
+listed plan p Ring n l = elim (p.hand) [
+  | Ringing q ↦ record l
+      { bells = put l.bells (home plan q) (q ∷ l.bells (home plan q)) }
+  | _ ↦ l
+]
 listed plan p TakeBell n l = elim (p.owned) [ Some k ↦ bells_taken l k | None ↦ l ]
-listed plan p FollowBell n l = elim (p.owned) [ Some k ↦ cond (n == 0) l (record l { bell_chain = put l.bell_chain k (drop 1 (l.bell_chain k)) }) | None ↦ l ]
+listed plan p FollowBell n l = elim (p.owned) [
+  | Some k ↦ cond (n == 0) l
+      (record l { bell_chain = put l.bell_chain k (drop 1 (l.bell_chain k)) })
+  | None ↦ l
+]
 listed plan p _ n l = l
 
 unfoldable pub list_step : Plan → World → Event → PutLists → PutLists

@@ -4,7 +4,8 @@ use Rattle.sh_shape.specs.Places.{page_words}
 
 -- the state words of each page say generation 1, empty; each other word is 0
 abbrev pub opening_word : (pages number : ℕ) → ℕ
-opening_word pages number = cond (nat_lt number (page_words * pages) && (nat_le 3 (number % page_words) && nat_lt (number % page_words) 51)) (2 ^ 32) 0
+opening_word pages number = cond (nat_lt number (page_words * pages) &&
+    (nat_le 3 (number % page_words) && nat_lt (number % page_words) 51)) (2 ^ 32) 0
 
 -- the first so many words
 unfoldable pub opening_words : (pages count : ℕ) → List ℕ

@@ -1,5 +1,6 @@
 -- What the words and the owners' notes keep beside the slots.
-use Rattle.std.specs.Prelude.{ℕ, ◌-◌, ◌/◌, ◌≡◌, ◌<◌, ◌≤◌, ◌==◌, ◌&&◌, ◌||◌, true, false, List, Option, Some, None, slice_get}
+use Rattle.std.specs.Prelude.{ℕ, ◌-◌, ◌/◌, ◌≡◌, ◌<◌, ◌≤◌, ◌==◌, ◌&&◌, ◌||◌, true, false, List, Option, Some, None}
+use Rattle.std.specs.Prelude.{slice_get}
 use Rattle.sh_slots.specs.declared.hand.Spot.{Spot}
 use Rattle.sh_core.specs.Words.{Words}
 use Rattle.sh_word.specs.Fields.{fields_of}
@@ -10,32 +11,41 @@ use Rattle.sh_step.specs.Collections.{total, if1, noted}
 use Rattle.sh_step.specs.declared.body.Body.{Body}
 use Rattle.sh_step.specs.Rows.{owned_by}
 use Rattle.sh_core.specs.Lists.{PutLists, times}
-use Rattle.sh_core.specs.Stacks.{Chains, spot, tying, ties_of, cursor_at, ring_tying, ring_ties, bell_cursor_at, bell_link, bell_head}
+use Rattle.sh_core.specs.Stacks.{Chains, spot, tying, ties_of, cursor_at, ring_tying, ring_ties, bell_cursor_at}
+use Rattle.sh_core.specs.Stacks.{bell_link, bell_head}
 use Rattle.sh_core.specs.Bells.{Owned, Duty}
 use Rattle.sh_core.specs.Worlds.{World}
 use Rattle.sh_core.specs.Good.{Good}
 
 -- generations in range, classes known, and a value no longer than its class's width
 pub record Sound (plan : Plan) (class : ℕ → ℕ) (state length : ℕ → ℕ → ℕ) : Type 0 where
-  pub generations : (q s : ℕ) → (0 < (fields_of (state q s)).generation) × ((fields_of (state q s)).generation ≤ plan.keys.gen_max)
+  pub generations : (q s : ℕ) → (0 < (fields_of (state q s)).generation)
+      × ((fields_of (state q s)).generation ≤ plan.keys.gen_max)
   pub classes : (q : ℕ) → (class q ≤ 8) × (0 < class q → q < heap_pages plan)
-  pub lengths : (q s : ℕ) → ((fields_of (state q s)).present || (fields_of (state q s)).marked) ≡ true → length q s ≤ width (class q - 1)
+  pub lengths : (q s : ℕ) → ((fields_of (state q s)).present || (fields_of (state q s)).marked) ≡ true
+      → length q s ≤ width (class q - 1)
 
 -- what an owner notes is of its shard, and true
-pub record Homed (plan : Plan) (class : ℕ → ℕ) (owned : Option ℕ) (classes : List (ℕ × ℕ)) (mine : List Spot) (cursors : List (ℕ × ℕ)) (armed : List ℕ) (bell_cursor : Option ℕ) : Type 0 where
+pub record Homed (plan : Plan) (class : ℕ → ℕ) (owned : Option ℕ) (classes : List (ℕ × ℕ)) (mine : List Spot)
+    (cursors : List (ℕ × ℕ)) (armed : List ℕ) (bell_cursor : Option ℕ) : Type 0 where
   pub mines : (x : Spot) → owned_by plan owned x.page ≡ false → total (λ y. if1 (same_spot x y)) mine ≡ 0
-  pub points : (q s : ℕ) → owned_by plan owned q ≡ false → total (λ (c : ℕ × ℕ). if1 ((c.0 == q) && (c.1 == s))) cursors ≡ 0
+  pub points : (q s : ℕ) → owned_by plan owned q ≡ false → total (λ (c : ℕ × ℕ). if1 ((c.0 == q) && (c.1 == s))) cursors
+      ≡ 0
   pub arms : (q : ℕ) → owned_by plan owned q ≡ false → times q armed ≡ 0
   pub bell : owned ≡ None → bell_cursor ≡ None
-  pub notes : (q c : ℕ) → owned_by plan owned q ≡ true → noted q classes ≡ Some c → (class q ≡ c) × (q < heap_pages plan)
+  pub notes : (q c : ℕ) → owned_by plan owned q ≡ true → noted q classes ≡ Some c → (class q ≡ c)
+      × (q < heap_pages plan)
 
 abbrev pub HomedPart : Plan → (ℕ → ℕ) → Body → Type 0
 HomedPart plan class p = Homed plan class p.owned p.classes p.mine p.cursors p.armed p.bell_cursor
 
 -- what is kept of lists, bells, duties, owners
-pub record Rest (plan : Plan) (class head page_link bell owner : ℕ → ℕ) (link : ℕ → ℕ → ℕ) (ps : List Body) (l : PutLists) : Type 0 where
-  pub stacks : Chains (λ q. head q / 2) link (λ q s. total (tying (spot q s)) ps) (λ q s. total (ties_of (spot q s)) ps) (λ q s. total (cursor_at q s) ps) l.stack l.chain
-  pub bells : Chains (bell_head plan bell) (bell_link plan page_link) (λ n q. total (ring_tying plan n q) ps) (λ n q. total (ring_ties plan n q) ps) (λ n q. total (bell_cursor_at n q) ps) l.bells l.bell_chain
+pub record Rest (plan : Plan) (class head page_link bell owner : ℕ → ℕ) (link : ℕ → ℕ → ℕ) (ps : List Body)
+    (l : PutLists) : Type 0 where
+  pub stacks : Chains (λ q. head q / 2) link (λ q s. total (tying (spot q s)) ps) (λ q s. total (ties_of (spot q s)) ps)
+      (λ q s. total (cursor_at q s) ps) l.stack l.chain
+  pub bells : Chains (bell_head plan bell) (bell_link plan page_link) (λ n q. total (ring_tying plan n q) ps)
+      (λ n q. total (ring_ties plan n q) ps) (λ n q. total (bell_cursor_at n q) ps) l.bells l.bell_chain
   pub duty : Duty plan head ps l
   pub owned : Owned owner ps
   pub homed : (a : ℕ) (p : Body) → slice_get ps a ≡ Some p → HomedPart plan class p

@@ -1,5 +1,6 @@
 -- What holds after every list of events: the clauses of the theorem, each of a world and of the lists of what was put.
-use Rattle.std.specs.Prelude.{IsSome, ℕ, ◌+◌, ◌-◌, ◌*◌, ◌/◌, ◌%◌, ◌≡◌, ◌<◌, ◌≤◌, true, false, nat_lt, not, ◌&&◌, ◌||◌, List, [], Some, None, All, length, slice_get, slice_index}
+use Rattle.std.specs.Prelude.{IsSome, ℕ, ◌+◌, ◌-◌, ◌*◌, ◌/◌, ◌%◌, ◌≡◌, ◌<◌, ◌≤◌, true, false, nat_lt, not, ◌&&◌, ◌||◌}
+use Rattle.std.specs.Prelude.{List, [], Some, None, All, length, slice_get, slice_index}
 use Rattle.sh_step.specs.declared.action.Event.{Event}
 use Rattle.sh_slots.specs.declared.hand.Spot.{Spot}
 use Rattle.sh_slots.specs.declared.hand.Name.{Name}
@@ -20,9 +21,11 @@ use Rattle.sh_core.specs.Lists.{PutLists, accounts, lists_of, slots_under, times
 use Rattle.sh_core.specs.LinkWords.{EachLinked}
 use Rattle.sh_core.specs.Tallies.{at_spot, current, visits, finishing}
 use Rattle.sh_history.specs.declared.entry.Entry.{Entry}
-use Rattle.sh_history.specs.History.{Legal, value_of, is_removed, got_count, released_count, got_count_by, released_count_by}
+use Rattle.sh_history.specs.History.{Legal, value_of, is_removed, got_count, released_count, got_count_by}
+use Rattle.sh_history.specs.History.{released_count_by}
 use Rattle.sh_history.specs.Log.{pass_of}
-use Rattle.sh_core.specs.Stacks.{Chains, spot, tying, ties_of, cursor_at, ring_tying, ring_ties, bell_cursor_at, bell_link, bell_head}
+use Rattle.sh_core.specs.Stacks.{Chains, spot, tying, ties_of, cursor_at, ring_tying, ring_ties, bell_cursor_at}
+use Rattle.sh_core.specs.Stacks.{bell_link, bell_head}
 use Rattle.sh_core.specs.Bells.{rings, armed_at}
 
 -- The kinds of a slot, each counted
@@ -46,7 +49,8 @@ queued_at l x = times x.slot (l.stack x.page) + times x.slot (l.chain x.page)
 
 -- how often the six kinds count a slot, together
 abbrev pub kind_count : World → PutLists → Spot → ℕ
-kind_count w l x = live (state_of w x) + marked (state_of w x) + retired (state_of w x) + mine w x + in_hands w x + queued_at l x
+kind_count w l x = live (state_of w x) + marked (state_of w x) + retired (state_of w x) + mine w x + in_hands w x +
+    queued_at l x
 
 -- a slot of its page's class has one kind, and only one; another has none
 abbrev pub OneKind : World → PutLists → Type 0
@@ -67,7 +71,8 @@ abbrev pub ClassesAreKnown : Plan → World → Type 0
 ClassesAreKnown plan w = (q : ℕ) →
     (w.words.class_at q ≤ class_count) × (heap_pages plan ≤ q → w.words.class_at q ≡ 0)
 
--- while a pass holds k, k names a slot of the heap, which is present in k's generation, and its words are the value that k was issued with
+-- while a pass holds k, k names a slot of the heap, which is present in k's generation, and its words are the value
+-- that k was issued with
 pub record KeyStands (plan : Plan) (w : World) (k : ℕ) : Type 0 where
   pub name : Name
   pub unpacks : plan.keys.unpack k ≡ Some name
@@ -82,14 +87,19 @@ HeldStands plan w = (a : ℕ) (p : Body) (k : ℕ) → slice_get w.parts a ≡ S
 
 -- a payload word that a pass may read of a key is one of the key's value, in its page
 abbrev pub ReadsWithin : Plan → World → Type 0
-ReadsWithin plan w = (a : ℕ) (p : Body) (k : ℕ) (n : Name) (c m i : ℕ) → slice_get w.parts a ≡ Some p → plan.keys.unpack k ≡ Some n → noted k p.widths ≡ Some c → noted k p.lengths ≡ Some m → i < m →
+ReadsWithin plan w = (a : ℕ) (p : Body) (k : ℕ) (n : Name) (c m i : ℕ) → slice_get w.parts a ≡ Some p
+    → plan.keys.unpack k ≡ Some n → noted k p.widths ≡ Some c → noted k p.lengths ≡ Some m → i < m →
     (c ≡ w.words.class_at n.page) × (m ≡ w.words.length_at n.page n.slot) × (n.slot * width (c - 1) + i < 48)
 
--- what a pass noted of a key is of one that it holds, and true: the class word of its page, the length of its value, and words of it
+-- what a pass noted of a key is of one that it holds, and true: the class word of its page, the length of its value,
+-- and words of it
 pub record KeyNotes (plan : Plan) (w : World) (p : Body) : Type 0 where
-  pub widths : (k c : ℕ) → noted k p.widths ≡ Some c → (0 < times k p.holds) × ((n : Name) → plan.keys.unpack k ≡ Some n → w.words.class_at n.page ≡ c)
-  pub lengths : (k m : ℕ) → noted k p.lengths ≡ Some m → (0 < times k p.holds) × ((v : List ℕ) → value_of w.log k ≡ Some v → length v ≡ m)
-  pub words : (j k i n : ℕ) → slice_get p.contents j ≡ Some (k, i, n) → (0 < times k p.holds) × ((v : List ℕ) → value_of w.log k ≡ Some v → (i < length v) × (slice_index v i ≡ n))
+  pub widths : (k c : ℕ) → noted k p.widths ≡ Some c → (0 < times k p.holds)
+      × ((n : Name) → plan.keys.unpack k ≡ Some n → w.words.class_at n.page ≡ c)
+  pub lengths : (k m : ℕ) → noted k p.lengths ≡ Some m → (0 < times k p.holds)
+      × ((v : List ℕ) → value_of w.log k ≡ Some v → length v ≡ m)
+  pub words : (j k i n : ℕ) → slice_get p.contents j ≡ Some (k, i, n) → (0 < times k p.holds)
+      × ((v : List ℕ) → value_of w.log k ≡ Some v → (i < length v) × (slice_index v i ≡ n))
 
 abbrev pub NotesAreTrue : Plan → World → Type 0
 NotesAreTrue plan w = (a : ℕ) (p : Body) → slice_get w.parts a ≡ Some p → KeyNotes plan w p
@@ -99,7 +109,8 @@ abbrev pub holds_now : Plan → Spot → Fields → Body → ℕ
 holds_now plan x st p = total (λ k. if1 (at_spot x (plan.keys.unpack k) && current st (plan.keys.unpack k))) p.holds
 
 abbrev pub Counted : Plan → World → Type 0
-Counted plan w = (x : Spot) → (state_of w x).count ≡ total (holds_now plan x (state_of w x)) w.parts + total (visits plan x) w.parts
+Counted plan w = (x : Spot) → (state_of w x).count ≡ total (holds_now plan x (state_of w x)) w.parts + total
+    (visits plan x) w.parts
 
 -- holds on the present key are at most guard_max, and each pass is on the slot once more for a moment
 abbrev pub CountIsFew : Plan → World → Type 0
@@ -107,7 +118,8 @@ CountIsFew plan w = (x : Spot) → (state_of w x).count ≤ plan.keys.guard_max 
 
 -- each generation of a slot below its present one was issued and removed
 abbrev pub PastIsRemoved : Plan → World → Type 0
-PastIsRemoved plan w = (k : ℕ) (n : Name) → plan.keys.unpack k ≡ Some n → n.generation < (state_of w (spot_of n)).generation → IsSome (value_of w.log k) × (is_removed w.log k ≡ true)
+PastIsRemoved plan w = (k : ℕ) (n : Name) → plan.keys.unpack k ≡ Some n
+    → n.generation < (state_of w (spot_of n)).generation → IsSome (value_of w.log k) × (is_removed w.log k ≡ true)
 
 -- so a slot issues at most gen_max keys
 abbrev pub GenerationsEnd : Plan → World → Type 0
@@ -118,9 +130,9 @@ abbrev pub RetiredIsLast : Plan → World → Type 0
 RetiredIsLast plan w = (x : Spot) → (state_of w x).present ≡ false → (state_of w x).marked ≡ true
     → (state_of w x).generation ≡ plan.keys.gen_max
 
--- what the log says of a key of generation g, at a slot in the state st whose words hold `now`. Of the present generation: it was issued
--- where the slot is live, marked or retired, with the value in its words, and not where it is empty; it was removed exactly where the
--- mark is set. Of a later one: neither
+-- what the log says of a key of generation g, at a slot in the state st whose words hold `now`. Of the present
+-- generation: it was issued where the slot is live, marked or retired, with the value in its words, and not where it is
+-- empty; it was removed exactly where the mark is set. Of a later one: neither
 pub record KeyTold (log : List Entry) (k g : ℕ) (st : Fields) (now : List ℕ) : Type 0 where
   pub issued : g ≡ st.generation → (st.present || st.marked) ≡ true → value_of log k ≡ Some now
   pub empty : g ≡ st.generation → (st.present || st.marked) ≡ false → value_of log k ≡ None
@@ -143,16 +155,19 @@ EntriesAreOurs plan w = All (λ e. pass_of e < plan.passes) w.log
 
 -- a marked slot that nobody is on has a pass that finishes it
 abbrev pub Finished : Plan → World → Type 0
-Finished plan w = (x : Spot) → (state_of w x).present ≡ true → (state_of w x).marked ≡ true → (state_of w x).count ≡ 0 → 0 < total (finishing x (state_of w x).generation) w.parts
+Finished plan w = (x : Spot) → (state_of w x).present ≡ true → (state_of w x).marked ≡ true → (state_of w x).count ≡ 0
+    → 0 < total (finishing x (state_of w x).generation) w.parts
 
 -- an armed page has one of: its flag, a pass that must ring, a place on the bell or on its chain; another has none
 abbrev pub Armed : Plan → World → PutLists → Type 0
-Armed plan w l = (q : ℕ) → (total (armed_at q) w.parts ≡ w.words.head_at q % 2 + total (rings q) w.parts + times q (l.bells (home plan q)) + times q (l.bell_chain (home plan q))) × (total (armed_at q) w.parts ≤ 1)
+Armed plan w l = (q : ℕ) → (total (armed_at q) w.parts ≡ w.words.head_at q % 2 + total (rings q) w.parts + times q
+    (l.bells (home plan q)) + times q (l.bell_chain (home plan q))) × (total (armed_at q) w.parts ≤ 1)
 
 -- a shard's owner word is 1 where a pass owns it, and then one pass alone; else it is 0
 pub record OneOwner (w : World) : Type 0 where
   pub word : (n : ℕ) → w.words.owner_at n ≤ 1
-  pub owned : (n : ℕ) → w.words.owner_at n ≡ 1 → (a : ℕ) × (p : Body) × (slice_get w.parts a ≡ Some p) × (p.owned ≡ Some n)
+  pub owned : (n : ℕ) → w.words.owner_at n ≡ 1 → (a : ℕ) × (p : Body) × (slice_get w.parts a ≡ Some p)
+      × (p.owned ≡ Some n)
   pub owner : (a : ℕ) (p : Body) (n : ℕ) → slice_get w.parts a ≡ Some p → p.owned ≡ Some n → w.words.owner_at n ≡ 1
   pub alone : (a b : ℕ) (p r : Body) (n : ℕ) → slice_get w.parts a ≡ Some p → slice_get w.parts b ≡ Some r
       → p.owned ≡ Some n → r.owned ≡ Some n → a ≡ b
@@ -169,23 +184,28 @@ abbrev pub ShardlessHaveNothing : World → Type 0
 ShardlessHaveNothing w = (a : ℕ) (p : Body) → slice_get w.parts a ≡ Some p → p.owned ≡ None
     → (p.mine ≡ []) × (p.cursors ≡ []) × (p.armed ≡ []) × (p.bell_cursor ≡ None)
 
--- what EachLinked says in words, as sums: along each list an item's link and what the pass that ties it will store are together what
--- names the rest; a head names the first of its stack, and a cursor is at the first of its chain
+-- what EachLinked says in words, as sums: along each list an item's link and what the pass that ties it will store are
+-- together what names the rest; a head names the first of its stack, and a cursor is at the first of its chain
 abbrev pub Linked : Plan → World → PutLists → Type 0
 Linked plan w l =
-    Chains (λ q. w.words.head_at q / 2) w.words.link_at (λ q s. total (tying (spot q s)) w.parts) (λ q s. total (ties_of (spot q s)) w.parts) (λ q s. total (cursor_at q s) w.parts) l.stack l.chain
-    × Chains (bell_head plan w.words.bell_at) (bell_link plan w.words.page_link_at) (λ n q. total (ring_tying plan n q) w.parts) (λ n q. total (ring_ties plan n q) w.parts) (λ n q. total (bell_cursor_at n q) w.parts) l.bells l.bell_chain
+    Chains (λ q. w.words.head_at q / 2) w.words.link_at (λ q s. total (tying (spot q s)) w.parts)
+    (λ q s. total (ties_of (spot q s)) w.parts) (λ q s. total (cursor_at q s) w.parts) l.stack l.chain
+    × Chains (bell_head plan w.words.bell_at) (bell_link plan w.words.page_link_at)
+    (λ n q. total (ring_tying plan n q) w.parts) (λ n q. total (ring_ties plan n q) w.parts)
+    (λ n q. total (bell_cursor_at n q) w.parts) l.bells l.bell_chain
 
--- what a pass has of its own lies within its shard, and what it noted is true. A slot is its own once, and is one of its page's class;
--- a page has one cursor at most, at a slot of its class that is not its own; an armed page is armed once, and the bell's cursor is at
--- one; a page of the shard that is not armed has no flag
+-- what a pass has of its own lies within its shard, and what it noted is true. A slot is its own once, and is one of
+-- its page's class; a page has one cursor at most, at a slot of its class that is not its own; an armed page is armed
+-- once, and the bell's cursor is at one; a page of the shard that is not armed has no flag
 pub record OwnStands (plan : Plan) (w : World) (p : Body) : Type 0 where
   pub few_holds : length p.holds ≤ 16
   pub owned : (n : ℕ) → p.owned ≡ Some n → n < plan.shards
   pub mine : (x : Spot) → 0 < mine_at x p
-      → (mine_at x p ≡ 1) × (own plan p x.page ≡ true) × (x.page < heap_pages plan) × (x.slot < slots_under (w.words.class_at x.page))
+      → (mine_at x p ≡ 1) × (own plan p x.page ≡ true) × (x.page < heap_pages plan)
+      × (x.slot < slots_under (w.words.class_at x.page))
   pub cursors : (q s : ℕ) → noted q p.cursors ≡ Some s
-      → (own plan p q ≡ true) × (q < heap_pages plan) × (s < slots_under (w.words.class_at q)) × (mine_at (spot q s) p ≡ 0)
+      → (own plan p q ≡ true) × (q < heap_pages plan) × (s < slots_under (w.words.class_at q))
+      × (mine_at (spot q s) p ≡ 0)
   pub one_cursor : (q : ℕ) → noted q (unpoint q p.cursors) ≡ None
   pub armed : (q : ℕ) → 0 < times q p.armed → (times q p.armed ≡ 1) × (own plan p q ≡ true) × (q < heap_pages plan)
   pub unarmed : (q : ℕ) → own plan p q ≡ true → times q p.armed ≡ 0 → w.words.head_at q % 2 ≡ 0
@@ -197,7 +217,9 @@ OwnPartsStand plan w = (a : ℕ) (p : Body) → slice_get w.parts a ≡ Some p �
 
 -- a slot that is being filled is one of the heap, and the key that it will be published under is one of the layout
 abbrev pub FillsAreKeys : Plan → World → Type 0
-FillsAreKeys plan w = (a : ℕ) (p : Body) (x : Spot) (v : List ℕ) (i : ℕ) → slice_get w.parts a ≡ Some p → p.hand ≡ Filling x v i → plan.keys.unpack (plan.keys.pack (name_at x (state_of w x).generation)) ≡ Some (name_at x (state_of w x).generation)
+FillsAreKeys plan w = (a : ℕ) (p : Body) (x : Spot) (v : List ℕ) (i : ℕ) → slice_get w.parts a ≡ Some p → p.hand
+    ≡ Filling x v i → plan.keys.unpack (plan.keys.pack (name_at x (state_of w x).generation))
+    ≡ Some (name_at x (state_of w x).generation)
 
 -- all of it
 pub record Refines (plan : Plan) (w : World) (l : PutLists) : Type 0 where
@@ -236,4 +258,5 @@ pub record Refines (plan : Plan) (w : World) (l : PutLists) : Type 0 where
 
 -- P holds after every list of events, in every heap whose shape fits its layout
 abbrev pub Always : (Plan → World → PutLists → Type 0) → Type 0
-Always P = (layout : Layout) (shape : Numbers) → IsLayout layout → IsShape shape → Fits layout shape → (es : List Event) → P (plan_of layout shape) (run (plan_of layout shape) es) (lists_of (plan_of layout shape) es)
+Always P = (layout : Layout) (shape : Numbers) → IsLayout layout → IsShape shape → Fits layout shape → (es : List Event)
+    → P (plan_of layout shape) (run (plan_of layout shape) es) (lists_of (plan_of layout shape) es)

@@ -29,7 +29,8 @@ abbrev pub Chained : (ℕ → ℕ) → (ℕ → ℕ) → List ℕ → Type 0
 Chained word owed [] = Unit {0}
 Chained word owed (s ∷ xs) = (word s + owed s ≡ link_to xs) × Chained word owed xs
 
--- Of each group, its head's number, its items' links, what is owed and by how many, and the cursor, beside the two lists
+-- Of each group, its head's number, its items' links, what is owed and by how many, and the cursor, beside the two
+-- lists
 pub record Chains (head : ℕ → ℕ) (link owed tied cursor : ℕ → ℕ → ℕ) (stack chain : ℕ → List ℕ) : Type 0 where
   pub tops : (q : ℕ) → head q ≡ top (stack q)
   pub stacks : (q : ℕ) → Chained (link q) (owed q) (stack q)
@@ -50,7 +51,10 @@ cursor_at q s p = total (λ c. if1 ((c.0 == q) && (c.1 == s))) p.cursors
 
 -- the same of pages on the bell of shard n
 abbrev pub ring_tying : Plan → ℕ → ℕ → Body → ℕ
-ring_tying plan n q p = elim (p.hand) [ RingTying k l ↦ cond ((n == home plan k) && (q == k)) (over_heap plan n 2 l) 0 | _ ↦ 0 ]
+ring_tying plan n q p = elim (p.hand) [
+  | RingTying k l ↦ cond ((n == home plan k) && (q == k)) (over_heap plan n 2 l) 0
+  | _ ↦ 0
+]
 
 abbrev pub ring_ties : Plan → ℕ → ℕ → Body → ℕ
 ring_ties plan n q p = elim (p.hand) [ RingTying k l ↦ if1 ((n == home plan k) && (q == k)) | _ ↦ 0 ]

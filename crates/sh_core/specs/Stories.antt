@@ -1,5 +1,6 @@
 -- What the log says of each key and each hold, against the words and the parts.
-use Rattle.std.specs.Prelude.{ℕ, ◌+◌, ◌≡◌, ◌<◌, ◌==◌, true, false, cond, ◌&&◌, ◌||◌, List, [], ◌∷◌, Some, length, slice_get}
+use Rattle.std.specs.Prelude.{ℕ, ◌+◌, ◌≡◌, ◌<◌, ◌==◌, true, false, cond, ◌&&◌, ◌||◌, List, [], ◌∷◌, Some, length}
+use Rattle.std.specs.Prelude.{slice_get}
 use Rattle.sh_history.specs.declared.entry.Entry.{Entry}
 use Rattle.sh_history.specs.declared.entry.Entry.TheVariants.{Insert, Got, Removed, Released}
 use Rattle.sh_core.specs.Words.{Words}
@@ -60,10 +61,13 @@ pub record Story (st : Fields) (g : ℕ) (vs : List (List ℕ)) (gone : ℕ) (no
   pub later : st.generation < g → (vs ≡ []) × (gone ≡ 0)
 
 abbrev pub KeysFine : Plan → Words → List Entry → Type 0
-KeysFine plan w log = (k : ℕ) (n : Rattle.sh_slots.specs.declared.hand.Name.Name) → plan.keys.unpack k ≡ Some n → Story (fields_of (w.state_at n.page n.slot)) n.generation (values k log) (removals k log) (value_at w n.page n.slot)
+KeysFine plan w log = (k : ℕ) (n : Rattle.sh_slots.specs.declared.hand.Name.Name) → plan.keys.unpack k ≡ Some n
+    → Story (fields_of (w.state_at n.page n.slot)) n.generation (values k log) (removals k log)
+    (value_at w n.page n.slot)
 
 abbrev pub HoldsFine : List Body → List Entry → Type 0
-HoldsFine ps log = (a : ℕ) (p : Body) → slice_get ps a ≡ Some p → (k : ℕ) → gots_by a k log ≡ releases_by a k log + times k p.holds
+HoldsFine ps log = (a : ℕ) (p : Body) → slice_get ps a ≡ Some p → (k : ℕ) → gots_by a k log
+    ≡ releases_by a k log + times k p.holds
 
 abbrev pub AllHoldsFine : List Body → List Entry → Type 0
 AllHoldsFine ps log = (k : ℕ) → gots k log ≡ releases k log + total (λ p. times k p.holds) ps

@@ -1,5 +1,6 @@
 -- What is kept of each slot: sums over the passes.
-use Rattle.std.specs.Prelude.{ℕ, ◌+◌, ◌-◌, ◌≡◌, ◌<◌, ◌==◌, nat_lt, Bool, true, false, cond, not, ◌&&◌, ◌||◌, List, Option, Some, None}
+use Rattle.std.specs.Prelude.{ℕ, ◌+◌, ◌-◌, ◌≡◌, ◌<◌, ◌==◌, nat_lt, Bool, true, false, cond, not, ◌&&◌, ◌||◌, List}
+use Rattle.std.specs.Prelude.{Option, Some, None}
 use Rattle.sh_slots.specs.declared.hand.Hand.TheVariants.{Removing, Leaving, Finishing}
 use Rattle.sh_slots.specs.declared.hand.Spot.{Spot}
 use Rattle.sh_slots.specs.declared.hand.Name.{Name}
@@ -26,14 +27,20 @@ abbrev pub held : Plan → Spot → Body → ℕ
 held plan x p = total (λ k. if1 (at_spot x (plan.keys.unpack k))) p.holds
 
 abbrev pub visits : Plan → Spot → Body → ℕ
-visits plan x p = elim (p.hand) [ Removing k ↦ if1 (at_spot x (plan.keys.unpack k)) | Leaving y ↦ if1 (same_spot x y) | _ ↦ 0 ]
+visits plan x p = elim (p.hand) [
+  | Removing k ↦ if1 (at_spot x (plan.keys.unpack k))
+  | Leaving y
+      ↦ if1 (same_spot x y)
+  | _ ↦ 0
+]
 
 abbrev pub stale : Fields → Spot → Option Name → ℕ
 stale st x o = cond (at_spot x o) (if1 (not (current st o))) 0
 
 -- how many of its holds, and of what it removes, name the slot in another generation
 abbrev pub lost : Plan → Spot → Fields → Body → ℕ
-lost plan x st p = total (λ k. stale st x (plan.keys.unpack k)) p.holds + elim (p.hand) [ Removing k ↦ stale st x (plan.keys.unpack k) | _ ↦ 0 ]
+lost plan x st p = total (λ k. stale st x (plan.keys.unpack k)) p.holds + elim (p.hand)
+    [ Removing k ↦ stale st x (plan.keys.unpack k) | _ ↦ 0 ]
 
 abbrev pub finishing : Spot → ℕ → Body → ℕ
 finishing x g p = elim (p.hand) [ Finishing y h ↦ if1 (same_spot x y && (h == g)) | _ ↦ 0 ]
@@ -82,4 +89,5 @@ abbrev pub queued : PutLists → Spot → ℕ
 queued l x = times x.slot (l.stack x.page) + times x.slot (l.chain x.page)
 
 abbrev pub SlotsFine : Plan → Words → List Body → PutLists → Type 0
-SlotsFine plan w ps l = (x : Spot) → Fine (room w x) (queued l x) (fields_of (w.state_at x.page x.slot)) (tally plan x (fields_of (w.state_at x.page x.slot)) ps)
+SlotsFine plan w ps l = (x : Spot) → Fine (room w x) (queued l x) (fields_of (w.state_at x.page x.slot))
+    (tally plan x (fields_of (w.state_at x.page x.slot)) ps)

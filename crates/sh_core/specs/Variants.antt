@@ -43,4 +43,6 @@ lists_by rows plan es = lists_from_by rows plan (open_world plan) no_lists es
 
 -- P holds after every list of events that this table does, in every heap whose shape fits its layout
 abbrev pub AlwaysBy : Table → (Plan → World → PutLists → Type 0) → Type 0
-AlwaysBy rows P = (layout : Layout) (shape : Numbers) → IsLayout layout → IsShape shape → Fits layout shape → (es : List Event) → P (plan_of layout shape) (run_by rows (plan_of layout shape) es) (lists_by rows (plan_of layout shape) es)
+AlwaysBy rows P = (layout : Layout) (shape : Numbers) → IsLayout layout → IsShape shape → Fits layout shape
+    → (es : List Event) → P (plan_of layout shape) (run_by rows (plan_of layout shape) es)
+    (lists_by rows (plan_of layout shape) es)

@@ -4,7 +4,8 @@ use Rattle.sh_key.specs.Layout.{Layout}
 use Rattle.sh_shape.specs.Shape.{Numbers}
 use Rattle.sh_shape.specs.Places.{IsPlace}
 use Rattle.sh_shape.specs.declared.places.Place.{Place}
-use Rattle.sh_shape.specs.declared.places.Place.TheVariants.{Class, Head, PageLink, State, Link, Length, Payload, Owner, Bell}
+use Rattle.sh_shape.specs.declared.places.Place.TheVariants.{Class, Head, PageLink, State, Link, Length, Payload, Owner}
+use Rattle.sh_shape.specs.declared.places.Place.TheVariants.{Bell}
 use Rattle.sh_slots.specs.declared.hand.Hand.{Hand}
 use Rattle.sh_slots.specs.declared.hand.Hand.TheVariants.{Leaving, Finishing, ToPut, Tying, Ringing, RingTying, Filling}
 use Rattle.sh_slots.specs.declared.hand.Spot.{Spot}
@@ -59,11 +60,13 @@ HasPlace plan (Bell n) = n < plan.shards
 
 -- the plan of a heap has places of its shape alone
 abbrev pub PlansHaveShapesPlaces : Type 0
-PlansHaveShapesPlaces = (layout : Layout) (shape : Numbers) (q : Place) → HasPlace (plan_of layout shape) q → IsPlace shape q
+PlansHaveShapesPlaces = (layout : Layout) (shape : Numbers) (q : Place) → HasPlace (plan_of layout shape) q
+    → IsPlace shape q
 
 -- each action whose condition holds steps on a place of the heap
 abbrev pub StepsWithin : Plan → World → Type 0
-StepsWithin plan w = (a : ℕ) (p : Body) (x : Action) (r : Row) → slice_get w.parts a ≡ Some p → row plan p x ≡ Some r → HasPlace plan r.place
+StepsWithin plan w = (a : ℕ) (p : Body) (x : Action) (r : Row) → slice_get w.parts a ≡ Some p → row plan p x ≡ Some r
+    → HasPlace plan r.place
 
 -- what an operation does to a state word's count stays within 0 and 2^30
 abbrev pub CountFits : Operation → ℕ → Type 0
@@ -76,22 +79,33 @@ abbrev pub CountsLeaveRoom : Type 0
 CountsLeaveRoom = (o : Operation) (n : ℕ) → n < 2 ^ 64 → CountFits o n → HasRoom o n
 
 abbrev pub CountsFit : Plan → World → Type 0
-CountsFit plan w = (a : ℕ) (p : Body) (x : Action) (r : Row) → slice_get w.parts a ≡ Some p → row plan p x ≡ Some r → CountFits r.operation (read w.words r.place)
+CountsFit plan w = (a : ℕ) (p : Body) (x : Action) (r : Row) → slice_get w.parts a ≡ Some p → row plan p x ≡ Some r
+    → CountFits r.operation (read w.words r.place)
 
 -- each enabled action that swaps or exchanges a word stores one
 abbrev pub StoresWords : Plan → World → Type 0
-StoresWords plan w = (a : ℕ) (p : Body) (x : Action) (r : Row) → slice_get w.parts a ≡ Some p → row plan p x ≡ Some r → StoresWord r.operation
+StoresWords plan w = (a : ℕ) (p : Body) (x : Action) (r : Row) → slice_get w.parts a ≡ Some p → row plan p x ≡ Some r
+    → StoresWord r.operation
 
 -- a key that an enabled action would issue is one of the layout: it names the slot, in the generation that it is in
 abbrev pub IssuesKeys : Plan → World → Type 0
-IssuesKeys plan w = (a : ℕ) (p : Body) (x : Action) (r : Row) (k : ℕ) (v : List ℕ) (q s : ℕ) → slice_get w.parts a ≡ Some p → row plan p x ≡ Some r → r.reply (read w.words r.place) ≡ Some (Insert k v) → r.place ≡ State q s
-    → plan.keys.unpack k ≡ Some (record { page = q; slot = s; generation = (fields_of (read w.words r.place)).generation })
+IssuesKeys plan w = (a : ℕ) (p : Body) (x : Action) (r : Row) (k : ℕ) (v : List ℕ) (q s : ℕ) → slice_get w.parts a
+    ≡ Some p → row plan p x ≡ Some r → r.reply (read w.words r.place) ≡ Some (Insert k v) → r.place ≡ State q s
+    → plan.keys.unpack k ≡ Some (record {
+      page = q;
+      slot = s;
+      generation = (fields_of (read w.words r.place)).generation;
+    })
 
 -- bells and the links of pages name pages of the heap
 abbrev pub BellsAreSmall : Plan → World → Type 0
-BellsAreSmall plan w = ((n : ℕ) → w.words.bell_at n ≤ heap_pages plan) × ((q : ℕ) → w.words.page_link_at q ≤ heap_pages plan + 1)
+BellsAreSmall plan w = ((n : ℕ) → w.words.bell_at n ≤ heap_pages plan)
+    × ((q : ℕ) → w.words.page_link_at q ≤ heap_pages plan + 1)
 
 -- a value stands in a slot of its page's class, and is no longer than it
 abbrev pub ValuesFit : Plan → World → Type 0
-ValuesFit plan w = (x : Spot) → ((fields_of (w.words.state_at x.page x.slot)).present || (fields_of (w.words.state_at x.page x.slot)).marked) ≡ true
-    → (0 < w.words.class_at x.page) × (w.words.class_at x.page ≤ 8) × (x.page < heap_pages plan) × (x.slot < slots (w.words.class_at x.page - 1)) × (w.words.length_at x.page x.slot ≤ width (w.words.class_at x.page - 1))
+ValuesFit plan w = (x : Spot) → ((fields_of (w.words.state_at x.page x.slot)).present ||
+    (fields_of (w.words.state_at x.page x.slot)).marked) ≡ true
+    → (0 < w.words.class_at x.page) × (w.words.class_at x.page ≤ 8) × (x.page < heap_pages plan)
+    × (x.slot < slots (w.words.class_at x.page - 1)) × (w.words.length_at x.page x.slot ≤ width
+    (w.words.class_at x.page - 1))

@@ -1,7 +1,8 @@
 -- The words of the heap, one number for each place.
 use Rattle.std.specs.Prelude.{ℕ, ◌^◌, ◌==◌, cond}
 use Rattle.sh_shape.specs.declared.places.Place.{Place}
-use Rattle.sh_shape.specs.declared.places.Place.TheVariants.{Class, Head, PageLink, State, Link, Length, Payload, Owner, Bell}
+use Rattle.sh_shape.specs.declared.places.Place.TheVariants.{Class, Head, PageLink, State, Link, Length, Payload, Owner}
+use Rattle.sh_shape.specs.declared.places.Place.TheVariants.{Bell}
 
 -- A function with another value at one number
 unfoldable pub put : {A : Type 0} → (ℕ → A) → ℕ → A → ℕ → A

@@ -1,5 +1,6 @@
 -- The world, and what a list of events leaves of it.
-use Rattle.std.specs.Prelude.{ℕ, zero, suc, ◌+◌, ◌-◌, ◌*◌, List, [], ◌∷◌, ◌++◌, Option, Some, None, slice_get, slice_set, replicate}
+use Rattle.std.specs.Prelude.{ℕ, zero, suc, ◌+◌, ◌-◌, ◌*◌, List, [], ◌∷◌, ◌++◌, Option, Some, None, slice_get}
+use Rattle.std.specs.Prelude.{slice_set, replicate}
 use Rattle.sh_history.specs.declared.entry.Entry.{Entry}
 use Rattle.sh_step.specs.declared.action.Event.{Event}
 use Rattle.sh_core.specs.Words.{Words, read, write, opening}

@@ -6,14 +6,17 @@ use Rattle.sh_slots.specs.declared.hand.Hand.TheVariants.{Idle, Removing, Leavin
 use Rattle.sh_slots.specs.declared.hand.Spot.{Spot}
 use Rattle.sh_slots.specs.declared.hand.Name.{Name}
 use Rattle.sh_slots.specs.declared.reply.Reply.TheVariants as reply
-use Rattle.sh_slots.specs.Slots.{same_spot, spots, spot_of, live_at, after_drop, marked_word, reusable_word, retired_word}
-use Rattle.sh_step.specs.declared.action.Action.TheVariants.{EnterGet, Mark, Drop, DropHold, Finish, SetClass, Follow, Put, Tie, Leave}
+use Rattle.sh_slots.specs.Slots.{same_spot, spots, spot_of, live_at, after_drop, marked_word, reusable_word}
+use Rattle.sh_slots.specs.Slots.{retired_word}
+use Rattle.sh_step.specs.declared.action.Action.TheVariants.{EnterGet, Mark, Drop, DropHold, Finish, SetClass, Follow}
+use Rattle.sh_step.specs.declared.action.Action.TheVariants.{Put, Tie, Leave}
 use Rattle.sh_step.specs.declared.body.Body.{Body}
 use Rattle.sh_step.specs.declared.operation.Operation.{Operation}
 use Rattle.sh_step.specs.declared.operation.Operation.TheVariants.{Swap, Store, CompareExchange, Load}
 use Rattle.sh_step.specs.Collections.{has, noted, every, without}
 use Rattle.sh_step.specs.Plans.{Plan}
-use Rattle.sh_step.specs.Rows.{Row, row, when, silent, hand, idle, own, named, paged, point, unpoint, enter_get, mark, drop_hand, drop_key, set_class, follow, leave, all_mine}
+use Rattle.sh_step.specs.Rows.{Row, row, when, silent, hand, idle, own, named, paged, point, unpoint, enter_get, mark}
+use Rattle.sh_step.specs.Rows.{drop_hand, drop_key, set_class, follow, leave, all_mine}
 use Rattle.sh_stack.specs.Stack.{top_word}
 use Rattle.sh_bell.specs.Bell.{head_word, is_armed}
 use Rattle.sh_word.specs.Fields.{word_of}
@@ -23,30 +26,46 @@ use Rattle.sh_core.specs.Variants.{Table}
 
 -- a key is crowded however few holds it has
 unfoldable pub crowds_at_once : Table
-crowds_at_once plan p (EnterGet k) = named plan k (λ x. when (idle p && nat_lt (length p.holds) 16) (record (enter_get plan p k x) {
-  part = λ n. hand p (Leaving (spot_of x));
-  reply = λ n. Some (cond (live_at x.generation n) (reply.Crowded k) (reply.Gone k));
-}))
+crowds_at_once plan p (EnterGet k) = named plan k (λ x. when (idle p && nat_lt (length p.holds) 16)
+    (record (enter_get plan p k x) {
+      part = λ n. hand p (Leaving (spot_of x));
+      reply = λ n. Some (cond (live_at x.generation n) (reply.Crowded k) (reply.Gone k));
+    }))
 crowds_at_once plan p x = row plan p x
 
 -- a mark removes the key whether or not it was marked before
 unfoldable pub both_remove : Table
-both_remove plan p Mark = elim (p.hand) [ Removing k ↦ named plan k (λ x. Some (record (mark p k x) { reply = λ n. Some (reply.Removed k) })) | _ ↦ None ]
+both_remove plan p Mark = elim (p.hand) [
+  | Removing k ↦ named plan k
+      (λ x. Some (record (mark p k x) { reply = λ n. Some (reply.Removed k) }))
+  | _ ↦ None
+]
 both_remove plan p x = row plan p x
 
 -- whoever marked a slot has done with it, and never takes its count back
 unfoldable pub marks_and_stays : Table
-marks_and_stays plan p Mark = elim (p.hand) [ Removing k ↦ named plan k (λ x. Some (record (mark p k x) { part = λ n. hand p Idle })) | _ ↦ None ]
+marks_and_stays plan p Mark = elim (p.hand) [
+  | Removing k ↦ named plan k
+      (λ x. Some (record (mark p k x) { part = λ n. hand p Idle }))
+  | _ ↦ None
+]
 marks_and_stays plan p x = row plan p x
 
 -- the last one to leave a marked slot does not end its generation
 unfoldable pub drops_and_forgets : Table
-drops_and_forgets plan p Drop = elim (p.hand) [ Leaving x ↦ Some (record (drop_hand p x) { part = λ n. hand p Idle }) | _ ↦ None ]
+drops_and_forgets plan p Drop = elim (p.hand) [
+  | Leaving x ↦ Some (record (drop_hand p x) { part = λ n. hand p Idle })
+  | _ ↦ None
+]
 drops_and_forgets plan p x = row plan p x
 
 -- what was read of a key stays known after its last hold
 unfoldable pub knows_after_hold : Table
-knows_after_hold plan p (DropHold k) = named plan k (λ x. when (idle p && has (λ j. j == k) p.holds) (record (drop_key p k x) { part = λ n. hand (record p { holds = without (λ j. j == k) p.holds }) (after_drop (spot_of x) n) }))
+knows_after_hold plan p (DropHold k) = named plan k (λ x. when (idle p && has (λ j. j == k) p.holds)
+    (record (drop_key p k x) {
+      part = λ n. hand (record p { holds = without (λ j. j == k) p.holds })
+          (after_drop (spot_of x) n);
+    }))
 knows_after_hold plan p x = row plan p x
 
 -- ---- the end of a generation
@@ -65,22 +84,41 @@ finish_by plan p x operation ends = record {
 
 -- the flags are cleared, as by an `and`, and the generation stays
 unfoldable pub keeps_generation : Table
-keeps_generation plan p Finish = elim (p.hand) [ Finishing x g ↦ Some (finish_by plan p x (CompareExchange (marked_word g) (word_of (record { generation = g; marked = false; present = false; count = 0 }))) (λ n. n == marked_word g)) | _ ↦ None ]
+keeps_generation plan p Finish = elim (p.hand) [
+  | Finishing x g ↦ Some
+      (finish_by plan p x (CompareExchange (marked_word g) (word_of
+      (record { generation = g; marked = false; present = false; count = 0 }))) (λ n. n == marked_word g))
+  | _ ↦ None
+]
 keeps_generation plan p x = row plan p x
 
 -- whatever stands in the state word, it is overwritten
 unfoldable pub ignores_count : Table
-ignores_count plan p Finish = elim (p.hand) [ Finishing x g ↦ Some (finish_by plan p x (Swap (cond (g == plan.keys.gen_max) (retired_word g) (reusable_word g))) (λ n. not (g == plan.keys.gen_max))) | _ ↦ None ]
+ignores_count plan p Finish = elim (p.hand) [
+  | Finishing x g ↦ Some
+      (finish_by plan p x (Swap (cond (g == plan.keys.gen_max) (retired_word g) (reusable_word g)))
+      (λ n. not (g == plan.keys.gen_max)))
+  | _ ↦ None
+]
 ignores_count plan p x = row plan p x
 
 -- after the last generation comes the first
 unfoldable pub wraps_generation : Table
-wraps_generation plan p Finish = elim (p.hand) [ Finishing x g ↦ Some (finish_by plan p x (CompareExchange (marked_word g) (cond (g == plan.keys.gen_max) (reusable_word 0) (reusable_word g))) (λ n. n == marked_word g)) | _ ↦ None ]
+wraps_generation plan p Finish = elim (p.hand) [
+  | Finishing x g ↦ Some
+      (finish_by plan p x (CompareExchange (marked_word g) (cond (g == plan.keys.gen_max) (reusable_word 0)
+      (reusable_word g))) (λ n. n == marked_word g))
+  | _ ↦ None
+]
 wraps_generation plan p x = row plan p x
 
 -- after the last generation comes one more
 unfoldable pub never_retires : Table
-never_retires plan p Finish = elim (p.hand) [ Finishing x g ↦ Some (finish_by plan p x (CompareExchange (marked_word g) (reusable_word g)) (λ n. n == marked_word g)) | _ ↦ None ]
+never_retires plan p Finish = elim (p.hand) [
+  | Finishing x g ↦ Some
+      (finish_by plan p x (CompareExchange (marked_word g) (reusable_word g)) (λ n. n == marked_word g))
+  | _ ↦ None
+]
 never_retires plan p x = row plan p x
 
 -- ---- stacks
@@ -117,22 +155,29 @@ follow_to_end p q s = record {
 
 -- a link that is not written is taken for the end
 unfoldable pub ends_at_unwritten : Table
-ends_at_unwritten plan p (Follow y) = paged plan y (λ q. elim (noted q p.cursors) [ Some s ↦ when (idle p && own plan p q) (follow_to_end p q s) | None ↦ None ])
+ends_at_unwritten plan p (Follow y) = paged plan y (λ q. elim (noted q p.cursors)
+    [ Some s ↦ when (idle p && own plan p q) (follow_to_end p q s) | None ↦ None ])
 ends_at_unwritten plan p x = row plan p x
 
 -- a link that was followed stays
 unfoldable pub leaves_link : Table
-leaves_link plan p (Follow y) = paged plan y (λ q. elim (noted q p.cursors) [ Some s ↦ when (idle p && own plan p q) (record (follow p q s) { operation = Load }) | None ↦ None ])
+leaves_link plan p (Follow y) = paged plan y (λ q. elim (noted q p.cursors)
+    [ Some s ↦ when (idle p && own plan p q) (record (follow p q s) { operation = Load }) | None ↦ None ])
 leaves_link plan p x = row plan p x
 
 abbrev pub follow_twice : Body → ℕ → ℕ → Row
 follow_twice p q s = record (follow p q s) {
-  part = λ n. cond (n == 0) p (record p { cursors = point 2 q n (unpoint q p.cursors); mine = record { page = q; slot = s } ∷ record { page = q; slot = s } ∷ p.mine });
+  part = λ n. cond (n == 0) p (record p {
+    cursors = point 2 q n (unpoint q p.cursors);
+    mine = record
+        { page = q; slot = s } ∷ record { page = q; slot = s } ∷ p.mine;
+  });
 }
 
 -- a slot that is followed is handed out twice
 unfoldable pub follows_twice : Table
-follows_twice plan p (Follow y) = paged plan y (λ q. elim (noted q p.cursors) [ Some s ↦ when (idle p && own plan p q) (follow_twice p q s) | None ↦ None ])
+follows_twice plan p (Follow y) = paged plan y (λ q. elim (noted q p.cursors)
+    [ Some s ↦ when (idle p && own plan p q) (follow_twice p q s) | None ↦ None ])
 follows_twice plan p x = row plan p x
 
 abbrev pub tie_and_stop : Body → Spot → ℕ → Row
@@ -152,12 +197,20 @@ never_rings plan p x = row plan p x
 
 -- an owner leaves though slots are its own
 unfoldable pub leaves_slots : Table
-leaves_slots plan p Leave = elim (p.owned) [ Some n ↦ when (idle p && (length p.cursors == 0) && (length p.armed == 0) && (elim (p.bell_cursor) [ None ↦ true | _ ↦ false ])) (leave p n) | None ↦ None ]
+leaves_slots plan p Leave = elim (p.owned) [
+  | Some n ↦ when (idle p && (length p.cursors == 0) && (length p.armed == 0)
+      && (elim (p.bell_cursor) [ None ↦ true | _ ↦ false ])) (leave p n)
+  | None ↦ None
+]
 leaves_slots plan p x = row plan p x
 
 -- an owner leaves while what was rung is still to be followed
 unfoldable pub leaves_bell : Table
-leaves_bell plan p Leave = elim (p.owned) [ Some n ↦ when (idle p && (length p.mine == 0) && (length p.cursors == 0)) (leave p n) | None ↦ None ]
+leaves_bell plan p Leave = elim (p.owned) [
+  | Some n ↦ when (idle p && (length p.mine == 0) && (length p.cursors == 0))
+      (leave p n)
+  | None ↦ None
+]
 leaves_bell plan p x = row plan p x
 
 -- all slots but the last one are asked for
@@ -165,10 +218,15 @@ abbrev pub most_mine : Body → ℕ → ℕ → Bool
 most_mine p q n = every (λ x. has (same_spot x) p.mine) (spots q 0 (slots (n - 1) - 1))
 
 unfoldable pub forgets_last_slot : Table
-forgets_last_slot plan p (SetClass y c) = paged plan y (λ q. elim (noted q p.classes) [ Some n ↦ when (idle p && own plan p q && ((n == 0) || most_mine p q n) && nat_lt c 8) (set_class p q c) | None ↦ None ])
+forgets_last_slot plan p (SetClass y c) = paged plan y (λ q. elim (noted q p.classes) [
+  | Some n ↦ when (idle p && own plan p q && ((n == 0) || most_mine p q n) && nat_lt c 8) (set_class p q c)
+  | None
+      ↦ None
+])
 forgets_last_slot plan p x = row plan p x
 
 -- any number is a class
 unfoldable pub gives_any_class : Table
-gives_any_class plan p (SetClass y c) = paged plan y (λ q. elim (noted q p.classes) [ Some n ↦ when (idle p && own plan p q && ((n == 0) || all_mine p q n)) (set_class p q c) | None ↦ None ])
+gives_any_class plan p (SetClass y c) = paged plan y (λ q. elim (noted q p.classes)
+    [ Some n ↦ when (idle p && own plan p q && ((n == 0) || all_mine p q n)) (set_class p q c) | None ↦ None ])
 gives_any_class plan p x = row plan p x

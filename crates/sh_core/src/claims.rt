@@ -3,17 +3,21 @@ ghost use Rattle.std.specs.Prelude.{◌≡◌, length};
 ghost use Rattle.sh_history.specs.History.{Legal};
 ghost use Rattle.sh_core.specs.LinkWords.{EachLinked};
 ghost use Rattle.sh_core.specs.Within.{StepsWithin, CountsFit, BellsAreSmall, ValuesFit, StoresWords, IssuesKeys};
-ghost use Rattle.sh_core.specs.Refines.{Always, OneKind, KindsAddUp, Filled, ClassesAreKnown, HeldStands, ReadsWithin, NotesAreTrue, HoldsAreTold, Counted, CountIsFew};
-ghost use Rattle.sh_core.specs.Refines.{PastIsRemoved, KeysAreTold, EntriesAreOurs, GenerationsEnd, RetiredIsLast, Finished, OneOwner, Armed, LeftEmpty, ShardlessHaveNothing, Linked, OwnPartsStand, FillsAreKeys};
+ghost use Rattle.sh_core.specs.Refines.{Always, OneKind, KindsAddUp, Filled, ClassesAreKnown, HeldStands, ReadsWithin};
+ghost use Rattle.sh_core.specs.Refines.{NotesAreTrue, HoldsAreTold, Counted, CountIsFew};
+ghost use Rattle.sh_core.specs.Refines.{PastIsRemoved, KeysAreTold, EntriesAreOurs, GenerationsEnd, RetiredIsLast};
+ghost use Rattle.sh_core.specs.Refines.{Finished, OneOwner, Armed, LeftEmpty, ShardlessHaveNothing, Linked};
+ghost use Rattle.sh_core.specs.Refines.{OwnPartsStand, FillsAreKeys};
 
-/// The core refines the map: in every heap whose shape fits its layout, after every list of events, whoever did them and
-/// in whatever order, and wherever calls were left unfinished.
+/// The core refines the map: in every heap whose shape fits its layout, after every list of events, whoever did them
+/// and in whatever order, and wherever calls were left unfinished.
 pub fn refines_map()
     // The replies, in the order of their deciding steps, are a legal history of a map whose keys are never used again.
     ensures legal { Always (λ plan w l. Legal plan.passes plan.keys.guard_max w.log) }
     ensures entries { Always (λ plan w l. EntriesAreOurs plan w) }
 
-    // Each slot of a page's class is exactly one of live, marked, retired, mine, in hand and queued, and the six fill the page.
+    // Each slot of a page's class is exactly one of live, marked, retired, mine, in hand and queued, and the six fill
+    // the page.
     ensures one_kind { Always (λ plan w l. OneKind w l) }
     ensures kinds { Always (λ plan w l. KindsAddUp w l) }
     ensures filled { Always (λ plan w l. Filled w l) }

@@ -2,7 +2,8 @@
 ghost use Rattle.sh_core.specs.Trails.{TrailGrows, OthersTrailsStay, SkipsLeaveTrails};
 ghost use Rattle.sh_core.specs.Within.{PlansHaveShapesPlaces, CountsLeaveRoom};
 
-/// What one more event adds to the trails of the passes: a step to that of the pass that did it, and nothing to another's.
+/// What one more event adds to the trails of the passes: a step to that of the pass that did it, and nothing to
+/// another's.
 pub fn trails_grow()
     ensures own { TrailGrows }
     ensures others { OthersTrailsStay }

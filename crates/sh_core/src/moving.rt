@@ -55,8 +55,8 @@ fn join(log: &mut Vec<Entry>, new: Option<Entry>) -> Outcome
     }
 }
 
-/// Does the move of a pass on the words, its own part and the log. Refused as `Memory` where memory for an entry, or for
-/// what the part notes, is refused: then nothing changed. A move that adds neither is not refused.
+/// Does the move of a pass on the words, its own part and the log. Refused as `Memory` where memory for an entry, or
+/// for what the part notes, is refused: then nothing changed. A move that adds neither is not refused.
 pub fn do_move<L: KeyLayout>(
     shape: &Shape,
     words: &mut Vec<u64>,
@@ -66,7 +66,8 @@ pub fn do_move<L: KeyLayout>(
     the_move: &Move,
 ) -> Result<Outcome, Refusal>
     requires { IsReady L.layout shape.now words.old.items (row_of (plan_of L.layout shape.now) part.old the_move.now) }
-    ensures ok { IfOk result (λ outcome. DoesRow shape.now pass (row_of (plan_of L.layout shape.now) part.old the_move.now)
+    ensures ok { IfOk result (λ outcome. DoesRow shape.now pass
+        (row_of (plan_of L.layout shape.now) part.old the_move.now)
         words.old.items log.old.items outcome words.new.items part.new log.new.items) }
     ensures words { OnErr result (words.new.items ≡ words.old.items) }
     ensures part { OnErr result (part.new ≡ part.old) }

@@ -1,8 +1,12 @@
 //! What the theorem refuses.
 ghost use Rattle.sh_history.specs.History.{Legal};
 ghost use Rattle.sh_core.specs.Variants.{AlwaysBy};
-ghost use Rattle.sh_core.specs.Refines.{OneKind, HeldStands, NotesAreTrue, Counted, GenerationsEnd, Finished, Armed, LeftEmpty, Linked, OwnPartsStand, ClassesAreKnown};
-ghost use Rattle.sh_core.specs.WrongRows.{crowds_at_once, both_remove, marks_and_stays, drops_and_forgets, knows_after_hold, keeps_generation, ignores_count, wraps_generation, never_retires, ties_first, ends_at_unwritten, leaves_link, follows_twice, never_rings, leaves_slots, leaves_bell, forgets_last_slot, gives_any_class};
+ghost use Rattle.sh_core.specs.Refines.{OneKind, HeldStands, NotesAreTrue, Counted, GenerationsEnd, Finished, Armed};
+ghost use Rattle.sh_core.specs.Refines.{LeftEmpty, Linked, OwnPartsStand, ClassesAreKnown};
+ghost use Rattle.sh_core.specs.WrongRows.{crowds_at_once, both_remove, marks_and_stays, drops_and_forgets};
+ghost use Rattle.sh_core.specs.WrongRows.{knows_after_hold, keeps_generation, ignores_count, wraps_generation};
+ghost use Rattle.sh_core.specs.WrongRows.{never_retires, ties_first, ends_at_unwritten, leaves_link, follows_twice};
+ghost use Rattle.sh_core.specs.WrongRows.{never_rings, leaves_slots, leaves_bell, forgets_last_slot, gives_any_class};
 
 /// The theorem is not one that any table of actions has: of each of these tables, which are the right one but for an
 /// action or two, some list of events breaks a clause.

@@ -51,7 +51,13 @@ impl<L: KeyLayout> Model for World<L> {
 
     ghost view = { λ w. record { shape = w.shape; words = w.words.items; parts = w.parts.items; log = w.log.items } };
 
-    ghost invariant = { λ w. FromEvents L.layout (record { shape = w.shape; words = w.words.items; parts = w.parts.items; log = w.log.items }) };
+    ghost invariant = { λ w. FromEvents L.layout (record {
+      shape = w.shape;
+      words = w.words.items;
+      parts =
+          w.parts.items;
+      log = w.log.items;
+    }) };
 }
 
 impl<L: KeyLayout> World<L> {
@@ -112,8 +118,8 @@ impl<L: KeyLayout> World<L> {
     }
 
     /// Does one event: by the row of its action, where there is such a pass and the action's condition holds of its own
-    /// part, and else nothing, which is `Skipped`. Only a step that is not skipped, and by which an entry joins the log or a
-    /// list of the pass's own part grows, may be refused, as `Memory`, and then nothing changed.
+    /// part, and else nothing, which is `Skipped`. Only a step that is not skipped, and by which an entry joins the log
+    /// or a list of the pass's own part grows, may be refused, as `Memory`, and then nothing changed.
     pub fn step(&mut self, event: &Event) -> Result<Outcome, Refusal>
         ensures ok { IfOk result (λ outcome. StepsWorld L.layout self.old event.now outcome self.new) }
         ensures err { OnErr result (self.new ≡ self.old) }
@@ -140,12 +146,13 @@ impl<L: KeyLayout> World<L> {
     }
 }
 
-/// The heap of this shape after these events, one after the other. Refused as `BadShape` where the shape does not fit the
-/// layout, and as `Memory` where memory is refused to the heap or to one of its steps.
+/// The heap of this shape after these events, one after the other. Refused as `BadShape` where the shape does not fit
+/// the layout, and as `Memory` where memory is refused to the heap or to one of its steps.
 pub fn run<L: KeyLayout>(alloc: Global, shape: Shape, events: &[Event]) -> Result<World<L>, Refusal>
     ensures runs { RunsWorld L.layout shape events.now result }
     // What holds of every run holds of this one.
-    ensures refines { OnOk result (Refines (plan_of L.layout shape) (run (plan_of L.layout shape) events.now) (lists_of (plan_of L.layout shape) events.now)) }
+    ensures refines { OnOk result (Refines (plan_of L.layout shape) (run (plan_of L.layout shape) events.now)
+        (lists_of (plan_of L.layout shape) events.now)) }
     ensures legal { IfOk result (λ world. Legal shape.passes L.layout.guard_max world.log) }
 {
     let mut world = World::<L>::new(alloc, shape)?;

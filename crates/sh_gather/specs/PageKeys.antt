@@ -1,6 +1,7 @@
--- The keys of a page, and what a history says of each: live is issued and not removed; marked is removed and held; retired is
--- removed, the last key of its slot, and not held.
-use Rattle.std.specs.Prelude.{◌≡◌, ◌<◌, ℕ, zero, suc, ◌==◌, nat_lt, Bool, false, not, ◌&&◌, List, [], ◌∷◌, ◌++◌, Some, None, is_some}
+-- The keys of a page, and what a history says of each: live is issued and not removed; marked is removed and held;
+-- retired is removed, the last key of its slot, and not held.
+use Rattle.std.specs.Prelude.{◌≡◌, ◌<◌, ℕ, zero, suc, ◌==◌, nat_lt, Bool, false, not, ◌&&◌, List, [], ◌∷◌, ◌++◌, Some}
+use Rattle.std.specs.Prelude.{None, is_some}
 use Rattle.sh_history.specs.declared.entry.Entry.{Entry}
 use Rattle.sh_history.specs.History.{value_of, is_removed, holds_on}
 use Rattle.sh_key.specs.Layout.{Layout, IsLayout}

@@ -1,5 +1,6 @@
 -- Laws of legal histories.
-use Rattle.std.proofs.Common.{◌≡◌, ◌≢◌, ℕ, ◌+◌, ◌<◌, true, false, List, [], ◌∷◌, ◌++◌, append_assoc, arith, rules, inl, inr, length, get_or, take, drop}
+use Rattle.std.proofs.Common.{◌≡◌, ◌≢◌, ℕ, ◌+◌, ◌<◌, true, false, List, [], ◌∷◌, ◌++◌, append_assoc, arith, rules, inl}
+use Rattle.std.proofs.Common.{inr, length, get_or, take, drop}
 use Rattle.std.specs.Cmp.Lexicographic.{pointwise}
 use lib.Dec.{eqb}
 use Rattle.std.proofs.lemmas.List.{append-nil, take_more, take-append-drop}
@@ -7,7 +8,8 @@ use Rattle.std.proofs.lemmas.Slice.Eq.{bytes_eq-Decides}
 use Rattle.sh_history.specs.declared.entry.Entry.{Entry}
 use Rattle.sh_history.specs.declared.entry.Entry.TheVariants.{Insert, Got, Gone, Crowded, Removed, Released}
 use Rattle.sh_history.specs.declared.checker.Why.{Why}
-use Rattle.sh_history.specs.declared.checker.Why.TheVariants.{NotNew, NotIssued, OtherValue, AfterRemoval, StillThere, NotCrowded, NotHeld}
+use Rattle.sh_history.specs.declared.checker.Why.TheVariants.{NotNew, NotIssued, OtherValue, AfterRemoval, StillThere}
+use Rattle.sh_history.specs.declared.checker.Why.TheVariants.{NotCrowded, NotHeld}
 use Rattle.sh_history.specs.History.{Allowed, LegalAfter, Legal}
 use Rattle.sh_history.specs.FirstFault.{IsWhy}
 
@@ -66,7 +68,8 @@ module _ (passes guard_max : ℕ) where
   pub fault_excludes : (xs : List Entry) (i : ℕ) (e : Entry) (why : Why) → i < length xs → e ≡ get_or xs i e
       → IsWhy passes guard_max (take i xs) e why → Legal passes guard_max xs → ⊥
   fault_excludes xs i e why lt is is_why legal =
-      let whole : Legal passes guard_max (take (i + 1) xs ++ drop (i + 1) xs) = rw (take-append-drop (i + 1) xs) legal in
+      let whole : Legal passes guard_max (take (i + 1) xs ++ drop (i + 1) xs) = rw (take-append-drop (i + 1) xs) legal
+      in
       let front = (legal_after_parts [] (take (i + 1) xs) (drop (i + 1) xs) whole).0 in
       let parts : Legal passes guard_max (take i xs ++ e ∷ []) = rw (is, ← take_more xs i e lt) front in
       why_excludes (take i xs) e why is_why (legal_after_parts [] (take i xs) (e ∷ []) parts).1.0

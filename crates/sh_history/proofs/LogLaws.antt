@@ -1,5 +1,6 @@
 -- Laws of histories and of logs that agree with them.
-use Rattle.std.proofs.Common.{◌≡◌, ℕ, ◌+◌, ◌<◌, ◌≤◌, Bool, true, false, List, [], ◌∷◌, ◌++◌, Option, Some, None, refl, sym, ◌∙◌, ap, subst, append_assoc, arith, rules, map, cond, zero-add, eq-eqb}
+use Rattle.std.proofs.Common.{◌≡◌, ℕ, ◌+◌, ◌<◌, ◌≤◌, Bool, true, false, List, [], ◌∷◌, ◌++◌, Option, Some, None, refl}
+use Rattle.std.proofs.Common.{sym, ◌∙◌, ap, subst, append_assoc, arith, rules, map, cond, zero-add, eq-eqb}
 use Rattle.std.specs.Prelude.{◌==◌, ◌&&◌, filter, count_by}
 use Rattle.std.specs.List.{AllZip}
 use Rattle.std.proofs.lemmas.List.{append-nil}
@@ -7,10 +8,12 @@ use Rattle.std.proofs.lemmas.List.Sums.{sum_by-append, sum_by-cons}
 use Rattle.sh_history.proofs.Laws.{legal_after_parts}
 use Rattle.sh_history.specs.declared.entry.Entry.{Entry}
 use Rattle.sh_history.specs.declared.entry.Entry.TheVariants.{Insert, Got, Released}
-use Rattle.sh_history.specs.History.{value_of, holds_by, is_got_by, is_release_by, got_count_by, released_count_by, Allowed, LegalAfter, Legal}
+use Rattle.sh_history.specs.History.{value_of, holds_by, is_got_by, is_release_by, got_count_by, released_count_by}
+use Rattle.sh_history.specs.History.{Allowed, LegalAfter, Legal}
 use Rattle.sh_history.specs.declared.log.LogEntry.{LogEntry}
 use Rattle.sh_history.specs.declared.log.LogEntry.TheVariants.{Known}
-use Rattle.sh_history.specs.Log.{Agrees, pass_of, entries_of, Stands, is_logged_got_by, is_logged_release_by, logged_holds_by, filled, HasValue, AllHaveValue}
+use Rattle.sh_history.specs.Log.{Agrees, pass_of, entries_of, Stands, is_logged_got_by, is_logged_release_by}
+use Rattle.sh_history.specs.Log.{logged_holds_by, filled, HasValue, AllHaveValue}
 
 cond_kept : (b : Bool) (v w : List ℕ) (x y : Option (List ℕ)) → (x ≡ Some w → y ≡ Some w)
     → cond b (Some v) x ≡ Some w → cond b (Some v) y ≡ Some w
@@ -35,14 +38,17 @@ pub value_of-append_none : (xs ys : List Entry) (key : ℕ) → value_of xs key 
     → value_of (xs ++ ys) key ≡ value_of ys key
 value_of-append_none [] ys key h = refl
 value_of-append_none (Insert p k v ∷ xs) ys key h =
-    cond_none (k == key) v (value_of xs key) (value_of (xs ++ ys) key) (value_of ys key) (value_of-append_none xs ys key) h
+    cond_none (k == key) v (value_of xs key) (value_of (xs ++ ys) key) (value_of ys key)
+    (value_of-append_none xs ys key) h
 value_of-append_none (_ ∷ xs) ys key h = value_of-append_none xs ys key h
 
 -- a count, entry by entry
-pub count_by-cons : {X : Type 0} (p : X → Bool) (x : X) (xs : List X) → count_by p (x ∷ xs) ≡ cond (p x) 1 0 + count_by p xs
+pub count_by-cons : {X : Type 0} (p : X → Bool) (x : X) (xs : List X) → count_by p (x ∷ xs)
+    ≡ cond (p x) 1 0 + count_by p xs
 count_by-cons p x xs = sum_by-cons (λ x. cond (p x) 1 0) x xs
 
-pub count_by-push : {X : Type 0} (p : X → Bool) (xs : List X) (x : X) → count_by p (xs ++ x ∷ []) ≡ count_by p xs + cond (p x) 1 0
+pub count_by-push : {X : Type 0} (p : X → Bool) (xs : List X) (x : X) → count_by p (xs ++ x ∷ [])
+    ≡ count_by p xs + cond (p x) 1 0
 count_by-push p xs x =
     sum_by-append (λ x. cond (p x) 1 0) xs (x ∷ []) ∙ ap (λ n. count_by p xs + n) (zero-add (cond (p x) 1 0))
 
@@ -55,15 +61,26 @@ pub known_stands : (passes guard_max : ℕ) (xs : List Entry) → Legal passes g
     → Stands passes guard_max (λ _. true) (map Known xs)
 known_stands passes guard_max xs legal = record { history = xs; legal = legal; agrees = agrees_with_itself xs }
 
-pub known_got : (xs : List Entry) (pass key : ℕ) → count_by (is_logged_got_by pass key) (map Known xs) ≡ got_count_by xs pass key
+pub known_got : (xs : List Entry) (pass key : ℕ) → count_by (is_logged_got_by pass key) (map Known xs)
+    ≡ got_count_by xs pass key
 known_got [] pass key = refl
 known_got (x ∷ xs) pass key =
-    rw (count_by-cons (is_logged_got_by pass key) (Known x) (map Known xs), count_by-cons (is_got_by pass key) x xs, known_got xs pass key) refl
+    rw (
+      count_by-cons (is_logged_got_by pass key) (Known x) (map Known xs),
+      count_by-cons (is_got_by pass key) x xs,
+      known_got xs pass key,
+    ) refl
 
-pub known_released : (xs : List Entry) (pass key : ℕ) → count_by (is_logged_release_by pass key) (map Known xs) ≡ released_count_by xs pass key
+pub known_released : (xs : List Entry) (pass key : ℕ) → count_by (is_logged_release_by pass key) (map Known xs)
+    ≡ released_count_by xs pass key
 known_released [] pass key = refl
 known_released (x ∷ xs) pass key =
-    rw (count_by-cons (is_logged_release_by pass key) (Known x) (map Known xs), count_by-cons (is_release_by pass key) x xs, known_released xs pass key) refl
+    rw (
+      count_by-cons (is_logged_release_by pass key) (Known x) (map Known xs),
+      count_by-cons (is_release_by pass key) x
+          xs,
+      known_released xs pass key,
+    ) refl
 
 pub known_holds : (xs : List Entry) (pass key : ℕ) → logged_holds_by (map Known xs) pass key ≡ holds_by xs pass key
 known_holds xs pass key = rw (known_got xs pass key, known_released xs pass key) refl
@@ -82,7 +99,8 @@ both p pass k key e = search rules
 module _ (passes guard_max : ℕ) where
   release_step : (pass key : ℕ) (before : List Entry) (x : Entry) → Allowed passes guard_max before x
       → released_count_by before pass key ≤ got_count_by before pass key
-      → released_count_by before pass key + cond (is_release_by pass key x) 1 0 ≤ got_count_by before pass key + cond (is_got_by pass key x) 1 0
+      → released_count_by before pass key + cond (is_release_by pass key x) 1 0 ≤ got_count_by before pass key + cond
+      (is_got_by pass key x) 1 0
   release_step pass key before (Released p k) allowed h =
       bump ((p == pass) && (k == key)) _ _ h (λ e.
       let same = both p pass k key e in
@@ -98,7 +116,8 @@ module _ (passes guard_max : ℕ) where
   releases_after pass key before [] legal h = rw append-nil h
   releases_after pass key before (x ∷ xs) legal h =
       let step : released_count_by (before ++ x ∷ []) pass key ≤ got_count_by (before ++ x ∷ []) pass key =
-      rw (count_by-push (is_release_by pass key) before x, count_by-push (is_got_by pass key) before x) (release_step pass key before x legal.0 h) in
+      rw (count_by-push (is_release_by pass key) before x, count_by-push (is_got_by pass key) before x)
+      (release_step pass key before x legal.0 h) in
       rw append_assoc at (releases_after pass key (before ++ x ∷ []) xs legal.1 step)
 
   pub releases_le : (pass key : ℕ) (xs : List Entry) → Legal passes guard_max xs
@@ -173,7 +192,8 @@ nothing_splits [] rest e is = cc
 nothing_splits (f ∷ fs) rest e is = cc
 
 filter_here : (b : Bool) (x e : Entry) (xs ys front rest : List Entry)
-    → ((front : List Entry) → ys ≡ front ++ e ∷ rest → (front' : List Entry) × (rest' : List Entry) × (xs ≡ front' ++ e ∷ rest'))
+    → ((front : List Entry) → ys ≡ front ++ e ∷ rest → (front' : List Entry) × (rest' : List Entry)
+    × (xs ≡ front' ++ e ∷ rest'))
     → cond b (x ∷ ys) ys ≡ front ++ e ∷ rest
     → (front' : List Entry) × (rest' : List Entry) × (x ∷ xs ≡ front' ++ e ∷ rest')
 filter_here true x e xs ys [] rest later is = ([], xs, let same : x ≡ e = cc in ap (λ z. z ∷ xs) same)

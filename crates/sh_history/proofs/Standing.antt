@@ -1,5 +1,6 @@
 -- What a history says of a key, by the entries that stand in it.
-use Rattle.std.proofs.Common.{◌≡◌, ℕ, Bool, true, false, cond, List, [], ◌∷◌, ◌++◌, Some, suc, refl, sym, ◌∙◌, ap, take, drop, drop-cons, arith, rules, inl, inr}
+use Rattle.std.proofs.Common.{◌≡◌, ℕ, Bool, true, false, cond, List, [], ◌∷◌, ◌++◌, Some, suc, refl, sym, ◌∙◌, ap, take}
+use Rattle.std.proofs.Common.{drop, drop-cons, arith, rules, inl, inr}
 use Rattle.std.specs.Prelude.{◌==◌, ◌||◌}
 use Rattle.std.specs.List.{Contains}
 use Rattle.std.proofs.lemmas.List.Elements.{Contains-append_left, Contains-append_right, Contains-push}
@@ -8,7 +9,8 @@ use Rattle.std.proofs.lemmas.List.Folds.{list_any_at}
 use Rattle.sh_history.specs.declared.entry.Entry.{Entry}
 use Rattle.sh_history.specs.declared.entry.Entry.TheVariants.{Insert, Got, Removed}
 use Rattle.sh_history.specs.History.{value_of, is_removed, is_removal_of}
-use Rattle.sh_history.specs.Laws.{IsIssuedWith, HasRemoval, ValueIsInserted, GetsGiveInserted, RemovedHasRemoval, ReleasesAreGot}
+use Rattle.sh_history.specs.Laws.{IsIssuedWith, HasRemoval, ValueIsInserted, GetsGiveInserted, RemovedHasRemoval}
+use Rattle.sh_history.specs.Laws.{ReleasesAreGot}
 use Rattle.sh_history.proofs.LogLaws.{value_of_insert, value_of_got, releases_le}
 
 first_stands : (x : Entry) (xs : List Entry) → Contains (x ∷ xs) x
@@ -18,11 +20,13 @@ later_stands : (x y : Entry) (xs : List Entry) → Contains xs y → Contains (x
 later_stands x y xs h = Contains-append_right (x ∷ []) xs y h
 
 -- where x stands, the list is what comes before it, x, and what comes after it
-pub splits_at : {X : Type 0} (xs : List X) (x : X) → Contains xs x → (front : List X) × (rest : List X) × (xs ≡ front ++ x ∷ rest)
+pub splits_at : {X : Type 0} (xs : List X) (x : X) → Contains xs x → (front : List X) × (rest : List X)
+    × (xs ≡ front ++ x ∷ rest)
 splits_at xs x (k, inside, is) =
     (take k xs, drop (suc k) xs, sym (take-append-drop k xs) ∙ rw (drop-cons xs k x inside, is) refl)
 
-issued_later : (x : Entry) (xs : List Entry) (key : ℕ) (value : List ℕ) → IsIssuedWith xs key value → IsIssuedWith (x ∷ xs) key value
+issued_later : (x : Entry) (xs : List Entry) (key : ℕ) (value : List ℕ) → IsIssuedWith xs key value
+    → IsIssuedWith (x ∷ xs) key value
 issued_later x xs key value h = (h.0, later_stands x (Insert h.0 key value) xs h.1)
 
 issued_here : (b : Bool) (p k key : ℕ) (v value : List ℕ) (xs : List Entry) → (k == key) ≡ b
@@ -35,7 +39,8 @@ issued_here true p k key v value xs test later is =
 issued_here false p k key v value xs test later is = issued_later (Insert p k v) xs key value (later is)
 
 -- a key with a value was inserted with it
-pub issued_with : (xs : List Entry) (key : ℕ) (value : List ℕ) → value_of xs key ≡ Some value → IsIssuedWith xs key value
+pub issued_with : (xs : List Entry) (key : ℕ) (value : List ℕ) → value_of xs key ≡ Some value
+    → IsIssuedWith xs key value
 issued_with [] key value is = absurd (let h : ⊥ = cc in h)
 issued_with (Insert p k v ∷ xs) key value is =
     issued_here (k == key) p k key v value xs refl (issued_with xs key value) is
@@ -57,7 +62,8 @@ gets_give_inserted passes guard_max history legal pass key value h =
 removed_later : (x : Entry) (xs : List Entry) (key : ℕ) → HasRemoval xs key → HasRemoval (x ∷ xs) key
 removed_later x xs key h = (h.0, later_stands x (Removed h.0 key) xs h.1)
 
-removed_here : (b : Bool) (p k key : ℕ) (xs : List Entry) → (k == key) ≡ b → (is_removed xs key ≡ true → HasRemoval xs key)
+removed_here : (b : Bool) (p k key : ℕ) (xs : List Entry) → (k == key) ≡ b
+    → (is_removed xs key ≡ true → HasRemoval xs key)
     → (b || is_removed xs key) ≡ true → HasRemoval (Removed p k ∷ xs) key
 removed_here true p k key xs test later is =
     let same : k ≡ key = search rules in (p, rw same (first_stands (Removed p key) xs))

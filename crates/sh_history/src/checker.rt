@@ -27,7 +27,8 @@ pub enum Why {
 
 // Why the entry may not follow these, of several reasons the first of the list above, or `None` where it may.
 fn why_not(before: &[Entry], entry: &Entry, passes: u32, guard_max: u32) -> Option<Why>
-    ensures { MatchOption result (Allowed passes guard_max before.now entry.now) (IsWhy passes guard_max before.now entry.now) }
+    ensures { MatchOption result (Allowed passes guard_max before.now entry.now)
+        (IsWhy passes guard_max before.now entry.now) }
 {
     match entry {
         Entry::Insert(_, key, _) => match value_of(before, *key) {

@@ -1,5 +1,6 @@
-//! Histories of a heap: what callers were answered, in order, and which such lists are legal, namely those of a map with
-//! counted holds whose keys are never used again. `check` decides it and names the first entry that is not allowed.
+//! Histories of a heap: what callers were answered, in order, and which such lists are legal, namely those of a map
+//! with counted holds whose keys are never used again. `check` decides it and names the first entry that is not
+//! allowed.
 #![tactic(auto)]
 
 pub mod checker;

@@ -1,7 +1,9 @@
 //! What a history says of a key.
 ghost use Rattle.std.specs.Prelude.{◌≡◌, ◌+◌, ◌<◌, ◌↔◌, IsTrue, count_by};
 ghost use Rattle.std.specs.Option.{option_copied};
-ghost use Rattle.sh_history.specs.History.{value_of, is_removed, present_value, got_count, released_count, got_count_by, released_count_by, holds_on, holds_by, hold_count, is_got_from, is_release_from};
+ghost use Rattle.sh_history.specs.History.{value_of, is_removed, present_value, got_count, released_count};
+ghost use Rattle.sh_history.specs.History.{got_count_by, released_count_by, holds_on, holds_by, hold_count};
+ghost use Rattle.sh_history.specs.History.{is_got_from, is_release_from};
 
 use crate::Entry;
 use sh_value::Value;

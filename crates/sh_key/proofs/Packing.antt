@@ -1,5 +1,6 @@
 -- The laws of packing, for every layout.
-use Rattle.std.proofs.Common.{◌≡◌, ℕ, ◌+◌, ◌*◌, ◌^◌, ◌<◌, ◌≤◌, ◌/◌, ◌∙◌, ap, sym, arith, refl, Some, None, true, false, Bool, cond, subst, le-leb, leb-true}
+use Rattle.std.proofs.Common.{◌≡◌, ℕ, ◌+◌, ◌*◌, ◌^◌, ◌<◌, ◌≤◌, ◌/◌, ◌∙◌, ap, sym, arith, refl, Some, None, true, false}
+use Rattle.std.proofs.Common.{Bool, cond, subst, le-leb, leb-true}
 use Rattle.std.specs.Prelude.{◌&&◌, nat_le, IsSome}
 use Rattle.std.proofs.lemmas.Nat.{mul-add-lt, div-mul-add, mod-mul-add, div-add-mod', pow-add, pow_pos, shr-shr}
 use Rattle.std.proofs.Math.Nat.{pow-le-pow_right, mod-lt, le-div_iff_mul-le, div-lt_iff_lt-mul}
@@ -13,7 +14,8 @@ pub digits-fit : (a b m n g s p t : ℕ) → m ≡ 2 ^ a → n ≡ 2 ^ b → a +
 digits-fit a b m n g s p t em en few hg hs hp ht =
     let e1 : g * m + s < m * 2 ^ 32 = mul-add-lt g m s (2 ^ 32) hg (rw em hs) in
     let e2 : (g * m + s) * n + p < n * (m * 2 ^ 32) = mul-add-lt (g * m + s) n p (m * 2 ^ 32) e1 (rw en hp) in
-    let e3 : m * n ≤ 2 ^ 26 = rw (em, en, ← pow-add 2 a b) (pow-le-pow_right (let two : 0 < 2 = omega arith in two) few) in
+    let e3 : m * n ≤ 2 ^ 26 = rw (em, en, ← pow-add 2 a b) (pow-le-pow_right (let two : 0 < 2 = omega arith in two) few)
+    in
     omega (arith, e2, e3)
 
 -- the digits of what parts in range are packed into are the parts
@@ -47,7 +49,12 @@ unpacked_only layout p k h = ap (unpacked layout) (sym h.is) ∙ unpacked-packed
 -- the digits of a number, packed again
 pub packed-digits_of : (layout : Layout) (k : ℕ) → packed layout (digits_of layout k) ≡ k
 packed-digits_of layout k =
-    rw (div-add-mod' (k / 64 / 2 ^ layout.page_bits) (2 ^ layout.shard_bits), div-add-mod' (k / 64) (2 ^ layout.page_bits), div-add-mod' k 64) refl
+    rw (
+      div-add-mod' (k / 64 / 2 ^ layout.page_bits) (2 ^ layout.shard_bits),
+      div-add-mod' (k / 64)
+          (2 ^ layout.page_bits),
+      div-add-mod' k 64,
+    ) refl
 
 -- digits with a good generation are in range
 pub digits_in_range : (layout : Layout) (k : ℕ) → 1 ≤ (digits_of layout k).generation

@@ -1,5 +1,6 @@
 -- Numbers that differ, and numbers below a bound.
-use Rattle.std.proofs.Common.{◌≡◌, ◌≢◌, ℕ, zero, suc, ◌+◌, ◌<◌, ◌≤◌, ◌⊎◌, ⊎_elim, inl, inr, Bool, true, false, eqb, ◌||◌, List, [], ◌∷◌, ◌++◌, length, refl, ap, ◌∙◌, sym, subst, arith, ne_eqb, eqb→eq}
+use Rattle.std.proofs.Common.{◌≡◌, ◌≢◌, ℕ, zero, suc, ◌+◌, ◌<◌, ◌≤◌, ◌⊎◌, ⊎_elim, inl, inr, Bool, true, false, eqb}
+use Rattle.std.proofs.Common.{◌||◌, List, [], ◌∷◌, ◌++◌, length, refl, ap, ◌∙◌, sym, subst, arith, ne_eqb, eqb→eq}
 use Rattle.std.proofs.lemmas.Bool.{false≢true}
 use Rattle.std.proofs.lemmas.Map.Steps.{length-le_from_distinct_below}
 use Rattle.std.specs.List.{IsDistinct, AllByRecursion, list_any}
@@ -84,7 +85,10 @@ Misses-upward x i (suc n) outside = (
 
 pub Distinct-upward : (i n : ℕ) → Distinct (upward i n)
 Distinct-upward i zero = tt
-Distinct-upward i (suc n) = (let before : i < suc i = omega arith in Misses-upward i (suc i) n (inl before), Distinct-upward (suc i) n)
+Distinct-upward i (suc n) = (
+  let before : i < suc i = omega arith in Misses-upward i (suc i) n (inl before),
+  Distinct-upward (suc i) n,
+)
 
 pub AllBelow-upward : (m i n : ℕ) → i + n ≤ m → AllBelow m (upward i n)
 AllBelow-upward m i zero fits = tt

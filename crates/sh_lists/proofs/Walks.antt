@@ -1,9 +1,12 @@
 -- Lists that are threaded through an array: what a write of one link does to them.
-use Rattle.std.proofs.Common.{◌≡◌, ◌≢◌, ℕ, zero, suc, ◌+◌, ◌-◌, ◌<◌, ◌≤◌, List, [], ◌∷◌, ◌++◌, Option, None, length, get_or, set, sym, refl, ap, ◌∙◌, subst, arith, append_assoc, append-nil, length-append, add-one}
+use Rattle.std.proofs.Common.{◌≡◌, ◌≢◌, ℕ, zero, suc, ◌+◌, ◌-◌, ◌<◌, ◌≤◌, List, [], ◌∷◌, ◌++◌, Option, None, length}
+use Rattle.std.proofs.Common.{get_or, set, sym, refl, ap, ◌∙◌, subst, arith, append_assoc, append-nil, length-append}
+use Rattle.std.proofs.Common.{add-one}
 use Rattle.std.proofs.lemmas.List.{get_or-set_same, get_or-set_other}
 use Rattle.sh_lists.specs.Numbers.{Misses, Distinct, AllBelow, upward}
 use Rattle.sh_lists.specs.Lists.{Lists, walk, LastFrom, EndsIn, Threaded}
-use Rattle.sh_lists.proofs.Distincts.{Misses-left, Misses-right, Distinct-left, Distinct-insert, AllBelow-insert, length-le_from_Distinct, Distinct-upward, AllBelow-upward}
+use Rattle.sh_lists.proofs.Distincts.{Misses-left, Misses-right, Distinct-left, Distinct-insert, AllBelow-insert}
+use Rattle.sh_lists.proofs.Distincts.{length-le_from_Distinct, Distinct-upward, AllBelow-upward}
 
 pub length-walk : (next : List ℕ) (i n : ℕ) → length (walk next i n) ≡ n
 length-walk next i zero = refl
@@ -13,15 +16,18 @@ length-walk next i (suc n) = ap suc (length-walk next (get_or next i 0) n)
 pub walk-set_other : (next : List ℕ) (i n k v : ℕ) → Misses k (walk next i n) → walk (set next k v) i n ≡ walk next i n
 walk-set_other next i zero k v misses = refl
 walk-set_other next i (suc n) k v misses =
-    let here : get_or (set next k v) i 0 ≡ get_or next i 0 = get_or-set_other next k i v 0 (λ same. misses.0 (sym same)) in
-    ap (λ j. i ∷ walk (set next k v) j n) here ∙ ap (λ xs. i ∷ xs) (walk-set_other next (get_or next i 0) n k v misses.1)
+    let here : get_or (set next k v) i 0 ≡ get_or next i 0 = get_or-set_other next k i v 0 (λ same. misses.0 (sym same))
+    in
+    ap (λ j. i ∷ walk (set next k v) j n) here ∙ ap (λ xs. i ∷ xs)
+    (walk-set_other next (get_or next i 0) n k v misses.1)
 
 -- one more number in front
 walk-front
     : (next : List ℕ) (i n k : ℕ)
     → k < length next → Misses k (walk next i n) → walk (set next k i) k (suc n) ≡ k ∷ walk next i n
 walk-front next i n k inside misses =
-    ap (λ j. k ∷ walk (set next k i) j n) (get_or-set_same next k i 0 inside) ∙ ap (λ xs. k ∷ xs) (walk-set_other next i n k i misses)
+    ap (λ j. k ∷ walk (set next k i) j n) (get_or-set_same next k i 0 inside)
+    ∙ ap (λ xs. k ∷ xs) (walk-set_other next i n k i misses)
 
 differs_from_last : (y : ℕ) (ys : List ℕ) (e x : ℕ) → LastFrom y ys e → Misses x (y ∷ ys) → x ≢ e
 differs_from_last y [] e x last misses same = misses.0 (same ∙ sym last)
@@ -75,7 +81,8 @@ shown next free_front free_count local_front local_count cursor =
     record { free = walk next free_front free_count; local = walk next local_front local_count; cursor = cursor }
 
 -- the new links hold these lists, and keep what is true of them
-pub record Leaves (next : List ℕ) (free_front free_count free_end local_front local_count local_end : ℕ) (cursor : Option ℕ) (lists : Lists) : Type 0 where
+pub record Leaves (next : List ℕ) (free_front free_count free_end local_front local_count local_end : ℕ)
+    (cursor : Option ℕ) (lists : Lists) : Type 0 where
   pub threaded : Threaded (walk next free_front free_count) free_end (walk next local_front local_count) local_end
   pub shows : shown next free_front free_count local_front local_count cursor ≡ lists
 
@@ -123,7 +130,13 @@ popped_suc next ff n fe local le m is h =
     × Misses ff (walk next (get_or next ff 0) m ++ local) × (ff < 48) in
     let rest = walk next (get_or next ff 0) n in
     let at : P n = (
-      record { distinct = h.distinct.1; small = h.small.1; free_ends = EndsIn-rest ff rest fe h.free_ends; local_ends = h.local_ends },
+      record {
+        distinct = h.distinct.1;
+        small = h.small.1;
+        free_ends = EndsIn-rest ff rest fe h.free_ends;
+        local_ends =
+            h.local_ends;
+      },
       refl,
       h.distinct.0,
       h.small.0,
@@ -192,7 +205,8 @@ put_behind next ff (suc n) fe lf lc le x cursor size some h small apart =
     let local = walk next lf lc in
     let inside : fe < length next = subst (λ k. fe < k) (sym size) (end_is_small next ff (suc n) fe local le some h) in
     leaves (set next fe x) ff (suc n + 1) x lf lc le cursor (free ++ x ∷ []) local
-    (ap (walk (set next fe x) ff) (add-one (suc n)) ∙ walk-behind next ff n fe x inside h.free_ends (Distinct-left free local h.distinct))
+    (ap (walk (set next fe x) ff) (add-one (suc n)) ∙ walk-behind next ff n fe x inside h.free_ends
+    (Distinct-left free local h.distinct))
     (walk-set_other next lf lc fe x (Misses-last ff (walk next (get_or next ff 0) n) local fe h.free_ends h.distinct))
     (behind free local fe le x h small apart)
 
@@ -206,7 +220,8 @@ pub pushes_first
     → Leaves next ff fc fe x 1 x cursor (record lists { local = x ∷ lists.local })
 pushes_first next ff fc fe lf lc le x cursor lists is none h small apart =
     let free = walk next ff fc in
-    let P : Lists → Type 0 = λ v. Misses x (v.free ++ v.local) → Leaves next ff fc fe x 1 x cursor (record v { local = x ∷ v.local }) in
+    let P : Lists → Type 0 = λ v. Misses x (v.free ++ v.local) → Leaves next ff fc fe x 1 x cursor
+    (record v { local = x ∷ v.local }) in
     let Q : ℕ → Type 0 = λ n. Threaded free fe (walk next lf n) le → P (shown next ff fc lf n cursor) in
     let at : Q 0 = λ h apart. leaves next ff fc fe x 1 x cursor free (x ∷ []) refl refl (record {
       distinct = Distinct-insert x free [] h.distinct apart;
@@ -235,9 +250,11 @@ pub adds_first
     → Leaves next x 1 x lf lc le cursor (record lists { free = lists.free ++ x ∷ [] })
 adds_first next ff fc fe lf lc le x cursor lists is none h small apart =
     let local = walk next lf lc in
-    let P : Lists → Type 0 = λ v. Misses x (v.free ++ v.local) → Leaves next x 1 x lf lc le cursor (record v { free = v.free ++ x ∷ [] }) in
+    let P : Lists → Type 0 = λ v. Misses x (v.free ++ v.local) → Leaves next x 1 x lf lc le cursor
+    (record v { free = v.free ++ x ∷ [] }) in
     let Q : ℕ → Type 0 = λ n. Threaded (walk next ff n) fe local le → P (shown next ff n lf lc cursor) in
-    let at : Q 0 = λ h apart. leaves next x 1 x lf lc le cursor (x ∷ []) local refl refl (behind [] local fe le x h small apart) in
+    let at : Q 0 = λ h apart. leaves next x 1 x lf lc le cursor (x ∷ []) local refl refl
+    (behind [] local fe le x h small apart) in
     subst P is (subst Q (sym none) at h) apart
 
 -- `free` gets one more slot behind
@@ -269,7 +286,8 @@ walk-upward next i zero links = refl
 walk-upward next i (suc zero) links = refl
 walk-upward next i (suc (suc n)) links =
     let here : get_or next i 0 ≡ suc i = links i (omega arith) ∙ add-one i in
-    ap (λ j. i ∷ walk next j (suc n)) here ∙ ap (λ xs. i ∷ xs) (walk-upward next (suc i) (suc n) (λ k below. links k (omega arith)))
+    ap (λ j. i ∷ walk next j (suc n)) here ∙ ap (λ xs. i ∷ xs)
+    (walk-upward next (suc i) (suc n) (λ k below. links k (omega arith)))
 
 LastFrom-upward : (i n : ℕ) → LastFrom i (upward (suc i) n) (i + n)
 LastFrom-upward i zero = omega arith

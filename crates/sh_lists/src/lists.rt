@@ -22,11 +22,12 @@ const NO_SLOTS: Thread = Thread {
     count: 0,
 };
 
-/// The free slots of a page that its owner keeps: `free`, from which allocation takes, and `local`, the owner's own frees.
+/// The free slots of a page that its owner keeps: `free`, from which allocation takes, and `local`, the owner's own
+/// frees.
 ///
-/// A slot is a number below 48. It stands in one of the lists at most, and there once. Beside them stands the cursor: the
-/// slot at which the owner goes on reading the page's stack. No call takes memory, and each but `full` takes the same few
-/// steps whatever the lists hold.
+/// A slot is a number below 48. It stands in one of the lists at most, and there once. Beside them stands the cursor:
+/// the slot at which the owner goes on reading the page's stack. No call takes memory, and each but `full` takes the
+/// same few steps whatever the lists hold.
 #[derive(Drop)]
 pub struct PageLists {
     // The slot that follows in the same list.
@@ -42,9 +43,15 @@ impl Model for PageLists {
 
     ghost Value = { Lists };
 
-    ghost view = { λ p. record { free = walk p.next p.free.front p.free.count; local = walk p.next p.local.front p.local.count; cursor = p.cursor } };
+    ghost view = { λ p. record {
+      free = walk p.next p.free.front p.free.count;
+      local = walk p.next p.local.front
+          p.local.count;
+      cursor = p.cursor;
+    } };
 
-    ghost invariant = { λ p. Threaded (walk p.next p.free.front p.free.count) p.free.end (walk p.next p.local.front p.local.count) p.local.end × IfSome p.cursor (λ slot. slot < 48) };
+    ghost invariant = { λ p. Threaded (walk p.next p.free.front p.free.count) p.free.end
+        (walk p.next p.local.front p.local.count) p.local.end × IfSome p.cursor (λ slot. slot < 48) };
 }
 
 impl PageLists {
@@ -123,8 +130,8 @@ impl PageLists {
         Some(slot as u32)
     }
 
-    /// Takes the next slot to use: the front of `free`, or where that is empty, of `local`, which then becomes `free`. None,
-    /// with nothing changed, where both are empty.
+    /// Takes the next slot to use: the front of `free`, or where that is empty, of `local`, which then becomes `free`.
+    /// None, with nothing changed, where both are empty.
     pub fn next_slot(&mut self) -> Option<u32>
         ensures front { IfSome result (λ slot. refilled self.old ≡ record self.new { free = slot ∷ self.new.free }) }
         ensures apart { IfSome result (λ slot. Misses slot (self.new.free ++ self.new.local)) }

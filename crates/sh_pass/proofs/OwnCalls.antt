@@ -1,5 +1,6 @@
 -- What a call leaves of what an owner knows.
-use Rattle.std.proofs.Common.{◌≡◌, ◌≢◌, ℕ, zero, suc, ◌+◌, ◌*◌, ◌/◌, ◌%◌, ◌<◌, ◌==◌, ◌&&◌, ◌||◌, Bool, true, false, cond, Option, Some, None, List, [], ◌∷◌, ◌++◌, refl, ap, ◌∙◌, sym, subst, arith, mod-lt}
+use Rattle.std.proofs.Common.{◌≡◌, ◌≢◌, ℕ, zero, suc, ◌+◌, ◌*◌, ◌/◌, ◌%◌, ◌<◌, ◌==◌, ◌&&◌, ◌||◌, Bool, true, false}
+use Rattle.std.proofs.Common.{cond, Option, Some, None, List, [], ◌∷◌, ◌++◌, refl, ap, ◌∙◌, sym, subst, arith, mod-lt}
 use Rattle.std.proofs.lemmas.Bool.{false≢true}
 use Rattle.sh_history.specs.declared.log.LogEntry.{LogEntry}
 use Rattle.sh_key.specs.Layout.{Layout}
@@ -13,7 +14,8 @@ use Rattle.sh_step.specs.declared.action.PageName.{PageName}
 use Rattle.sh_step.specs.declared.body.Body.{Body}
 use Rattle.sh_step.specs.declared.footstep.Footstep.{Footstep}
 use Rattle.sh_step.specs.Collections.{has, noted, without}
-use Rattle.sh_step.specs.Footsteps.{takes_page, takes_bell, meets_page, meets_bell, arms_page, at_head, at_bell, at_link, at_belled, did_find}
+use Rattle.sh_step.specs.Footsteps.{takes_page, takes_bell, meets_page, meets_bell, arms_page, at_head, at_bell}
+use Rattle.sh_step.specs.Footsteps.{at_link, at_belled, did_find}
 use Rattle.sh_step.specs.Kinds.{kind_of_action}
 use Rattle.sh_step.specs.Plans.{Plan, plan_of, home, local, heap_pages}
 use Rattle.sh_step.proofs.ConditionLaws.{owns_is}
@@ -21,29 +23,35 @@ use Rattle.sh_table.specs.declared.view.View.{View}
 use Rattle.sh_table.specs.Tales.{OwnerStands, ViewStands}
 use Rattle.sh_pass.specs.Growing.{Grows, SameTale, SameOwn, CallsAlone, IsOfShard, is_of_call, came, with_slot}
 use Rattle.sh_pass.specs.Passes.{Caller}
-use Rattle.sh_pass.specs.Owners.{CallLeaves, SlotCame, MayTouch, OnPage, SamePages, SameBells, SeenPage, own_body, seen_page, seen_bell, heap_page, page_with}
+use Rattle.sh_pass.specs.Owners.{CallLeaves, SlotCame, MayTouch, OnPage, SamePages, SameBells, SeenPage, own_body}
+use Rattle.sh_pass.specs.Owners.{seen_page, seen_bell, heap_page, page_with}
 use Rattle.sh_pass.proofs.OwnNotes.{self, one_more, one_more_else}
 
 -- ---- no step of a call takes from a page or from a bell, follows or arms
 
-of_takes : (x : Action) (b : Bool) → is_of_call (kind_of_action x) ≡ true → (elim x as (λ _. Bool) [ action.Take y ↦ b | action.Arm y ↦ b | _ ↦ false ]) ≡ false
+of_takes : (x : Action) (b : Bool) → is_of_call (kind_of_action x) ≡ true
+    → (elim x as (λ _. Bool) [ action.Take y ↦ b | action.Arm y ↦ b | _ ↦ false ]) ≡ false
 of_takes (action.Take y) b e = absurd (false≢true e)
 of_takes (action.Arm y) b e = absurd (false≢true e)
 of_takes _ b e = refl
 
-of_follow : (x : Action) (b : Bool) → is_of_call (kind_of_action x) ≡ true → (elim x as (λ _. Bool) [ action.Follow y ↦ b | _ ↦ false ]) ≡ false
+of_follow : (x : Action) (b : Bool) → is_of_call (kind_of_action x) ≡ true
+    → (elim x as (λ _. Bool) [ action.Follow y ↦ b | _ ↦ false ]) ≡ false
 of_follow (action.Follow y) b e = absurd (false≢true e)
 of_follow _ b e = refl
 
-of_take_bell : (x : Action) (b : Bool) → is_of_call (kind_of_action x) ≡ true → (elim x as (λ _. Bool) [ action.TakeBell ↦ b | _ ↦ false ]) ≡ false
+of_take_bell : (x : Action) (b : Bool) → is_of_call (kind_of_action x) ≡ true
+    → (elim x as (λ _. Bool) [ action.TakeBell ↦ b | _ ↦ false ]) ≡ false
 of_take_bell action.TakeBell b e = absurd (false≢true e)
 of_take_bell _ b e = refl
 
-of_follow_bell : (x : Action) (b : Bool) → is_of_call (kind_of_action x) ≡ true → (elim x as (λ _. Bool) [ action.FollowBell ↦ b | _ ↦ false ]) ≡ false
+of_follow_bell : (x : Action) (b : Bool) → is_of_call (kind_of_action x) ≡ true
+    → (elim x as (λ _. Bool) [ action.FollowBell ↦ b | _ ↦ false ]) ≡ false
 of_follow_bell action.FollowBell b e = absurd (false≢true e)
 of_follow_bell _ b e = refl
 
-of_arm : (x : Action) → is_of_call (kind_of_action x) ≡ true → (elim x as (λ _. Bool) [ action.Arm y ↦ true | _ ↦ false ]) ≡ false
+of_arm : (x : Action) → is_of_call (kind_of_action x) ≡ true →
+    (elim x as (λ _. Bool) [ action.Arm y ↦ true | _ ↦ false ]) ≡ false
 of_arm (action.Arm y) e = absurd (false≢true e)
 of_arm _ e = refl
 
@@ -56,7 +64,8 @@ no_follow q t e = of_follow t.action (at_link q t.place && did_find 0 t) e
 no_take_bell : (n : ℕ) (t : Footstep) → is_of_call (kind_of_action (t.action)) ≡ true → takes_bell n t ≡ false
 no_take_bell n t e = of_take_bell t.action (at_bell n t.place) e
 
-no_follow_bell : (plan : Plan) (n : ℕ) (t : Footstep) → is_of_call (kind_of_action (t.action)) ≡ true → meets_bell plan n t ≡ false
+no_follow_bell : (plan : Plan) (n : ℕ) (t : Footstep) → is_of_call (kind_of_action (t.action)) ≡ true
+    → meets_bell plan n t ≡ false
 no_follow_bell plan n t e = of_follow_bell t.action (at_belled plan n t.place && did_find 0 t) e
 
 no_arm : (t : Footstep) → is_of_call (kind_of_action (t.action)) ≡ true → arms_page t ≡ false
@@ -95,10 +104,13 @@ module _ (layout : Layout) (v w : Caller) (same : SameTale v.view w.view) (alone
   bells cursor n i = record {
     cursor = cursor i;
     takes = alone (takes_bell n) (no_take_bell n) i;
-    met = (ap (λ (s : Numbers). Rattle.sh_step.specs.Footsteps.bell_met (plan_of layout s) n w.view.own.trail) same.shape ∙ alone (meets_bell plan n) (no_follow_bell plan n)) i;
+    met = (ap (λ (s : Numbers). Rattle.sh_step.specs.Footsteps.bell_met (plan_of layout s) n w.view.own.trail)
+        same.shape ∙ alone (meets_bell plan n) (no_follow_bell plan n)) i;
   }
 
-  seen : (q : ℕ) (g : SeenPage) → ((s : ℕ) → has (same_spot (record { page = q; slot = s })) (own_body w).mine ≡ g.mine s) → noted q (own_body w).cursors ≡ g.cursor → has (λ y. y == q) (own_body w).armed ≡ g.armed → noted q (own_body w).classes ≡ g.class
+  seen : (q : ℕ) (g : SeenPage) → ((s : ℕ) → has (same_spot (record { page = q; slot = s })) (own_body w).mine
+      ≡ g.mine s) → noted q (own_body w).cursors ≡ g.cursor → has (λ y. y == q) (own_body w).armed ≡ g.armed
+      → noted q (own_body w).classes ≡ g.class
       → (seen_page v q).takes ≡ g.takes → (seen_page v q).met ≡ g.met → seen_page w q ≡ g
   seen q g mine cursor armed class takes met i = record {
     mine = λ s. mine s i;
@@ -109,14 +121,18 @@ module _ (layout : Layout) (v w : Caller) (same : SameTale v.view w.view) (alone
     met = (alone (meets_page q) (no_follow q) ∙ met) i;
   }
 
-  slot : (r : Option Spot) → SameOwn (with_slot (own_body v) r) (own_body w) → (own_body v).hand ≡ Idle → IsOfShard plan (own_body v) r → OwnerStands plan (own_body w) → SlotCame r v w
-  slot None own idle home stands = λ q. seen q (seen_page v q) (λ s. ap (has (same_spot (record { page = q; slot = s }))) own.mine) (ap (noted q) own.cursors) (ap (has (λ y. y == q)) own.armed) (ap (noted q) own.classes) refl refl
+  slot : (r : Option Spot) → SameOwn (with_slot (own_body v) r) (own_body w) → (own_body v).hand ≡ Idle
+      → IsOfShard plan (own_body v) r → OwnerStands plan (own_body w) → SlotCame r v w
+  slot None own idle home stands = λ q. seen q (seen_page v q)
+      (λ s. ap (has (same_spot (record { page = q; slot = s }))) own.mine) (ap (noted q) own.cursors)
+      (ap (has (λ y. y == q)) own.armed) (ap (noted q) own.classes) refl refl
   slot (Some x) own idle at stands =
       let p : Body = own_body v in
       let mine : (own_body w).mine ≡ x ∷ p.mine = own.mine in
       let here : same_spot x x ≡ true = rw (self x.page, self x.slot) refl in
       let m = stands.mine x (ap (has (same_spot x)) mine ∙ has_first x p.mine here) in
-      let before : has (same_spot x) p.mine ≡ false = ap (has (same_spot x)) (sym (without_first x p.mine here)) ∙ (ap (λ ys. has (same_spot x) (without (same_spot x) ys)) (sym mine) ∙ stands.mine_once x) in
+      let before : has (same_spot x) p.mine ≡ false = ap (has (same_spot x)) (sym (without_first x p.mine here))
+      ∙ (ap (λ ys. has (same_spot x) (without (same_spot x) ys)) (sym mine) ∙ stands.mine_once x) in
       let some : 0 < plan.pages = some_pages plan.shards plan.pages x.page m.1 in
       let y : PageName = record { shard = home plan x.page; page = local plan x.page } in (
         y,
@@ -125,21 +141,32 @@ module _ (layout : Layout) (v w : Caller) (same : SameTale v.view w.view) (alone
         m.2,
         before,
         record {
-          here = seen x.page (page_with (seen_page v x.page) x.slot) (λ s. ap (has (same_spot (record { page = x.page; slot = s }))) mine ∙ one_more x.page x.slot s p.mine) (ap (noted x.page) own.cursors) (ap (has (λ z. z == x.page)) own.armed) (ap (noted x.page) own.classes) refl refl;
-          others = λ q ne. seen q (seen_page v q) (λ s. ap (has (same_spot (record { page = q; slot = s }))) mine ∙ one_more_else x.page q x.slot s p.mine ne) (ap (noted q) own.cursors) (ap (has (λ z. z == q)) own.armed) (ap (noted q) own.classes) refl refl;
+          here = seen x.page (page_with (seen_page v x.page) x.slot)
+              (λ s. ap (has (same_spot (record { page = x.page; slot = s }))) mine ∙ one_more x.page x.slot s p.mine)
+              (ap (noted x.page) own.cursors) (ap (has (λ z. z == x.page)) own.armed) (ap (noted x.page) own.classes)
+              refl refl;
+          others = λ q ne. seen q (seen_page v q) (λ s. ap (has (same_spot (record { page = q; slot = s }))) mine
+              ∙ one_more_else x.page q x.slot s p.mine ne) (ap (noted q) own.cursors) (ap (has (λ z. z == q)) own.armed)
+              (ap (noted q) own.classes) refl refl;
         },
       )
 
-  pub leaves : (r : Option Spot) → SameOwn (with_slot (own_body v) r) (own_body w) → (own_body v).hand ≡ Idle → (own_body w).hand ≡ Idle → IsOfShard plan (own_body v) r → ViewStands layout w.view → CallLeaves layout r v w
+  pub leaves : (r : Option Spot) → SameOwn (with_slot (own_body v) r) (own_body w) → (own_body v).hand ≡ Idle
+      → (own_body w).hand ≡ Idle → IsOfShard plan (own_body v) r → ViewStands layout w.view → CallLeaves layout r v w
   leaves r own idle over at stands = record {
     idle = over;
     same = same;
     owned = own.owned;
     bells = bells own.bell;
     arm = alone arms_page no_arm;
-    slot = slot r own idle at (subst (λ (s : Numbers). OwnerStands (plan_of layout s) (own_body w)) same.shape stands.owner);
+    slot = slot r own idle at (subst (λ (s : Numbers). OwnerStands (plan_of layout s) (own_body w)) same.shape
+        stands.owner);
   }
 
 -- steps that left this body
-pub leaves_grown : {b : Body} {es : List LogEntry} {most : ℕ} (layout : Layout) (v w : Caller) (r : Option Spot) → Grows b es most v.view w.view → SameOwn (with_slot (own_body v) r) b → b.hand ≡ Idle → (own_body v).hand ≡ Idle → IsOfShard (plan_of layout v.view.shape) (own_body v) r → ViewStands layout w.view → CallLeaves layout r v w
-leaves_grown layout v w r g own over idle at stands = leaves layout v w g.same g.calls r (subst (SameOwn (with_slot (own_body v) r)) (sym g.body) own) idle (ap (λ (p : Body). p.hand) g.body ∙ over) at stands
+pub leaves_grown : {b : Body} {es : List LogEntry} {most : ℕ} (layout : Layout) (v w : Caller) (r : Option Spot)
+    → Grows b es most v.view w.view → SameOwn (with_slot (own_body v) r) b → b.hand ≡ Idle → (own_body v).hand ≡ Idle
+    → IsOfShard (plan_of layout v.view.shape) (own_body v) r → ViewStands layout w.view → CallLeaves layout r v w
+leaves_grown layout v w r g own over idle at stands = leaves layout v w g.same g.calls r
+    (subst (SameOwn (with_slot (own_body v) r)) (sym g.body) own) idle (ap (λ (p : Body). p.hand) g.body ∙ over) at
+    stands

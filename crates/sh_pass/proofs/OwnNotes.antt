@@ -1,5 +1,6 @@
 -- What is noted of pages and slots after a change of the lists.
-use Rattle.std.proofs.Common.{◌≡◌, ◌≢◌, ℕ, zero, suc, ◌+◌, ◌-◌, ◌==◌, ◌&&◌, ◌||◌, Bool, true, false, cond, Some, None, List, [], ◌∷◌, ◌++◌, refl, ap, ◌∙◌, sym, subst, arith}
+use Rattle.std.proofs.Common.{◌≡◌, ◌≢◌, ℕ, zero, suc, ◌+◌, ◌-◌, ◌==◌, ◌&&◌, ◌||◌, Bool, true, false, cond, Some, None}
+use Rattle.std.proofs.Common.{List, [], ◌∷◌, ◌++◌, refl, ap, ◌∙◌, sym, subst, arith}
 use Rattle.std.specs.Prelude.{nat_lt, nat_le, not}
 use Rattle.std.proofs.lemmas.Bool.Decides.{nat_tests}
 use Rattle.sh_slots.specs.declared.hand.Spot.{Spot}
@@ -13,7 +14,8 @@ self n = grind (arith, nat_tests)
 pub unlike : (m n : ℕ) → m ≢ n → (m == n) ≡ false
 unlike m n h = grind (arith, nat_tests)
 
-pub noted_point : (k q n : ℕ) (xs : List (ℕ × ℕ)) → noted q xs ≡ None → noted q (point k q n xs) ≡ cond (nat_lt n k) None (Some (n - k))
+pub noted_point : (k q n : ℕ) (xs : List (ℕ × ℕ)) → noted q xs ≡ None → noted q (point k q n xs)
+    ≡ cond (nat_lt n k) None (Some (n - k))
 unfolding noted
 noted_point k q n xs e = go (nat_lt n k) where
   go : (b : Bool) → noted q (cond b xs ((q, n - k) ∷ xs)) ≡ cond b None (Some (n - k))
@@ -31,11 +33,15 @@ pub noted_unpoint_else : (q r : ℕ) (xs : List (ℕ × ℕ)) → r ≢ q → no
 unfolding noted without
 noted_unpoint_else q r [] ne = refl
 noted_unpoint_else q r (x ∷ xs) ne = go (x.0 == q) refl (noted_unpoint_else q r xs ne) where
-  go : (b : Bool) → (x.0 == q) ≡ b → noted r (unpoint q xs) ≡ noted r xs → noted r (cond b xs (x ∷ unpoint q xs)) ≡ cond (x.0 == r) (Some x.1) (noted r xs)
-  go true e rest = let f : (x.0 == r) ≡ false = unlike x.0 r (λ k. ne (let z : x.0 ≡ q = grind (arith, nat_tests) in sym k ∙ z)) in ap (λ b. cond b (Some x.1) (noted r xs)) (sym f)
+  go : (b : Bool) → (x.0 == q) ≡ b → noted r (unpoint q xs) ≡ noted r xs → noted r (cond b xs (x ∷ unpoint q xs))
+      ≡ cond (x.0 == r) (Some x.1) (noted r xs)
+  go true e rest = let f : (x.0 == r) ≡ false = unlike x.0 r
+      (λ k. ne (let z : x.0 ≡ q = grind (arith, nat_tests) in sym k ∙ z))
+      in ap (λ b. cond b (Some x.1) (noted r xs)) (sym f)
   go false e rest = ap (λ o. cond (x.0 == r) (Some x.1) o) rest
 
-pub has_without_else : {A : Type 0} (f g : A → Bool) (xs : List A) → ((x : A) → f x ≡ true → g x ≡ false) → has g (without f xs) ≡ has g xs
+pub has_without_else : {A : Type 0} (f g : A → Bool) (xs : List A) → ((x : A) → f x ≡ true → g x ≡ false)
+    → has g (without f xs) ≡ has g xs
 unfolding has without
 has_without_else f g [] h = refl
 has_without_else f g (x ∷ xs) h = go (f x) refl (has_without_else f g xs h) where
@@ -43,12 +49,15 @@ has_without_else f g (x ∷ xs) h = go (f x) refl (has_without_else f g xs h) wh
   go true e rest = ap (λ b. b || has g xs) (sym (h x e))
   go false e rest = ap (λ b. g x || b) rest
 
-pub disarmed : (q : ℕ) (xs : List ℕ) (b : Bool) → has (λ x. x == q) (without (λ x. x == q) xs) ≡ false → has (λ x. x == q) (cond b (without (λ x. x == q) xs) xs) ≡ cond b false (has (λ x. x == q) xs)
+pub disarmed : (q : ℕ) (xs : List ℕ) (b : Bool) → has (λ x. x == q) (without (λ x. x == q) xs) ≡ false
+    → has (λ x. x == q) (cond b (without (λ x. x == q) xs) xs) ≡ cond b false (has (λ x. x == q) xs)
 disarmed q xs true e = e
 disarmed q xs false e = refl
 
-pub disarmed_else : (q r : ℕ) (xs : List ℕ) (b : Bool) → r ≢ q → has (λ x. x == r) (cond b (without (λ x. x == q) xs) xs) ≡ has (λ x. x == r) xs
-disarmed_else q r xs true ne = has_without_else (λ x. x == q) (λ x. x == r) xs (λ x e. unlike x r (λ k. ne (let z : x ≡ q = grind (arith, nat_tests) in sym k ∙ z)))
+pub disarmed_else : (q r : ℕ) (xs : List ℕ) (b : Bool) → r ≢ q → has (λ x. x == r)
+    (cond b (without (λ x. x == q) xs) xs) ≡ has (λ x. x == r) xs
+disarmed_else q r xs true ne = has_without_else (λ x. x == q) (λ x. x == r) xs
+    (λ x e. unlike x r (λ k. ne (let z : x ≡ q = grind (arith, nat_tests) in sym k ∙ z)))
 disarmed_else q r xs false ne = refl
 
 pub armed_else : (q r : ℕ) (xs : List ℕ) → r ≢ q → has (λ x. x == r) (q ∷ xs) ≡ has (λ x. x == r) xs
@@ -62,11 +71,13 @@ armed_now q xs = ap (λ b. b || has (λ x. x == q) xs) (self q)
 abbrev at : ℕ → ℕ → Spot
 at q s = record { page = q; slot = s }
 
-pub one_more : (q s t : ℕ) (xs : List Spot) → has (same_spot (at q t)) (at q s ∷ xs) ≡ ((t == s) || has (same_spot (at q t)) xs)
+pub one_more : (q s t : ℕ) (xs : List Spot) → has (same_spot (at q t)) (at q s ∷ xs)
+    ≡ ((t == s) || has (same_spot (at q t)) xs)
 unfolding has
 one_more q s t xs = ap (λ b. (b && (t == s)) || has (same_spot (at q t)) xs) (self q)
 
-pub one_more_else : (q r s t : ℕ) (xs : List Spot) → r ≢ q → has (same_spot (at r t)) (at q s ∷ xs) ≡ has (same_spot (at r t)) xs
+pub one_more_else : (q r s t : ℕ) (xs : List Spot) → r ≢ q → has (same_spot (at r t)) (at q s ∷ xs)
+    ≡ has (same_spot (at r t)) xs
 unfolding has
 one_more_else q r s t xs ne = ap (λ b. (b && (t == s)) || has (same_spot (at r t)) xs) (unlike r q ne)
 
@@ -75,13 +86,15 @@ both_true true true e = (refl, refl)
 both_true true false e = absurd (let z : ⊥ = cc in z)
 both_true false b e = absurd (let z : ⊥ = cc in z)
 
-pub one_less_else : (q r s t : ℕ) (xs : List Spot) → r ≢ q → has (same_spot (at r t)) (without (same_spot (at q s)) xs) ≡ has (same_spot (at r t)) xs
+pub one_less_else : (q r s t : ℕ) (xs : List Spot) → r ≢ q → has (same_spot (at r t)) (without (same_spot (at q s)) xs)
+    ≡ has (same_spot (at r t)) xs
 one_less_else q r s t xs ne = has_without_else (same_spot (at q s)) (same_spot (at r t)) xs (λ x e.
     let k = both_true (q == x.page) (s == x.slot) e in
     let z : q ≡ x.page = (let k0 = k.0 in grind (arith, nat_tests)) in
     ap (λ b. b && (t == x.slot)) (unlike r x.page (λ j. ne (j ∙ sym z))))
 
-pub one_less : (q s t : ℕ) (xs : List Spot) → has (same_spot (at q s)) (without (same_spot (at q s)) xs) ≡ false → has (same_spot (at q t)) (without (same_spot (at q s)) xs) ≡ (has (same_spot (at q t)) xs && not (t == s))
+pub one_less : (q s t : ℕ) (xs : List Spot) → has (same_spot (at q s)) (without (same_spot (at q s)) xs) ≡ false
+    → has (same_spot (at q t)) (without (same_spot (at q s)) xs) ≡ (has (same_spot (at q t)) xs && not (t == s))
 one_less q s t xs once = go (t == s) refl where
   last : (b : Bool) → b ≡ (b && true)
   last true = refl
@@ -91,12 +104,16 @@ one_less q s t xs once = go (t == s) refl where
   none true = refl
   none false = refl
 
-  go : (b : Bool) → (t == s) ≡ b → has (same_spot (at q t)) (without (same_spot (at q s)) xs) ≡ (has (same_spot (at q t)) xs && not b)
-  go true e = let z : t ≡ s = grind (arith, nat_tests) in subst (λ j. has (same_spot (at q j)) (without (same_spot (at q s)) xs) ≡ false) (sym z) once ∙ none (has (same_spot (at q t)) xs)
+  go : (b : Bool) → (t == s) ≡ b → has (same_spot (at q t)) (without (same_spot (at q s)) xs)
+      ≡ (has (same_spot (at q t)) xs && not b)
+  go true e = let z : t ≡ s = grind (arith, nat_tests) in subst
+      (λ j. has (same_spot (at q j)) (without (same_spot (at q s)) xs) ≡ false) (sym z) once
+      ∙ none (has (same_spot (at q t)) xs)
   go false e = has_without_else (same_spot (at q s)) (same_spot (at q t)) xs (λ x f.
       let k = both_true (q == x.page) (s == x.slot) f in
       let z : s ≡ x.slot = (let k1 = k.1 in grind (arith, nat_tests)) in
-      two (q == x.page) (unlike t x.slot (λ j. let y : true ≡ false = (sym (self t) ∙ ap (λ i. t == i) (j ∙ sym z)) ∙ e in cc))) ∙ last (has (same_spot (at q t)) xs) where
+      two (q == x.page) (unlike t x.slot (λ j. let y : true ≡ false = (sym (self t) ∙ ap (λ i. t == i) (j ∙ sym z)) ∙ e
+      in cc))) ∙ last (has (same_spot (at q t)) xs) where
         two : (a : Bool) {b : Bool} → b ≡ false → (a && b) ≡ false
         two true e = e
         two false e = refl
@@ -107,16 +124,23 @@ none_off : (q t : ℕ) (xs : List Spot) → has (same_spot (at q t)) (off (λ x.
 unfolding has off
 none_off q t [] = refl
 none_off q t (x ∷ xs) = go (x.page == q) refl (none_off q t xs) where
-  go : (b : Bool) → (x.page == q) ≡ b → has (same_spot (at q t)) (off (λ x. x.page == q) xs) ≡ false → has (same_spot (at q t)) (cond b (off (λ x. x.page == q) xs) (x ∷ off (λ x. x.page == q) xs)) ≡ false
+  go : (b : Bool) → (x.page == q) ≡ b → has (same_spot (at q t)) (off (λ x. x.page == q) xs) ≡ false
+      → has (same_spot (at q t)) (cond b (off (λ x. x.page == q) xs) (x ∷ off (λ x. x.page == q) xs)) ≡ false
   go true e rest = rest
-  go false e rest = ap (λ b. (b && (t == x.slot)) || has (same_spot (at q t)) (off (λ x. x.page == q) xs)) (unlike q x.page (λ k. let z : true ≡ false = (sym (self q) ∙ ap (λ i. i == q) k) ∙ e in cc)) ∙ rest
+  go false e rest = ap (λ b. (b && (t == x.slot)) || has (same_spot (at q t)) (off (λ x. x.page == q) xs))
+      (unlike q x.page (λ k. let z : true ≡ false = (sym (self q) ∙ ap (λ i. i == q) k) ∙ e in cc)) ∙ rest
 
-off_else : (q r t : ℕ) (xs : List Spot) → r ≢ q → has (same_spot (at r t)) (off (λ x. x.page == q) xs) ≡ has (same_spot (at r t)) xs
+off_else : (q r t : ℕ) (xs : List Spot) → r ≢ q → has (same_spot (at r t)) (off (λ x. x.page == q) xs)
+    ≡ has (same_spot (at r t)) xs
 unfolding has off
 off_else q r t [] ne = refl
 off_else q r t (x ∷ xs) ne = go (x.page == q) refl (off_else q r t xs ne) where
-  go : (b : Bool) → (x.page == q) ≡ b → has (same_spot (at r t)) (off (λ x. x.page == q) xs) ≡ has (same_spot (at r t)) xs → has (same_spot (at r t)) (cond b (off (λ x. x.page == q) xs) (x ∷ off (λ x. x.page == q) xs)) ≡ (((r == x.page) && (t == x.slot)) || has (same_spot (at r t)) xs)
-  go true e rest = rest ∙ ap (λ b. (b && (t == x.slot)) || has (same_spot (at r t)) xs) (sym (unlike r x.page (λ k. ne (let z : x.page ≡ q = grind (arith, nat_tests) in k ∙ z))))
+  go : (b : Bool) → (x.page == q) ≡ b → has (same_spot (at r t)) (off (λ x. x.page == q) xs)
+      ≡ has (same_spot (at r t)) xs → has (same_spot (at r t))
+      (cond b (off (λ x. x.page == q) xs) (x ∷ off (λ x. x.page == q) xs))
+      ≡ (((r == x.page) && (t == x.slot)) || has (same_spot (at r t)) xs)
+  go true e rest = rest ∙ ap (λ b. (b && (t == x.slot)) || has (same_spot (at r t)) xs)
+      (sym (unlike r x.page (λ k. ne (let z : x.page ≡ q = grind (arith, nat_tests) in k ∙ z))))
   go false e rest = ap (λ b. ((r == x.page) && (t == x.slot)) || b) rest
 
 has_append : (f : Spot → Bool) (xs ys : List Spot) → has f (xs ++ ys) ≡ (has f xs || has f ys)
@@ -133,40 +157,51 @@ spots_have q t s zero = go (nat_le s t) refl where
   go : (b : Bool) → nat_le s t ≡ b → false ≡ (b && nat_lt t (s + 0))
   go true e = let z : nat_lt t (s + 0) ≡ false = grind (arith, nat_tests) in sym z
   go false e = refl
-spots_have q t s (suc n) = ap (λ b. (b && (t == s)) || has (same_spot (at q t)) (spots q (s + 1) n)) (self q) ∙ (ap (λ b. (t == s) || b) (spots_have q t (s + 1) n) ∙ go (t == s) refl) where
-  two : (b : Bool) → nat_le (s + 1) t ≡ b → (t == s) ≡ false → (b && nat_lt t (s + 1 + n)) ≡ (nat_le s t && nat_lt t (s + suc n))
-  two true e f =
-      let x : nat_le s t ≡ true = grind (arith, nat_tests) in
-      let y : s + 1 + n ≡ s + suc n = omega arith in
-      ap (nat_lt t) y ∙ ap (λ b. b && nat_lt t (s + suc n)) (sym x)
-  two false e f =
-      let x : nat_le s t ≡ false = grind (arith, nat_tests) in
-      ap (λ b. b && nat_lt t (s + suc n)) (sym x)
+spots_have q t s (suc n) = ap (λ b. (b && (t == s)) || has (same_spot (at q t)) (spots q (s + 1) n)) (self q)
+    ∙ (ap (λ b. (t == s) || b) (spots_have q t (s + 1) n) ∙ go (t == s) refl) where
+      two : (b : Bool) → nat_le (s + 1) t ≡ b → (t == s) ≡ false → (b && nat_lt t (s + 1 + n))
+          ≡ (nat_le s t && nat_lt t (s + suc n))
+      two true e f =
+          let x : nat_le s t ≡ true = grind (arith, nat_tests) in
+          let y : s + 1 + n ≡ s + suc n = omega arith in
+          ap (nat_lt t) y ∙ ap (λ b. b && nat_lt t (s + suc n)) (sym x)
+      two false e f =
+          let x : nat_le s t ≡ false = grind (arith, nat_tests) in
+          ap (λ b. b && nat_lt t (s + suc n)) (sym x)
 
-  go : (b : Bool) → (t == s) ≡ b → (b || (nat_le (s + 1) t && nat_lt t (s + 1 + n))) ≡ (nat_le s t && nat_lt t (s + suc n))
-  go true e =
-      let x : nat_le s t ≡ true = grind (arith, nat_tests) in
-      let y : nat_lt t (s + suc n) ≡ true = grind (arith, nat_tests) in
-      rw (x, y) refl
-  go false e = two (nat_le (s + 1) t) refl e
+      go : (b : Bool) → (t == s) ≡ b → (b || (nat_le (s + 1) t && nat_lt t (s + 1 + n)))
+          ≡ (nat_le s t && nat_lt t (s + suc n))
+      go true e =
+          let x : nat_le s t ≡ true = grind (arith, nat_tests) in
+          let y : nat_lt t (s + suc n) ≡ true = grind (arith, nat_tests) in
+          rw (x, y) refl
+      go false e = two (nat_le (s + 1) t) refl e
 
 spots_else : (q r t s n : ℕ) → r ≢ q → has (same_spot (at r t)) (spots q s n) ≡ false
 unfolding has spots
 spots_else q r t s zero ne = refl
-spots_else q r t s (suc n) ne = ap (λ b. (b && (t == s)) || has (same_spot (at r t)) (spots q (s + 1) n)) (unlike r q ne) ∙ spots_else q r t (s + 1) n ne
+spots_else q r t s (suc n) ne = ap (λ b. (b && (t == s)) || has (same_spot (at r t)) (spots q (s + 1) n))
+    (unlike r q ne) ∙ spots_else q r t (s + 1) n ne
 
 or_false : (b : Bool) → (b || false) ≡ b
 or_false true = refl
 or_false false = refl
 
-pub all_given : (q t n : ℕ) (xs : List Spot) → has (same_spot (at q t)) (spots q 0 n ++ off (λ x. x.page == q) xs) ≡ nat_lt t n
+pub all_given : (q t n : ℕ) (xs : List Spot) → has (same_spot (at q t)) (spots q 0 n ++ off (λ x. x.page == q) xs)
+    ≡ nat_lt t n
 all_given q t n xs =
     let x : nat_le 0 t ≡ true = grind (arith, nat_tests) in
     let y : 0 + n ≡ n = omega arith in
-    has_append (same_spot (at q t)) (spots q 0 n) (off (λ x. x.page == q) xs) ∙ (ap (λ b. has (same_spot (at q t)) (spots q 0 n) || b) (none_off q t xs) ∙ (or_false (has (same_spot (at q t)) (spots q 0 n)) ∙ (spots_have q t 0 n ∙ (ap (λ b. b && nat_lt t (0 + n)) x ∙ ap (nat_lt t) y))))
+    has_append (same_spot (at q t)) (spots q 0 n) (off (λ x. x.page == q) xs)
+    ∙ (ap (λ b. has (same_spot (at q t)) (spots q 0 n) || b) (none_off q t xs)
+    ∙ (or_false (has (same_spot (at q t)) (spots q 0 n)) ∙
+    (spots_have q t 0 n ∙ (ap (λ b. b && nat_lt t (0 + n)) x ∙ ap (nat_lt t) y))))
 
-pub given_else : (q r t n : ℕ) (xs : List Spot) → r ≢ q → has (same_spot (at r t)) (spots q 0 n ++ off (λ x. x.page == q) xs) ≡ has (same_spot (at r t)) xs
-given_else q r t n xs ne = has_append (same_spot (at r t)) (spots q 0 n) (off (λ x. x.page == q) xs) ∙ (ap (λ b. b || has (same_spot (at r t)) (off (λ x. x.page == q) xs)) (spots_else q r t 0 n ne) ∙ off_else q r t xs ne)
+pub given_else : (q r t n : ℕ) (xs : List Spot) → r ≢ q → has (same_spot (at r t))
+    (spots q 0 n ++ off (λ x. x.page == q) xs) ≡ has (same_spot (at r t)) xs
+given_else q r t n xs ne = has_append (same_spot (at r t)) (spots q 0 n) (off (λ x. x.page == q) xs)
+    ∙ (ap (λ b. b || has (same_spot (at r t)) (off (λ x. x.page == q) xs)) (spots_else q r t 0 n ne)
+    ∙ off_else q r t xs ne)
 
 pub noted_now : (q n : ℕ) (xs : List (ℕ × ℕ)) → noted q ((q, n) ∷ xs) ≡ Some n
 unfolding noted
@@ -189,7 +224,8 @@ none_mine (x ∷ xs) h = absurd (false_true (sym (rw (self x.page, self x.slot) 
 pub none_noted_at : (xs : List (ℕ × ℕ)) → ((q : ℕ) → noted q xs ≡ None) → xs ≡ []
 unfolding noted
 none_noted_at [] h = refl
-none_noted_at (x ∷ xs) h = absurd (let e : Some x.1 ≡ None = sym (ap (λ b. cond b (Some x.1) (noted x.0 xs)) (self x.0)) ∙ h x.0 in cc)
+none_noted_at (x ∷ xs) h = absurd (let e : Some x.1 ≡ None = sym (ap (λ b. cond b (Some x.1) (noted x.0 xs)) (self x.0))
+    ∙ h x.0 in cc)
 
 pub none_armed : (xs : List ℕ) → ((q : ℕ) → has (λ x. x == q) xs ≡ false) → xs ≡ []
 unfolding has

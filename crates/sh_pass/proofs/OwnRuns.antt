@@ -1,5 +1,6 @@
 -- Steps of an owner one after the other, and the key under which it stores a value.
-use Rattle.std.proofs.Common.{◌≡◌, ℕ, ◌+◌, ◌<◌, ◌&&◌, ◌==◌, true, cond, Option, Some, None, List, ◌++◌, append_assoc, refl, ap, ◌∙◌, sym, subst, arith}
+use Rattle.std.proofs.Common.{◌≡◌, ℕ, ◌+◌, ◌<◌, ◌&&◌, ◌==◌, true, cond, Option, Some, None, List, ◌++◌, append_assoc}
+use Rattle.std.proofs.Common.{refl, ap, ◌∙◌, sym, subst, arith}
 use Rattle.std.specs.Prelude.{nat_lt}
 use Rattle.sh_history.specs.declared.log.LogEntry.{LogEntry}
 use Rattle.sh_key.specs.Layout.{Layout}
@@ -18,14 +19,22 @@ use Rattle.sh_step.specs.Plans.{Plan, plan_of, heap_pages}
 use Rattle.sh_step.proofs.Truths.{lt_true}
 use Rattle.sh_pass.specs.Growing.{SameTale}
 use Rattle.sh_pass.specs.Passes.{Caller}
-use Rattle.sh_pass.specs.Owners.{MayTouch, OwnerDid, OwnerActs, Aside, OnPage, SamePages, SeenPage, IsKeyIn, heap_page, heap_spot}
+use Rattle.sh_pass.specs.Owners.{MayTouch, OwnerDid, OwnerActs, Aside, OnPage, SamePages, SeenPage, IsKeyIn, heap_page}
+use Rattle.sh_pass.specs.Owners.{heap_spot}
 use Rattle.sh_pass.proofs.OwnMay.{home_is}
 use Rattle.sh_pass.proofs.ReadLaws.{later_same}
 
 aside_on : {v w u : Caller} → Aside v w → Aside w u → Aside v u
-aside_on a b = record { heap = b.heap ∙ a.heap; same = later_same a.same b.same; owned = b.owned ∙ a.owned; holds = b.holds ∙ a.holds }
+aside_on a b = record {
+  heap = b.heap ∙ a.heap;
+  same = later_same a.same b.same;
+  owned = b.owned
+      ∙ a.owned;
+  holds = b.holds ∙ a.holds;
+}
 
-pub acts_on : {h k : Hand} {es fs : List LogEntry} {n m : ℕ} {v w u : Caller} (l : ℕ) → OwnerActs h es n v w → OwnerActs k fs m w u → n + m ≡ l → OwnerActs k (es ++ fs) l v u
+pub acts_on : {h k : Hand} {es fs : List LogEntry} {n m : ℕ} {v w u : Caller} (l : ℕ) → OwnerActs h es n v w
+    → OwnerActs k fs m w u → n + m ≡ l → OwnerActs k (es ++ fs) l v u
 acts_on {es = es} {fs = fs} {v = v} l x y is = record {
   aside = aside_on x.aside y.aside;
   hand = y.hand;
@@ -37,24 +46,32 @@ pub page_on : {q : ℕ} {g : SeenPage} {v w u : Caller} → OnPage q g v w → S
 page_on {q = q} a s = record { here = s q ∙ a.here; others = λ r ne. s r ∙ a.others r ne }
 
 -- what was published names its slot
-pub issued : (layout : Layout) (shape : Numbers) (v w : Caller) (x : Spot) (value : List ℕ) (n : ℕ) (y : Name) → OwnerDid layout action.Publish (move.Publish x value) n v w → shape ≡ v.view.shape → y ≡ published_name x n
+pub issued : (layout : Layout) (shape : Numbers) (v w : Caller) (x : Spot) (value : List ℕ) (n : ℕ) (y : Name)
+    → OwnerDid layout action.Publish (move.Publish x value) n v w → shape ≡ v.view.shape → y ≡ published_name x n
     → (plan_of layout shape).keys.unpack ((plan_of layout shape).keys.pack y) ≡ Some y
 issued layout shape v w x value n y d same is =
     let P : Numbers → Name → Type 0 = λ s z. (plan_of layout s).keys.unpack ((plan_of layout s).keys.pack z) ≡ Some z in
-    subst (λ s. P s y) (sym same) (subst (P v.view.shape) (sym is) ((d.fits refl).issues ((plan_of layout v.view.shape).keys.pack (published_name x n)) value x.page x.slot refl refl))
+    subst (λ s. P s y) (sym same) (subst (P v.view.shape) (sym is)
+    ((d.fits refl).issues ((plan_of layout v.view.shape).keys.pack (published_name x n)) value x.page x.slot refl
+    refl))
 
 -- and its key is one of the page's shard
-pub key_in : (layout : Layout) (v u w : Caller) (x : PageName) (slot : ℕ) (value : List ℕ) (n : ℕ) (shape : Numbers) (k : ℕ) (y : Name) → MayTouch v x → OwnerDid layout action.Publish (move.Publish (heap_spot v x slot) value) n u w → u.view.shape ≡ v.view.shape → shape ≡ u.view.shape
+pub key_in : (layout : Layout) (v u w : Caller) (x : PageName) (slot : ℕ) (value : List ℕ) (n : ℕ) (shape : Numbers)
+    (k : ℕ) (y : Name) → MayTouch v x → OwnerDid layout action.Publish (move.Publish (heap_spot v x slot) value) n u w
+    → u.view.shape ≡ v.view.shape → shape ≡ u.view.shape
     → y ≡ published_name (heap_spot v x slot) n → k ≡ (plan_of layout shape).keys.pack y → IsKeyIn layout v x.shard k
 key_in layout v u w x slot value n shape k y m d before same is key =
     let plan : Plan = plan_of layout v.view.shape in
     let named : Name = published_name (heap_spot v x slot) n in
-    let told : plan.keys.unpack (plan.keys.pack named) ≡ Some named = issued layout v.view.shape u w (heap_spot v x slot) value n named d (sym before) refl in
+    let told : plan.keys.unpack (plan.keys.pack named) ≡ Some named = issued layout v.view.shape u w
+    (heap_spot v x slot) value n named d (sym before) refl in
     let one : k ≡ plan.keys.pack named = key ∙ (λ i. (plan_of layout ((same ∙ before) i)).keys.pack (is i)) in
     let place = subst (λ (s : Numbers). IsPlace s (State (heap_page v x) slot)) before (d.fits refl).place in
     let a : nat_lt (heap_page v x) (heap_pages plan) ≡ true = lt_true (heap_page v x) (heap_pages plan) place.0 in
     let b : nat_lt slot 48 ≡ true = lt_true slot 48 place.1 in (
       named,
-      ap (place_named plan) one ∙ (ap (λ (o : Option Name). elim o as (λ _. Option Name) [ Some z ↦ cond (nat_lt z.page (heap_pages plan) && nat_lt z.slot 48) (Some z) None | None ↦ None ]) told ∙ rw (a, b) refl),
+      ap (place_named plan) one ∙ (ap (λ (o : Option Name). elim o as (λ _. Option Name)
+          [ Some z ↦ cond (nat_lt z.page (heap_pages plan) && nat_lt z.slot 48) (Some z) None | None ↦ None ]) told
+          ∙ rw (a, b) refl),
       home_is plan x.shard x.page m.page,
     )

@@ -12,17 +12,27 @@ use Rattle.sh_pass.specs.Passes.{Caller, caller_of}
 use Rattle.sh_pass.specs.Owners.{OwnerDid}
 use Rattle.sh_pass.proofs.HeldLaws.{same_home}
 
-pub can : {layout : Layout} {heap : Heap} {t : Seat (Unit {0}) View} (v : Caller) (x : Action) (m : Move) → caller_of t ≡ v → IsSeat layout heap t → MayDo layout v.view x m → CanDo layout heap x m t
+pub can : {layout : Layout} {heap : Heap} {t : Seat (Unit {0}) View} (v : Caller) (x : Action) (m : Move) → caller_of t
+    ≡ v → IsSeat layout heap t → MayDo layout v.view x m → CanDo layout heap x m t
 can {layout} v x m is s e = record { seat = s; may = subst (λ (z : Caller). MayDo layout z.view x m) (sym is) e }
 
-pub does : {layout : Layout} {heap : Heap} {x : Action} {m : Move} {n : ℕ} {t u : Seat (Unit {0}) View} (v : Caller) → caller_of t ≡ v → IsSeat layout heap t → Did layout heap x m n t u → OwnerDid layout x m n v (caller_of u)
+pub does : {layout : Layout} {heap : Heap} {x : Action} {m : Move} {n : ℕ} {t u : Seat (Unit {0}) View} (v : Caller)
+    → caller_of t ≡ v → IsSeat layout heap t → Did layout heap x m n t u → OwnerDid layout x m n v (caller_of u)
 does {layout} {heap} {x} {m} {n} {t} {u} v is s d =
     let P : Caller → Type 0 = λ z. OwnerDid layout x m n z (caller_of u) in
-    subst P is (record { heap = same_home s d.seat; view = d.view; fits = d.fits; says = d.says; stands = d.seat.stands })
+    subst P is (record {
+      heap = same_home s d.seat;
+      view = d.view;
+      fits = d.fits;
+      says = d.says;
+      stands = d.seat.stands;
+    })
 
-pub stood : {layout : Layout} {heap : Heap} {t : Seat (Unit {0}) View} (v : Caller) → caller_of t ≡ v → IsSeat layout heap t → ViewStands layout v.view
+pub stood : {layout : Layout} {heap : Heap} {t : Seat (Unit {0}) View} (v : Caller) → caller_of t ≡ v
+    → IsSeat layout heap t → ViewStands layout v.view
 stood {layout} v is s = subst (λ (z : Caller). ViewStands layout z.view) is s.stands
 
 -- a seat of the heap, where that is what the heap has inside
-pub seat_at : {layout : Layout} {inside heap : Heap} {t : Seat (Unit {0}) View} → inside ≡ heap → IsSeat layout heap t → IsSeat layout inside t
+pub seat_at : {layout : Layout} {inside heap : Heap} {t : Seat (Unit {0}) View} → inside ≡ heap → IsSeat layout heap t
+    → IsSeat layout inside t
 seat_at {layout} {t = t} is s = subst (λ h. IsSeat layout h t) (sym is) s

@@ -31,11 +31,15 @@ is_by_hand kind.Ring = true
 is_by_hand kind.RingTie = true
 is_by_hand _ = false
 
--- The call answers whether the action is of such a kind and its condition holds. Then it was that one event, for the word that it found, and its row meets that word where it answers it; and else nothing
+-- The call answers whether the action is of such a kind and its condition holds. Then it was that one event, for the
+-- word that it found, and its row meets that word where it answers it; and else nothing
 abbrev pub Acts : Layout → Action → View → Bool → View → Type 0
-Acts layout x v true w = (is_by_hand (kind_of_action x) ≡ true) × ((m : Move) × (n : ℕ) × MayDo layout v x m × (w ≡ did layout x m v n)
-    × (answer (row_by layout v m).operation n ≡ Some n → RowFits v.shape (plan_of layout v.shape) (row_by layout v m) n))
-Acts layout x v false w = (is_by_hand (kind_of_action x) ≡ true → row (plan_of layout v.shape) v.own.body x ≡ None) × (w ≡ v)
+Acts layout x v true w = (is_by_hand (kind_of_action x) ≡ true) ×
+    ((m : Move) × (n : ℕ) × MayDo layout v x m × (w ≡ did layout x m v n)
+    × (answer (row_by layout v m).operation n ≡ Some n → RowFits v.shape (plan_of layout v.shape) (row_by layout v m)
+    n))
+Acts layout x v false w = (is_by_hand (kind_of_action x) ≡ true → row (plan_of layout v.shape) v.own.body x ≡ None)
+    × (w ≡ v)
 
 -- the pass comes back exactly where its hand is idle, and in either case as it was
 abbrev pub Ends : Caller → Result Caller Caller → Type 0
@@ -43,7 +47,8 @@ Ends v (Ok w) = (v.view.own.body.hand ≡ Idle) × (w ≡ v)
 Ends v (Err w) = (v.view.own.body.hand ≢ Idle) × (w ≡ v)
 
 -- a seat that owns no shard, and what is kept of it: its holds, in some order, the bits of its tale, and its hand
-pub record IsBusy (layout : Layout) (heap : Heap) (t : Seat (Unit {0}) View) (held : List ℕ) (bits : ℕ) (begun : Hand) : Type 0 where
+pub record IsBusy (layout : Layout) (heap : Heap) (t : Seat (Unit {0}) View) (held : List ℕ) (bits : ℕ) (begun : Hand) :
+    Type 0 where
   pub seat : IsSeat layout heap t
   pub hand : t.me.0.own.body.hand ≡ begun
   pub left : t.me.0.own.body.owned ≡ None

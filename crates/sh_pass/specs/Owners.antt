@@ -1,5 +1,6 @@
 -- Owners: what a contract sees of a pass that may own a shard, and what each of its steps does.
-use Rattle.std.specs.Prelude.{◌≡◌, ◌≢◌, ℕ, zero, suc, ◌+◌, ◌-◌, ◌*◌, ◌<◌, ◌==◌, ◌⊎◌, nat_lt, Bool, true, false, cond, not, ◌&&◌, ◌||◌, List, ◌++◌, length, Option, Some, None}
+use Rattle.std.specs.Prelude.{◌≡◌, ◌≢◌, ℕ, zero, suc, ◌+◌, ◌-◌, ◌*◌, ◌<◌, ◌==◌, ◌⊎◌, nat_lt, Bool, true, false, cond}
+use Rattle.std.specs.Prelude.{not, ◌&&◌, ◌||◌, List, ◌++◌, length, Option, Some, None}
 use Rattle.atomic_table.specs.declared.shared.Seat.{Seat}
 use Rattle.sh_bell.specs.Bell.{is_armed, top_of}
 use Rattle.sh_history.specs.declared.log.LogEntry.{LogEntry}
@@ -58,7 +59,8 @@ pub record HoldsKept (held hs : List ℕ) : Type 0 where
   pub holds : (k : ℕ) → times k held ≡ times k hs
 
 -- a seat, and what is kept of it: its holds, the bits of its tale, and its shard
-pub record IsOwner (layout : Layout) (heap : Heap) (t : Seat (Unit {0}) View) (held : List ℕ) (bits : ℕ) (shard : Option ℕ) : Type 0 where
+pub record IsOwner (layout : Layout) (heap : Heap) (t : Seat (Unit {0}) View) (held : List ℕ) (bits : ℕ)
+    (shard : Option ℕ) : Type 0 where
   pub seat : IsSeat layout heap t
   pub owned : t.me.0.own.body.owned ≡ shard
   pub kept : HoldsKept held t.me.0.own.body.holds
@@ -66,8 +68,8 @@ pub record IsOwner (layout : Layout) (heap : Heap) (t : Seat (Unit {0}) View) (h
 
 -- ---- what it knows of a page and of its bell
 
--- which slots are its own, the slot to follow next, whether it armed the page, the class word that it noted, how often it took what was put, and how often it met a link
--- that was not written
+-- which slots are its own, the slot to follow next, whether it armed the page, the class word that it noted, how often
+-- it took what was put, and how often it met a link that was not written
 pub record SeenPage : Type 0 where
   pub mine : ℕ → Bool
   pub cursor : Option ℕ
@@ -87,7 +89,8 @@ seen_page v q = record {
   met = met q v.view.own.trail;
 }
 
--- the page to follow next, how often what was put on the bell was taken, and how often it met a link that was not written
+-- the page to follow next, how often what was put on the bell was taken, and how often it met a link that was not
+-- written
 pub record SeenBell : Type 0 where
   pub cursor : Option ℕ
   pub takes : ℕ
@@ -95,7 +98,12 @@ pub record SeenBell : Type 0 where
 
 -- the bell of shard n as the pass sees it
 abbrev pub seen_bell : Layout → Caller → ℕ → SeenBell
-seen_bell layout v n = record { cursor = (own_body v).bell_cursor; takes = bell_takes n v.view.own.trail; met = bell_met (plan_of layout v.view.shape) n v.view.own.trail }
+seen_bell layout v n = record {
+  cursor = (own_body v).bell_cursor;
+  takes = bell_takes n v.view.own.trail;
+  met = bell_met
+      (plan_of layout v.view.shape) n v.view.own.trail;
+}
 
 -- nothing of the page is its own: no slot, no cursor, and it is not armed
 pub record HasNothing (g : SeenPage) : Type 0 where
@@ -119,7 +127,8 @@ page_armed g n = record g { cursor = top_item (top_of n); armed = true; takes = 
 
 -- after the link of slot s was found so
 abbrev pub page_followed : SeenPage → ℕ → ℕ → SeenPage
-page_followed g s n = cond (n == 0) (record g { met = g.met + 1 }) (record g { mine = λ t. (t == s) || g.mine t; cursor = link_item n })
+page_followed g s n = cond (n == 0) (record g { met = g.met + 1 })
+    (record g { mine = λ t. (t == s) || g.mine t; cursor = link_item n })
 
 -- slot s is no longer its own
 abbrev pub page_without : SeenPage → ℕ → SeenPage
@@ -151,7 +160,8 @@ bell_taken v n word b = record b { cursor = page_on_bell v n 1 word; takes = b.t
 
 -- after the link of the page at its cursor was found so
 abbrev pub bell_followed : Caller → (n word : ℕ) → SeenBell → SeenBell
-bell_followed v n word b = cond (word == 0) (record b { met = b.met + 1 }) (record b { cursor = page_on_bell v n 2 word })
+bell_followed v n word b = cond (word == 0) (record b { met = b.met + 1 })
+    (record b { cursor = page_on_bell v n 2 word })
 
 -- ---- what a step does
 
@@ -159,8 +169,10 @@ bell_followed v n word b = cond (word == 0) (record b { met = b.met + 1 }) (reco
 pub record OwnerDid (layout : Layout) (x : Action) (m : Move) (n : ℕ) (v w : Caller) : Type 0 where
   pub heap : w.heap ≡ v.heap
   pub view : w.view ≡ did layout x m v.view n
-  pub fits : answer (row_by layout v.view m).operation n ≡ Some n → RowFits v.view.shape (plan_of layout v.view.shape) (row_by layout v.view m) n
-  pub says : answer (row_by layout v.view m).operation n ≡ Some n → WordSays (plan_of layout v.view.shape) (own_body v) (row_by layout v.view m).place n
+  pub fits : answer (row_by layout v.view m).operation n ≡ Some n → RowFits v.view.shape (plan_of layout v.view.shape)
+      (row_by layout v.view m) n
+  pub says : answer (row_by layout v.view m).operation n ≡ Some n → WordSays (plan_of layout v.view.shape) (own_body v)
+      (row_by layout v.view m).place n
   pub stands : ViewStands layout w.view
 
 -- heap, tale, shard and holds are as before
@@ -213,12 +225,14 @@ pub record OwnerTries (v w : Caller) : Type 0 where
 pub record Adopted (n : ℕ) (v w : Caller) : Type 0 where
   pub owned : (own_body w).owned ≡ Some n
   pub bell : (own_body w).bell_cursor ≡ None
-  pub pages : (q : ℕ) → seen_page w q ≡ record (seen_page v q) { mine = λ s. false; cursor = None; armed = false; class = None }
+  pub pages : (q : ℕ) → seen_page w q ≡ record (seen_page v q)
+      { mine = λ s. false; cursor = None; armed = false; class = None }
 
 -- an adopt of shard n that found this word: the shard is its own where the word was 0, and else it met an owner
 abbrev pub OwnerAdopts : Layout → ℕ → ℕ → Caller → Caller → Type 0
 OwnerAdopts layout n zero v w = Adopted n v w
-OwnerAdopts layout n (suc m) v w = ((own_body w).owned ≡ None) × SamePages v w × (owner_met n w.view.own.trail ≡ suc (owner_met n v.view.own.trail))
+OwnerAdopts layout n (suc m) v w = ((own_body w).owned ≡ None) × SamePages v w
+    × (owner_met n w.view.own.trail ≡ suc (owner_met n v.view.own.trail))
 
 -- the shard is given up
 pub record Left (v w : Caller) : Type 0 where
@@ -236,16 +250,19 @@ published layout v x n = (plan_of layout v.view.shape).keys.pack (published_name
 
 -- the key names a slot of shard n
 abbrev pub IsKeyIn : Layout → Caller → (n key : ℕ) → Type 0
-IsKeyIn layout v n key = (x : Name) × (place_named (plan_of layout v.view.shape) key ≡ Some x) × (home (plan_of layout v.view.shape) x.page ≡ n)
+IsKeyIn layout v n key = (x : Name) × (place_named (plan_of layout v.view.shape) key ≡ Some x)
+    × (home (plan_of layout v.view.shape) x.page ≡ n)
 
 -- ---- calls
 
 -- this slot came to be its own, of a page of its shard, or none did and its pages are as before
 abbrev pub SlotCame : Option Spot → Caller → Caller → Type 0
 SlotCame None v w = SamePages v w
-SlotCame (Some x) v w = (y : PageName) × MayTouch v y × (x.page ≡ heap_page v y) × (x.slot < 48) × ((seen_page v x.page).mine x.slot ≡ false) × OnPage x.page (page_with (seen_page v x.page) x.slot) v w
+SlotCame (Some x) v w = (y : PageName) × MayTouch v y × (x.page ≡ heap_page v y) × (x.slot < 48)
+    × ((seen_page v x.page).mine x.slot ≡ false) × OnPage x.page (page_with (seen_page v x.page) x.slot) v w
 
--- A call is over, and this slot came to be its own, or none did: shard, bells and tale are as before, and nothing was armed
+-- A call is over, and this slot came to be its own, or none did: shard, bells and tale are as before, and nothing was
+-- armed
 pub record CallLeaves (layout : Layout) (came : Option Spot) (v w : Caller) : Type 0 where
   pub idle : (own_body w).hand ≡ Idle
   pub same : SameTale v.view w.view

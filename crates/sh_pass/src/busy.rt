@@ -57,8 +57,8 @@ impl<'a, L: KeyLayout> Pass<'a, L> {
 }
 
 impl<'a, L: KeyLayout> Busy<'a, L> {
-    /// Does one step: true exactly where the action is of one of the kinds Enter, Mark, Drop, Finish, Put, Tie, Ring and
-    /// RingTie, and its condition holds. Else it does nothing.
+    /// Does one step: true exactly where the action is of one of the kinds Enter, Mark, Drop, Finish, Put, Tie, Ring
+    /// and RingTie, and its condition holds. Else it does nothing.
     pub fn act(&mut self, action: &Action) -> bool
         ensures acts { Acts L.layout action.now self.old.view result self.new.view }
         ensures same { self.new.heap ≡ self.old.heap }

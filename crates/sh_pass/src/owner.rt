@@ -5,7 +5,8 @@ ghost use Rattle.sh_shape.specs.Places.{pages_of};
 ghost use Rattle.sh_step.specs.declared.action.Action.TheVariants as action;
 ghost use Rattle.sh_step.specs.declared.moves.Move.TheVariants as move;
 ghost use Rattle.sh_table.specs.Tales.{ViewStands};
-ghost use Rattle.sh_pass.specs.Owners.{OwnerDid, OwnerTries, OwnerAdopts, Left, HasNothing, NonePut, NoneArmed, heap_page, own_body, seen_page};
+ghost use Rattle.sh_pass.specs.Owners.{OwnerDid, OwnerTries, OwnerAdopts, Left, HasNothing, NonePut, NoneArmed};
+ghost use Rattle.sh_pass.specs.Owners.{heap_page, own_body, seen_page};
 
 use crate::heap::Heap;
 use crate::pass::Pass;
@@ -19,8 +20,8 @@ use std::marker::{Model, PhantomData};
 
 /// A pass that may own a shard: what its shard is made with.
 ///
-/// Each of its steps is one step of the core, has that step's condition, and answers the word that it found; for a store it answers
-/// nothing. A contract sees which heap it is of and what it knows, as of a `Pass`.
+/// Each of its steps is one step of the core, has that step's condition, and answers the word that it found; for a
+/// store it answers nothing. A contract sees which heap it is of and what it knows, as of a `Pass`.
 #[derive(Drop)]
 pub struct Owner<'a, L: KeyLayout> {
     pub(crate) heap: &'a Heap<L>,

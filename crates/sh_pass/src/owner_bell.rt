@@ -3,7 +3,8 @@ ghost use Rattle.std.specs.Prelude.{◌≡◌, [], None, Some};
 ghost use Rattle.sh_slots.specs.declared.hand.Hand.TheVariants.{Idle};
 ghost use Rattle.sh_step.specs.declared.action.Action.TheVariants as action;
 ghost use Rattle.sh_step.specs.declared.moves.Move.TheVariants as move;
-ghost use Rattle.sh_pass.specs.Owners.{MayTouch, OwnerDid, OwnerActs, OnPage, SamePages, NonePut, NoneArmed, heap_page, own_body, seen_page, seen_bell, bell_taken, bell_followed, page_rung};
+ghost use Rattle.sh_pass.specs.Owners.{MayTouch, OwnerDid, OwnerActs, OnPage, SamePages, NonePut, NoneArmed, heap_page};
+ghost use Rattle.sh_pass.specs.Owners.{own_body, seen_page, seen_bell, bell_taken, bell_followed, page_rung};
 
 use crate::owner::Owner;
 use sh_key::KeyLayout;
@@ -17,7 +18,8 @@ impl<'a, L: KeyLayout> Owner<'a, L> {
         requires none { (seen_bell L.layout self.old shard).cursor ≡ None }
         ensures does { OwnerDid L.layout action.TakeBell (move.TakeBell shard) result self.old self.new }
         ensures acts { OwnerActs Idle [] 1 self.old self.new }
-        ensures bell { seen_bell L.layout self.new shard ≡ bell_taken self.old shard result (seen_bell L.layout self.old shard) }
+        ensures bell { seen_bell L.layout self.new shard ≡ bell_taken self.old shard result
+            (seen_bell L.layout self.old shard) }
         ensures pages { SamePages self.old self.new }
         ensures put { NonePut self.old self.new }
         ensures arm { NoneArmed self.old self.new }
@@ -30,10 +32,13 @@ impl<'a, L: KeyLayout> Owner<'a, L> {
     pub fn follow_bell(&mut self, name: PageName) -> u64
         requires touch { MayTouch self.old name }
         requires cursor { (seen_bell L.layout self.old name.shard).cursor ≡ Some (heap_page self.old name) }
-        ensures does { OwnerDid L.layout action.FollowBell (move.FollowBell (heap_page self.old name)) result self.old self.new }
+        ensures does { OwnerDid L.layout action.FollowBell (move.FollowBell (heap_page self.old name)) result self.old
+            self.new }
         ensures acts { OwnerActs Idle [] 1 self.old self.new }
-        ensures bell { seen_bell L.layout self.new name.shard ≡ bell_followed self.old name.shard result (seen_bell L.layout self.old name.shard) }
-        ensures page { OnPage (heap_page self.old name) (page_rung (seen_page self.old (heap_page self.old name)) result) self.old self.new }
+        ensures bell { seen_bell L.layout self.new name.shard ≡ bell_followed self.old name.shard result
+            (seen_bell L.layout self.old name.shard) }
+        ensures page { OnPage (heap_page self.old name) (page_rung (seen_page self.old (heap_page self.old name))
+            result) self.old self.new }
         ensures put { NonePut self.old self.new }
         ensures arm { NoneArmed self.old self.new }
     {

@@ -24,7 +24,8 @@ impl<'a, L: KeyLayout> Owner<'a, L> {
         get_key(&heap.table, &mut self.seat, &mut self.held, key, self.owned)
     }
 
-    /// Removes a key: no later get finds it, and its value stays until the last hold goes. Refused as `BadKey` or `Gone`.
+    /// Removes a key: no later get finds it, and its value stays until the last hold goes. Refused as `BadKey` or
+    /// `Gone`.
     pub fn remove(&mut self, key: u64) -> (Result<(), Refusal>, Option<Spot>)
         requires idle { (own_body self.old).hand ≡ Idle }
         ensures does { RemoveDoes L.layout key self.old result.0 self.new }

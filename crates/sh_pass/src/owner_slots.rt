@@ -10,7 +10,8 @@ ghost use Rattle.sh_step.specs.Rows.{class_word_noted};
 ghost use Rattle.sh_bell.specs.Bell.{is_armed, top_of};
 ghost use Rattle.sh_stack.specs.Stack.{link_over};
 ghost use Rattle.sh_table.specs.Tales.{ViewStands};
-ghost use Rattle.sh_pass.specs.Owners.{MayTouch, OwnerDid, OwnerActs, OnPage, SamePages, SameBells, NonePut, heap_page, own_body, seen_page, published, slot_in, heap_spot, page_without, IsKeyIn};
+ghost use Rattle.sh_pass.specs.Owners.{MayTouch, OwnerDid, OwnerActs, OnPage, SamePages, SameBells, NonePut, heap_page};
+ghost use Rattle.sh_pass.specs.Owners.{own_body, seen_page, published, slot_in, heap_spot, page_without, IsKeyIn};
 
 use crate::owner::Owner;
 use sh_key::KeyLayout;
@@ -20,17 +21,20 @@ use sh_step::{PageName, SlotName};
 use sh_value::Value;
 
 impl<'a, L: KeyLayout> Owner<'a, L> {
-    /// Stores the length of the value, as it begins to fill a slot of its own. Answers the slot's place over the whole heap.
+    /// Stores the length of the value, as it begins to fill a slot of its own. Answers the slot's place over the whole
+    /// heap.
     pub fn fill_slot(&mut self, name: PageName, slot: u64, value: &Value) -> Spot
         requires touch { MayTouch self.old name }
         requires mine { (seen_page self.old (heap_page self.old name)).mine slot ≡ true }
         requires classed { 0 < class_word_noted (own_body self.old) (heap_page self.old name) }
         requires fits { length value.now ≤ width (class_word_noted (own_body self.old) (heap_page self.old name) - 1) }
         ensures spot { result ≡ heap_spot self.old name slot }
-        ensures does { OwnerDid L.layout (action.FillSlot (slot_in name slot) value.now) (move.FillSlot (heap_spot self.old name slot) value.now) 0 self.old self.new }
+        ensures does { OwnerDid L.layout (action.FillSlot (slot_in name slot) value.now)
+            (move.FillSlot (heap_spot self.old name slot) value.now) 0 self.old self.new }
         ensures acts { OwnerActs (Filling (heap_spot self.old name slot) value.now 0) [] 1 self.old self.new }
         ensures bells { SameBells L.layout self.old self.new }
-        ensures page { OnPage (heap_page self.old name) (page_without (seen_page self.old (heap_page self.old name)) slot) self.old self.new }
+        ensures page { OnPage (heap_page self.old name) (page_without (seen_page self.old (heap_page self.old name))
+            slot) self.old self.new }
         ensures put { NonePut self.old self.new }
     {
         let spot = Spot {
@@ -66,7 +70,8 @@ impl<'a, L: KeyLayout> Owner<'a, L> {
     pub fn publish(&mut self, spot: Spot, value: &Value) -> u64
         requires hand { (own_body self.old).hand ≡ Filling spot value.now (length value.now) }
         ensures does { OwnerDid L.layout action.Publish (move.Publish spot value.now) result self.old self.new }
-        ensures acts { OwnerActs Idle (Known (entry.Insert self.old.view.pass (published L.layout self.old spot result) value.now) ∷ []) 1 self.old self.new }
+        ensures acts { OwnerActs Idle (Known (entry.Insert self.old.view.pass (published L.layout self.old spot result)
+            value.now) ∷ []) 1 self.old self.new }
         ensures bells { SameBells L.layout self.old self.new }
         ensures pages { SamePages self.old self.new }
         ensures put { NonePut self.old self.new }
@@ -75,18 +80,20 @@ impl<'a, L: KeyLayout> Owner<'a, L> {
         heap.table.publish(&mut self.seat, spot, value)
     }
 
-    /// Stores the value in a slot of its own, in a page of this class word: its length, each word, and then the slot is made
-    /// present. Answers the key under which it is.
+    /// Stores the value in a slot of its own, in a page of this class word: its length, each word, and then the slot is
+    /// made present. Answers the key under which it is.
     pub fn insert_at(&mut self, name: PageName, slot: u64, value: &Value, class_word: u64) -> u64
         requires touch { MayTouch self.old name }
         requires mine { (seen_page self.old (heap_page self.old name)).mine slot ≡ true }
         requires class { class_word_noted (own_body self.old) (heap_page self.old name) ≡ class_word }
         requires classed { 0 < class_word }
         requires fits { length value.now ≤ width (class_word - 1) }
-        ensures acts { OwnerActs Idle (Known (entry.Insert self.old.view.pass result value.now) ∷ []) (length value.now + 2) self.old self.new }
+        ensures acts { OwnerActs Idle (Known (entry.Insert self.old.view.pass result value.now) ∷ [])
+            (length value.now + 2) self.old self.new }
         ensures key { IsKeyIn L.layout self.old name.shard result }
         ensures bells { SameBells L.layout self.old self.new }
-        ensures page { OnPage (heap_page self.old name) (page_without (seen_page self.old (heap_page self.old name)) slot) self.old self.new }
+        ensures page { OnPage (heap_page self.old name) (page_without (seen_page self.old (heap_page self.old name))
+            slot) self.old self.new }
         ensures put { NonePut self.old self.new }
         ensures stands { ViewStands L.layout self.new.view }
     {
@@ -104,10 +111,13 @@ impl<'a, L: KeyLayout> Owner<'a, L> {
     pub fn put_slot(&mut self, name: PageName, slot: u64) -> u64
         requires touch { MayTouch self.old name }
         requires mine { (seen_page self.old (heap_page self.old name)).mine slot ≡ true }
-        ensures does { OwnerDid L.layout (action.PutSlot (slot_in name slot)) (move.PutSlot (heap_spot self.old name slot)) result self.old self.new }
-        ensures acts { OwnerActs (Tying (heap_spot self.old name slot) (link_over (top_of result)) (is_armed result)) [] 1 self.old self.new }
+        ensures does { OwnerDid L.layout (action.PutSlot (slot_in name slot))
+            (move.PutSlot (heap_spot self.old name slot)) result self.old self.new }
+        ensures acts { OwnerActs (Tying (heap_spot self.old name slot) (link_over (top_of result)) (is_armed result)) []
+            1 self.old self.new }
         ensures bells { SameBells L.layout self.old self.new }
-        ensures page { OnPage (heap_page self.old name) (page_without (seen_page self.old (heap_page self.old name)) slot) self.old self.new }
+        ensures page { OnPage (heap_page self.old name) (page_without (seen_page self.old (heap_page self.old name))
+            slot) self.old self.new }
         ensures calm { (seen_page self.old (heap_page self.old name)).armed ≡ false → is_armed result ≡ false }
     {
         let spot = Spot {

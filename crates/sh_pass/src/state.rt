@@ -37,8 +37,8 @@ impl<L: KeyLayout> Model for PassState<L> {
 }
 
 impl<L: KeyLayout> PassState<L> {
-    /// The shape of the heap, as the pass knows it. Between its calls a pass has begun nothing, it owns no shard, and all that
-    /// it knows stands.
+    /// The shape of the heap, as the pass knows it. Between its calls a pass has begun nothing, it owns no shard, and
+    /// all that it knows stands.
     pub fn shape<'h>(&self, heap: &'h Heap<L>) -> &'h Shape
         requires { self.now.heap ≡ heap.now }
         ensures is { result.now ≡ heap.now.shape }
@@ -62,7 +62,8 @@ impl<L: KeyLayout> PassState<L> {
         get_key(&heap.table, &mut self.seat, &mut self.held, key, None).0
     }
 
-    /// Removes a key: no later get finds it, and its value stays until the last hold goes. Refused as `BadKey` or `Gone`.
+    /// Removes a key: no later get finds it, and its value stays until the last hold goes. Refused as `BadKey` or
+    /// `Gone`.
     pub fn remove(&mut self, heap: &Heap<L>, key: u64) -> Result<(), Refusal>
         requires { self.old.heap ≡ heap.now }
         ensures does { RemoveDoes L.layout key self.old result self.new }

@@ -14,7 +14,8 @@ use Rattle.sh_plain.specs.Plain.{Plain, IsSound, plain_book, plain_setting}
 use Rattle.sh_plain.specs.Store.{IsBook}
 
 -- the book of a sound store stands in a legal history, which it is itself
-pub book_stands : (layout : Layout) (issued : List Issued) (holds : List Held) (entries : List Entry) (pass passes : ℕ) (s : Plain)
+pub book_stands : (layout : Layout) (issued : List Issued) (holds : List Held) (entries : List Entry) (pass passes : ℕ)
+    (s : Plain)
     → IsSound layout entries pass passes issued holds
     → record { entries = entries; pass = pass; passes = passes } ≡ s → IsBook (plain_setting layout s) (plain_book s)
 book_stands layout issued holds entries pass passes s sound is =

@@ -1,5 +1,6 @@
 -- The holds of the index are those that the entries leave.
-use Rattle.std.proofs.Common.{◌≡◌, ℕ, ◌<◌, ◌≤◌, Bool, true, false, cond, List, Option, Some, None, refl, arith, length, get_or, ltb-false}
+use Rattle.std.proofs.Common.{◌≡◌, ℕ, ◌<◌, ◌≤◌, Bool, true, false, cond, List, Option, Some, None, refl, arith, length}
+use Rattle.std.proofs.Common.{get_or, ltb-false}
 use Rattle.std.specs.Prelude.{nat_lt, count_by, position, IsSome, ◌↔◌}
 use Rattle.std.specs.List.{position_or_len}
 use Rattle.std.proofs.lemmas.List.Quantifiers.{position-Some}
@@ -18,7 +19,8 @@ found_none n m true is none = absurd (let no_some : ⊥ = cc in no_some)
 
 none_is_counted : (p : Held → Bool) (xs : List Held) → position p xs ≡ None → count_by p xs ≡ 0
 none_is_counted p xs none =
-    let past : length xs ≤ position_or_len p xs = found_none (position_or_len p xs) (length xs) (nat_lt (position_or_len p xs) (length xs)) refl none in
+    let past : length xs ≤ position_or_len p xs = found_none (position_or_len p xs) (length xs)
+    (nat_lt (position_or_len p xs) (length xs)) refl none in
     let fails : (k : ℕ) (e : Held) → k < length xs → cond (p (get_or xs k e)) 1 0 ≤ 0 =
     λ k e lt. rw (fails_before_first p xs k e (omega arith)) (omega arith) in
     let few = sum_by-le (λ h. cond (p h) 1 0) 0 xs fails in
@@ -29,7 +31,8 @@ one_is_counted p d xs at is =
     let found = position-Some p xs at d is in
     rw found.1 at (get_or-le-sum_by (λ h. cond (p h) 1 0) xs at d found.0)
 
-same_hold : (p pass k key : ℕ) → p ≡ pass → k ≡ key → let x : Held = record { pass = p; key = k } in x ≡ record { pass = pass; key = key }
+same_hold : (p pass k key : ℕ) → p ≡ pass → k ≡ key → let x : Held = record { pass = p; key = k } in x
+    ≡ record { pass = pass; key = key }
 same_hold p pass k key e f = rw (e, f) refl
 
 mine : (pass key : ℕ) (held : Held) → is_hold_by pass key held ≡ true → held ≡ record { pass = pass; key = key }
@@ -43,7 +46,8 @@ found_is_mine pass key at d holds is =
     let found = position-Some (is_hold_by pass key) holds at d is in
     (found.0, mine pass key (get_or holds at d) found.1)
 
-module _ (first : ℕ) (entries : List Entry) (issued : List Issued) (holds : List Held) (index : IsIndex first entries issued holds) where
+module _ (first : ℕ) (entries : List Entry) (issued : List Issued) (holds : List Held)
+    (index : IsIndex first entries issued holds) where
   pub holds_by_is : (pass key : ℕ) → holds_by entries pass key ≡ count_by (is_hold_by pass key) holds
   holds_by_is pass key = let is = index.held_by pass key in omega arith
 
@@ -57,7 +61,8 @@ module _ (first : ℕ) (entries : List Entry) (issued : List Issued) (holds : Li
       → IsSome found ↔ (0 < holds_by entries pass key)
   found_by pass key None is = (
     λ h. absurd (let no : ⊥ = cc in no),
-    λ h. absurd (let none = none_is_counted (is_hold_by pass key) holds is in let same = holds_by_is pass key in omega arith),
+    λ h. absurd (let none = none_is_counted (is_hold_by pass key) holds is in let same = holds_by_is pass key
+        in omega arith),
   )
   found_by pass key (Some at) is = (
     λ h. rw (holds_by_is pass key) (one_is_counted (is_hold_by pass key) (record { pass = 0; key = 0 }) holds at is),

@@ -1,5 +1,6 @@
 -- The index says what the entries say, also once an entry is added.
-use Rattle.std.proofs.Common.{◌≡◌, ◌≢◌, ℕ, ◌+◌, ◌-◌, ◌<◌, ◌≤◌, Bool, true, false, cond, List, [], ◌∷◌, ◌++◌, Option, Some, None, refl, sym, ◌∙◌, ap, arith, rules, length, get_or, set}
+use Rattle.std.proofs.Common.{◌≡◌, ◌≢◌, ℕ, ◌+◌, ◌-◌, ◌<◌, ◌≤◌, Bool, true, false, cond, List, [], ◌∷◌, ◌++◌, Option}
+use Rattle.std.proofs.Common.{Some, None, refl, sym, ◌∙◌, ap, arith, rules, length, get_or, set}
 use Rattle.std.specs.Prelude.{◌==◌, ◌||◌, count_by}
 use Rattle.std.specs.List.{swap_remove}
 use Rattle.std.proofs.Math.Bool.{or-false, or-true}
@@ -7,13 +8,15 @@ use Rattle.std.proofs.lemmas.List.Folds.{list_any-append}
 use Rattle.std.proofs.lemmas.List.Sums.{sum_by-swap_remove}
 use Rattle.sh_history.specs.declared.entry.Entry.{Entry}
 use Rattle.sh_history.specs.declared.entry.Entry.TheVariants.{Insert, Got, Gone, Crowded, Removed, Released}
-use Rattle.sh_history.specs.History.{value_of, is_removed, is_removal_of, is_got_by, is_release_by, is_got_of, is_release_of, is_got_from, is_release_from}
+use Rattle.sh_history.specs.History.{value_of, is_removed, is_removal_of, is_got_by, is_release_by, is_got_of}
+use Rattle.sh_history.specs.History.{is_release_of, is_got_from, is_release_from}
 use Rattle.sh_history.proofs.LogLaws.{value_of-append_none, value_of-append_some, count_by-push}
 use Rattle.sh_plain.specs.declared.index.Issued.{Issued}
 use Rattle.sh_plain.specs.declared.index.Held.{Held}
 use Rattle.sh_plain.specs.Index.{issued_at, issued_value, issued_removed, is_hold_by, is_hold_of, is_hold_on, IsIndex}
 use Rattle.sh_plain.specs.Plain.{IsUnindexed}
-use Rattle.sh_plain.proofs.Issued.{past_is_not_issued, next_is_issued, others_stay_issued, changed_is_known, others_stay_known}
+use Rattle.sh_plain.proofs.Issued.{past_is_not_issued, next_is_issued, others_stay_issued, changed_is_known}
+use Rattle.sh_plain.proofs.Issued.{others_stay_known}
 
 -- ---- what an entry adds to a history
 
@@ -27,7 +30,8 @@ value_stays : (entries : List Entry) (e : Entry) (key : ℕ) → value_of (e ∷
     → value_of (entries ++ e ∷ []) key ≡ value_of entries key
 value_stays entries e key none = value_after entries e key (value_of entries key) refl none
 
-removed_after : (entries : List Entry) (e : Entry) (key : ℕ) → is_removed (entries ++ e ∷ []) key ≡ (is_removed entries key || is_removed (e ∷ []) key)
+removed_after : (entries : List Entry) (e : Entry) (key : ℕ) → is_removed (entries ++ e ∷ []) key
+    ≡ (is_removed entries key || is_removed (e ∷ []) key)
 removed_after entries e key = list_any-append (is_removal_of key) entries (e ∷ [])
 
 removal_stays : (entries : List Entry) (e : Entry) (key : ℕ) → is_removed (e ∷ []) key ≡ false
@@ -44,14 +48,17 @@ count_stays got released entries e held no_got no_release is =
     rw (count_by-push got entries e, count_by-push released entries e, no_got, no_release) (omega arith)
 
 -- by a get, whose hold is added
-count_got : (got released : Entry → Bool) (mine : Held → Bool) (entries : List Entry) (holds : List Held) (e : Entry) (held : Held)
+count_got : (got released : Entry → Bool) (mine : Held → Bool) (entries : List Entry) (holds : List Held) (e : Entry)
+    (held : Held)
     → got e ≡ mine held → released e ≡ false → count_by got entries ≡ count_by released entries + count_by mine holds
     → count_by got (entries ++ e ∷ []) ≡ count_by released (entries ++ e ∷ []) + count_by mine (holds ++ held ∷ [])
 count_got got released mine entries holds e held same no_release is =
-    rw (count_by-push got entries e, count_by-push released entries e, count_by-push mine holds held, same, no_release) (omega arith)
+    rw (count_by-push got entries e, count_by-push released entries e, count_by-push mine holds held, same, no_release)
+    (omega arith)
 
 -- by a release, whose hold is taken away
-count_released : (got released : Entry → Bool) (mine : Held → Bool) (entries : List Entry) (holds : List Held) (e : Entry) (held d : Held) (at : ℕ)
+count_released : (got released : Entry → Bool) (mine : Held → Bool) (entries : List Entry) (holds : List Held)
+    (e : Entry) (held d : Held) (at : ℕ)
     → at < length holds → get_or holds at d ≡ held
     → got e ≡ false → released e ≡ mine held → count_by got entries ≡ count_by released entries + count_by mine holds
     → count_by got (entries ++ e ∷ []) ≡ count_by released (entries ++ e ∷ []) + count_by mine (swap_remove holds at d)
@@ -60,31 +67,41 @@ count_released got released mine entries holds e held d at inside here no_got sa
     rw here at (sum_by-swap_remove (λ h. cond (mine h) 1 0) holds at d inside) in
     rw (count_by-push got entries e, count_by-push released entries e, no_got, same) (omega (arith, taken))
 
-module _ (first : ℕ) (entries : List Entry) (issued : List Issued) (holds : List Held) (index : IsIndex first entries issued holds) where
+module _ (first : ℕ) (entries : List Entry) (issued : List Issued) (holds : List Held)
+    (index : IsIndex first entries issued holds) where
   pub index_unindexed : (e : Entry) → IsUnindexed e → IsIndex first (entries ++ e ∷ []) issued holds
   index_unindexed (Gone p k) is = record {
     values = λ key. value_stays entries (Gone p k) key refl ∙ index.values key;
     removals = λ key. removal_stays entries (Gone p k) key refl ∙ index.removals key;
-    held_by = λ pass key. count_stays (is_got_by pass key) (is_release_by pass key) entries (Gone p k) _ refl refl (index.held_by pass key);
-    held_of = λ pass. count_stays (is_got_from pass) (is_release_from pass) entries (Gone p k) _ refl refl (index.held_of pass);
+    held_by = λ pass key. count_stays (is_got_by pass key) (is_release_by pass key) entries (Gone p k) _ refl refl
+        (index.held_by pass key);
+    held_of = λ pass. count_stays (is_got_from pass) (is_release_from pass) entries (Gone p k) _ refl refl
+        (index.held_of pass);
     held_on = λ key. count_stays (is_got_of key) (is_release_of key) entries (Gone p k) _ refl refl (index.held_on key);
   }
   index_unindexed (Crowded p k) is = record {
     values = λ key. value_stays entries (Crowded p k) key refl ∙ index.values key;
     removals = λ key. removal_stays entries (Crowded p k) key refl ∙ index.removals key;
-    held_by = λ pass key. count_stays (is_got_by pass key) (is_release_by pass key) entries (Crowded p k) _ refl refl (index.held_by pass key);
-    held_of = λ pass. count_stays (is_got_from pass) (is_release_from pass) entries (Crowded p k) _ refl refl (index.held_of pass);
-    held_on = λ key. count_stays (is_got_of key) (is_release_of key) entries (Crowded p k) _ refl refl (index.held_on key);
+    held_by = λ pass key. count_stays (is_got_by pass key) (is_release_by pass key) entries (Crowded p k) _ refl refl
+        (index.held_by pass key);
+    held_of = λ pass. count_stays (is_got_from pass) (is_release_from pass) entries (Crowded p k) _ refl refl
+        (index.held_of pass);
+    held_on = λ key. count_stays (is_got_of key) (is_release_of key) entries (Crowded p k) _ refl refl
+        (index.held_on key);
   }
   index_unindexed _ is = absurd is
 
-  pub index_got : (p k : ℕ) (v : List ℕ) → IsIndex first (entries ++ Got p k v ∷ []) issued (holds ++ record { pass = p; key = k } ∷ [])
+  pub index_got : (p k : ℕ) (v : List ℕ) → IsIndex first (entries ++ Got p k v ∷ []) issued
+      (holds ++ record { pass = p; key = k } ∷ [])
   index_got p k v = record {
     values = λ key. value_stays entries (Got p k v) key refl ∙ index.values key;
     removals = λ key. removal_stays entries (Got p k v) key refl ∙ index.removals key;
-    held_by = λ pass key. count_got (is_got_by pass key) (is_release_by pass key) (is_hold_by pass key) entries holds (Got p k v) _ refl refl (index.held_by pass key);
-    held_of = λ pass. count_got (is_got_from pass) (is_release_from pass) (is_hold_of pass) entries holds (Got p k v) _ refl refl (index.held_of pass);
-    held_on = λ key. count_got (is_got_of key) (is_release_of key) (is_hold_on key) entries holds (Got p k v) _ refl refl (index.held_on key);
+    held_by = λ pass key. count_got (is_got_by pass key) (is_release_by pass key) (is_hold_by pass key) entries holds
+        (Got p k v) _ refl refl (index.held_by pass key);
+    held_of = λ pass. count_got (is_got_from pass) (is_release_from pass) (is_hold_of pass) entries holds (Got p k v) _
+        refl refl (index.held_of pass);
+    held_on = λ key. count_got (is_got_of key) (is_release_of key) (is_hold_on key) entries holds (Got p k v) _ refl
+        refl (index.held_on key);
   }
 
   pub index_released : (p k at : ℕ) (d : Held) → at < length holds → get_or holds at d ≡ record { pass = p; key = k }
@@ -92,9 +109,12 @@ module _ (first : ℕ) (entries : List Entry) (issued : List Issued) (holds : Li
   index_released p k at d inside here = record {
     values = λ key. value_stays entries (Released p k) key refl ∙ index.values key;
     removals = λ key. removal_stays entries (Released p k) key refl ∙ index.removals key;
-    held_by = λ pass key. count_released (is_got_by pass key) (is_release_by pass key) (is_hold_by pass key) entries holds (Released p k) _ d at inside here refl refl (index.held_by pass key);
-    held_of = λ pass. count_released (is_got_from pass) (is_release_from pass) (is_hold_of pass) entries holds (Released p k) _ d at inside here refl refl (index.held_of pass);
-    held_on = λ key. count_released (is_got_of key) (is_release_of key) (is_hold_on key) entries holds (Released p k) _ d at inside here refl refl (index.held_on key);
+    held_by = λ pass key. count_released (is_got_by pass key) (is_release_by pass key) (is_hold_by pass key) entries
+        holds (Released p k) _ d at inside here refl refl (index.held_by pass key);
+    held_of = λ pass. count_released (is_got_from pass) (is_release_from pass) (is_hold_of pass) entries holds
+        (Released p k) _ d at inside here refl refl (index.held_of pass);
+    held_on = λ key. count_released (is_got_of key) (is_release_of key) (is_hold_on key) entries holds (Released p k) _
+        d at inside here refl refl (index.held_on key);
   }
 
   inserted_value : (p key : ℕ) (v : List ℕ) (b : Bool) → (first + length issued == key) ≡ b
@@ -102,11 +122,14 @@ module _ (first : ℕ) (entries : List Entry) (issued : List Issued) (holds : Li
       ≡ issued_value (issued_at first (issued ++ record { value = v; removed = false } ∷ []) key)
   inserted_value p key v true is =
       let same : first + length issued ≡ key = search rules in
-      let none : value_of entries key ≡ None = index.values key ∙ ap issued_value (past_is_not_issued first issued key (omega arith)) in
+      let none : value_of entries key ≡ None = index.values key ∙ ap issued_value
+      (past_is_not_issued first issued key (omega arith)) in
       let new : value_of (Insert p (first + length issued) v ∷ []) key ≡ Some v = rw is refl in
-      let known : issued_at first (issued ++ record { value = v; removed = false } ∷ []) key ≡ Some (record { value = v; removed = false }) =
+      let known : issued_at first (issued ++ record { value = v; removed = false } ∷ []) key
+      ≡ Some (record { value = v; removed = false }) =
       rw (← same) (next_is_issued first issued (record { value = v; removed = false })) in
-      value_of-append_none entries (Insert p (first + length issued) v ∷ []) key none ∙ new ∙ sym (ap issued_value known)
+      value_of-append_none entries (Insert p (first + length issued) v ∷ []) key none ∙ new
+      ∙ sym (ap issued_value known)
   inserted_value p key v false is =
       let other : key ≢ first + length issued = search rules in
       let none : value_of (Insert p (first + length issued) v ∷ []) key ≡ None = rw is refl in
@@ -125,19 +148,23 @@ module _ (first : ℕ) (entries : List Entry) (issued : List Issued) (holds : Li
       sym (ap issued_removed (others_stay_issued first issued x key other))
 
   pub index_inserted : (p : ℕ) (v : List ℕ)
-      → IsIndex first (entries ++ Insert p (first + length issued) v ∷ []) (issued ++ record { value = v; removed = false } ∷ []) holds
+      → IsIndex first (entries ++ Insert p (first + length issued) v ∷ [])
+      (issued ++ record { value = v; removed = false } ∷ []) holds
   index_inserted p v =
       let e = Insert p (first + length issued) v in
       record {
         values = λ key. inserted_value p key v (first + length issued == key) refl;
         removals = λ key. removal_stays entries e key refl ∙ index.removals key
             ∙ inserted_removal key (record { value = v; removed = false }) refl (first + length issued == key) refl;
-        held_by = λ pass key. count_stays (is_got_by pass key) (is_release_by pass key) entries e _ refl refl (index.held_by pass key);
-        held_of = λ pass. count_stays (is_got_from pass) (is_release_from pass) entries e _ refl refl (index.held_of pass);
+        held_by = λ pass key. count_stays (is_got_by pass key) (is_release_by pass key) entries e _ refl refl
+            (index.held_by pass key);
+        held_of = λ pass. count_stays (is_got_from pass) (is_release_from pass) entries e _ refl refl
+            (index.held_of pass);
         held_on = λ key. count_stays (is_got_of key) (is_release_of key) entries e _ refl refl (index.held_on key);
       }
 
-  removed_value : (p k key : ℕ) (x old : Issued) → first ≤ k → k - first < length issued → issued_at first issued k ≡ Some old → x.value ≡ old.value
+  removed_value : (p k key : ℕ) (x old : Issued) → first ≤ k → k - first < length issued → issued_at first issued k
+      ≡ Some old → x.value ≡ old.value
       → (b : Bool) → (k == key) ≡ b
       → value_of (entries ++ Removed p k ∷ []) key ≡ issued_value (issued_at first (set issued (k - first) x) key)
   removed_value p k key x old le inside was same_value true is =
@@ -165,7 +192,8 @@ module _ (first : ℕ) (entries : List Entry) (issued : List Issued) (holds : Li
       removal_stays entries (Removed p k) key none ∙ index.removals key
       ∙ sym (ap issued_removed (others_stay_known first issued x k key le other))
 
-  pub index_removed : (p k : ℕ) (x old : Issued) → first ≤ k → k - first < length issued → issued_at first issued k ≡ Some old
+  pub index_removed : (p k : ℕ) (x old : Issued) → first ≤ k → k - first < length issued → issued_at first issued k
+      ≡ Some old
       → x.value ≡ old.value → x.removed ≡ true
       → IsIndex first (entries ++ Removed p k ∷ []) (set issued (k - first) x) holds
   index_removed p k x old le inside was same_value gone =
@@ -173,7 +201,9 @@ module _ (first : ℕ) (entries : List Entry) (issued : List Issued) (holds : Li
       record {
         values = λ key. removed_value p k key x old le inside was same_value (k == key) refl;
         removals = λ key. removed_removal p k key x le inside gone (k == key) refl;
-        held_by = λ pass key. count_stays (is_got_by pass key) (is_release_by pass key) entries e _ refl refl (index.held_by pass key);
-        held_of = λ pass. count_stays (is_got_from pass) (is_release_from pass) entries e _ refl refl (index.held_of pass);
+        held_by = λ pass key. count_stays (is_got_by pass key) (is_release_by pass key) entries e _ refl refl
+            (index.held_by pass key);
+        held_of = λ pass. count_stays (is_got_from pass) (is_release_from pass) entries e _ refl refl
+            (index.held_of pass);
         held_on = λ key. count_stays (is_got_of key) (is_release_of key) entries e _ refl refl (index.held_on key);
       }

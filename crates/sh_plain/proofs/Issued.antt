@@ -1,11 +1,13 @@
 -- What the list of issued keys says after a key is issued or removed.
-use Rattle.std.proofs.Common.{◌≡◌, ◌≢◌, ℕ, ◌+◌, ◌-◌, ◌<◌, ◌≤◌, zero, suc, Bool, true, false, cond, List, [], ◌∷◌, ◌++◌, Option, Some, None, refl, ap, arith, rules, length, set, ltb-false}
+use Rattle.std.proofs.Common.{◌≡◌, ◌≢◌, ℕ, ◌+◌, ◌-◌, ◌<◌, ◌≤◌, zero, suc, Bool, true, false, cond, List, [], ◌∷◌, ◌++◌}
+use Rattle.std.proofs.Common.{Option, Some, None, refl, ap, arith, rules, length, set, ltb-false}
 use Rattle.std.specs.Prelude.{nat_lt, slice_get, IsSome}
 use Rattle.std.proofs.lemmas.Option.{slice_get_past, slice_get_within}
 use Rattle.sh_plain.specs.declared.index.Issued.{Issued}
 use Rattle.sh_plain.specs.Index.{issued_at, issued_value}
 
-slice_get_push_other : {X : Type 0} (xs : List X) (x : X) (i : ℕ) → i ≢ length xs → slice_get (xs ++ x ∷ []) i ≡ slice_get xs i
+slice_get_push_other : {X : Type 0} (xs : List X) (x : X) (i : ℕ) → i ≢ length xs → slice_get (xs ++ x ∷ []) i
+    ≡ slice_get xs i
 slice_get_push_other [] x zero ne = absurd (ne refl)
 slice_get_push_other [] x (suc i) ne = refl
 slice_get_push_other (y ∷ ys) x zero ne = refl
@@ -27,7 +29,8 @@ slice_get_set_same [] x i lt = absurd (omega arith)
 slice_get_set_same (y ∷ ys) x zero lt = refl
 slice_get_set_same (y ∷ ys) x (suc i) lt = slice_get_set_same ys x i (omega arith)
 
-below_none : (b : Bool) (o : Option Issued) → IsSome (issued_value (cond b None o)) → (b ≡ false) × IsSome (issued_value o)
+below_none : (b : Bool) (o : Option Issued) → IsSome (issued_value (cond b None o)) → (b ≡ false)
+    × IsSome (issued_value o)
 below_none true o some = absurd (let none : ⊥ = cc in none)
 below_none false o some = (refl, some)
 
@@ -45,7 +48,8 @@ module _ (first : ℕ) (issued : List Issued) where
       (ltb-false key first found.0, slice_get_within issued (key - first) at.0 at.1)
 
   -- an issued key by its place
-  pub at_place : (issued : List Issued) (key : ℕ) → first ≤ key → issued_at first issued key ≡ slice_get issued (key - first)
+  pub at_place : (issued : List Issued) (key : ℕ) → first ≤ key → issued_at first issued key
+      ≡ slice_get issued (key - first)
   at_place issued key le = let not_below : nat_lt key first ≡ false = search rules in rw not_below refl
 
   -- a key past the last
@@ -74,7 +78,8 @@ module _ (first : ℕ) (issued : List Issued) where
   -- what is known of an issued key changes
   pub changed_is_known : (x : Issued) (key : ℕ) → first ≤ key → key - first < length issued
       → issued_at first (set issued (key - first) x) key ≡ Some x
-  changed_is_known x key le lt = rw (at_place (set issued (key - first) x) key le) (slice_get_set_same issued x (key - first) lt)
+  changed_is_known x key le lt = rw (at_place (set issued (key - first) x) key le)
+      (slice_get_set_same issued x (key - first) lt)
 
   pub others_stay_known : (x : Issued) (changed key : ℕ) → first ≤ changed → key ≢ changed
       → issued_at first (set issued (changed - first) x) key ≡ issued_at first issued key

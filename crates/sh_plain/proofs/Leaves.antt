@@ -1,5 +1,6 @@
 -- What the calls of a plain store leave in its book.
-use Rattle.std.proofs.Common.{◌≡◌, ℕ, Bool, true, false, cond, List, [], ◌∷◌, ◌++◌, Option, Some, None, refl, sym, ap, subst, arith, map, Ok, Err, Result, ltb-true, ltb-false}
+use Rattle.std.proofs.Common.{◌≡◌, ℕ, Bool, true, false, cond, List, [], ◌∷◌, ◌++◌, Option, Some, None, refl, sym, ap}
+use Rattle.std.proofs.Common.{subst, arith, map, Ok, Err, Result, ltb-true, ltb-false}
 use Rattle.std.specs.Prelude.{ok_or, nat_lt, nat_le, not, is_some}
 use Rattle.std.proofs.lemmas.List.{map-append}
 use Rattle.sh_value.specs.declared.hold.Hold.{Hold}
@@ -11,16 +12,19 @@ use Rattle.sh_history.specs.declared.entry.Entry.TheVariants.{Got, Gone, Crowded
 use Rattle.sh_history.specs.declared.log.LogEntry.TheVariants.{Known}
 use Rattle.sh_history.specs.History.{Legal, value_of, present_value, holds_by, holds_on, hold_count}
 use Rattle.sh_history.proofs.LogLaws.{known_holds, known_filled, gets_have_value}
-use Rattle.sh_plain.specs.Plain.{Plain, PlainReply, Replied, refused, got_reply, get_reply, removed_reply, remove_reply, read_answer, with_added, plain_book, plain_setting}
+use Rattle.sh_plain.specs.Plain.{Plain, PlainReply, Replied, refused, got_reply, get_reply, removed_reply, remove_reply}
+use Rattle.sh_plain.specs.Plain.{read_answer, with_added, plain_book, plain_setting}
 use Rattle.sh_plain.specs.Store.{GetLeaves, ReadLeaves, RemoveLeaves}
 use Rattle.sh_plain.proofs.Held.{held_has_value, got_is_held}
 
 -- a call leaves the setting
-added_setting : (layout : Layout) (s : Plain) (adds : Option Entry) → plain_setting layout (with_added s adds) ≡ plain_setting layout s
+added_setting : (layout : Layout) (s : Plain) (adds : Option Entry) → plain_setting layout (with_added s adds)
+    ≡ plain_setting layout s
 added_setting layout s None = refl
 added_setting layout s (Some e) = refl
 
-pub setting_stays : {A : Type 0} (layout : Layout) (reply : PlainReply A) (s t : Plain) (result : Result A Refusal) → Replied reply s result t
+pub setting_stays : {A : Type 0} (layout : Layout) (reply : PlainReply A) (s t : Plain) (result : Result A Refusal)
+    → Replied reply s result t
     → plain_setting layout t ≡ plain_setting layout s
 setting_stays layout reply s t (Ok x) h = rw h.1 (added_setting layout s reply.adds)
 setting_stays layout reply s t (Err refusal.Memory) h = rw h.1 refl
@@ -33,21 +37,25 @@ book_added s e = map-append Known s.entries (e ∷ [])
 module _ (layout : Layout) (s : Plain) (key : ℕ) where
   -- what a remove with this reply leaves
   abbrev LeftRemoved : PlainReply (Unit {0}) → Type 0
-  LeftRemoved reply = RemoveLeaves (plain_setting layout s) key (plain_book s) reply.answer (plain_book (with_added s reply.adds))
+  LeftRemoved reply = RemoveLeaves (plain_setting layout s) key (plain_book s) reply.answer
+      (plain_book (with_added s reply.adds))
 
   removed_left : (present : Option (List ℕ)) → LeftRemoved (removed_reply s key present)
   removed_left None = book_added s (Gone s.pass key)
   removed_left (Some value) = book_added s (Removed s.pass key)
 
-  remove_left : (b : Bool) (present : PlainReply (Unit {0})) → LeftRemoved present → LeftRemoved (cond b (refused refusal.BadKey) present)
+  remove_left : (b : Bool) (present : PlainReply (Unit {0})) → LeftRemoved present
+      → LeftRemoved (cond b (refused refusal.BadKey) present)
   remove_left true present h = refl
   remove_left false present h = h
 
-  by_removed : (reply : PlainReply (Unit {0})) (result : Result (Unit {0}) Refusal) (t : Plain) → LeftRemoved reply → Replied reply s result t
+  by_removed : (reply : PlainReply (Unit {0})) (result : Result (Unit {0}) Refusal) (t : Plain) → LeftRemoved reply
+      → Replied reply s result t
       → RemoveLeaves (plain_setting layout s) key (plain_book s) result (plain_book t)
   by_removed reply (Err refusal.Memory) t left h = ap plain_book h.1
   by_removed reply result t left h =
-      let P : Result (Unit {0}) Refusal → Type 0 = λ r. RemoveLeaves (plain_setting layout s) key (plain_book s) r (plain_book t) in
+      let P : Result (Unit {0}) Refusal → Type 0 = λ r. RemoveLeaves (plain_setting layout s) key (plain_book s) r
+      (plain_book t) in
       subst P h.0 (rw h.1 left)
 
   pub remove_leaves : (result : Result (Unit {0}) Refusal) (t : Plain) → Replied (remove_reply layout s key) s result t
@@ -71,23 +79,30 @@ module _ (layout : Layout) (s : Plain) (key : ℕ) (legal : Legal s.passes layou
   got_left (Some value) =
       let crowded : PlainReply Hold = record { answer = Err refusal.Crowded; adds = Some (Crowded s.pass key) } in
       let got : PlainReply Hold = record { answer = Ok (record { key = key }); adds = Some (Got s.pass key value) } in
-      left_either (nat_le layout.guard_max (holds_on s.entries key)) crowded got (book_added s (Crowded s.pass key))
-      (refl, (Known (Got s.pass key value), (refl, refl), book_added s (Got s.pass key value)), got_is_held s.passes layout.guard_max s.entries s.pass key legal value)
+      left_either (nat_le layout.guard_max (holds_on s.entries key)) crowded got (book_added s (Crowded s.pass key)) (
+        refl,
+        (Known (Got s.pass key value), (refl, refl), book_added s (Got s.pass key value)),
+        got_is_held s.passes
+            layout.guard_max s.entries s.pass key legal value,
+      )
 
   get_left : Left (get_reply layout s key)
   get_left =
       let present = got_reply layout s key (present_value s.entries key) in
       let full = nat_le 16 (hold_count s.entries s.pass) in
-      left_either (not (is_some (unpacked layout key))) (refused refusal.BadKey) (cond full (refused refusal.HoldsFull) present) refl
+      left_either (not (is_some (unpacked layout key))) (refused refusal.BadKey)
+      (cond full (refused refusal.HoldsFull) present) refl
       (left_either full (refused refusal.HoldsFull) present refl (got_left (present_value s.entries key)))
 
   by_answer : (reply : PlainReply Hold) (result : Result Hold Refusal) (t : Plain) → Left reply → reply.answer ≡ result
       → t ≡ with_added s reply.adds → GetLeaves (plain_setting layout s) key (plain_book s) result (plain_book t)
   by_answer reply result t left is now =
-      let P : Result Hold Refusal → Type 0 = λ r. GetLeaves (plain_setting layout s) key (plain_book s) r (plain_book t) in
+      let P : Result Hold Refusal → Type 0 = λ r. GetLeaves (plain_setting layout s) key (plain_book s) r (plain_book t)
+      in
       subst P is (rw now left)
 
-  by_reply : (reply : PlainReply Hold) (result : Result Hold Refusal) (t : Plain) → Left reply → Replied reply s result t
+  by_reply : (reply : PlainReply Hold) (result : Result Hold Refusal) (t : Plain) → Left reply
+      → Replied reply s result t
       → GetLeaves (plain_setting layout s) key (plain_book s) result (plain_book t)
   by_reply reply (Ok hold) t left h = by_answer reply (Ok hold) t left h.0 h.1
   by_reply reply (Err refusal.Memory) t left h = ap plain_book h.1
@@ -100,18 +115,22 @@ module _ (layout : Layout) (s : Plain) (key : ℕ) (legal : Legal s.passes layou
   no_holds : (n : ℕ) → nat_lt 0 n ≡ false → n ≡ 0
   no_holds n e = let h = ltb-false 0 n e in omega arith
 
-  read_left : (b : Bool) → nat_lt 0 (holds_by s.entries s.pass key) ≡ b → (o : Option (List ℕ)) → value_of s.entries key ≡ o
+  read_left : (b : Bool) → nat_lt 0 (holds_by s.entries s.pass key) ≡ b → (o : Option (List ℕ)) → value_of s.entries key
+      ≡ o
       → ReadLeaves (plain_setting layout s) key (plain_book s) (ok_or (cond b o None) refusal.NotHeld) (plain_book s)
   read_left true held (Some value) is = (
     rw (known_holds s.entries s.pass key) (ltb-true _ _ held),
     sym (known_filled key value s.entries),
     gets_have_value s.passes layout.guard_max key value [] s.entries legal is,
   )
-  read_left true held None is = absurd (held_has_value s.passes layout.guard_max s.entries s.pass key legal (ltb-true _ _ held) is)
+  read_left true held None is = absurd (held_has_value s.passes layout.guard_max s.entries s.pass key legal
+      (ltb-true _ _ held) is)
   read_left false held o is = (rw (known_holds s.entries s.pass key) (no_holds _ held), refl)
 
   pub read_leaves : (result : Result (List ℕ) Refusal) (t : Plain) → result ≡ read_answer s key → t ≡ s
       → ReadLeaves (plain_setting layout s) key (plain_book s) result (plain_book t)
   read_leaves result t is same =
-      let P : Result (List ℕ) Refusal → Type 0 = λ r. ReadLeaves (plain_setting layout s) key (plain_book s) r (plain_book t) in
-      subst P (sym is) (rw same (read_left (nat_lt 0 (holds_by s.entries s.pass key)) refl (value_of s.entries key) refl))
+      let P : Result (List ℕ) Refusal → Type 0 = λ r. ReadLeaves (plain_setting layout s) key (plain_book s) r
+      (plain_book t) in
+      subst P (sym is) (rw same (read_left (nat_lt 0 (holds_by s.entries s.pass key)) refl (value_of s.entries key)
+      refl))

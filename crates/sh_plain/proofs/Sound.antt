@@ -1,5 +1,6 @@
 -- A plain store stays sound.
-use Rattle.std.proofs.Common.{◌≡◌, ℕ, ◌+◌, ◌-◌, ◌<◌, ◌≤◌, Bool, true, false, cond, List, [], ◌∷◌, ◌++◌, None, Some, refl, sym, ◌∙◌, ap, arith, length, length-append, length-set, get_or, set}
+use Rattle.std.proofs.Common.{◌≡◌, ℕ, ◌+◌, ◌-◌, ◌<◌, ◌≤◌, Bool, true, false, cond, List, [], ◌∷◌, ◌++◌, None, Some}
+use Rattle.std.proofs.Common.{refl, sym, ◌∙◌, ap, arith, length, length-append, length-set, get_or, set}
 use Rattle.std.specs.List.{swap_remove}
 use Rattle.std.proofs.lemmas.Option.{slice_get-get_or}
 use Rattle.sh_key.specs.Layout.{Layout, first_key, key_count}
@@ -30,7 +31,8 @@ module _ (layout : Layout) (entries : List Entry) (pass passes : ℕ) (issued : 
     legal = legal_more passes layout.guard_max entries e sound.legal allowed;
     some_pass = sound.some_pass;
     own = sound.own;
-    counted = same ∙ sound.counted ∙ sym (count_by-push is_insert entries e ∙ rw plain (let z : insert_count entries + 0 ≡ insert_count entries = omega arith in z));
+    counted = same ∙ sound.counted ∙ sym (count_by-push is_insert entries e
+        ∙ rw plain (let z : insert_count entries + 0 ≡ insert_count entries = omega arith in z));
     room = rw same sound.room;
     index = index;
   }
@@ -44,11 +46,13 @@ module _ (layout : Layout) (entries : List Entry) (pass passes : ℕ) (issued : 
       → Allowed passes layout.guard_max entries e → IsUnindexed e → after ≡ cond b (entries ++ e ∷ []) entries
       → IsSound layout after pass passes issued holds
   sound_noted true after e allowed unindexed is =
-      rw is (sound_more e issued holds allowed (no_insert e unindexed) refl (index_unindexed (first_key layout) entries issued holds sound.index e unindexed))
+      rw is (sound_more e issued holds allowed (no_insert e unindexed) refl
+      (index_unindexed (first_key layout) entries issued holds sound.index e unindexed))
   sound_noted false after e allowed unindexed is = rw is sound
 
   pub sound_got : (key : ℕ) (value : List ℕ) → Allowed passes layout.guard_max entries (Got pass key value)
-      → IsSound layout (entries ++ Got pass key value ∷ []) pass passes issued (holds ++ record { pass = pass; key = key } ∷ [])
+      → IsSound layout (entries ++ Got pass key value ∷ []) pass passes issued
+      (holds ++ record { pass = pass; key = key } ∷ [])
   sound_got key value allowed =
       sound_more (Got pass key value) issued (holds ++ record { pass = pass; key = key } ∷ []) allowed refl refl
       (index_got (first_key layout) entries issued holds sound.index pass key value)
@@ -68,23 +72,28 @@ module _ (layout : Layout) (entries : List Entry) (pass passes : ℕ) (issued : 
 
   pub sound_removed : (key : ℕ) (old d : Issued) → Allowed passes layout.guard_max entries (Removed pass key)
       → old ≡ get_or issued (key - first_key layout) d
-      → IsSound layout (entries ++ Removed pass key ∷ []) pass passes (set issued (key - first_key layout) (record { value = old.value; removed = true })) holds
+      → IsSound layout (entries ++ Removed pass key ∷ []) pass passes
+      (set issued (key - first_key layout) (record { value = old.value; removed = true })) holds
   sound_removed key old d allowed is =
       let first = first_key layout in
       let within = removable_is_within pass key allowed in
       let new : Issued = record { value = old.value; removed = true } in
       let was : issued_at first issued key ≡ Some old =
       at_place first issued issued key within.0 ∙ slice_get-get_or issued (key - first) d within.1 ∙ ap Some (sym is) in
-      sound_more (Removed pass key) (set issued (key - first) new) holds allowed refl (length-set issued (key - first) new)
+      sound_more (Removed pass key) (set issued (key - first) new) holds allowed refl
+      (length-set issued (key - first) new)
       (index_removed first entries issued holds sound.index pass key new old within.0 within.1 was refl refl)
 
   -- by the insert of the next key
   pub sound_inserted : (value : List ℕ) → length issued < key_count layout
-      → IsSound layout (entries ++ Insert pass (first_key layout + length issued) value ∷ []) pass passes (issued ++ record { value = value; removed = false } ∷ []) holds
+      → IsSound layout (entries ++ Insert pass (first_key layout + length issued) value ∷ []) pass passes
+      (issued ++ record { value = value; removed = false } ∷ []) holds
   sound_inserted value room =
-      let longer : length (issued ++ record { value = value; removed = false } ∷ []) ≡ length issued + 1 = simp length-append (omega arith) in
+      let longer : length (issued ++ record { value = value; removed = false } ∷ [])
+      ≡ length issued + 1 = simp length-append (omega arith) in
       record {
-        legal = legal_more passes layout.guard_max entries (Insert pass (first_key layout + length issued) value) sound.legal
+        legal = legal_more passes layout.guard_max entries (Insert pass (first_key layout + length issued) value)
+            sound.legal
             (fresh (first_key layout + length issued) (omega arith));
         some_pass = sound.some_pass;
         own = sound.own;

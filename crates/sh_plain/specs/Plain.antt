@@ -1,5 +1,6 @@
 -- The plain store: it keeps the entries of all its passes, and answers each call from them.
-use Rattle.std.specs.Prelude.{◌≡◌, ℕ, ◌+◌, ◌<◌, ◌≤◌, nat_le, nat_lt, not, true, length, List, [], ◌∷◌, ◌++◌, map, Option, Some, None, IsSome, is_some, ok_or, Result, Ok, Err, if◌then◌else◌}
+use Rattle.std.specs.Prelude.{◌≡◌, ℕ, ◌+◌, ◌<◌, ◌≤◌, nat_le, nat_lt, not, true, length, List, [], ◌∷◌, ◌++◌, map}
+use Rattle.std.specs.Prelude.{Option, Some, None, IsSome, is_some, ok_or, Result, Ok, Err, if◌then◌else◌}
 use Rattle.sh_value.specs.declared.hold.Hold.{Hold}
 use Rattle.sh_value.specs.declared.refusal.Refusal.{Refusal}
 use Rattle.sh_value.specs.declared.refusal.Refusal.TheVariants as refusal
@@ -110,7 +111,8 @@ pub record IsNewKey (layout : Layout) (entries : List Entry) (key : ℕ) : Type 
   pub not_issued : value_of entries key ≡ None
 
 -- its entries are a legal history, of which the index says what they say, with no more inserts than there are keys
-pub record IsSound (layout : Layout) (entries : List Entry) (pass passes : ℕ) (issued : List Issued) (holds : List Held) : Type 0 where
+pub record IsSound (layout : Layout) (entries : List Entry) (pass passes : ℕ) (issued : List Issued)
+    (holds : List Held) : Type 0 where
   pub legal : Legal passes layout.guard_max entries
   pub some_pass : 1 ≤ passes
   pub own : pass < passes

@@ -3,7 +3,8 @@
 use Rattle.std.specs.Prelude.{◌≡◌, ℕ, ◌<◌, Bool, List, [], ◌∷◌, ◌++◌, map, Result, Ok, Err}
 use Rattle.sh_value.specs.declared.hold.Hold.{Hold}
 use Rattle.sh_value.specs.declared.refusal.Refusal.{Refusal}
-use Rattle.sh_value.specs.declared.refusal.Refusal.TheVariants.{BadKey, Gone as GoneRefusal, Crowded as CrowdedRefusal, HoldsFull, NotHeld, Full, Memory}
+use Rattle.sh_value.specs.declared.refusal.Refusal.TheVariants.{BadKey, Gone as GoneRefusal, Crowded as CrowdedRefusal}
+use Rattle.sh_value.specs.declared.refusal.Refusal.TheVariants.{HoldsFull, NotHeld, Full, Memory}
 use Rattle.sh_history.specs.declared.entry.Entry.TheVariants.{Insert, Gone, Crowded, Removed, Released}
 use Rattle.sh_history.specs.declared.log.LogEntry.{LogEntry}
 use Rattle.sh_history.specs.declared.log.LogEntry.TheVariants.{Known}

@@ -21,8 +21,9 @@ const HOLDS_MAX: usize = 16;
 /// It also keeps what the entries say of each key, and the holds that they leave, so that no call goes through the
 /// entries: there are at most 16 holds a pass.
 ///
-/// It knows no shape: a number is refused as `BadKey` exactly where it is no key of the layout. Its n-th insert, from 0,
-/// gives the n-th key of the layout. A contract sees its entries, the pass whose calls follow, and how many passes it has.
+/// It knows no shape: a number is refused as `BadKey` exactly where it is no key of the layout. Its n-th insert, from
+/// 0, gives the n-th key of the layout. A contract sees its entries, the pass whose calls follow, and how many passes
+/// it has.
 #[derive(Drop)]
 pub struct PlainStore<L: KeyLayout> {
     entries: Vec<Entry>,
@@ -181,7 +182,8 @@ impl<L: KeyLayout> PlainStore<L> {
 }
 
 impl<L: KeyLayout> PlainStore<L> {
-    ghost use Rattle.sh_plain.specs.Plain.{Replied, insert_reply, got_reply, get_reply, read_answer, removed_reply, remove_reply, release_reply};
+    ghost use Rattle.sh_plain.specs.Plain.{Replied, insert_reply, got_reply, get_reply, read_answer, removed_reply};
+    ghost use Rattle.sh_plain.specs.Plain.{remove_reply, release_reply};
 
     fn plain_insert(&mut self, value: &Value) -> Result<u64, Refusal>
         ensures { Replied (insert_reply L.layout self.old value.now) self.old result self.new }
@@ -223,7 +225,8 @@ impl<L: KeyLayout> PlainStore<L> {
 
     // A get of a key, where the pass has room for a hold.
     fn get_key(&mut self, key: u64) -> Result<Hold, Refusal>
-        ensures { Replied (got_reply L.layout self.old key (present_value self.old.entries key)) self.old result self.new }
+        ensures { Replied (got_reply L.layout self.old key (present_value self.old.entries key)) self.old result
+            self.new }
     {
         let pass = self.pass;
         let crowded = self.is_full_of_holds(key);
@@ -290,7 +293,8 @@ impl<L: KeyLayout> PlainStore<L> {
 }
 
 impl<L: KeyLayout> Store for PlainStore<L> {
-    ghost use Rattle.sh_plain.specs.Plain.{IsNewKey, plain_book, plain_setting, Replied, insert_reply, get_reply, read_answer, remove_reply, release_reply};
+    ghost use Rattle.sh_plain.specs.Plain.{IsNewKey, plain_book, plain_setting, Replied, insert_reply, get_reply};
+    ghost use Rattle.sh_plain.specs.Plain.{read_answer, remove_reply, release_reply};
     ghost use Rattle.sh_plain.specs.Store.{IsBook, InsertLeaves, GetLeaves, ReadLeaves, RemoveLeaves, ReleaseLeaves};
 
     ghost book = { plain_book };
@@ -308,7 +312,8 @@ impl<L: KeyLayout> Store for PlainStore<L> {
     ghost releases = { λ old key result new. Replied (release_reply old key) old result new };
 
     fn insert(&mut self, value: &Value) -> Result<u64, Refusal>
-        ensures leaves { InsertLeaves (plain_setting L.layout self.old) value.now (plain_book self.old) result (plain_book self.new) }
+        ensures leaves { InsertLeaves (plain_setting L.layout self.old) value.now (plain_book self.old) result
+            (plain_book self.new) }
         ensures stands { IsBook (plain_setting L.layout self.new) (plain_book self.new) }
         ensures same { plain_setting L.layout self.new ≡ plain_setting L.layout self.old }
         ensures exact { Replied (insert_reply L.layout self.old value.now) self.old result self.new }
@@ -322,7 +327,8 @@ impl<L: KeyLayout> Store for PlainStore<L> {
     }
 
     fn get(&mut self, key: u64) -> Result<Hold, Refusal>
-        ensures leaves { GetLeaves (plain_setting L.layout self.old) key (plain_book self.old) result (plain_book self.new) }
+        ensures leaves { GetLeaves (plain_setting L.layout self.old) key (plain_book self.old) result
+            (plain_book self.new) }
         ensures stands { IsBook (plain_setting L.layout self.new) (plain_book self.new) }
         ensures same { plain_setting L.layout self.new ≡ plain_setting L.layout self.old }
         ensures exact { Replied (get_reply L.layout self.old key) self.old result self.new }
@@ -334,7 +340,8 @@ impl<L: KeyLayout> Store for PlainStore<L> {
     }
 
     fn read(&mut self, hold: Hold) -> Result<Value, Refusal>
-        ensures leaves { ReadLeaves (plain_setting L.layout self.old) hold.key (plain_book self.old) result (plain_book self.new) }
+        ensures leaves { ReadLeaves (plain_setting L.layout self.old) hold.key (plain_book self.old) result
+            (plain_book self.new) }
         ensures stands { IsBook (plain_setting L.layout self.new) (plain_book self.new) }
         ensures same { plain_setting L.layout self.new ≡ plain_setting L.layout self.old }
         ensures exact { result ≡ read_answer self.old hold.key }
@@ -346,7 +353,8 @@ impl<L: KeyLayout> Store for PlainStore<L> {
     }
 
     fn remove(&mut self, key: u64) -> Result<(), Refusal>
-        ensures leaves { RemoveLeaves (plain_setting L.layout self.old) key (plain_book self.old) result (plain_book self.new) }
+        ensures leaves { RemoveLeaves (plain_setting L.layout self.old) key (plain_book self.old) result
+            (plain_book self.new) }
         ensures stands { IsBook (plain_setting L.layout self.new) (plain_book self.new) }
         ensures same { plain_setting L.layout self.new ≡ plain_setting L.layout self.old }
         ensures exact { Replied (remove_reply L.layout self.old key) self.old result self.new }
@@ -357,7 +365,8 @@ impl<L: KeyLayout> Store for PlainStore<L> {
     }
 
     fn release(&mut self, hold: Hold) -> Result<(), Refusal>
-        ensures leaves { ReleaseLeaves (plain_setting L.layout self.old) hold.key (plain_book self.old) result (plain_book self.new) }
+        ensures leaves { ReleaseLeaves (plain_setting L.layout self.old) hold.key (plain_book self.old) result
+            (plain_book self.new) }
         ensures stands { IsBook (plain_setting L.layout self.new) (plain_book self.new) }
         ensures same { plain_setting L.layout self.new ≡ plain_setting L.layout self.old }
         ensures exact { Replied (release_reply self.old hold.key) self.old result self.new }

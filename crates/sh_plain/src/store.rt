@@ -3,7 +3,8 @@ ghost use Rattle.std.specs.Prelude.{◌≡◌, ℕ, List, Result};
 ghost use Rattle.sh_value.specs.declared.hold.Hold.{Hold};
 ghost use Rattle.sh_value.specs.declared.refusal.Refusal.{Refusal};
 ghost use Rattle.sh_history.specs.declared.log.LogEntry.{LogEntry};
-ghost use Rattle.sh_plain.specs.Store.{Setting, IsBook, InsertLeaves, GetLeaves, ReadLeaves, RemoveLeaves, ReleaseLeaves};
+ghost use Rattle.sh_plain.specs.Store.{Setting, IsBook, InsertLeaves, GetLeaves, ReadLeaves, RemoveLeaves};
+ghost use Rattle.sh_plain.specs.Store.{ReleaseLeaves};
 
 use sh_value::{Hold, Refusal, Value};
 
@@ -18,9 +19,9 @@ pub trait Store {
     // Whose calls follow, and what else stays the same over them.
     ghost setting: { Self → Setting };
 
-    // Which answers this very store gives, and when: for each call the store before it, the call's argument, the answer,
-    // and the store after it. The book bounds them for every store; these say what one store promises beyond it, as in
-    // which order it refuses.
+    // Which answers this very store gives, and when: for each call the store before it, the call's argument, the
+    // answer, and the store after it. The book bounds them for every store; these say what one store promises beyond
+    // it, as in which order it refuses.
     ghost inserts: { Self → List ℕ → Result ℕ Refusal → Self → Type 0 };
 
     ghost gets: { Self → ℕ → Result Hold Refusal → Self → Type 0 };
@@ -61,7 +62,8 @@ pub trait Store {
         ensures same { setting self.new ≡ setting self.old }
         ensures exact { removes self.old key result self.new };
 
-    /// Gives one hold on a key back. Refused as `NotHeld`, exactly where the caller has no hold on the key, or `Memory`.
+    /// Gives one hold on a key back. Refused as `NotHeld`, exactly where the caller has no hold on the key, or
+    /// `Memory`.
     fn release(&mut self, hold: Hold) -> Result<(), Refusal>
         ensures leaves { ReleaseLeaves (setting self.old) hold.key (book self.old) result (book self.new) }
         ensures stands { IsBook (setting self.new) (book self.new) }

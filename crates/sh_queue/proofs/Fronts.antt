@@ -1,14 +1,17 @@
 -- What the calls that look at the queues answer.
-use Rattle.std.proofs.Common.{◌≡◌, ℕ, ◌+◌, ◌<◌, ◌≤◌, Bool, true, List, [], ◌∷◌, ◌++◌, sym, refl, ap, ◌∙◌, subst, arith, add-one, Option, Some, None, append-nil}
+use Rattle.std.proofs.Common.{◌≡◌, ℕ, ◌+◌, ◌<◌, ◌≤◌, Bool, true, List, [], ◌∷◌, ◌++◌, sym, refl, ap, ◌∙◌, subst, arith}
+use Rattle.std.proofs.Common.{add-one, Option, Some, None, append-nil}
 use Rattle.std.specs.Prelude.{nat_lt, slice_get, IfSome}
 use Rattle.std.specs.List.{last_or, concat}
 use Rattle.std.proofs.lemmas.List.Folds.{concat-append}
 use Rattle.std.proofs.lemmas.Bool.{lt-ltb, ltb-true}
 use Rattle.sh_lists.specs.Numbers.{Distinct}
 use Rattle.sh_queue.specs.Numbers.{has_number, following, preceding, RisesFrom}
-use Rattle.sh_queue.specs.Queues.{PageQueues, EachOnce, queued_pages, page_numbered, pages_behind, queues_from, class_queues, queues_shown, KeepsQueues}
+use Rattle.sh_queue.specs.Queues.{PageQueues, EachOnce, queued_pages, page_numbered, pages_behind, queues_from}
+use Rattle.sh_queue.specs.Queues.{class_queues, queues_shown, KeepsQueues}
 use Rattle.sh_queue.proofs.Numbers.{has_number-first, has_number-last, lowest}
-use Rattle.sh_queue.proofs.Sections.{page_of-following, page_of-preceding, has_number-queue, pages, Distinct-pages, has_number-pages, run-append-queues}
+use Rattle.sh_queue.proofs.Sections.{page_of-following, page_of-preceding, has_number-queue, pages, Distinct-pages}
+use Rattle.sh_queue.proofs.Sections.{has_number-pages, run-append-queues}
 use Rattle.sh_queue.proofs.Moves.{length-queues_from}
 
 -- the first of a queue, if there is one, is opened, and so is the last
@@ -35,7 +38,8 @@ front_of w k x size opened unopened notes answer h found said =
     record {
       is = is;
       is_opened = IfSome-from answer (λ page. page < opened)
-          (λ p some. is_opened w k p size opened unopened notes h (has_number-first p (pages_behind k w) (sym is ∙ some)));
+          (λ p some. is_opened w k p size opened unopened notes h
+          (has_number-first p (pages_behind k w) (sym is ∙ some)));
     }
 
 -- the last page of the queue behind a mark
@@ -55,7 +59,8 @@ last_of w c x size opened unopened notes answer h class found said =
     record {
       is = is;
       is_opened = IfSome-from answer (λ page. page < opened)
-          (λ p some. is_opened w c p size opened unopened notes h (has_number-last p (pages_behind c w) (sym is ∙ some)));
+          (λ p some. is_opened w c p size opened unopened notes h
+          (has_number-last p (pages_behind c w) (sym is ∙ some)));
     }
 
 -- the front of the blank pages is the lowest of them
@@ -75,8 +80,10 @@ all_pages-shown
 unfolding class_queues
 all_pages-shown w size opened unopened notes h =
     let ends : List (List ℕ) = pages_behind 8 w ∷ pages_behind 9 w ∷ pages_behind 10 w ∷ [] in
-    let end : pages_behind 8 w ++ (pages_behind 9 w ++ (pages_behind 10 w ++ [])) ≡ pages_behind 8 w ++ pages_behind 9 w =
-    ap (λ zs. pages_behind 8 w ++ (pages_behind 9 w ++ (zs ++ []))) h.none_behind ∙ ap (λ zs. pages_behind 8 w ++ zs) (append-nil (pages_behind 9 w)) in
+    let end : pages_behind 8 w ++ (pages_behind 9 w ++ (pages_behind 10 w ++ [])) ≡ pages_behind 8 w
+    ++ pages_behind 9 w =
+    ap (λ zs. pages_behind 8 w ++ (pages_behind 9 w ++ (zs ++ []))) h.none_behind
+    ∙ ap (λ zs. pages_behind 8 w ++ zs) (append-nil (pages_behind 9 w)) in
     ap (λ zs. concat (queues_from 8 0 w) ++ zs) (sym end)
     ∙ sym (concat-append (queues_from 8 0 w) ends)
     ∙ ap (λ zs. zs ++ concat (queues_from 11 0 w)) (sym h.none_ahead)
@@ -87,8 +94,10 @@ pub each_once
     → queues_shown w opened unopened ≡ v → KeepsQueues w size opened unopened notes → EachOnce v
 unfolding class_queues
 each_once w size opened unopened notes v is h =
-    let same : queued_pages (queues_shown w opened unopened) ≡ pages w = all_pages-shown w size opened unopened notes h in
-    let in_pages : (page : ℕ) → has_number page (pages w) ≡ nat_lt page opened = λ page. has_number-pages page w ∙ h.pages page in
+    let same : queued_pages (queues_shown w opened unopened) ≡ pages w = all_pages-shown w size opened unopened notes h
+    in
+    let in_pages : (page : ℕ) → has_number page (pages w) ≡ nat_lt page opened = λ page. has_number-pages page w
+    ∙ h.pages page in
     let at : EachOnce (queues_shown w opened unopened) = record {
       classes = length-queues_from 8 0 w;
       once = subst Distinct (sym same) (Distinct-pages w h.distinct);

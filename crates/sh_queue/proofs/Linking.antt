@@ -1,18 +1,28 @@
 -- What the writes of a chain's links do to its numbers.
-use Rattle.std.proofs.Common.{◌≡◌, ◌≢◌, ℕ, suc, ◌+◌, ◌-◌, ◌<◌, ◌≤◌, ◌⊎◌, ⊎_elim, true, false, List, [], ◌∷◌, ◌++◌, length, get_or, set, sym, refl, ap, ◌∙◌, subst, arith, cond, ◌==◌, eq-eqb, ne_eqb, append-nil, length-append, replicate, inl, inr, Result, Ok, Err, OnOk, OnErr}
+use Rattle.std.proofs.Common.{◌≡◌, ◌≢◌, ℕ, suc, ◌+◌, ◌-◌, ◌<◌, ◌≤◌, ◌⊎◌, ⊎_elim, true, false, List, [], ◌∷◌, ◌++◌}
+use Rattle.std.proofs.Common.{length, get_or, set, sym, refl, ap, ◌∙◌, subst, arith, cond, ◌==◌, eq-eqb, ne_eqb}
+use Rattle.std.proofs.Common.{append-nil, length-append, replicate, inl, inr, Result, Ok, Err, OnOk, OnErr}
 use Rattle.std.proofs.lemmas.List.{get_or-set_same, get_or-set_other, get_or_append_left, length-set, length-replicate}
 use Rattle.std.proofs.lemmas.Bool.{cases_eq, cases_lt, false≢true}
 use Rattle.sh_lists.specs.Numbers.{Misses, Distinct, AllBelow, upward}
 use Rattle.sh_lists.specs.Lists.{walk, LastFrom}
 use Rattle.sh_lists.proofs.Distincts.{upward-push, Misses-upward, length-le_from_Distinct}
 use Rattle.sh_lists.proofs.Walks.{length-walk}
-use Rattle.sh_queue.specs.Numbers.{has_number, without_number, put_after, put_before, preceding, preceding_from, following}
+use Rattle.sh_queue.specs.Numbers.{has_number, without_number, put_after, put_before, preceding, preceding_from}
+use Rattle.sh_queue.specs.Numbers.{following}
 use Rattle.sh_queue.specs.Chain.{ChainNumbers, ChainLinked, Links}
-use Rattle.sh_queue.proofs.Numbers.{has_number-here, has_number-there, has_number-rest, differs, Misses-from_has, below_from_has, without_number-same, without_number-else, AllBelow-without, Misses-without, Distinct-without, has_number-without_same, preceding_is_inner, put_after-preceding, LastFrom-without, length-without, put_behind, put_behind-same, put_behind-else, AllBelow-put_behind, Misses-put_behind, Distinct-put_behind, LastFrom-put_behind, length-put_behind, put_before-nil, put_before-push, has_number-put_before_other}
+use Rattle.sh_queue.proofs.Numbers.{has_number-here, has_number-there, has_number-rest, differs, Misses-from_has}
+use Rattle.sh_queue.proofs.Numbers.{below_from_has, without_number-same, without_number-else, AllBelow-without}
+use Rattle.sh_queue.proofs.Numbers.{Misses-without, Distinct-without, has_number-without_same, preceding_is_inner}
+use Rattle.sh_queue.proofs.Numbers.{put_after-preceding, LastFrom-without, length-without, put_behind, put_behind-same}
+use Rattle.sh_queue.proofs.Numbers.{put_behind-else, AllBelow-put_behind, Misses-put_behind, Distinct-put_behind}
+use Rattle.sh_queue.proofs.Numbers.{LastFrom-put_behind, length-put_behind, put_before-nil, put_before-push}
+use Rattle.sh_queue.proofs.Numbers.{has_number-put_before_other}
 
 -- ---- a link that is written elsewhere
 
-Linked-set_next : (next prev : List ℕ) (k v a : ℕ) (xs : List ℕ) → Misses k (a ∷ xs) → ChainLinked next prev a xs → ChainLinked (set next k v) prev a xs
+Linked-set_next : (next prev : List ℕ) (k v a : ℕ) (xs : List ℕ) → Misses k (a ∷ xs) → ChainLinked next prev a xs
+    → ChainLinked (set next k v) prev a xs
 Linked-set_next next prev k v a [] misses linked = tt
 Linked-set_next next prev k v a (b ∷ rest) misses linked = (
   get_or-set_other next k a v 0 (λ same. misses.0 (sym same)) ∙ linked.0,
@@ -20,7 +30,8 @@ Linked-set_next next prev k v a (b ∷ rest) misses linked = (
   Linked-set_next next prev k v b rest misses.1 linked.2,
 )
 
-Linked-set_prev : (next prev : List ℕ) (k v a : ℕ) (xs : List ℕ) → Misses k xs → ChainLinked next prev a xs → ChainLinked next (set prev k v) a xs
+Linked-set_prev : (next prev : List ℕ) (k v a : ℕ) (xs : List ℕ) → Misses k xs → ChainLinked next prev a xs
+    → ChainLinked next (set prev k v) a xs
 Linked-set_prev next prev k v a [] misses linked = tt
 Linked-set_prev next prev k v a (b ∷ rest) misses linked = (
   linked.0,
@@ -82,14 +93,17 @@ out_here next prev x before behind a e [] next_x prev_x in_next in_prev linked d
 out_here next prev x before behind a e (b ∷ rest) next_x prev_x in_next in_prev linked distinct last inner =
     let is_b : b ≡ behind = sym linked.2.0 ∙ next_x in
     let is_a : a ≡ before = sym linked.1 ∙ prev_x in
-    let P : ℕ × ℕ → Type 0 = λ z. z.0 < length next → z.1 < length prev → ChainLinked (set next z.0 z.1) (set prev z.1 z.0) a (b ∷ rest) in
+    let P : ℕ × ℕ → Type 0 = λ z. z.0 < length next → z.1 < length prev
+    → ChainLinked (set next z.0 z.1) (set prev z.1 z.0) a (b ∷ rest) in
     let at : P (a, b) = λ in_next in_prev. (
       get_or-set_same next a b 0 in_next,
       get_or-set_same prev b a 0 in_prev,
-      Linked-set_prev (set next a b) prev b a b rest distinct.1.1.0 (Linked-set_next next prev a b b rest distinct.0.1 linked.2.2),
+      Linked-set_prev (set next a b) prev b a b rest distinct.1.1.0
+          (Linked-set_next next prev a b b rest distinct.0.1 linked.2.2),
     ) in
     let now : P (before, behind) = subst P (λ i. (is_a i, is_b i)) at in
-    subst (ChainLinked (set next before behind) (set prev behind before) a) (sym (without_number-same x (b ∷ rest))) (now in_next in_prev)
+    subst (ChainLinked (set next before behind) (set prev behind before) a) (sym (without_number-same x (b ∷ rest)))
+    (now in_next in_prev)
 
 Linked-without
     : (next prev : List ℕ) (x before behind a e : ℕ) (xs : List ℕ)
@@ -98,7 +112,8 @@ Linked-without
     → ChainLinked (set next before behind) (set prev behind before) a (without_number x xs)
 Linked-without next prev x before behind a e [] next_x prev_x in_next in_prev linked distinct here last inner =
     absurd (false≢true here)
-Linked-without next prev x before behind a e (y ∷ ys) next_x prev_x in_next in_prev linked distinct here last inner = ⊎_elim
+Linked-without next prev x before behind a e (y ∷ ys) next_x prev_x in_next in_prev linked distinct here last inner =
+    ⊎_elim
     (λ (is : x ≡ y).
     let P : ℕ → Type 0 = λ z. ChainLinked next prev a (z ∷ ys) → Distinct (a ∷ z ∷ ys) → LastFrom z ys e
     → ChainLinked (set next before behind) (set prev behind before) a (without_number x (z ∷ ys)) in
@@ -107,12 +122,16 @@ Linked-without next prev x before behind a e (y ∷ ys) next_x prev_x in_next in
     subst P is at linked distinct last)
     (λ (other : x ≢ y).
     let there : has_number x ys ≡ true = has_number-rest x y ys (λ same. other (sym same)) here in
-    let ahead : has_number before (y ∷ ys) ≡ true = subst (λ k. has_number k (y ∷ ys) ≡ true) prev_x (prev_is next prev x y ys linked.2 there).1 in
-    let after : has_number behind ys ≡ true = subst (λ k. has_number k ys ≡ true) next_x (next_is next prev x y e ys linked.2 (has_number-there x y ys there) last inner).1 in
-    subst (ChainLinked (set next before behind) (set prev behind before) a) (sym (without_number-else x y ys (λ same. other (sym same)))) (
+    let ahead : has_number before (y ∷ ys) ≡ true = subst (λ k. has_number k (y ∷ ys) ≡ true) prev_x
+    (prev_is next prev x y ys linked.2 there).1 in
+    let after : has_number behind ys ≡ true = subst (λ k. has_number k ys ≡ true) next_x
+    (next_is next prev x y e ys linked.2 (has_number-there x y ys there) last inner).1 in
+    subst (ChainLinked (set next before behind) (set prev behind before) a)
+    (sym (without_number-else x y ys (λ same. other (sym same)))) (
       get_or-set_other next before a behind 0 (differs a before (y ∷ ys) distinct.0 ahead) ∙ linked.0,
       get_or-set_other prev behind y before 0 (differs y behind ys distinct.1.0 after) ∙ linked.1,
-      Linked-without next prev x before behind y e ys next_x prev_x in_next in_prev linked.2 distinct.1 there last inner,
+      Linked-without next prev x before behind y e ys next_x prev_x in_next in_prev linked.2 distinct.1 there last
+          inner,
     ))
     (cases_eq x y)
 
@@ -123,10 +142,12 @@ in_here
     → get_or next a 0 ≡ behind → a < length next → behind < length prev → x < length next → x < length prev
     → ChainLinked next prev a xs → Distinct (a ∷ xs) → Misses x (a ∷ xs) → LastFrom a xs e → a ≢ e
     → ChainLinked (set (set next a x) x behind) (set (set prev behind x) x a) a (put_behind a x a xs)
-in_here next prev x behind a e [] next_a in_next in_prev x_next x_prev linked distinct misses last inner = absurd (inner last)
+in_here next prev x behind a e [] next_a in_next in_prev x_next x_prev linked distinct misses last inner = absurd
+    (inner last)
 in_here next prev x behind a e (b ∷ rest) next_a in_next in_prev x_next x_prev linked distinct misses last inner =
     let is : b ≡ behind = sym linked.0 ∙ next_a in
-    let P : ℕ → Type 0 = λ z. z < length prev → ChainLinked (set (set next a x) x z) (set (set prev z x) x a) a (x ∷ b ∷ rest) in
+    let P : ℕ → Type 0 = λ z. z < length prev → ChainLinked (set (set next a x) x z) (set (set prev z x) x a) a
+    (x ∷ b ∷ rest) in
     let at : P b = λ in_prev. (
       get_or-set_other (set next a x) x a b 0 (λ same. misses.0 (sym same)) ∙ get_or-set_same next a x 0 in_next,
       get_or-set_same (set prev b x) x a 0 (subst (λ k. x < k) (sym (length-set prev b x)) x_prev),
@@ -135,31 +156,44 @@ in_here next prev x behind a e (b ∷ rest) next_a in_next in_prev x_next x_prev
         get_or-set_other (set prev b x) x b a 0 (λ same. misses.1.0 (sym same)) ∙ get_or-set_same prev b x 0 in_prev,
         Linked-set_prev (set (set next a x) x b) (set prev b x) x a b rest misses.1.1 (
             Linked-set_prev (set (set next a x) x b) prev b x b rest distinct.1.0 (
-            Linked-set_next (set next a x) prev x b b rest misses.1 (Linked-set_next next prev a x b rest distinct.0 linked.2))),
+            Linked-set_next (set next a x) prev x b b rest misses.1
+            (Linked-set_next next prev a x b rest distinct.0 linked.2))),
       ),
     ) in
-    subst (ChainLinked (set (set next a x) x behind) (set (set prev behind x) x a) a) (sym (put_behind-same a x (b ∷ rest))) (subst P is at in_prev)
+    subst (ChainLinked (set (set next a x) x behind) (set (set prev behind x) x a) a)
+    (sym (put_behind-same a x (b ∷ rest))) (subst P is at in_prev)
 
 Linked-put_behind
     : (next prev : List ℕ) (s x behind a e : ℕ) (xs : List ℕ)
     → get_or next s 0 ≡ behind → s < length next → behind < length prev → x < length next → x < length prev
-    → ChainLinked next prev a xs → Distinct (a ∷ xs) → Misses x (a ∷ xs) → LastFrom a xs e → has_number s (a ∷ xs) ≡ true → s ≢ e
+    → ChainLinked next prev a xs → Distinct (a ∷ xs) → Misses x (a ∷ xs) → LastFrom a xs e → has_number s (a ∷ xs)
+    ≡ true → s ≢ e
     → ChainLinked (set (set next s x) x behind) (set (set prev behind x) x s) a (put_behind s x a xs)
-Linked-put_behind next prev s x behind a e [] next_s in_next in_prev x_next x_prev linked distinct misses last here inner = ⊎_elim
+Linked-put_behind next prev s x behind a e [] next_s in_next in_prev x_next x_prev linked distinct misses last here
+    inner = ⊎_elim
     (λ (is : s ≡ a). absurd (inner (is ∙ last)))
     (λ (other : s ≢ a). absurd (false≢true (has_number-rest s a [] (λ same. other (sym same)) here)))
     (cases_eq s a)
-Linked-put_behind next prev s x behind a e (y ∷ ys) next_s in_next in_prev x_next x_prev linked distinct misses last here inner = ⊎_elim
+Linked-put_behind next prev s x behind a e (y ∷ ys) next_s in_next in_prev x_next x_prev linked distinct misses last
+    here inner = ⊎_elim
     (λ (is : s ≡ a).
-    let P : ℕ → Type 0 = λ z. ChainLinked (set (set next z x) x behind) (set (set prev behind x) x z) a (put_behind z x a (y ∷ ys)) in
-    subst P (sym is) (in_here next prev x behind a e (y ∷ ys) (ap (λ z. get_or next z 0) (sym is) ∙ next_s) (subst (λ z. z < length next) is in_next) in_prev x_next x_prev linked distinct misses last (λ same. inner (is ∙ same))))
+    let P : ℕ → Type 0 = λ z. ChainLinked (set (set next z x) x behind) (set (set prev behind x) x z) a
+    (put_behind z x a (y ∷ ys)) in
+    subst P (sym is) (in_here next prev x behind a e (y ∷ ys) (ap (λ z. get_or next z 0) (sym is) ∙ next_s)
+    (subst (λ z. z < length next) is in_next) in_prev x_next x_prev linked distinct misses last
+    (λ same. inner (is ∙ same))))
     (λ (other : s ≢ a).
     let there : has_number s (y ∷ ys) ≡ true = has_number-rest s a (y ∷ ys) (λ same. other (sym same)) here in
-    let after : has_number behind ys ≡ true = subst (λ k. has_number k ys ≡ true) next_s (next_is next prev s y e ys linked.2 there last inner).1 in
-    subst (ChainLinked (set (set next s x) x behind) (set (set prev behind x) x s) a) (sym (put_behind-else s x a (y ∷ ys) (λ same. other (sym same)))) (
-      get_or-set_other (set next s x) x a behind 0 (λ same. misses.0 (sym same)) ∙ get_or-set_other next s a x 0 (λ same. other (sym same)) ∙ linked.0,
-      get_or-set_other (set prev behind x) x y s 0 (λ same. misses.1.0 (sym same)) ∙ get_or-set_other prev behind y x 0 (differs y behind ys distinct.1.0 after) ∙ linked.1,
-      Linked-put_behind next prev s x behind y e ys next_s in_next in_prev x_next x_prev linked.2 distinct.1 misses.1 last there inner,
+    let after : has_number behind ys ≡ true = subst (λ k. has_number k ys ≡ true) next_s
+    (next_is next prev s y e ys linked.2 there last inner).1 in
+    subst (ChainLinked (set (set next s x) x behind) (set (set prev behind x) x s) a)
+    (sym (put_behind-else s x a (y ∷ ys) (λ same. other (sym same)))) (
+      get_or-set_other (set next s x) x a behind 0 (λ same. misses.0 (sym same))
+          ∙ get_or-set_other next s a x 0 (λ same. other (sym same)) ∙ linked.0,
+      get_or-set_other (set prev behind x) x y s 0 (λ same. misses.1.0 (sym same))
+          ∙ get_or-set_other prev behind y x 0 (differs y behind ys distinct.1.0 after) ∙ linked.1,
+      Linked-put_behind next prev s x behind y e ys next_s in_next in_prev x_next x_prev linked.2 distinct.1 misses.1
+          last there inner,
     ))
     (cases_eq s a)
 
@@ -193,10 +227,12 @@ pub record Holds (next prev : List ℕ) (count : ℕ) (v : ChainNumbers) : Type 
   pub shows : chained next count ≡ v
 
 -- the links lead along the numbers
-walk-linked : (next prev : List ℕ) (a : ℕ) (xs : List ℕ) → ChainLinked next prev a xs → walk next (get_or next a 0) (length xs) ≡ xs
+walk-linked : (next prev : List ℕ) (a : ℕ) (xs : List ℕ) → ChainLinked next prev a xs
+    → walk next (get_or next a 0) (length xs) ≡ xs
 walk-linked next prev a [] linked = refl
 walk-linked next prev a (b ∷ rest) linked =
-    ap (λ i. i ∷ walk next (get_or next i 0) (length rest)) linked.0 ∙ ap (λ ys. b ∷ ys) (walk-linked next prev b rest linked.2)
+    ap (λ i. i ∷ walk next (get_or next i 0) (length rest)) linked.0
+    ∙ ap (λ ys. b ∷ ys) (walk-linked next prev b rest linked.2)
 
 holds
     : (next prev : List ℕ) (count size : ℕ) (rest : List ℕ)
@@ -224,7 +260,8 @@ inside next prev count s v is h here =
 
 pub follows
     : (next prev : List ℕ) (count s : ℕ) (v : ChainNumbers)
-    → chained next count ≡ v → Links next prev (walk next (get_or next 0 0) count) → has_number s v.numbers ≡ true → s ≢ 10
+    → chained next count ≡ v → Links next prev (walk next (get_or next 0 0) count) → has_number s v.numbers ≡ true
+    → s ≢ 10
     → get_or next s 0 ≡ following s v.numbers
 follows next prev count s v is h here inner =
     let P : ChainNumbers → Type 0 = λ v. has_number s v.numbers ≡ true → get_or next s 0 ≡ following s v.numbers in
@@ -241,7 +278,8 @@ pub record Ahead (next prev : List ℕ) (m x : ℕ) (v : ChainNumbers) : Type 0 
 
 pub ahead
     : (next prev : List ℕ) (count m x : ℕ) (v : ChainNumbers)
-    → chained next count ≡ v → Links next prev (walk next (get_or next 0 0) count) → has_number m v.numbers ≡ true → m ≢ 0
+    → chained next count ≡ v → Links next prev (walk next (get_or next 0 0) count) → has_number m v.numbers ≡ true
+    → m ≢ 0
     → Ahead next prev m x v
 ahead next prev count m x v is h here inner =
     let rest = walk next (get_or next 0 0) count in
@@ -263,7 +301,8 @@ ahead next prev count m x v is h here inner =
 pub record Unlinks (next prev : List ℕ) (count x before behind : ℕ) (v : ChainNumbers) : Type 0 where
   pub before_in : before < length next
   pub behind_in : behind < length prev
-  pub holds : Holds (set next before behind) (set prev behind before) (count - 1) (record v { numbers = without_number x v.numbers })
+  pub holds : Holds (set next before behind) (set prev behind before) (count - 1)
+      (record v { numbers = without_number x v.numbers })
   pub gone : has_number x (without_number x v.numbers) ≡ false
 
 pub unlinks
@@ -275,14 +314,16 @@ unlinks next prev count x before behind v is h here inner before_is behind_is =
     let rest = walk next (get_or next 0 0) count in
     let P : ChainNumbers → Type 0 = λ v. has_number x v.numbers ≡ true → Unlinks next prev count x before behind v in
     let at : P (chained next count) = λ here.
-    let first : without_number x (0 ∷ rest) ≡ 0 ∷ without_number x rest = without_number-else x 0 rest (λ same. inner.0 (sym same)) in
+    let first : without_number x (0 ∷ rest) ≡ 0 ∷ without_number x rest = without_number-else x 0 rest
+    (λ same. inner.0 (sym same)) in
     let there : has_number x rest ≡ true = has_number-rest x 0 rest (λ same. inner.0 (sym same)) here in
     let in_next : before < length next =
     below_from_has (length next) before (0 ∷ rest) h.small
     (subst (λ k. has_number k (0 ∷ rest) ≡ true) (sym before_is) (prev_is next prev x 0 rest h.linked there).1) in
     let behind_small : behind < length next =
     below_from_has (length next) behind rest h.small.1
-    (subst (λ k. has_number k rest ≡ true) (sym behind_is) (next_is next prev x 0 10 rest h.linked here h.last inner.1).1) in
+    (subst (λ k. has_number k rest ≡ true) (sym behind_is) (next_is next prev x 0 10 rest h.linked here h.last
+    inner.1).1) in
     let in_prev : behind < length prev = omega (arith, h.size) in
     let sized : length (set next before behind) ≡ length next = length-set next before behind in
     let sized' : length (set prev behind before) ≡ length prev = length-set prev behind before in
@@ -290,17 +331,21 @@ unlinks next prev count x before behind v is h here inner before_is behind_is =
     let counted : length rest ≡ count = length-walk next (get_or next 0 0) count in
     let links : Links (set next before behind) (set prev behind before) (without_number x rest) = record {
       size = omega (arith, h.size);
-      small = subst (λ k. AllBelow k (0 ∷ without_number x rest)) (sym sized) (h.small.0, AllBelow-without (length next) x rest h.small.1);
+      small = subst (λ k. AllBelow k (0 ∷ without_number x rest)) (sym sized)
+          (h.small.0, AllBelow-without (length next) x rest h.small.1);
       distinct = (Misses-without 0 x rest h.distinct.0, Distinct-without x rest h.distinct.1);
-      linked = Linked-without next prev x before behind 0 10 rest (sym behind_is) (sym before_is) in_next in_prev h.linked h.distinct there h.last inner.1;
+      linked = Linked-without next prev x before behind 0 10 rest (sym behind_is) (sym before_is) in_next in_prev
+          h.linked h.distinct there h.last inner.1;
       last = LastFrom-without x 0 10 rest h.last inner.1;
     } in
     record {
       before_in = in_next;
       behind_in = in_prev;
-      holds = subst (λ (zs : List ℕ). Holds (set next before behind) (set prev behind before) (count - 1) (record { numbers = zs; size = length next }))
+      holds = subst (λ (zs : List ℕ). Holds (set next before behind) (set prev behind before) (count - 1)
+          (record { numbers = zs; size = length next }))
           (sym first)
-          (holds (set next before behind) (set prev behind before) (count - 1) (length next) (without_number x rest) (omega arith) sized links);
+          (holds (set next before behind) (set prev behind before) (count - 1) (length next) (without_number x rest)
+          (omega arith) sized links);
       gone = has_number-without_same x (0 ∷ rest) h.distinct;
     } in
     subst P is at here
@@ -310,34 +355,47 @@ pub record Puts (next prev : List ℕ) (count s x behind : ℕ) (v : ChainNumber
   pub behind_in : behind < length prev
   pub x_next : x < length next
   pub x_prev : x < length prev
-  pub holds : Holds (set (set next s x) x behind) (set (set prev behind x) x s) (count + 1) (record v { numbers = put_after s x v.numbers })
+  pub holds : Holds (set (set next s x) x behind) (set (set prev behind x) x s) (count + 1)
+      (record v { numbers = put_after s x v.numbers })
 
 pub puts
     : (next prev : List ℕ) (count s x behind : ℕ) (v : ChainNumbers)
-    → chained next count ≡ v → Links next prev (walk next (get_or next 0 0) count) → has_number s v.numbers ≡ true → s ≢ 10
+    → chained next count ≡ v → Links next prev (walk next (get_or next 0 0) count) → has_number s v.numbers ≡ true
+    → s ≢ 10
     → has_number x v.numbers ≡ false → x < v.size → behind ≡ get_or next s 0
     → Puts next prev count s x behind v
 puts next prev count s x behind v is h here inner none small behind_is =
     let rest = walk next (get_or next 0 0) count in
-    let P : ChainNumbers → Type 0 = λ v. has_number s v.numbers ≡ true → has_number x v.numbers ≡ false → x < v.size → Puts next prev count s x behind v in
+    let P : ChainNumbers → Type 0 = λ v. has_number s v.numbers ≡ true → has_number x v.numbers ≡ false → x < v.size
+    → Puts next prev count s x behind v in
     let at : P (chained next count) = λ here none small.
     let misses : Misses x (0 ∷ rest) = Misses-from_has x (0 ∷ rest) none in
     let in_next : s < length next = below_from_has (length next) s (0 ∷ rest) h.small here in
     let behind_small : behind < length next =
     below_from_has (length next) behind rest h.small.1
-    (subst (λ k. has_number k rest ≡ true) (sym behind_is) (next_is next prev s 0 10 rest h.linked here h.last inner).1) in
+    (subst (λ k. has_number k rest ≡ true) (sym behind_is) (next_is next prev s 0 10 rest h.linked here h.last inner).1)
+    in
     let in_prev : behind < length prev = omega (arith, h.size) in
     let x_prev : x < length prev = omega (arith, h.size) in
     let counted : length rest ≡ count = length-walk next (get_or next 0 0) count in
     let more : length (put_behind s x 0 rest) ≡ length rest + 1 = length-put_behind s x 0 rest here in
-    let sized : length (set (set next s x) x behind) ≡ length next = length-set (set next s x) x behind ∙ length-set next s x in
-    let sized' : length (set (set prev behind x) x s) ≡ length prev = length-set (set prev behind x) x s ∙ length-set prev behind x in
-    let all : length (x ∷ 0 ∷ rest) ≤ length next = length-le_from_Distinct (length next) (x ∷ 0 ∷ rest) (misses, h.distinct) (small, h.small) in
+    let sized : length (set (set next s x) x behind) ≡ length next = length-set (set next s x) x behind
+    ∙ length-set next s x in
+    let sized' : length (set (set prev behind x) x s) ≡ length prev = length-set (set prev behind x) x s
+    ∙ length-set prev behind x in
+    let all : length (x ∷ 0 ∷ rest) ≤ length next = length-le_from_Distinct (length next) (x ∷ 0 ∷ rest)
+    (misses, h.distinct) (small, h.small) in
     let links : Links (set (set next s x) x behind) (set (set prev behind x) x s) (put_behind s x 0 rest) = record {
       size = omega (arith, h.size);
-      small = subst (λ k. AllBelow k (0 ∷ put_behind s x 0 rest)) (sym sized) (h.small.0, AllBelow-put_behind (length next) s x 0 rest h.small.1 small);
-      distinct = (Misses-put_behind 0 s x 0 rest h.distinct.0 (λ same. misses.0 (sym same)), Distinct-put_behind s x 0 rest h.distinct.1 misses.1);
-      linked = Linked-put_behind next prev s x behind 0 10 rest (sym behind_is) in_next in_prev small x_prev h.linked h.distinct misses h.last here inner;
+      small = subst (λ k. AllBelow k (0 ∷ put_behind s x 0 rest)) (sym sized)
+          (h.small.0, AllBelow-put_behind (length next) s x 0 rest h.small.1 small);
+      distinct = (
+        Misses-put_behind 0 s x 0 rest h.distinct.0 (λ same. misses.0 (sym same)),
+        Distinct-put_behind s x 0
+            rest h.distinct.1 misses.1,
+      );
+      linked = Linked-put_behind next prev s x behind 0 10 rest (sym behind_is) in_next in_prev small x_prev h.linked
+          h.distinct misses h.last here inner;
       last = LastFrom-put_behind s x 0 10 rest h.last inner;
     } in
     record {
@@ -345,7 +403,8 @@ puts next prev count s x behind v is h here inner none small behind_is =
       behind_in = in_prev;
       x_next = small;
       x_prev = x_prev;
-      holds = holds (set (set next s x) x behind) (set (set prev behind x) x s) (count + 1) (length next) (put_behind s x 0 rest) (omega arith) sized links;
+      holds = holds (set (set next s x) x behind) (set (set prev behind x) x s) (count + 1) (length next)
+          (put_behind s x 0 rest) (omega arith) sized links;
     } in
     subst P is at here none small
 
@@ -376,7 +435,8 @@ grows r next prev next' prev' count size h prev_is longer same =
     let sized : length (next ++ more) ≤ length (prev ++ more') = omega (arith, h.size) in
     let P : List ℕ × List ℕ → Type 0 = λ z. Holds z.0 z.1 count (record { numbers = 0 ∷ rest; size = length z.0 }) in
     let at : P (next ++ more, prev ++ more') =
-    holds (next ++ more) (prev ++ more') count (length (next ++ more)) rest (length-walk next (get_or next 0 0) count) refl (record {
+    holds (next ++ more) (prev ++ more') count (length (next ++ more)) rest (length-walk next (get_or next 0 0) count)
+    refl (record {
       size = sized;
       small = AllBelow-more (length next) (length (next ++ more)) (0 ∷ rest) longer h.small;
       distinct = h.distinct;

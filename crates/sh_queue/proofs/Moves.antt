@@ -1,14 +1,21 @@
 -- What the calls do to the queues.
-use Rattle.std.proofs.Common.{◌≡◌, ◌≢◌, ℕ, zero, suc, ◌+◌, ◌<◌, ◌≤◌, ⊎_elim, Bool, true, false, ◌||◌, List, [], ◌∷◌, ◌++◌, map, length, get_or, set, sym, refl, ap, ◌∙◌, subst, arith, add-one}
+use Rattle.std.proofs.Common.{◌≡◌, ◌≢◌, ℕ, zero, suc, ◌+◌, ◌<◌, ◌≤◌, ⊎_elim, Bool, true, false, ◌||◌, List, [], ◌∷◌}
+use Rattle.std.proofs.Common.{◌++◌, map, length, get_or, set, sym, refl, ap, ◌∙◌, subst, arith, add-one}
 use Rattle.std.specs.Prelude.{nat_lt}
 use Rattle.std.proofs.Math.Bool.{or-true, or-false}
 use Rattle.std.proofs.lemmas.Bool.{cases_eq, lt-ltb}
 use Rattle.std.proofs.lemmas.List.{get_or-set_same, get_or-set_other, length-set}
 use Rattle.sh_lists.specs.Numbers.{Misses, Distinct, upward}
 use Rattle.sh_queue.specs.Numbers.{has_number, without_number, put_after, put_before, RisesFrom}
-use Rattle.sh_queue.specs.Queues.{PageQueues, class_queue, at_front, at_back, among_full, pages_to_mark, pages_behind, marks, queues_from, class_queues, queues_shown, KeepsQueues}
-use Rattle.sh_queue.proofs.Numbers.{has_number-without_other, has_number-without_same, has_number-from_Misses, Misses-from_has, has_number-put_after_other, has_number-put_after_same, has_number-put_before_other, has_number-put_before_same, has_number-append, has_number-else, has_number-here, RisesFrom-without}
-use Rattle.sh_queue.proofs.Sections.{queue-without, Misses-queue, run-without, marks-without, run-put_after, queue-put_after_same, queue-put_after_other, marks-put_after, run-put_before_other, queue-put_before_same, queue-put_before_other, marks-put_before, has_number-mark}
+use Rattle.sh_queue.specs.Queues.{PageQueues, class_queue, at_front, at_back, among_full, pages_to_mark, pages_behind}
+use Rattle.sh_queue.specs.Queues.{marks, queues_from, class_queues, queues_shown, KeepsQueues}
+use Rattle.sh_queue.proofs.Numbers.{has_number-without_other, has_number-without_same, has_number-from_Misses}
+use Rattle.sh_queue.proofs.Numbers.{Misses-from_has, has_number-put_after_other, has_number-put_after_same}
+use Rattle.sh_queue.proofs.Numbers.{has_number-put_before_other, has_number-put_before_same, has_number-append}
+use Rattle.sh_queue.proofs.Numbers.{has_number-else, has_number-here, RisesFrom-without}
+use Rattle.sh_queue.proofs.Sections.{queue-without, Misses-queue, run-without, marks-without, run-put_after}
+use Rattle.sh_queue.proofs.Sections.{queue-put_after_same, queue-put_after_other, marks-put_after, run-put_before_other}
+use Rattle.sh_queue.proofs.Sections.{queue-put_before_same, queue-put_before_other, marks-put_before, has_number-mark}
 
 -- ---- the queues of the classes
 
@@ -31,7 +38,8 @@ queues_from-without
 queues_from-without zero k p w w' others = refl
 queues_from-without (suc n) k p w w' others =
     ap (λ x. x ∷ queues_from n (suc k) w') (others k (omega arith) (omega arith))
-    ∙ ap (λ xs. without_number p (pages_behind k w) ∷ xs) (queues_from-without n (suc k) p w w' (λ i from upto. others i (omega arith) (omega arith)))
+    ∙ ap (λ xs. without_number p (pages_behind k w) ∷ xs) (queues_from-without n (suc k) p w w'
+    (λ i from upto. others i (omega arith) (omega arith)))
 
 -- and one of them becomes another
 queues_from-set
@@ -43,10 +51,12 @@ queues_from-set zero k p c t new w w' is inside target others = absurd (omega ar
 queues_from-set (suc n) k p zero t new w w' is inside target others =
     let here : k ≡ t = omega arith in
     ap (λ x. x ∷ queues_from n (suc k) w') (ap (λ m. pages_behind m w') here ∙ target)
-    ∙ ap (λ xs. new ∷ xs) (queues_from-without n (suc k) p w w' (λ i from upto. others i (omega arith) (λ same. omega arith)))
+    ∙ ap (λ xs. new ∷ xs) (queues_from-without n (suc k) p w w'
+    (λ i from upto. others i (omega arith) (λ same. omega arith)))
 queues_from-set (suc n) k p (suc c) t new w w' is inside target others =
     ap (λ x. x ∷ queues_from n (suc k) w') (others k (omega arith) (λ same. omega arith))
-    ∙ ap (λ xs. without_number p (pages_behind k w) ∷ xs) (queues_from-set n (suc k) p c t new w w' (omega arith) (omega arith) target (λ i upto other. others i (omega arith) other))
+    ∙ ap (λ xs. without_number p (pages_behind k w) ∷ xs) (queues_from-set n (suc k) p c t new w w' (omega arith)
+    (omega arith) target (λ i upto other. others i (omega arith) other))
 
 pub class_is : (c : ℕ) (w : List ℕ) → c < 8 → get_or (class_queues w) c [] ≡ pages_behind c w
 unfolding class_queues
@@ -82,7 +92,8 @@ moved_to_front w c p mark distinct marked =
 pub moved_to_back
     : (w : List ℕ) (c p : ℕ)
     → suc c < 11 → Distinct w → marks w ≡ upward 0 11
-    → Moved w (put_before (suc c) ((11 + p) ∷ []) (without_number (11 + p) w)) c p (without_number p (pages_behind c w) ++ p ∷ [])
+    → Moved w (put_before (suc c) ((11 + p) ∷ []) (without_number (11 + p) w)) c p
+    (without_number p (pages_behind c w) ++ p ∷ [])
 moved_to_back w c p mark distinct marked =
     let v = without_number (11 + p) w in
     let m : marks v ≡ upward 0 11 = marks-without p w ∙ marked in
@@ -95,14 +106,16 @@ moved_to_back w c p mark distinct marked =
       marked = marks-put_before (suc c) p v ∙ marks-without p w;
       none_ahead = run-put_before_other (suc c) p 0 11 v m mark (λ same. omega arith) ∙ run-without p w;
       page = has_number-put_before_same (suc c) (11 + p) v here;
-      pages = λ k other. has_number-put_before_other k (suc c) (11 + p) v other ∙ has_number-without_other k (11 + p) w other;
+      pages = λ k other. has_number-put_before_other k (suc c) (11 + p) v other
+          ∙ has_number-without_other k (11 + p) w other;
     }
 
 -- the mark is there once the page is taken out
 pub mark_stays
     : (w : List ℕ) (c p size opened unopened : ℕ) (notes : List Bool)
     → KeepsQueues w size opened unopened notes → c < 11 → has_number c (without_number (11 + p) w) ≡ true
-mark_stays w c p size opened unopened notes h mark = has_number-mark c (without_number (11 + p) w) (marks-without p w ∙ h.marked) mark
+mark_stays w c p size opened unopened notes h mark = has_number-mark c (without_number (11 + p) w)
+    (marks-without p w ∙ h.marked) mark
 
 -- the notes after a move
 noted_elsewhere
@@ -110,13 +123,16 @@ noted_elsewhere
     → p < length notes → Distinct w → ((q : ℕ) → get_or notes q false ≡ has_number q (pages_behind 8 w))
     → Moved w w' t p new → t ≢ 8 → (q : ℕ) → get_or (set notes p false) q false ≡ has_number q (pages_behind 8 w')
 noted_elsewhere notes p t w w' new inside distinct noted h elsewhere q =
-    let full : pages_behind 8 w' ≡ without_number p (pages_behind 8 w) = h.others 8 (omega arith) (λ same. elsewhere (sym same)) in
+    let full : pages_behind 8 w' ≡ without_number p (pages_behind 8 w) = h.others 8 (omega arith)
+    (λ same. elsewhere (sym same)) in
     ⊎_elim
     (λ (is : p ≡ q).
-    let none : Misses (11 + p) (without_number (11 + p) w) = Misses-from_has (11 + p) (without_number (11 + p) w) (has_number-without_same (11 + p) w distinct) in
+    let none : Misses (11 + p) (without_number (11 + p) w) = Misses-from_has (11 + p) (without_number (11 + p) w)
+    (has_number-without_same (11 + p) w distinct) in
     let gone : has_number p (without_number p (pages_behind 8 w)) ≡ false =
     ap (has_number p) (sym (queue-without 8 p w (omega arith) distinct))
-    ∙ has_number-from_Misses p (pages_behind 8 (without_number (11 + p) w)) (Misses-queue 8 p (without_number (11 + p) w) none) in
+    ∙ has_number-from_Misses p (pages_behind 8 (without_number (11 + p) w))
+    (Misses-queue 8 p (without_number (11 + p) w) none) in
     let P : ℕ → Type 0 = λ q. get_or (set notes p false) q false ≡ has_number q (pages_behind 8 w') in
     let at : P p = get_or-set_same notes p false false inside ∙ sym (ap (has_number p) full ∙ gone) in
     subst P is at)
@@ -129,15 +145,19 @@ noted_elsewhere notes p t w w' new inside distinct noted h elsewhere q =
 noted_full
     : (notes : List Bool) (p : ℕ) (w w' : List ℕ)
     → p < length notes → ((q : ℕ) → get_or notes q false ≡ has_number q (pages_behind 8 w))
-    → Moved w w' 8 p (without_number p (pages_behind 8 w) ++ p ∷ []) → (q : ℕ) → get_or (set notes p true) q false ≡ has_number q (pages_behind 8 w')
+    → Moved w w' 8 p (without_number p (pages_behind 8 w) ++ p ∷ []) → (q : ℕ) → get_or (set notes p true) q false
+    ≡ has_number q (pages_behind 8 w')
 noted_full notes p w w' inside noted h q =
-    let at_end : has_number q (pages_behind 8 w') ≡ has_number q (without_number p (pages_behind 8 w)) || has_number q (p ∷ []) =
+    let at_end : has_number q (pages_behind 8 w') ≡ has_number q (without_number p (pages_behind 8 w)) || has_number q
+    (p ∷ []) =
     ap (has_number q) h.target ∙ has_number-append q (without_number p (pages_behind 8 w)) (p ∷ []) in
     ⊎_elim
     (λ (is : p ≡ q).
-    let P : ℕ → Type 0 = λ k. get_or (set notes p true) k false ≡ has_number k (without_number p (pages_behind 8 w)) || has_number k (p ∷ []) in
+    let P : ℕ → Type 0 = λ k. get_or (set notes p true) k false ≡ has_number k (without_number p (pages_behind 8 w)) ||
+    has_number k (p ∷ []) in
     let at : P p = get_or-set_same notes p true false inside
-    ∙ sym (ap (λ b. has_number p (without_number p (pages_behind 8 w)) || b) (has_number-here p []) ∙ or-true (has_number p (without_number p (pages_behind 8 w)))) in
+    ∙ sym (ap (λ b. has_number p (without_number p (pages_behind 8 w)) || b) (has_number-here p [])
+    ∙ or-true (has_number p (without_number p (pages_behind 8 w)))) in
     subst P is at ∙ sym at_end)
     (λ (other : p ≢ q).
     get_or-set_other notes p q true false (λ same. other (sym same))
@@ -167,7 +187,8 @@ kept_moved w w' new t p size size' opened unopened notes notes' h m distinct inn
       subst P is at)
       (λ (other : p ≢ q). m.pages (11 + q) (λ same. other (omega arith)) ∙ h.pages q)
       (cases_eq p q);
-  rising = subst (RisesFrom 0) (sym (m.others 9 (omega arith) (λ same. omega arith))) (RisesFrom-without 0 p (pages_behind 9 w) h.rising);
+  rising = subst (RisesFrom 0) (sym (m.others 9 (omega arith) (λ same. omega arith)))
+      (RisesFrom-without 0 p (pages_behind 9 w) h.rising);
   each_noted = long ∙ h.each_noted;
   noted = noted;
 }
@@ -197,19 +218,26 @@ pub leaves_front
     → w' ≡ put_after c (11 + p) (without_number (11 + p) w) → Distinct w' → size' ≡ size
     → Leaves w' size' opened unopened (set notes p false) (at_front c p v)
 leaves_front w w' c p size size' opened unopened notes v is h class old new distinct sized =
-    let P : PageQueues → Type 0 = λ v. p < v.opened → Leaves w' size' opened unopened (set notes p false) (at_front c p v) in
+    let P : PageQueues → Type 0 = λ v. p < v.opened → Leaves w' size' opened unopened (set notes p false)
+    (at_front c p v) in
     let at : P (queues_shown w opened unopened) = λ old.
     let m : Moved w w' c p (p ∷ without_number p (pages_behind c w)) =
-    subst (λ z. Moved w z c p (p ∷ without_number p (pages_behind c w))) (sym new) (moved_to_front w c p (omega arith) h.distinct h.marked) in
+    subst (λ z. Moved w z c p (p ∷ without_number p (pages_behind c w))) (sym new)
+    (moved_to_front w c p (omega arith) h.distinct h.marked) in
     let inside : p < length notes = subst (λ n. p < n) (sym h.each_noted) old in
-    let classes : class_queues w' ≡ set (map (without_number p) (class_queues w)) c (p ∷ without_number p (class_queue (queues_shown w opened unopened) c)) =
+    let classes : class_queues w' ≡ set (map (without_number p) (class_queues w)) c
+    (p ∷ without_number p (class_queue (queues_shown w opened unopened) c)) =
     class_moved w w' (p ∷ without_number p (pages_behind c w)) c p m class
     ∙ ap (λ xs. set (map (without_number p) (class_queues w)) c (p ∷ without_number p xs)) (sym (class_is c w class)) in
-    let full : pages_behind 8 w' ≡ without_number p (pages_behind 8 w) = m.others 8 (omega arith) (λ same. omega arith) in
-    let blank : pages_behind 9 w' ≡ without_number p (pages_behind 9 w) = m.others 9 (omega arith) (λ same. omega arith) in
+    let full : pages_behind 8 w' ≡ without_number p (pages_behind 8 w) = m.others 8 (omega arith) (λ same. omega arith)
+    in
+    let blank : pages_behind 9 w' ≡ without_number p (pages_behind 9 w) = m.others 9 (omega arith) (λ same. omega arith)
+    in
     record {
-      kept = kept_moved w w' (p ∷ without_number p (pages_behind c w)) c p size size' opened unopened notes (set notes p false) h m distinct (omega arith) old sized (length-set notes p false)
-          (noted_elsewhere notes p c w w' (p ∷ without_number p (pages_behind c w)) inside h.distinct h.noted m (λ same. omega arith));
+      kept = kept_moved w w' (p ∷ without_number p (pages_behind c w)) c p size size' opened unopened notes
+          (set notes p false) h m distinct (omega arith) old sized (length-set notes p false)
+          (noted_elsewhere notes p c w w' (p ∷ without_number p (pages_behind c w)) inside h.distinct h.noted m
+          (λ same. omega arith));
       shows = λ i. record { opened = opened; unopened = unopened; classes = classes i; full = full i; blank = blank i };
     } in
     subst P is at old
@@ -220,21 +248,29 @@ pub leaves_back
     → w' ≡ put_before (c + 1) ((11 + p) ∷ []) (without_number (11 + p) w) → Distinct w' → size' ≡ size
     → Leaves w' size' opened unopened (set notes p false) (at_back c p v)
 leaves_back w w' c p size size' opened unopened notes v is h class old new distinct sized =
-    let P : PageQueues → Type 0 = λ v. p < v.opened → Leaves w' size' opened unopened (set notes p false) (at_back c p v) in
+    let P : PageQueues → Type 0 = λ v. p < v.opened → Leaves w' size' opened unopened (set notes p false)
+    (at_back c p v) in
     let at : P (queues_shown w opened unopened) = λ old.
     let behind : put_before (suc c) ((11 + p) ∷ []) (without_number (11 + p) w) ≡ w' =
     sym (new ∙ ap (λ m. put_before m ((11 + p) ∷ []) (without_number (11 + p) w)) (add-one c)) in
     let m : Moved w w' c p (without_number p (pages_behind c w) ++ p ∷ []) =
-    subst (λ z. Moved w z c p (without_number p (pages_behind c w) ++ p ∷ [])) behind (moved_to_back w c p (omega arith) h.distinct h.marked) in
+    subst (λ z. Moved w z c p (without_number p (pages_behind c w) ++ p ∷ [])) behind
+    (moved_to_back w c p (omega arith) h.distinct h.marked) in
     let inside : p < length notes = subst (λ n. p < n) (sym h.each_noted) old in
-    let classes : class_queues w' ≡ set (map (without_number p) (class_queues w)) c (without_number p (class_queue (queues_shown w opened unopened) c) ++ p ∷ []) =
+    let classes : class_queues w' ≡ set (map (without_number p) (class_queues w)) c
+    (without_number p (class_queue (queues_shown w opened unopened) c) ++ p ∷ []) =
     class_moved w w' (without_number p (pages_behind c w) ++ p ∷ []) c p m class
-    ∙ ap (λ xs. set (map (without_number p) (class_queues w)) c (without_number p xs ++ p ∷ [])) (sym (class_is c w class)) in
-    let full : pages_behind 8 w' ≡ without_number p (pages_behind 8 w) = m.others 8 (omega arith) (λ same. omega arith) in
-    let blank : pages_behind 9 w' ≡ without_number p (pages_behind 9 w) = m.others 9 (omega arith) (λ same. omega arith) in
+    ∙ ap (λ xs. set (map (without_number p) (class_queues w)) c (without_number p xs ++ p ∷ []))
+    (sym (class_is c w class)) in
+    let full : pages_behind 8 w' ≡ without_number p (pages_behind 8 w) = m.others 8 (omega arith) (λ same. omega arith)
+    in
+    let blank : pages_behind 9 w' ≡ without_number p (pages_behind 9 w) = m.others 9 (omega arith) (λ same. omega arith)
+    in
     record {
-      kept = kept_moved w w' (without_number p (pages_behind c w) ++ p ∷ []) c p size size' opened unopened notes (set notes p false) h m distinct (omega arith) old sized (length-set notes p false)
-          (noted_elsewhere notes p c w w' (without_number p (pages_behind c w) ++ p ∷ []) inside h.distinct h.noted m (λ same. omega arith));
+      kept = kept_moved w w' (without_number p (pages_behind c w) ++ p ∷ []) c p size size' opened unopened notes
+          (set notes p false) h m distinct (omega arith) old sized (length-set notes p false)
+          (noted_elsewhere notes p c w w' (without_number p (pages_behind c w) ++ p ∷ []) inside h.distinct h.noted m
+          (λ same. omega arith));
       shows = λ i. record { opened = opened; unopened = unopened; classes = classes i; full = full i; blank = blank i };
     } in
     subst P is at old
@@ -245,18 +281,29 @@ pub leaves_full
     → w' ≡ put_before 9 ((11 + p) ∷ []) (without_number (11 + p) w) → Distinct w' → size' ≡ size
     → Leaves w' size' opened unopened (set notes p true) (among_full p v)
 leaves_full w w' p size size' opened unopened notes v is h old new distinct sized =
-    let P : PageQueues → Type 0 = λ v. p < v.opened → Leaves w' size' opened unopened (set notes p true) (among_full p v) in
+    let P : PageQueues → Type 0 = λ v. p < v.opened → Leaves w' size' opened unopened (set notes p true)
+    (among_full p v) in
     let at : P (queues_shown w opened unopened) = λ old.
     let m : Moved w w' 8 p (without_number p (pages_behind 8 w) ++ p ∷ []) =
-    subst (λ z. Moved w z 8 p (without_number p (pages_behind 8 w) ++ p ∷ [])) (sym new) (moved_to_back w 8 p (omega arith) h.distinct h.marked) in
+    subst (λ z. Moved w z 8 p (without_number p (pages_behind 8 w) ++ p ∷ [])) (sym new)
+    (moved_to_back w 8 p (omega arith) h.distinct h.marked) in
     let inside : p < length notes = subst (λ n. p < n) (sym h.each_noted) old in
     let classes : class_queues w' ≡ map (without_number p) (class_queues w) =
     classes_without w w' (without_number p (pages_behind 8 w) ++ p ∷ []) 8 p m (omega arith) in
-    let blank : pages_behind 9 w' ≡ without_number p (pages_behind 9 w) = m.others 9 (omega arith) (λ same. omega arith) in
+    let blank : pages_behind 9 w' ≡ without_number p (pages_behind 9 w) = m.others 9 (omega arith) (λ same. omega arith)
+    in
     record {
-      kept = kept_moved w w' (without_number p (pages_behind 8 w) ++ p ∷ []) 8 p size size' opened unopened notes (set notes p true) h m distinct (omega arith) old sized (length-set notes p true)
+      kept = kept_moved w w' (without_number p (pages_behind 8 w) ++ p ∷ []) 8 p size size' opened unopened notes
+          (set notes p true) h m distinct (omega arith) old sized (length-set notes p true)
           (noted_full notes p w w' inside h.noted m);
-      shows = λ i. record { opened = opened; unopened = unopened; classes = classes i; full = m.target i; blank = blank i };
+      shows = λ i. record {
+        opened = opened;
+        unopened = unopened;
+        classes = classes i;
+        full = m.target i;
+        blank = blank
+            i;
+      };
     } in
     subst P is at old
 
@@ -265,22 +312,27 @@ leaves_full w w' p size size' opened unopened notes v is h old new distinct size
 -- each mark is there once the page is taken out
 pub mark_is_there
     : (w out : List ℕ) (p size opened unopened : ℕ) (notes : List Bool)
-    → KeepsQueues w size opened unopened notes → out ≡ without_number (11 + p) w → (mark : ℕ) → mark < 11 → has_number mark out ≡ true
+    → KeepsQueues w size opened unopened notes → out ≡ without_number (11 + p) w → (mark : ℕ) → mark < 11
+    → has_number mark out ≡ true
 mark_is_there w out p size opened unopened notes h is mark inside =
     ap (has_number mark) is ∙ mark_stays w mark p size opened unopened notes h inside
 
 pub kept_in_front
     : (w out w' : List ℕ) (p size size' opened unopened : ℕ) (notes : List Bool) (v : PageQueues)
-    → queues_shown w opened unopened ≡ v → KeepsQueues w size opened unopened notes → p < v.opened → out ≡ without_number (11 + p) w
+    → queues_shown w opened unopened ≡ v → KeepsQueues w size opened unopened notes → p < v.opened → out
+    ≡ without_number (11 + p) w
     → Distinct w' → size' ≡ size → (c : ℕ) → w' ≡ put_after c (11 + p) out → c < 8
     → KeepsQueues w' size' opened unopened (set notes p false)
 kept_in_front w out w' p size size' opened unopened notes v is h old taken distinct sized c new class =
-    (leaves_front w w' c p size size' opened unopened notes v is h class old (new ∙ ap (put_after c (11 + p)) taken) distinct sized).kept
+    (leaves_front w w' c p size size' opened unopened notes v is h class old (new ∙ ap (put_after c (11 + p)) taken)
+    distinct sized).kept
 
 pub kept_in_back
     : (w out w' : List ℕ) (p size size' opened unopened : ℕ) (notes : List Bool) (v : PageQueues)
-    → queues_shown w opened unopened ≡ v → KeepsQueues w size opened unopened notes → p < v.opened → out ≡ without_number (11 + p) w
+    → queues_shown w opened unopened ≡ v → KeepsQueues w size opened unopened notes → p < v.opened → out
+    ≡ without_number (11 + p) w
     → Distinct w' → size' ≡ size → (c : ℕ) → w' ≡ put_before (c + 1) ((11 + p) ∷ []) out → c < 8
     → KeepsQueues w' size' opened unopened (set notes p false)
 kept_in_back w out w' p size size' opened unopened notes v is h old taken distinct sized c new class =
-    (leaves_back w w' c p size size' opened unopened notes v is h class old (new ∙ ap (put_before (c + 1) ((11 + p) ∷ [])) taken) distinct sized).kept
+    (leaves_back w w' c p size size' opened unopened notes v is h class old
+    (new ∙ ap (put_before (c + 1) ((11 + p) ∷ [])) taken) distinct sized).kept

@@ -1,5 +1,7 @@
 -- What stands in a list of numbers once one was taken out or put in.
-use Rattle.std.proofs.Common.{◌≡◌, ◌≢◌, ℕ, zero, suc, ◌+◌, ◌<◌, ◌≤◌, ◌⊎◌, ⊎_elim, Bool, true, false, cond, ◌||◌, ◌==◌, List, [], ◌∷◌, ◌++◌, length, sym, refl, ap, ◌∙◌, subst, arith, inl, inr, append_assoc, Option, Some, None, eq-eqb, ne_eqb}
+use Rattle.std.proofs.Common.{◌≡◌, ◌≢◌, ℕ, zero, suc, ◌+◌, ◌<◌, ◌≤◌, ◌⊎◌, ⊎_elim, Bool, true, false, cond, ◌||◌, ◌==◌}
+use Rattle.std.proofs.Common.{List, [], ◌∷◌, ◌++◌, length, sym, refl, ap, ◌∙◌, subst, arith, inl, inr, append_assoc}
+use Rattle.std.proofs.Common.{Option, Some, None, eq-eqb, ne_eqb}
 use Rattle.std.specs.Prelude.{slice_get}
 use Rattle.std.specs.List.{last_or}
 use Rattle.std.proofs.Math.Bool.{or_assoc, or-true}
@@ -33,7 +35,8 @@ differs a k (y ∷ ys) misses here same = ⊎_elim
 
 pub has_number-from_Misses : (k : ℕ) (xs : List ℕ) → Misses k xs → has_number k xs ≡ false
 has_number-from_Misses k [] misses = refl
-has_number-from_Misses k (y ∷ ys) misses = has_number-else k y ys (λ same. misses.0 (sym same)) ∙ has_number-from_Misses k ys misses.1
+has_number-from_Misses k (y ∷ ys) misses = has_number-else k y ys (λ same. misses.0 (sym same))
+    ∙ has_number-from_Misses k ys misses.1
 
 Misses-head
     : (k y : ℕ) (ys : List ℕ) (b : Bool)
@@ -99,13 +102,15 @@ LastFrom-without x a e (y ∷ ys) last inner = ⊎_elim
     (λ (is : y ≡ x). subst (λ (zs : List ℕ). LastFrom a zs e)
     (sym (ap (λ b. cond b ys (y ∷ without_number x ys)) (eq-eqb y x is)))
     (LastFrom-skip a y e ys last (λ same. inner (sym is ∙ same))))
-    (λ (other : y ≢ x). subst (λ (zs : List ℕ). LastFrom a zs e) (sym (without_number-else x y ys other)) (LastFrom-without x y e ys last inner))
+    (λ (other : y ≢ x). subst (λ (zs : List ℕ). LastFrom a zs e) (sym (without_number-else x y ys other))
+    (LastFrom-without x y e ys last inner))
     (cases_eq y x)
 
 pub length-without : (x : ℕ) (xs : List ℕ) → has_number x xs ≡ true → length (without_number x xs) + 1 ≡ length xs
 length-without x [] here = absurd (false≢true here)
 length-without x (y ∷ ys) here = ⊎_elim
-    (λ (is : y ≡ x). ap (λ (zs : List ℕ). length zs + 1) (ap (λ b. cond b ys (y ∷ without_number x ys)) (eq-eqb y x is)) ∙ omega arith)
+    (λ (is : y ≡ x). ap (λ (zs : List ℕ). length zs + 1) (ap (λ b. cond b ys (y ∷ without_number x ys)) (eq-eqb y x is))
+    ∙ omega arith)
     (λ (other : y ≢ x).
     let rest = length-without x ys (has_number-rest x y ys other here) in
     ap (λ (zs : List ℕ). length zs + 1) (without_number-else x y ys other) ∙ omega arith)
@@ -114,15 +119,19 @@ length-without x (y ∷ ys) here = ⊎_elim
 pub has_number-without_other : (k x : ℕ) (xs : List ℕ) → x ≢ k → has_number k (without_number x xs) ≡ has_number k xs
 has_number-without_other k x [] other = refl
 has_number-without_other k x (z ∷ zs) other = ⊎_elim
-    (λ (is : z ≡ x). ap (λ b. has_number k (cond b zs (z ∷ without_number x zs))) (eq-eqb z x is) ∙ sym (has_number-else k z zs (λ same. other (sym is ∙ same))))
-    (λ (differ : z ≢ x). ap (has_number k) (without_number-else x z zs differ) ∙ ap (λ b. (z == k) || b) (has_number-without_other k x zs other))
+    (λ (is : z ≡ x). ap (λ b. has_number k (cond b zs (z ∷ without_number x zs))) (eq-eqb z x is)
+    ∙ sym (has_number-else k z zs (λ same. other (sym is ∙ same))))
+    (λ (differ : z ≢ x). ap (has_number k) (without_number-else x z zs differ)
+    ∙ ap (λ b. (z == k) || b) (has_number-without_other k x zs other))
     (cases_eq z x)
 
 pub has_number-without_same : (x : ℕ) (xs : List ℕ) → Distinct xs → has_number x (without_number x xs) ≡ false
 has_number-without_same x [] distinct = refl
 has_number-without_same x (z ∷ zs) distinct = ⊎_elim
-    (λ (is : z ≡ x). ap (λ b. has_number x (cond b zs (z ∷ without_number x zs))) (eq-eqb z x is) ∙ has_number-from_Misses x zs (subst (λ k. Misses k zs) is distinct.0))
-    (λ (other : z ≢ x). ap (has_number x) (without_number-else x z zs other) ∙ has_number-else x z (without_number x zs) other ∙ has_number-without_same x zs distinct.1)
+    (λ (is : z ≡ x). ap (λ b. has_number x (cond b zs (z ∷ without_number x zs))) (eq-eqb z x is)
+    ∙ has_number-from_Misses x zs (subst (λ k. Misses k zs) is distinct.0))
+    (λ (other : z ≢ x). ap (has_number x) (without_number-else x z zs other)
+    ∙ has_number-else x z (without_number x zs) other ∙ has_number-without_same x zs distinct.1)
     (cases_eq z x)
 
 -- ---- a number is put in behind another
@@ -161,7 +170,11 @@ Distinct-put_behind s x a [] distinct misses =
 Distinct-put_behind s x a (y ∷ ys) distinct misses =
     elim (a == s) as (λ b. Distinct (cond b (x ∷ y ∷ ys) (y ∷ put_behind s x y ys))) [
       | true ↦ (misses, distinct)
-      | false ↦ (Misses-put_behind y s x y ys distinct.0 (λ same. misses.0 (sym same)), Distinct-put_behind s x y ys distinct.1 misses.1)
+      | false ↦ (
+        Misses-put_behind y s x y ys distinct.0 (λ same. misses.0 (sym same)),
+        Distinct-put_behind s x y ys
+            distinct.1 misses.1,
+      )
     ]
 
 pub LastFrom-put_behind : (s x a e : ℕ) (xs : List ℕ) → LastFrom a xs e → s ≢ e → LastFrom a (put_behind s x a xs) e
@@ -173,7 +186,8 @@ LastFrom-put_behind s x a e (y ∷ ys) last inner =
       | false ↦ LastFrom-put_behind s x y e ys last inner
     ]
 
-pub length-put_behind : (s x a : ℕ) (xs : List ℕ) → has_number s (a ∷ xs) ≡ true → length (put_behind s x a xs) ≡ length xs + 1
+pub length-put_behind : (s x a : ℕ) (xs : List ℕ) → has_number s (a ∷ xs) ≡ true → length (put_behind s x a xs)
+    ≡ length xs + 1
 length-put_behind s x a [] here = ⊎_elim
     (λ (is : a ≡ s). ap (λ b. length (cond b (x ∷ []) [])) (eq-eqb a s is))
     (λ (other : a ≢ s). absurd (false≢true (has_number-rest s a [] other here)))
@@ -193,11 +207,13 @@ has_number-put_after_other k s x (y ∷ ys) other =
       | false ↦ ap (λ b. (y == k) || b) (has_number-put_after_other k s x ys other)
     ]
 
-pub has_number-put_after_same : (s x : ℕ) (xs : List ℕ) → has_number s xs ≡ true → has_number x (put_after s x xs) ≡ true
+pub has_number-put_after_same : (s x : ℕ) (xs : List ℕ) → has_number s xs ≡ true → has_number x (put_after s x xs)
+    ≡ true
 has_number-put_after_same s x [] here = absurd (false≢true here)
 has_number-put_after_same s x (y ∷ ys) here = has_number-there x y (put_behind s x y ys) (⊎_elim
     (λ (is : y ≡ s). ap (λ b. has_number x (cond b (x ∷ ys) (put_after s x ys))) (eq-eqb y s is) ∙ has_number-here x ys)
-    (λ (other : y ≢ s). ap (has_number x) (put_behind-else s x y ys other) ∙ has_number-put_after_same s x ys (has_number-rest s y ys other here))
+    (λ (other : y ≢ s). ap (has_number x) (put_behind-else s x y ys other)
+    ∙ has_number-put_after_same s x ys (has_number-rest s y ys other here))
     (cases_eq y s))
 
 -- ---- a number is put in ahead of another
@@ -241,7 +257,8 @@ preceding_is_inner a m e (y ∷ ys) distinct here last same = ⊎_elim
     let ahead : preceding_from a m (y ∷ ys) ≡ a = ap (λ b. cond b a (preceding_from y m ys)) (eq-eqb y m is) in
     differs a e (y ∷ ys) distinct.0 (last_is_in y e ys last) (sym ahead ∙ same))
     (λ (other : y ≢ m).
-    let ahead : preceding_from a m (y ∷ ys) ≡ preceding_from y m ys = ap (λ b. cond b a (preceding_from y m ys)) (ne_eqb y m other) in
+    let ahead : preceding_from a m (y ∷ ys) ≡ preceding_from y m ys = ap (λ b. cond b a (preceding_from y m ys))
+    (ne_eqb y m other) in
     preceding_is_inner y m e ys distinct.1 (has_number-rest m y ys other here) last (sym ahead ∙ same))
     (cases_eq y m) where
       last_is_in : (a e : ℕ) (xs : List ℕ) → LastFrom a xs e → has_number e (a ∷ xs) ≡ true
@@ -262,7 +279,8 @@ put_before-nil m (y ∷ ys) =
       | false ↦ ap (λ zs. y ∷ zs) (put_before-nil m ys)
     ]
 
-put_before-behind : (m x : ℕ) (more ys : List ℕ) → Misses m more → put_before m (x ∷ []) (more ++ m ∷ ys) ≡ more ++ x ∷ m ∷ ys
+put_before-behind : (m x : ℕ) (more ys : List ℕ) → Misses m more → put_before m (x ∷ []) (more ++ m ∷ ys) ≡ more
+    ++ x ∷ m ∷ ys
 put_before-behind m x [] ys misses = put_before-same m (x ∷ []) ys
 put_before-behind m x (z ∷ more) ys misses =
     put_before-else m z (x ∷ []) (more ++ m ∷ ys) (λ same. misses.0 (sym same))
@@ -275,7 +293,8 @@ pub put_before-push
 put_before-push m x more [] misses = refl
 put_before-push m x more (y ∷ ys) misses = ⊎_elim
     (λ (is : m ≡ y).
-    let P : ℕ → Type 0 = λ z. put_before m (x ∷ []) (put_before m more (z ∷ ys)) ≡ put_before m (more ++ x ∷ []) (z ∷ ys) in
+    let P : ℕ → Type 0 = λ z. put_before m (x ∷ []) (put_before m more (z ∷ ys))
+    ≡ put_before m (more ++ x ∷ []) (z ∷ ys) in
     let at : P m = ap (put_before m (x ∷ [])) (put_before-same m more ys)
     ∙ put_before-behind m x more ys misses
     ∙ sym (append_assoc more (x ∷ []) (m ∷ ys))
@@ -289,33 +308,41 @@ put_before-push m x more (y ∷ ys) misses = ⊎_elim
     ∙ sym (put_before-else m y (more ++ x ∷ []) ys other))
     (cases_eq m y)
 
-pub has_number-put_before_other : (k m x : ℕ) (xs : List ℕ) → x ≢ k → has_number k (put_before m (x ∷ []) xs) ≡ has_number k xs
+pub has_number-put_before_other : (k m x : ℕ) (xs : List ℕ) → x ≢ k → has_number k (put_before m (x ∷ []) xs)
+    ≡ has_number k xs
 has_number-put_before_other k m x [] other = refl
 has_number-put_before_other k m x (y ∷ ys) other =
-    elim (y == m) as (λ b. has_number k (cond b (x ∷ y ∷ ys) (y ∷ put_before m (x ∷ []) ys)) ≡ (y == k) || has_number k ys) [
+    elim (y == m) as (λ b. has_number k (cond b (x ∷ y ∷ ys) (y ∷ put_before m (x ∷ []) ys))
+    ≡ (y == k) || has_number k ys) [
       | true ↦ has_number-else k x (y ∷ ys) other
       | false ↦ ap (λ b. (y == k) || b) (has_number-put_before_other k m x ys other)
     ]
 
-pub has_number-put_before_same : (m x : ℕ) (xs : List ℕ) → has_number m xs ≡ true → has_number x (put_before m (x ∷ []) xs) ≡ true
+pub has_number-put_before_same : (m x : ℕ) (xs : List ℕ) → has_number m xs ≡ true
+    → has_number x (put_before m (x ∷ []) xs) ≡ true
 has_number-put_before_same m x [] here = absurd (false≢true here)
 has_number-put_before_same m x (y ∷ ys) here = ⊎_elim
-    (λ (is : y ≡ m). ap (λ b. has_number x (cond b (x ∷ y ∷ ys) (y ∷ put_before m (x ∷ []) ys))) (eq-eqb y m is) ∙ has_number-here x (y ∷ ys))
+    (λ (is : y ≡ m). ap (λ b. has_number x (cond b (x ∷ y ∷ ys) (y ∷ put_before m (x ∷ []) ys))) (eq-eqb y m is)
+    ∙ has_number-here x (y ∷ ys))
     (λ (other : y ≢ m).
     ap (has_number x) (put_before-else m y (x ∷ []) ys other)
-    ∙ has_number-there x y (put_before m (x ∷ []) ys) (has_number-put_before_same m x ys (has_number-rest m y ys other here)))
+    ∙ has_number-there x y (put_before m (x ∷ []) ys) (has_number-put_before_same m x ys
+    (has_number-rest m y ys other here)))
     (cases_eq y m)
 
 pub has_number-upward : (k i n : ℕ) → i ≤ k → k < i + n → has_number k (upward i n) ≡ true
 has_number-upward k i zero from upto = absurd (omega arith)
 has_number-upward k i (suc n) from upto = ⊎_elim
-    (λ (is : i ≡ k). subst (λ z. has_number k (z ∷ upward (suc i) n) ≡ true) (sym is) (has_number-here k (upward (suc i) n)))
-    (λ (other : i ≢ k). has_number-there k i (upward (suc i) n) (has_number-upward k (suc i) n (omega arith) (omega arith)))
+    (λ (is : i ≡ k). subst (λ z. has_number k (z ∷ upward (suc i) n) ≡ true) (sym is)
+    (has_number-here k (upward (suc i) n)))
+    (λ (other : i ≢ k). has_number-there k i (upward (suc i) n)
+    (has_number-upward k (suc i) n (omega arith) (omega arith)))
     (cases_eq i k)
 
 pub has_number-append : (k : ℕ) (xs ys : List ℕ) → has_number k (xs ++ ys) ≡ has_number k xs || has_number k ys
 has_number-append k [] ys = refl
-has_number-append k (x ∷ xs) ys = ap (λ b. (x == k) || b) (has_number-append k xs ys) ∙ sym (or_assoc (x == k) (has_number k xs) (has_number k ys))
+has_number-append k (x ∷ xs) ys = ap (λ b. (x == k) || b) (has_number-append k xs ys)
+    ∙ sym (or_assoc (x == k) (has_number k xs) (has_number k ys))
 
 -- ---- the ends of a list
 
@@ -325,14 +352,16 @@ has_number-first k (x ∷ xs) is =
     let same : x ≡ k = cc in
     subst (λ z. has_number z (x ∷ xs) ≡ true) same (has_number-here x xs)
 
-has_number-last_from : (k : ℕ) (o : Option ℕ) (xs : List ℕ) → last_or o xs ≡ Some k → (o ≡ Some k) ⊎ (has_number k xs ≡ true)
+has_number-last_from : (k : ℕ) (o : Option ℕ) (xs : List ℕ) → last_or o xs ≡ Some k → (o ≡ Some k)
+    ⊎ (has_number k xs ≡ true)
 has_number-last_from k o [] is = inl is
 has_number-last_from k o (x ∷ xs) is = ⊎_elim
     (λ (here : Some x ≡ Some k).
     let same : x ≡ k = cc in
     let at : has_number k (x ∷ xs) ≡ true = subst (λ z. has_number z (x ∷ xs) ≡ true) same (has_number-here x xs) in
     inr at)
-    (λ (there : has_number k xs ≡ true). let at : has_number k (x ∷ xs) ≡ true = has_number-there k x xs there in inr at)
+    (λ (there : has_number k xs ≡ true). let at : has_number k (x ∷ xs) ≡ true = has_number-there k x xs there
+    in inr at)
     (has_number-last_from k (Some x) xs is)
 
 pub has_number-last : (k : ℕ) (xs : List ℕ) → last_or None xs ≡ Some k → has_number k xs ≡ true
@@ -365,8 +394,11 @@ pub RisesFrom-more
     → low ≤ i → RisesFrom low xs → ((k : ℕ) → has_number k xs ≡ true → k < i) → RisesFrom low (xs ++ upward i n)
 RisesFrom-more low i n [] less rises below = RisesFrom-upward low i n less
 RisesFrom-more low i n (x ∷ xs) less rises below =
-    let here : x < i = below x (has_number-here x xs) in
-    (rises.0, RisesFrom-more (suc x) i n xs (omega (arith, here)) rises.1 (λ k there. below k (has_number-there k x xs there)))
+    let here : x < i = below x (has_number-here x xs) in (
+      rises.0,
+      RisesFrom-more (suc x) i n xs (omega (arith, here)) rises.1
+          (λ k there. below k (has_number-there k x xs there)),
+    )
 
 lowest_from : (low k : ℕ) (xs : List ℕ) → RisesFrom low xs → has_number k xs ≡ true → low ≤ k
 lowest_from low k [] rises here = absurd (false≢true here)
@@ -376,7 +408,8 @@ lowest_from low k (x ∷ xs) rises here = ⊎_elim
     (cases_eq x k)
 
 -- the first of rising numbers is the lowest
-pub lowest : (first k low : ℕ) (xs : List ℕ) → RisesFrom low xs → slice_get xs 0 ≡ Some first → has_number k xs ≡ true → first ≤ k
+pub lowest : (first k low : ℕ) (xs : List ℕ) → RisesFrom low xs → slice_get xs 0 ≡ Some first → has_number k xs ≡ true
+    → first ≤ k
 lowest first k low [] rises is here = absurd (false≢true here)
 lowest first k low (x ∷ xs) rises is here =
     let same : x ≡ first = cc in

@@ -1,14 +1,19 @@
 -- The next segment is opened.
-use Rattle.std.proofs.Common.{◌≡◌, ◌≢◌, ℕ, zero, suc, ◌+◌, ◌-◌, ◌*◌, ◌<◌, ◌≤◌, ◌⊎◌, ⊎_elim, inl, Bool, true, false, List, [], ◌∷◌, ◌++◌, length, get_or, replicate, sym, refl, ap, ◌∙◌, subst, arith, append-nil, append_assoc, length-append}
+use Rattle.std.proofs.Common.{◌≡◌, ◌≢◌, ℕ, zero, suc, ◌+◌, ◌-◌, ◌*◌, ◌<◌, ◌≤◌, ◌⊎◌, ⊎_elim, inl, Bool, true, false}
+use Rattle.std.proofs.Common.{List, [], ◌∷◌, ◌++◌, length, get_or, replicate, sym, refl, ap, ◌∙◌, subst, arith}
+use Rattle.std.proofs.Common.{append-nil, append_assoc, length-append}
 use Rattle.std.specs.Prelude.{nat_lt}
 use Rattle.std.proofs.lemmas.Bool.{cases_eq, cases_lt, lt-ltb, le-ltb, ltb-true}
 use Rattle.std.proofs.lemmas.List.{length-replicate}
 use Rattle.sh_lists.specs.Numbers.{Distinct, upward}
 use Rattle.sh_lists.proofs.Distincts.{upward-push, Misses-upward}
 use Rattle.sh_queue.specs.Numbers.{has_number, put_before, RisesFrom}
-use Rattle.sh_queue.specs.Queues.{PageQueues, one_more_segment, none_opened, pages_to_mark, pages_behind, marks, queues_from, class_queues, queues_shown, KeepsQueues}
-use Rattle.sh_queue.proofs.Numbers.{has_number-put_before_other, has_number-put_before_same, RisesFrom-more, put_before-nil, put_before-push}
-use Rattle.sh_queue.proofs.Sections.{run-put_before_other, queue-put_before_same, queue-put_before_other, marks-put_before, has_number-queue, has_number-mark}
+use Rattle.sh_queue.specs.Queues.{PageQueues, one_more_segment, none_opened, pages_to_mark, pages_behind, marks}
+use Rattle.sh_queue.specs.Queues.{queues_from, class_queues, queues_shown, KeepsQueues}
+use Rattle.sh_queue.proofs.Numbers.{has_number-put_before_other, has_number-put_before_same, RisesFrom-more}
+use Rattle.sh_queue.proofs.Numbers.{put_before-nil, put_before-push}
+use Rattle.sh_queue.proofs.Sections.{run-put_before_other, queue-put_before_same, queue-put_before_other}
+use Rattle.sh_queue.proofs.Sections.{marks-put_before, has_number-queue, has_number-mark}
 use Rattle.sh_queue.proofs.Moves.{Leaves}
 
 -- n pages, from this one on, stand behind the blank ones
@@ -25,7 +30,8 @@ less_or_same q n other = ⊎_elim
     (λ (from : n ≤ q). let beyond : suc n ≤ q = omega arith in le-ltb q (suc n) beyond ∙ sym (le-ltb q n from))
     (cases_lt q n)
 
-opened_none : (w : List ℕ) (first : ℕ) → marks w ≡ upward 0 11 → ((q : ℕ) → has_number (11 + q) w ≡ nat_lt q first) → Opened w w first 0
+opened_none : (w : List ℕ) (first : ℕ) → marks w ≡ upward 0 11 → ((q : ℕ) → has_number (11 + q) w ≡ nat_lt q first)
+    → Opened w w first 0
 opened_none w first marked pages =
     let none : first + 0 ≡ first = omega arith in
     record {
@@ -36,7 +42,8 @@ opened_none w first marked pages =
       pages = λ q. pages q ∙ ap (nat_lt q) (sym none);
     }
 
-opened_more : (w v : List ℕ) (first n : ℕ) → Opened w v first n → Opened w (put_before 10 ((11 + (first + n)) ∷ []) v) first (suc n)
+opened_more : (w v : List ℕ) (first n : ℕ) → Opened w v first n → Opened w (put_before 10 ((11 + (first + n)) ∷ []) v)
+    first (suc n)
 opened_more w v first n h =
     let p = first + n in
     let next : first + suc n ≡ suc p = omega arith in
@@ -46,7 +53,8 @@ opened_more w v first n h =
           ∙ ap (λ xs. xs ++ p ∷ []) h.blank
           ∙ append_assoc (pages_behind 9 w) (upward first n) (p ∷ [])
           ∙ ap (λ xs. pages_behind 9 w ++ xs) (sym (upward-push first n));
-      others = λ k mark other. queue-put_before_other k 10 p 0 11 v h.marked mark (omega arith) (λ same. other (omega arith)) ∙ h.others k mark other;
+      others = λ k mark other. queue-put_before_other k 10 p 0 11 v h.marked mark (omega arith)
+          (λ same. other (omega arith)) ∙ h.others k mark other;
       marked = marks-put_before 10 p v ∙ h.marked;
       none_ahead = run-put_before_other 10 p 0 11 v h.marked (omega arith) (λ same. omega arith) ∙ h.none_ahead;
       pages = λ q. ⊎_elim
@@ -73,11 +81,13 @@ opened_all w first (suc n) marked pages =
     let before : 10 < 11 + first = omega arith in
     let ahead : (10 < 11 + first) ⊎ (11 + first + n ≤ 10) = inl before in
     let is : 11 + (first + n) ≡ 11 + first + n = omega arith in
-    let puts : put_before 10 ((11 + (first + n)) ∷ []) (put_before 10 numbers w) ≡ put_before 10 (upward (11 + first) (suc n)) w =
+    let puts : put_before 10 ((11 + (first + n)) ∷ []) (put_before 10 numbers w)
+    ≡ put_before 10 (upward (11 + first) (suc n)) w =
     put_before-push 10 (11 + (first + n)) numbers w (Misses-upward 10 (11 + first) n ahead)
     ∙ ap (λ k. put_before 10 (numbers ++ k ∷ []) w) is
     ∙ ap (λ xs. put_before 10 xs w) (sym (upward-push (11 + first) n)) in
-    subst (λ z. Opened w z first (suc n)) puts (opened_more w (put_before 10 numbers w) first n (opened_all w first n marked pages))
+    subst (λ z. Opened w z first (suc n)) puts (opened_more w (put_before 10 numbers w) first n
+    (opened_all w first n marked pages))
 
 get_or-replicate_same : (n i : ℕ) → get_or (replicate n false) i false ≡ false
 get_or-replicate_same zero i = refl
@@ -90,13 +100,15 @@ get_or-more [] n i = get_or-replicate_same n i
 get_or-more (b ∷ notes) n zero = refl
 get_or-more (b ∷ notes) n (suc i) = get_or-more notes n i
 
-classes_same : (n k : ℕ) (w w' : List ℕ) → ((i : ℕ) → i < k + n → pages_behind i w' ≡ pages_behind i w) → queues_from n k w' ≡ queues_from n k w
+classes_same : (n k : ℕ) (w w' : List ℕ) → ((i : ℕ) → i < k + n → pages_behind i w' ≡ pages_behind i w)
+    → queues_from n k w' ≡ queues_from n k w
 classes_same zero k w w' others = refl
 classes_same (suc n) k w w' others =
     ap (λ x. x ∷ queues_from n (suc k) w') (others k (omega arith))
     ∙ ap (λ xs. pages_behind k w ∷ xs) (classes_same n (suc k) w w' (λ i upto. others i (omega arith)))
 
-class_queues_same : (w w' : List ℕ) → ((i : ℕ) → i < 8 → pages_behind i w' ≡ pages_behind i w) → class_queues w' ≡ class_queues w
+class_queues_same : (w w' : List ℕ) → ((i : ℕ) → i < 8 → pages_behind i w' ≡ pages_behind i w) → class_queues w'
+    ≡ class_queues w
 unfolding class_queues
 class_queues_same w w' others = classes_same 8 0 w w' (λ i upto. others i (omega arith))
 
@@ -107,9 +119,11 @@ pub leaves_opened
     → notes' ≡ notes ++ replicate (opened + 8 - length notes) false
     → Leaves w' size' (opened + 8) (unopened - 1) notes' (one_more_segment v)
 leaves_opened w w' size size' opened unopened notes notes' v is h some new distinct room noted =
-    let P : PageQueues → Type 0 = λ v. v.unopened ≢ 0 → Leaves w' size' (opened + 8) (unopened - 1) notes' (one_more_segment v) in
+    let P : PageQueues → Type 0 = λ v. v.unopened ≢ 0 → Leaves w' size' (opened + 8) (unopened - 1) notes'
+    (one_more_segment v) in
     let at : P (queues_shown w opened unopened) = λ some.
-    let o : Opened w w' opened 8 = subst (λ z. Opened w z opened 8) (sym new) (opened_all w opened 8 h.marked h.pages) in
+    let o : Opened w w' opened 8 = subst (λ z. Opened w z opened 8) (sym new) (opened_all w opened 8 h.marked h.pages)
+    in
     let left : opened + 8 + 8 * (unopened - 1) ≡ opened + 8 * unopened = omega arith in
     let full : pages_behind 8 w' ≡ pages_behind 8 w = o.others 8 (omega arith) (λ same. omega arith) in
     let long : length notes' ≡ length notes + (opened + 8 - length notes) =

@@ -1,12 +1,17 @@
 -- The queues that stand in a chain, one behind each mark.
-use Rattle.std.proofs.Common.{◌≡◌, ◌≢◌, ℕ, zero, suc, ◌+◌, ◌-◌, ◌<◌, ◌≤◌, ◌⊎◌, ⊎_elim, inl, inr, true, false, cond, ◌||◌, ◌==◌, List, [], ◌∷◌, ◌++◌, get_or, sym, refl, ap, ◌∙◌, subst, arith, eq-eqb, ne_eqb, Some, None}
+use Rattle.std.proofs.Common.{◌≡◌, ◌≢◌, ℕ, zero, suc, ◌+◌, ◌-◌, ◌<◌, ◌≤◌, ◌⊎◌, ⊎_elim, inl, inr, true, false, cond}
+use Rattle.std.proofs.Common.{◌||◌, ◌==◌, List, [], ◌∷◌, ◌++◌, get_or, sym, refl, ap, ◌∙◌, subst, arith, eq-eqb, ne_eqb}
+use Rattle.std.proofs.Common.{Some, None}
 use Rattle.std.specs.Prelude.{nat_lt, slice_get}
 use Rattle.std.specs.List.{last_or, concat}
 use Rattle.std.proofs.lemmas.Bool.{cases_eq, cases_lt, false≢true, lt-ltb, le-ltb}
 use Rattle.sh_lists.specs.Numbers.{Misses, Distinct, upward}
 use Rattle.sh_queue.specs.Numbers.{has_number, without_number, put_after, put_before, following, preceding_from}
 use Rattle.sh_queue.specs.Queues.{page_numbered, pages_to_mark, pages_behind, marks, queues_from}
-use Rattle.sh_queue.proofs.Numbers.{has_number-here, has_number-there, has_number-else, has_number-rest, without_number-same, without_number-else, without_number-missing, put_behind, put_behind-same, put_behind-else, put_before-same, put_before-else, has_number-upward}
+use Rattle.sh_queue.proofs.Numbers.{has_number-here, has_number-there, has_number-else, has_number-rest}
+use Rattle.sh_queue.proofs.Numbers.{without_number-same, without_number-else, without_number-missing, put_behind}
+use Rattle.sh_queue.proofs.Numbers.{put_behind-same, put_behind-else, put_before-same, put_before-else}
+use Rattle.sh_queue.proofs.Numbers.{has_number-upward}
 
 -- ---- marks and pages
 
@@ -54,11 +59,13 @@ heads x xs j n is = ⊎_elim
 
 -- ---- a page is taken out
 
-pub run-without : (p : ℕ) (xs : List ℕ) → pages_to_mark (without_number (11 + p) xs) ≡ without_number p (pages_to_mark xs)
+pub run-without : (p : ℕ) (xs : List ℕ) → pages_to_mark (without_number (11 + p) xs)
+    ≡ without_number p (pages_to_mark xs)
 run-without p [] = refl
 run-without p (x ∷ xs) = ⊎_elim
     (λ (is : 11 + p ≡ x).
-    let P : ℕ → Type 0 = λ z. pages_to_mark (without_number (11 + p) (z ∷ xs)) ≡ without_number p (pages_to_mark (z ∷ xs)) in
+    let P : ℕ → Type 0 = λ z. pages_to_mark (without_number (11 + p) (z ∷ xs))
+    ≡ without_number p (pages_to_mark (z ∷ xs)) in
     let minus : 11 + p - 11 ≡ p = omega arith in
     let at : P (11 + p) = ap pages_to_mark (without_number-same (11 + p) xs)
     ∙ sym (without_number-same p (pages_to_mark xs))
@@ -80,7 +87,8 @@ Misses-run : (p : ℕ) (xs : List ℕ) → Misses (11 + p) xs → Misses p (page
 Misses-run p [] misses = tt
 Misses-run p (x ∷ xs) misses = ⊎_elim
     (λ (mark : x < 11). subst (Misses p) (sym (run-mark x xs mark)) tt)
-    (λ (page : 11 ≤ x). subst (Misses p) (sym (run-page x xs page)) ((λ same. misses.0 (omega arith)), Misses-run p xs misses.1))
+    (λ (page : 11 ≤ x). subst (Misses p) (sym (run-page x xs page))
+    ((λ same. misses.0 (omega arith)), Misses-run p xs misses.1))
     (cases_lt x 11)
 
 pub Misses-queue : (k p : ℕ) (xs : List ℕ) → Misses (11 + p) xs → Misses p (pages_behind k xs)
@@ -92,11 +100,13 @@ Misses-queue k p (x ∷ xs) misses =
     ]
 
 pub queue-without
-    : (k p : ℕ) (xs : List ℕ) → k < 11 → Distinct xs → pages_behind k (without_number (11 + p) xs) ≡ without_number p (pages_behind k xs)
+    : (k p : ℕ) (xs : List ℕ) → k < 11 → Distinct xs → pages_behind k (without_number (11 + p) xs)
+    ≡ without_number p (pages_behind k xs)
 queue-without k p [] mark distinct = refl
 queue-without k p (x ∷ xs) mark distinct = ⊎_elim
     (λ (is : 11 + p ≡ x).
-    let P : ℕ → Type 0 = λ z. Misses z xs → pages_behind k (without_number (11 + p) (z ∷ xs)) ≡ without_number p (pages_behind k (z ∷ xs)) in
+    let P : ℕ → Type 0 = λ z. Misses z xs → pages_behind k (without_number (11 + p) (z ∷ xs))
+    ≡ without_number p (pages_behind k (z ∷ xs)) in
     let at : P (11 + p) = λ misses. ap (pages_behind k) (without_number-same (11 + p) xs)
     ∙ sym (without_number-missing p (pages_behind k xs) (Misses-queue k p xs misses))
     ∙ ap (without_number p) (sym (queue-else k (11 + p) xs (λ same. omega arith))) in
@@ -104,7 +114,9 @@ queue-without k p (x ∷ xs) mark distinct = ⊎_elim
     (λ (differ : 11 + p ≢ x).
     let other : x ≢ 11 + p = λ same. differ (sym same) in
     ap (pages_behind k) (without_number-else (11 + p) x xs other)
-    ∙ elim (x == k) as (λ b. cond b (pages_to_mark (without_number (11 + p) xs)) (pages_behind k (without_number (11 + p) xs)) ≡ without_number p (cond b (pages_to_mark xs) (pages_behind k xs))) [
+    ∙ elim (x == k) as (λ b. cond b (pages_to_mark (without_number (11 + p) xs))
+    (pages_behind k (without_number (11 + p) xs)) ≡ without_number p
+    (cond b (pages_to_mark xs) (pages_behind k xs))) [
       | true ↦ run-without p xs
       | false ↦ queue-without k p xs mark distinct.1
     ])
@@ -137,7 +149,8 @@ run-put_after c p (x ∷ xs) mark = ⊎_elim
     (cases_lt x 11)
 
 pub queue-put_after_same
-    : (c p : ℕ) (xs : List ℕ) → c < 11 → has_number c xs ≡ true → pages_behind c (put_after c (11 + p) xs) ≡ p ∷ pages_behind c xs
+    : (c p : ℕ) (xs : List ℕ) → c < 11 → has_number c xs ≡ true → pages_behind c (put_after c (11 + p) xs)
+    ≡ p ∷ pages_behind c xs
 queue-put_after_same c p [] mark here = absurd (false≢true here)
 queue-put_after_same c p (x ∷ xs) mark here = ⊎_elim
     (λ (is : c ≡ x).
@@ -171,7 +184,8 @@ queue-put_after_other k c p (x ∷ xs) mark mark' apart = ⊎_elim
     subst P is at)
     (λ (differ : c ≢ x).
     ap (λ ys. pages_behind k (x ∷ ys)) (put_behind-else c (11 + p) x xs (λ same. differ (sym same)))
-    ∙ elim (x == k) as (λ b. cond b (pages_to_mark (put_after c (11 + p) xs)) (pages_behind k (put_after c (11 + p) xs)) ≡ cond b (pages_to_mark xs) (pages_behind k xs)) [
+    ∙ elim (x == k) as (λ b. cond b (pages_to_mark (put_after c (11 + p) xs)) (pages_behind k (put_after c (11 + p) xs))
+    ≡ cond b (pages_to_mark xs) (pages_behind k xs)) [
       | true ↦ run-put_after c p xs mark'
       | false ↦ queue-put_after_other k c p xs mark mark' apart
     ])
@@ -212,13 +226,15 @@ run-put_before_other m p j n (x ∷ xs) is mark apart =
 -- ahead of the next mark
 run-put_before_same
     : (m p n : ℕ) (xs : List ℕ)
-    → marks xs ≡ upward m (suc n) → m < 11 → pages_to_mark (put_before m ((11 + p) ∷ []) xs) ≡ pages_to_mark xs ++ p ∷ []
+    → marks xs ≡ upward m (suc n) → m < 11 → pages_to_mark (put_before m ((11 + p) ∷ []) xs) ≡ pages_to_mark xs
+    ++ p ∷ []
 run-put_before_same m p n [] is mark = cc
 run-put_before_same m p n (x ∷ xs) is mark =
     elim (heads x xs m (suc n) is) [
       | marked n' n_is small x_is rest ↦
           let minus : 11 + p - 11 ≡ p = omega arith in
-          let P : ℕ → Type 0 = λ z. z < 11 → pages_to_mark (put_before m ((11 + p) ∷ []) (z ∷ xs)) ≡ pages_to_mark (z ∷ xs) ++ p ∷ [] in
+          let P : ℕ → Type 0 = λ z. z < 11 → pages_to_mark (put_before m ((11 + p) ∷ []) (z ∷ xs))
+          ≡ pages_to_mark (z ∷ xs) ++ p ∷ [] in
           let at : P m = λ small. ap pages_to_mark (put_before-same m ((11 + p) ∷ []) xs)
           ∙ run-page (11 + p) (m ∷ xs) (omega arith)
           ∙ ap (λ k. k ∷ pages_to_mark (m ∷ xs)) minus
@@ -245,7 +261,8 @@ queue-put_before_other k m p j n (x ∷ xs) is k_mark m_mark apart = ⊎_elim
     ∙ queue-else k (11 + p) (m ∷ xs) (λ same. omega arith) in
     subst P here at)
     (λ (differ : m ≢ x).
-    ap (pages_behind k) (put_before-else m x ((11 + p) ∷ []) xs (λ same. differ (sym same))) ∙ elim (heads x xs j n is) [
+    ap (pages_behind k) (put_before-else m x ((11 + p) ∷ []) xs (λ same. differ (sym same)))
+    ∙ elim (heads x xs j n is) [
       | marked n' n_is small x_is rest ↦ ⊎_elim
           (λ (same : k ≡ x).
           let P : ℕ → Type 0 = λ z. pages_behind z (x ∷ put_before m ((11 + p) ∷ []) xs) ≡ pages_behind z (x ∷ xs) in
@@ -279,7 +296,8 @@ queue-put_before_same c p j n (x ∷ xs) is from upto mark =
           let ahead : x ≢ suc c = λ same. omega arith in
           ap (pages_behind c) (put_before-else (suc c) x ((11 + p) ∷ []) xs ahead) ∙ ⊎_elim
           (λ (same : c ≡ x).
-          let P : ℕ → Type 0 = λ z. pages_behind z (x ∷ put_before (suc c) ((11 + p) ∷ []) xs) ≡ pages_behind z (x ∷ xs) ++ p ∷ [] in
+          let P : ℕ → Type 0 = λ z. pages_behind z (x ∷ put_before (suc c) ((11 + p) ∷ []) xs) ≡ pages_behind z (x ∷ xs)
+          ++ p ∷ [] in
           let some : 0 < n' = omega arith in
           let at : P x = queue-here x (put_before (suc c) ((11 + p) ∷ []) xs)
           ∙ run-next c p n' xs (rest ∙ ap (λ k. upward (suc k) n') (sym x_is ∙ sym same)) some mark
@@ -319,20 +337,23 @@ marks-put_before m p (x ∷ xs) =
 pub page_of-following : (c : ℕ) (xs : List ℕ) → page_numbered (following c xs) ≡ slice_get (pages_behind c xs) 0
 page_of-following c [] = refl
 page_of-following c (x ∷ xs) =
-    elim (x == c) as (λ b. page_numbered (cond b (get_or xs 0 0) (following c xs)) ≡ slice_get (cond b (pages_to_mark xs) (pages_behind c xs)) 0) [
+    elim (x == c) as (λ b. page_numbered (cond b (get_or xs 0 0) (following c xs))
+    ≡ slice_get (cond b (pages_to_mark xs) (pages_behind c xs)) 0) [
       | true ↦ first xs
       | false ↦ page_of-following c xs
     ] where
       first : (xs : List ℕ) → page_numbered (get_or xs 0 0) ≡ slice_get (pages_to_mark xs) 0
       first [] = refl
-      first (y ∷ ys) = elim (nat_lt y 11) as (λ b. cond b None (Some (y - 11)) ≡ slice_get (cond b [] ((y - 11) ∷ pages_to_mark ys)) 0) [
-        | true ↦ refl
-        | false ↦ refl
-      ]
+      first (y ∷ ys) = elim (nat_lt y 11) as (λ b. cond b None (Some (y - 11))
+          ≡ slice_get (cond b [] ((y - 11) ∷ pages_to_mark ys)) 0) [
+            | true ↦ refl
+            | false ↦ refl
+          ]
 
 page_of-preceding_next
     : (m a n : ℕ) (xs : List ℕ)
-    → marks xs ≡ upward m (suc n) → m < 11 → page_numbered (preceding_from a m xs) ≡ last_or (page_numbered a) (pages_to_mark xs)
+    → marks xs ≡ upward m (suc n) → m < 11 → page_numbered (preceding_from a m xs)
+    ≡ last_or (page_numbered a) (pages_to_mark xs)
 page_of-preceding_next m a n [] is mark = cc
 page_of-preceding_next m a n (x ∷ xs) is mark =
     elim (heads x xs m (suc n) is) [
@@ -360,7 +381,8 @@ page_of-preceding c a j n (x ∷ xs) is from upto mark =
           let ahead : x ≢ suc c = λ same. omega arith in
           ap page_numbered (ap (λ b. cond b a (preceding_from x (suc c) xs)) (ne_eqb x (suc c) ahead)) ∙ ⊎_elim
           (λ (same : c ≡ x).
-          let P : ℕ → Type 0 = λ z. page_numbered (preceding_from x (suc c) xs) ≡ last_or None (pages_behind z (x ∷ xs)) in
+          let P : ℕ → Type 0 = λ z. page_numbered (preceding_from x (suc c) xs)
+          ≡ last_or None (pages_behind z (x ∷ xs)) in
           let some : 0 < n' = omega arith in
           let at : P x = next c x n' xs (rest ∙ ap (λ k. upward (suc k) n') (sym x_is ∙ sym same)) some mark small
           ∙ ap (last_or None) (sym (queue-here x xs)) in
@@ -391,19 +413,22 @@ has_number-run p [] here = absurd (false≢true here)
 has_number-run p (x ∷ xs) here = ⊎_elim
     (λ (mark : x < 11). absurd (false≢true (ap (has_number p) (sym (run-mark x xs mark)) ∙ here)))
     (λ (page : 11 ≤ x).
-    let there : has_number p ((x - 11) ∷ pages_to_mark xs) ≡ true = ap (has_number p) (sym (run-page x xs page)) ∙ here in
+    let there : has_number p ((x - 11) ∷ pages_to_mark xs) ≡ true = ap (has_number p) (sym (run-page x xs page))
+    ∙ here in
     ⊎_elim
     (λ (same : x - 11 ≡ p).
     let is : 11 + p ≡ x = omega arith in
     subst (λ k. has_number k (x ∷ xs) ≡ true) (sym is) (has_number-here x xs))
-    (λ (other : x - 11 ≢ p). has_number-there (11 + p) x xs (has_number-run p xs (has_number-rest p (x - 11) (pages_to_mark xs) other there)))
+    (λ (other : x - 11 ≢ p). has_number-there (11 + p) x xs (has_number-run p xs
+    (has_number-rest p (x - 11) (pages_to_mark xs) other there)))
     (cases_eq (x - 11) p))
     (cases_lt x 11)
 
 pub has_number-queue : (k p : ℕ) (xs : List ℕ) → has_number p (pages_behind k xs) ≡ true → has_number (11 + p) xs ≡ true
 has_number-queue k p [] here = absurd (false≢true here)
 has_number-queue k p (x ∷ xs) here = has_number-there (11 + p) x xs (
-    elim (x == k) as (λ b. has_number p (cond b (pages_to_mark xs) (pages_behind k xs)) ≡ true → has_number (11 + p) xs ≡ true) [
+    elim (x == k) as (λ b. has_number p (cond b (pages_to_mark xs) (pages_behind k xs)) ≡ true → has_number (11 + p) xs
+    ≡ true) [
       | true ↦ has_number-run p xs
       | false ↦ has_number-queue k p xs
     ] here)
@@ -418,21 +443,25 @@ Misses-pages : (p : ℕ) (xs : List ℕ) → Misses (11 + p) xs → Misses p (pa
 unfolding pages
 Misses-pages p [] misses = tt
 Misses-pages p (x ∷ xs) misses = ⊎_elim
-    (λ (mark : x < 11). subst (λ b. Misses p (cond b (pages xs) ((x - 11) ∷ pages xs))) (sym (lt-ltb x 11 mark)) (Misses-pages p xs misses.1))
+    (λ (mark : x < 11). subst (λ b. Misses p (cond b (pages xs) ((x - 11) ∷ pages xs))) (sym (lt-ltb x 11 mark))
+    (Misses-pages p xs misses.1))
     (λ (page : 11 ≤ x).
     let differ : p ≢ x - 11 = λ same. misses.0 (omega arith) in
-    subst (λ b. Misses p (cond b (pages xs) ((x - 11) ∷ pages xs))) (sym (le-ltb x 11 page)) (differ, Misses-pages p xs misses.1))
+    subst (λ b. Misses p (cond b (pages xs) ((x - 11) ∷ pages xs))) (sym (le-ltb x 11 page))
+    (differ, Misses-pages p xs misses.1))
     (cases_lt x 11)
 
 pub Distinct-pages : (xs : List ℕ) → Distinct xs → Distinct (pages xs)
 unfolding pages
 Distinct-pages [] distinct = tt
 Distinct-pages (x ∷ xs) distinct = ⊎_elim
-    (λ (mark : x < 11). subst (λ b. Distinct (cond b (pages xs) ((x - 11) ∷ pages xs))) (sym (lt-ltb x 11 mark)) (Distinct-pages xs distinct.1))
+    (λ (mark : x < 11). subst (λ b. Distinct (cond b (pages xs) ((x - 11) ∷ pages xs))) (sym (lt-ltb x 11 mark))
+    (Distinct-pages xs distinct.1))
     (λ (page : 11 ≤ x).
     let is : x ≡ 11 + (x - 11) = omega arith in
     let apart : Misses (11 + (x - 11)) xs = subst (λ k. Misses k xs) is distinct.0 in
-    subst (λ b. Distinct (cond b (pages xs) ((x - 11) ∷ pages xs))) (sym (le-ltb x 11 page)) (Misses-pages (x - 11) xs apart, Distinct-pages xs distinct.1))
+    subst (λ b. Distinct (cond b (pages xs) ((x - 11) ∷ pages xs))) (sym (le-ltb x 11 page))
+    (Misses-pages (x - 11) xs apart, Distinct-pages xs distinct.1))
     (cases_lt x 11)
 
 pub has_number-pages : (p : ℕ) (xs : List ℕ) → has_number p (pages xs) ≡ has_number (11 + p) xs
@@ -447,9 +476,11 @@ has_number-pages p (x ∷ xs) = ⊎_elim
     ap (λ b. has_number p (cond b (pages xs) ((x - 11) ∷ pages xs))) (le-ltb x 11 page) ∙ ⊎_elim
     (λ (same : x - 11 ≡ p).
     let is : x ≡ 11 + p = omega arith in
-    ap (λ b. b || has_number p (pages xs)) (eq-eqb (x - 11) p same) ∙ sym (ap (λ b. b || has_number (11 + p) xs) (eq-eqb x (11 + p) is)))
+    ap (λ b. b || has_number p (pages xs)) (eq-eqb (x - 11) p same)
+    ∙ sym (ap (λ b. b || has_number (11 + p) xs) (eq-eqb x (11 + p) is)))
     (λ (other : x - 11 ≢ p).
-    has_number-else p (x - 11) (pages xs) other ∙ has_number-pages p xs ∙ sym (has_number-else (11 + p) x xs (λ same. other (omega arith))))
+    has_number-else p (x - 11) (pages xs) other ∙ has_number-pages p xs
+    ∙ sym (has_number-else (11 + p) x xs (λ same. other (omega arith))))
     (cases_eq (x - 11) p))
     (cases_lt x 11)
 
@@ -479,7 +510,8 @@ run-append-queues j n (x ∷ xs) is upto =
           let skip : (x < suc j) ⊎ (suc j + n' ≤ x) = inl before in
           ap (λ ys. ys ++ concat (queues_from n j (x ∷ xs))) (run-mark x xs small)
           ∙ ap (λ k. concat (queues_from k j (x ∷ xs))) n_is
-          ∙ ap (λ ys. ys ++ concat (queues_from n' (suc j) (x ∷ xs))) (ap (λ k. pages_behind k (x ∷ xs)) (sym x_is) ∙ queue-here x xs)
+          ∙ ap (λ ys. ys ++ concat (queues_from n' (suc j) (x ∷ xs)))
+          (ap (λ k. pages_behind k (x ∷ xs)) (sym x_is) ∙ queue-here x xs)
           ∙ ap (λ zs. pages_to_mark xs ++ concat zs) (queues_from-skip n' (suc j) x xs skip)
           ∙ run-append-queues (suc j) n' xs rest (omega arith)
           ∙ sym (ap (λ b. cond b (pages xs) ((x - 11) ∷ pages xs)) (lt-ltb x 11 small))
@@ -499,10 +531,12 @@ has_number-marks c (x ∷ xs) here =
     elim (nat_lt x 11) as (λ b. has_number c (cond b (x ∷ marks xs) (marks xs)) ≡ true → has_number c (x ∷ xs) ≡ true) [
       | true ↦ (λ here. ⊎_elim
           (λ (is : x ≡ c). subst (λ z. has_number z (x ∷ xs) ≡ true) is (has_number-here x xs))
-          (λ (other : x ≢ c). has_number-there c x xs (has_number-marks c xs (has_number-rest c x (marks xs) other here)))
+          (λ (other : x ≢ c). has_number-there c x xs (has_number-marks c xs
+          (has_number-rest c x (marks xs) other here)))
           (cases_eq x c))
       | false ↦ (λ here. has_number-there c x xs (has_number-marks c xs here))
     ] here
 
 pub has_number-mark : (c : ℕ) (xs : List ℕ) → marks xs ≡ upward 0 11 → c < 11 → has_number c xs ≡ true
-has_number-mark c xs is mark = has_number-marks c xs (ap (has_number c) is ∙ has_number-upward c 0 11 (omega arith) mark)
+has_number-mark c xs is mark = has_number-marks c xs (ap (has_number c) is
+    ∙ has_number-upward c 0 11 (omega arith) mark)

@@ -1,5 +1,7 @@
 -- How often a number stands in a list, which says of lists that differ in their order alone what they share.
-use Rattle.std.proofs.Common.{◌≡◌, ◌≢◌, ℕ, zero, suc, ◌+◌, ◌-◌, ◌<◌, ◌≤◌, ◌⊎◌, ⊎_elim, Bool, true, false, cond, ◌||◌, ◌==◌, List, [], ◌∷◌, ◌++◌, map, length, get_or, set, sym, refl, ap, ◌∙◌, subst, arith, eq-eqb, ne_eqb}
+use Rattle.std.proofs.Common.{◌≡◌, ◌≢◌, ℕ, zero, suc, ◌+◌, ◌-◌, ◌<◌, ◌≤◌, ◌⊎◌, ⊎_elim, Bool, true, false, cond, ◌||◌}
+use Rattle.std.proofs.Common.{◌==◌, List, [], ◌∷◌, ◌++◌, map, length, get_or, set, sym, refl, ap, ◌∙◌, subst, arith}
+use Rattle.std.proofs.Common.{eq-eqb, ne_eqb}
 use Rattle.std.specs.List.{concat}
 use Rattle.std.proofs.lemmas.Bool.{cases_eq, false≢true}
 use Rattle.sh_lists.specs.Numbers.{Misses, Distinct, AllBelow, upward}
@@ -27,14 +29,16 @@ times-append k (x ∷ xs) ys = let rest = times-append k xs ys in omega arith
 pub times-none : (k : ℕ) (xs : List ℕ) → has_number k xs ≡ false → times k xs ≡ 0
 times-none k [] none = refl
 times-none k (x ∷ xs) none = go (x == k) none (times-none k xs) where
-  go : (b : Bool) → b || has_number k xs ≡ false → (has_number k xs ≡ false → times k xs ≡ 0) → cond b 1 0 + times k xs ≡ 0
+  go : (b : Bool) → b || has_number k xs ≡ false → (has_number k xs ≡ false → times k xs ≡ 0) → cond b 1 0 + times k xs
+      ≡ 0
   go true none rest = absurd (false≢true (sym none))
   go false none rest = let h = rest none in omega arith
 
 pub times-some : (k : ℕ) (xs : List ℕ) → has_number k xs ≡ true → 0 < times k xs
 times-some k [] here = absurd (false≢true here)
 times-some k (x ∷ xs) here = go (x == k) here (times-some k xs) where
-  go : (b : Bool) → b || has_number k xs ≡ true → (has_number k xs ≡ true → 0 < times k xs) → 0 < cond b 1 0 + times k xs
+  go : (b : Bool) → b || has_number k xs ≡ true → (has_number k xs ≡ true → 0 < times k xs)
+      → 0 < cond b 1 0 + times k xs
   go true here rest = omega arith
   go false here rest = let h = rest here in omega arith
 
@@ -69,12 +73,14 @@ Distinct-from_times (x ∷ xs) few = (
 )
 
 -- n numbers below n that differ are all of them
-pub has_number-all_below : (n k : ℕ) (xs : List ℕ) → Distinct xs → AllBelow n xs → length xs ≡ n → k < n → has_number k xs ≡ true
+pub has_number-all_below : (n k : ℕ) (xs : List ℕ) → Distinct xs → AllBelow n xs → length xs ≡ n → k < n
+    → has_number k xs ≡ true
 has_number-all_below n k xs distinct below many inside = go (has_number k xs) refl where
   go : (b : Bool) → has_number k xs ≡ b → b ≡ true
   go true is = refl
   go false is =
-      let few : length (k ∷ xs) ≤ n = length-le_from_Distinct n (k ∷ xs) (Misses-from_has k xs is, distinct) (inside, below) in
+      let few : length (k ∷ xs) ≤ n = length-le_from_Distinct n (k ∷ xs) (Misses-from_has k xs is, distinct)
+      (inside, below) in
       absurd (omega arith)
 
 pub times-upward_inside : (k i n : ℕ) → i ≤ k → k < i + n → times k (upward i n) ≡ 1
@@ -83,15 +89,18 @@ times-upward_inside k i n from upto =
     let some = times-some k (upward i n) (has_number-upward k i n from upto) in omega arith
 
 pub times-upward_outside : (k i n : ℕ) → (k < i) ⊎ (i + n ≤ k) → times k (upward i n) ≡ 0
-times-upward_outside k i n outside = times-none k (upward i n) (has_number-from_Misses k (upward i n) (Misses-upward k i n outside))
+times-upward_outside k i n outside = times-none k (upward i n)
+    (has_number-from_Misses k (upward i n) (Misses-upward k i n outside))
 
 -- ---- a number is taken out
 
 pub times-without_other : (k x : ℕ) (xs : List ℕ) → x ≢ k → times k (without_number x xs) ≡ times k xs
 times-without_other k x [] other = refl
 times-without_other k x (z ∷ zs) other = ⊎_elim
-    (λ (is : z ≡ x). ap (λ b. times k (cond b zs (z ∷ without_number x zs))) (eq-eqb z x is) ∙ sym (times-else k z zs (λ same. other (sym is ∙ same))))
-    (λ (differ : z ≢ x). ap (times k) (without_number-else x z zs differ) ∙ ap (λ n. cond (z == k) 1 0 + n) (times-without_other k x zs other))
+    (λ (is : z ≡ x). ap (λ b. times k (cond b zs (z ∷ without_number x zs))) (eq-eqb z x is)
+    ∙ sym (times-else k z zs (λ same. other (sym is ∙ same))))
+    (λ (differ : z ≢ x). ap (times k) (without_number-else x z zs differ)
+    ∙ ap (λ n. cond (z == k) 1 0 + n) (times-without_other k x zs other))
     (cases_eq z x)
 
 pub times-without_same : (x : ℕ) (xs : List ℕ) → times x (without_number x xs) ≡ times x xs - 1
@@ -109,7 +118,8 @@ times-without_same x (z ∷ zs) = ⊎_elim
 
 -- ---- lists one after the other
 
-pub times-concat_without_other : (k x : ℕ) (xss : List (List ℕ)) → x ≢ k → times k (concat (map (without_number x) xss)) ≡ times k (concat xss)
+pub times-concat_without_other : (k x : ℕ) (xss : List (List ℕ)) → x ≢ k → times k (concat (map (without_number x) xss))
+    ≡ times k (concat xss)
 times-concat_without_other k x [] other = refl
 times-concat_without_other k x (xs ∷ xss) other =
     times-append k (without_number x xs) (concat (map (without_number x) xss))
@@ -118,7 +128,8 @@ times-concat_without_other k x (xs ∷ xss) other =
     ∙ sym (times-append k xs (concat xss))
 
 -- a number that stands once is gone
-pub times-concat_without_same : (x : ℕ) (xss : List (List ℕ)) → times x (concat xss) ≤ 1 → times x (concat (map (without_number x) xss)) ≡ 0
+pub times-concat_without_same : (x : ℕ) (xss : List (List ℕ)) → times x (concat xss) ≤ 1
+    → times x (concat (map (without_number x) xss)) ≡ 0
 times-concat_without_same x [] few = refl
 times-concat_without_same x (xs ∷ xss) few =
     let all = times-append x xs (concat xss) in
@@ -158,10 +169,12 @@ times-two_le_concat k (suc c) (suc d) (xs ∷ xss) other =
     let rest = times-two_le_concat k c d xss (λ same. other (ap suc same)) in omega arith
 
 -- what stands in all together stands in one of them
-pub has_number-one_of : (k : ℕ) (xss : List (List ℕ)) → 0 < times k (concat xss) → (c : ℕ) × (c < length xss) × (has_number k (get_or xss c []) ≡ true)
+pub has_number-one_of : (k : ℕ) (xss : List (List ℕ)) → 0 < times k (concat xss) → (c : ℕ) × (c < length xss)
+    × (has_number k (get_or xss c []) ≡ true)
 has_number-one_of k [] some = absurd (omega arith)
 has_number-one_of k (xs ∷ xss) some = go (has_number k xs) refl (has_number-one_of k xss) where
-  go : (b : Bool) → has_number k xs ≡ b → (0 < times k (concat xss) → (c : ℕ) × (c < length xss) × (has_number k (get_or xss c []) ≡ true))
+  go : (b : Bool) → has_number k xs ≡ b → (0 < times k (concat xss) → (c : ℕ) × (c < length xss)
+      × (has_number k (get_or xss c []) ≡ true))
       → (c : ℕ) × (c < length (xs ∷ xss)) × (has_number k (get_or (xs ∷ xss) c []) ≡ true)
   go true is rest = (0, omega arith, is)
   go false is rest =

@@ -1,11 +1,12 @@
 -- The queues of pages of an owner.
-use Rattle.std.specs.Prelude.{◌≡◌, ◌↔◌, ℕ, zero, suc, ◌+◌, ◌-◌, ◌*◌, ◌<◌, ◌≤◌, ◌==◌, nat_lt, Bool, true, false, cond, List, [], ◌∷◌, ◌++◌, map, replicate, length, get_or, slice_set, Option, Some, None}
+use Rattle.std.specs.Prelude.{◌≡◌, ◌↔◌, ℕ, zero, suc, ◌+◌, ◌-◌, ◌*◌, ◌<◌, ◌≤◌, ◌==◌, nat_lt, Bool, true, false, cond}
+use Rattle.std.specs.Prelude.{List, [], ◌∷◌, ◌++◌, map, replicate, length, get_or, slice_set, Option, Some, None}
 use Rattle.std.specs.List.{concat}
 use Rattle.sh_lists.specs.Numbers.{Distinct, upward}
 use Rattle.sh_queue.specs.Numbers.{has_number, without_number, RisesFrom}
 
--- how many pages are opened, the first ones; how many segments are not; the pages that stand in the queue of each of the
--- 8 classes, in the full queue, and the blank pages, each list from its front
+-- how many pages are opened, the first ones; how many segments are not; the pages that stand in the queue of each of
+-- the 8 classes, in the full queue, and the blank pages, each list from its front
 pub record PageQueues : Type 0 where
   pub opened : ℕ
   pub unopened : ℕ
@@ -36,7 +37,12 @@ none_opened segments = record { opened = 0; unopened = segments; classes = repli
 -- the page stands nowhere
 abbrev pub taken_out : ℕ → PageQueues → PageQueues
 taken_out page q =
-    record q { classes = map (without_number page) q.classes; full = without_number page q.full; blank = without_number page q.blank }
+    record q {
+      classes = map (without_number page) q.classes;
+      full = without_number page q.full;
+      blank = without_number
+          page q.blank;
+    }
 
 -- the queue of class c becomes this one
 abbrev pub with_class : ℕ → List ℕ → PageQueues → PageQueues
@@ -61,8 +67,8 @@ one_more_segment q =
 
 -- ---- how one chain of numbers holds the queues
 
--- The numbers below 11 are marks: 0 to 7 stand ahead of the queues of the classes, 8 ahead of the full queue, 9 ahead of
--- the blank pages, 10 at the end. Page p is the number 11 + p.
+-- The numbers below 11 are marks: 0 to 7 stand ahead of the queues of the classes, 8 ahead of the full queue, 9 ahead
+-- of the blank pages, 10 at the end. Page p is the number 11 + p.
 
 -- the page that a number stands for; a mark stands for none
 abbrev pub page_numbered : ℕ → Option ℕ
@@ -102,8 +108,8 @@ queues_shown numbers opened unopened = record {
   blank = pages_behind 9 numbers;
 }
 
--- what is true of the chain: it has the marks in ascending order, the opened pages between them, and the blank pages rise;
--- the notes tell which pages are in the full queue
+-- what is true of the chain: it has the marks in ascending order, the opened pages between them, and the blank pages
+-- rise; the notes tell which pages are in the full queue
 pub record KeepsQueues (numbers : List ℕ) (size opened unopened : ℕ) (notes : List Bool) : Type 0 where
   pub room : 11 + opened ≤ size
   pub few : opened + 8 * unopened ≤ 2048

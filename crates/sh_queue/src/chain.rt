@@ -1,5 +1,6 @@
 // One list of numbers, linked both ways.
-ghost use Rattle.std.specs.Prelude.{◌≡◌, ◌≢◌, ℕ, ◌+◌, ◌-◌, ◌^◌, ◌<◌, ◌≤◌, [], ◌∷◌, ◌++◌, length, replicate, true, false, IfOk, OnOk, OnErr};
+ghost use Rattle.std.specs.Prelude.{◌≡◌, ◌≢◌, ℕ, ◌+◌, ◌-◌, ◌^◌, ◌<◌, ◌≤◌, [], ◌∷◌, ◌++◌, length, replicate, true};
+ghost use Rattle.std.specs.Prelude.{false, IfOk, OnOk, OnErr};
 ghost use Rattle.sh_lists.specs.Numbers.{Distinct, upward};
 ghost use Rattle.sh_queue.specs.Numbers.{has_number, without_number, put_after, put_before, following, preceding};
 ghost use Rattle.sh_queue.specs.Chain.{ChainNumbers};
@@ -10,8 +11,9 @@ use std::marker::Model;
 // The number that stands last. The first is 0.
 pub const END: u32 = 10;
 
-// A list of numbers that begins with 0 and ends with `END`, none twice. A number is taken out or put in with no regard to
-// where it stands, in the same few steps. A contract sees the numbers in order, and below which number each has to be.
+// A list of numbers that begins with 0 and ends with `END`, none twice. A number is taken out or put in with no regard
+// to where it stands, in the same few steps. A contract sees the numbers in order, and below which number each has to
+// be.
 #[derive(Drop)]
 pub struct Chain {
     // The number behind each number, and the one ahead of it.
@@ -28,7 +30,11 @@ impl Model for Chain {
 
     ghost Value = { ChainNumbers };
 
-    ghost view = { λ c. record { numbers = 0 ∷ walk c.next.items (get_or c.next.items 0 0) c.count; size = length c.next.items } };
+    ghost view = { λ c. record {
+      numbers = 0 ∷ walk c.next.items (get_or c.next.items 0 0) c.count;
+      size = length
+          c.next.items;
+    } };
 
     ghost invariant = { λ c. Links c.next.items c.prev.items (walk c.next.items (get_or c.next.items 0 0) c.count) };
 }

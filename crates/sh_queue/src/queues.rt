@@ -1,10 +1,12 @@
 //! The queues of an owner's pages.
-ghost use Rattle.std.specs.Prelude.{◌≡◌, ◌≢◌, ℕ, ◌+◌, ◌-◌, ◌*◌, ◌<◌, ◌≤◌, ◌++◌, true, false, length, replicate, None, slice_get, IfSome, IfOk, IfErr, OnOk, OnErr};
+ghost use Rattle.std.specs.Prelude.{◌≡◌, ◌≢◌, ℕ, ◌+◌, ◌-◌, ◌*◌, ◌<◌, ◌≤◌, ◌++◌, true, false, length, replicate, None};
+ghost use Rattle.std.specs.Prelude.{slice_get, IfSome, IfOk, IfErr, OnOk, OnErr};
 ghost use Rattle.std.specs.List.{last_or};
 ghost use Rattle.sh_lists.specs.Numbers.{upward};
 ghost use Rattle.sh_queue.specs.Numbers.{has_number};
 ghost use Rattle.sh_queue.specs.Chain.{ChainNumbers};
-ghost use Rattle.sh_queue.specs.Queues.{EachOnce, page_numbered, class_queue, none_opened, at_front, at_back, among_full, one_more_segment};
+ghost use Rattle.sh_queue.specs.Queues.{EachOnce, page_numbered, class_queue, none_opened, at_front, at_back};
+ghost use Rattle.sh_queue.specs.Queues.{among_full, one_more_segment};
 
 use crate::chain::Chain;
 use sh_value::Refusal;
@@ -13,9 +15,9 @@ use std::marker::Model;
 
 const SEGMENT_PAGES: u32 = 8;
 
-// All queues are one chain. A number below 11 marks where a queue begins: 0 to 7 stand ahead of the queues of the classes,
-// these two ahead of the full queue and of the blank pages, and the last number of the chain behind these. Page p is the
-// number 11 + p.
+// All queues are one chain. A number below 11 marks where a queue begins: 0 to 7 stand ahead of the queues of the
+// classes, these two ahead of the full queue and of the blank pages, and the last number of the chain behind these.
+// Page p is the number 11 + p.
 const FULL: u32 = 8;
 
 const BLANK: u32 = 9;
@@ -24,9 +26,9 @@ const FIRST_PAGE: u32 = 11;
 
 /// The pages that an owner has opened, in queues.
 ///
-/// A page is a number. Pages are opened 8 at a time, which is a segment, in ascending order. An opened page is blank, or
-/// stands in the queue of one class from 0 to 7, or in the full queue. Memory is taken by `new` and `open_segment` alone.
-/// No other call takes any, and each takes the same few steps whatever the queues hold.
+/// A page is a number. Pages are opened 8 at a time, which is a segment, in ascending order. An opened page is blank,
+/// or stands in the queue of one class from 0 to 7, or in the full queue. Memory is taken by `new` and `open_segment`
+/// alone. No other call takes any, and each takes the same few steps whatever the queues hold.
 #[derive(Drop)]
 pub struct Queues {
     chain: Chain,

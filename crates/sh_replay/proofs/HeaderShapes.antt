@@ -20,9 +20,12 @@ lasting = record {
   lasts = λ header before now words kept says. kept;
 }
 
-pub shape_of_events : (text : List ℕ) (header : Header) (lines : List Event) → IsEvents text header lines → IsShape header.shape × Fits (layout_of header.layout) header.shape
+pub shape_of_events : (text : List ℕ) (header : Header) (lines : List Event) → IsEvents text header lines
+    → IsShape header.shape × Fits (layout_of header.layout) header.shape
 shape_of_events text header lines is = script_keeps SaysEvent [] Shapes lasting text header lines is
 
 -- it fits a layout by its name
-pub fits_named : (text : List ℕ) (header : Header) (lines : List Event) (name : LayoutName) → IsEvents text header lines → header.layout ≡ name → Fits (layout_of name) header.shape
-fits_named text header lines name is e = subst (λ (l : LayoutName). Fits (layout_of l) header.shape) e (shape_of_events text header lines is).1
+pub fits_named : (text : List ℕ) (header : Header) (lines : List Event) (name : LayoutName) → IsEvents text header lines
+    → header.layout ≡ name → Fits (layout_of name) header.shape
+fits_named text header lines name is e = subst (λ (l : LayoutName). Fits (layout_of l) header.shape) e
+    (shape_of_events text header lines is).1

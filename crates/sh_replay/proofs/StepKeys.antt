@@ -1,5 +1,6 @@
 -- The keys that events reply are keys of the layout.
-use Rattle.std.proofs.Common.{◌≡◌, ℕ, ◌+◌, ◌*◌, ◌<◌, Bool, true, false, cond, List, refl, sym, subst, ◌∙◌, Option, Some, None, slice_get}
+use Rattle.std.proofs.Common.{◌≡◌, ℕ, ◌+◌, ◌*◌, ◌<◌, Bool, true, false, cond, List, refl, sym, subst, ◌∙◌, Option, Some}
+use Rattle.std.proofs.Common.{None, slice_get}
 use Rattle.std.specs.Prelude.{IsSome}
 use Rattle.sh_key.specs.declared.parts.Parts.{Parts}
 use Rattle.sh_key.specs.Layout.{Layout, unpacked, first_key, key_count}
@@ -45,7 +46,8 @@ joins bound a v (Some (reply.Removed k)) h = h
 joins bound a v (Some (reply.Released k)) h = h
 joins bound a v None h = tt
 
-entered : (bound k : ℕ) (b c : Bool) → k < bound → ReplyWithin bound (Some (cond b (cond c (reply.Got k) (reply.Crowded k)) (reply.Gone k)))
+entered : (bound k : ℕ) (b c : Bool) → k < bound → ReplyWithin bound
+    (Some (cond b (cond c (reply.Got k) (reply.Crowded k)) (reply.Gone k)))
 entered bound k true true h = h
 entered bound k true false h = h
 entered bound k false c h = h
@@ -58,7 +60,8 @@ marked : (bound k : ℕ) (b : Bool) → k < bound → ReplyWithin bound (Some (c
 marked bound k true h = h
 marked bound k false h = h
 
-module _ (bound : ℕ) (plan : Plan) (w : World) (below : (k : ℕ) (n : Name) → plan.keys.unpack k ≡ Some n → k < bound) (fills : FillsAreKeys plan w) where
+module _ (bound : ℕ) (plan : Plan) (w : World) (below : (k : ℕ) (n : Name) → plan.keys.unpack k ≡ Some n → k < bound)
+    (fills : FillsAreKeys plan w) where
   -- the row's reply to the word that it meets
   abbrev Within : Row → Type 0
   Within m = ReplyWithin bound (m.reply (read w.words m.place))
@@ -101,8 +104,11 @@ module _ (bound : ℕ) (plan : Plan) (w : World) (below : (k : ℕ) (n : Name) �
     by : (o : Outcome) → outcome_of plan w e ≡ o → KeysWithin bound o → KeysWithin bound (outcome_of plan w e)
     by o is h = subst (λ (o : Outcome). KeysWithin bound o) (sym is) h
 
-    done_within : (p : Body) (r : Option Row) → slice_get w.parts e.pass ≡ Some p → row plan p e.action ≡ r → KeysWithin bound (outcome_of plan w e)
-    done_within p (Some m) at is = by _ (outcome_done plan w e m (row_of_at plan w e p at ∙ is)) (joins bound e.pass (value_at_place w.words m.place) (m.reply (read w.words m.place)) (row_within e.pass p e.action m at (meets plan p e.action m is)))
+    done_within : (p : Body) (r : Option Row) → slice_get w.parts e.pass ≡ Some p → row plan p e.action ≡ r
+        → KeysWithin bound (outcome_of plan w e)
+    done_within p (Some m) at is = by _ (outcome_done plan w e m (row_of_at plan w e p at ∙ is))
+        (joins bound e.pass (value_at_place w.words m.place) (m.reply (read w.words m.place))
+        (row_within e.pass p e.action m at (meets plan p e.action m is)))
     done_within p None at is = by Skipped (outcome_skipped plan w e (row_of_at plan w e p at ∙ is)) tt
 
     part : (o : Option Body) → slice_get w.parts e.pass ≡ o → KeysWithin bound (outcome_of plan w e)
@@ -110,15 +116,19 @@ module _ (bound : ℕ) (plan : Plan) (w : World) (below : (k : ℕ) (n : Name) �
     part None at = by Skipped (outcome_skipped plan w e (row_of_past plan w e at)) tt
 
 -- a key of the plan is one of the layout
-unpacks : (layout : Layout) (shape : Numbers) (k : ℕ) (n : Name) → (plan_of layout shape).keys.unpack k ≡ Some n → IsSome (unpacked layout k)
+unpacks : (layout : Layout) (shape : Numbers) (k : ℕ) (n : Name) → (plan_of layout shape).keys.unpack k ≡ Some n
+    → IsSome (unpacked layout k)
 unfolding keys_of
 unpacks layout shape k n h = go (unpacked layout k) refl h where
-  go : (o : Option Parts) → unpacked layout k ≡ o → (elim o as (λ _. Option Name) [ Some p ↦ name_in shape.shards (8 * shape.segments) p | None ↦ None ]) ≡ Some n → IsSome o
+  go : (o : Option Parts) → unpacked layout k ≡ o → (elim o as (λ _. Option Name)
+      [ Some p ↦ name_in shape.shards (8 * shape.segments) p | None ↦ None ]) ≡ Some n → IsSome o
   go (Some p) e h = refl
   go None e h = absurd (let z : None ≡ Some n = h in cc)
 
-pub keys_within : (layout : Layout) (shape : Numbers) (w : World) (e : Event) (o : Outcome) → KeysAreConsecutive layout → FillsAreKeys (plan_of layout shape) w → o ≡ outcome_of (plan_of layout shape) w e
+pub keys_within : (layout : Layout) (shape : Numbers) (w : World) (e : Event) (o : Outcome) → KeysAreConsecutive layout
+    → FillsAreKeys (plan_of layout shape) w → o ≡ outcome_of (plan_of layout shape) w e
     → KeysWithin (first_key layout + key_count layout) o
 keys_within layout shape w e o laws fills is =
     let bound : ℕ = first_key layout + key_count layout in
-    subst (λ (o : Outcome). KeysWithin bound o) (sym is) (outcome_within bound (plan_of layout shape) w (λ k n h. ((laws k).0 (unpacks layout shape k n h)).1) fills e)
+    subst (λ (o : Outcome). KeysWithin bound o) (sym is) (outcome_within bound (plan_of layout shape) w
+    (λ k n h. ((laws k).0 (unpacks layout shape k n h)).1) fills e)

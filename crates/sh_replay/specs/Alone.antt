@@ -12,7 +12,8 @@ abbrev pub seen_with_part : Option Heap → RunTerms → (ℕ → PassPart) → 
 seen_with_part heap terms parts p = record (new_pass heap terms p) { part = parts p }
 
 -- the first i lines are answered, and these are the passes
-pub record AnsweredSoFar (heap : Option Heap) (terms : RunTerms) (tag : Option ℕ) (lines : List CallLine) (i : ℕ) (numbers : List (Option ℕ)) (sides : List SeenPass) (output : List ℕ) : Type 0 where
+pub record AnsweredSoFar (heap : Option Heap) (terms : RunTerms) (tag : Option ℕ) (lines : List CallLine) (i : ℕ)
+    (numbers : List (Option ℕ)) (sides : List SeenPass) (output : List ℕ) : Type 0 where
   pub answers : List Answer
   pub run : CallsRun
   pub ran : LinesAnswered terms tag opening_calls (take i lines) answers run

@@ -1,5 +1,7 @@
--- What a call of a pass does, given its answer: which refusal comes exactly where, what the log gains, and who owns what.
-use Rattle.std.specs.Prelude.{◌≡◌, ℕ, ◌+◌, ◌<◌, nat_lt, nat_le, not, Bool, true, false, List, map, length, Option, Some, None, Result, Ok, Err, ok_or, if◌then◌else◌}
+-- What a call of a pass does, given its answer: which refusal comes exactly where, what the log gains, and who owns
+-- what.
+use Rattle.std.specs.Prelude.{◌≡◌, ℕ, ◌+◌, ◌<◌, nat_lt, nat_le, not, Bool, true, false, List, map, length, Option, Some}
+use Rattle.std.specs.Prelude.{None, Result, Ok, Err, ok_or, if◌then◌else◌}
 use Rattle.sh_value.specs.declared.hold.Hold.{Hold}
 use Rattle.sh_value.specs.declared.refusal.Refusal.{Refusal}
 use Rattle.sh_value.specs.declared.refusal.Refusal.TheVariants as refusal
@@ -61,7 +63,8 @@ pub record IsOwnKey (terms : RunTerms) (shard : Option ℕ) (key : ℕ) : Type 0
   pub small : key < first_key terms.layout + key_count terms.layout
 
 abbrev pub ValueInserted : RunTerms → ℕ → PassPart → List ℕ → Result ℕ Refusal → PassPart → Type 0
-ValueInserted terms pass v words (Ok key) w = IsOwnKey terms v.shard key × (w ≡ with_entry v (Known (Insert pass key words)))
+ValueInserted terms pass v words (Ok key) w = IsOwnKey terms v.shard key
+    × (w ≡ with_entry v (Known (Insert pass key words)))
 ValueInserted terms pass v words (Err refusal.Full) w = w ≡ v
 ValueInserted terms pass v words (Err refusal.Memory) w = w ≡ v
 ValueInserted terms pass v words (Err _) w = ⊥
@@ -129,7 +132,8 @@ RemoveAnswers terms pass v key r w = UnlessRefused (remove_refusal terms key) v 
 -- ---- how a result is told
 
 -- the result of the call is told so
-pub record AnswerSays {A : Type 0} (tell : Result A Refusal → Answer) (CallAnswers : Result A Refusal → PassPart → Type 0) (a : Answer) (w : PassPart) : Type 0 where
+pub record AnswerSays {A : Type 0} (tell : Result A Refusal → Answer)
+    (CallAnswers : Result A Refusal → PassPart → Type 0) (a : Answer) (w : PassPart) : Type 0 where
   pub result : Result A Refusal
   pub is : a ≡ tell result
   pub does : CallAnswers result w
@@ -157,15 +161,21 @@ OnKey (Ok key) v CallAnswers a w = CallAnswers key a w
 
 -- ---- a call
 
--- A call of a pass with the part v is answered so, and leaves the part w. Where it is on a name, the name stands for this number.
+-- A call of a pass with the part v is answered so, and leaves the part w. Where it is on a name, the name stands for
+-- this number.
 abbrev pub CallAnswers : RunTerms → Option ℕ → ℕ → PassPart → Call → Option ℕ → Answer → PassPart → Type 0
 CallAnswers terms tag pass v (call.Adopt shard) bound a w = AnswerSays done_answer (AdoptAnswers terms v shard) a w
 CallAnswers terms tag pass v call.Leave bound a w = AnswerSays done_answer (LeaveAnswers v) a w
-CallAnswers terms tag pass v (call.Insert words) bound a w = AnswerSays (key_answer tag) (WordsAnswers terms pass v words) a w
-CallAnswers terms tag pass v (call.Get r) bound a w = OnKey (key_meant tag bound r) v (λ key. AnswerSays done_answer (GetAnswers terms pass v key)) a w
-CallAnswers terms tag pass v (call.Read r) bound a w = OnKey (key_meant tag bound r) v (λ key. AnswerSays value_answer (ReadAnswers pass v key)) a w
-CallAnswers terms tag pass v (call.Remove r) bound a w = OnKey (key_meant tag bound r) v (λ key. AnswerSays done_answer (RemoveAnswers terms pass v key)) a w
-CallAnswers terms tag pass v (call.Release r) bound a w = OnKey (key_meant tag bound r) v (λ key. AnswerSays done_answer (ReleaseAnswers pass v key)) a w
+CallAnswers terms tag pass v (call.Insert words) bound a w = AnswerSays (key_answer tag)
+    (WordsAnswers terms pass v words) a w
+CallAnswers terms tag pass v (call.Get r) bound a w = OnKey (key_meant tag bound r) v
+    (λ key. AnswerSays done_answer (GetAnswers terms pass v key)) a w
+CallAnswers terms tag pass v (call.Read r) bound a w = OnKey (key_meant tag bound r) v
+    (λ key. AnswerSays value_answer (ReadAnswers pass v key)) a w
+CallAnswers terms tag pass v (call.Remove r) bound a w = OnKey (key_meant tag bound r) v
+    (λ key. AnswerSays done_answer (RemoveAnswers terms pass v key)) a w
+CallAnswers terms tag pass v (call.Release r) bound a w = OnKey (key_meant tag bound r) v
+    (λ key. AnswerSays done_answer (ReleaseAnswers pass v key)) a w
 CallAnswers terms tag pass v call.Post bound a w = (a ≡ answer.Done) × (w ≡ v)
 CallAnswers terms tag pass v (call.Wait name) bound a w = (a ≡ answer.Done) × (w ≡ v)
 

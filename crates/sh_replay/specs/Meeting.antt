@@ -22,7 +22,8 @@ abbrev pub IsOfHeap : Option Heap → Option SeenPass → Type 0
 IsOfHeap heap None = Unit {0}
 IsOfHeap heap (Some s) = s.heap ≡ heap
 
--- this pass owns no shard and carries this tale, which is whole: one legal history has all that it speaks for, and nothing else
+-- this pass owns no shard and carries this tale, which is whole: one legal history has all that it speaks for, and
+-- nothing else
 pub record HasMet (heap : Option Heap) (terms : RunTerms) (s : SeenPass) (tale : List PassTold) : Type 0 where
   pub carries : CarriesTale heap terms (Some s) tale
   pub none : OwnsNone (Some s)

@@ -21,10 +21,11 @@ use Rattle.sh_replay.specs.Ends.{WroteBeginning}
 -- ---- mode plain
 
 -- from one state of the run to another, the lines are answered somehow, and these are the reply lines
-pub record Writes (layout : Layout) (before : Run) (lines : List CallLine) (after : Run) (output : List ℕ) : Type 0 where
-  pub answers : List Answer
-  pub ran : Ran layout before lines answers after
-  pub is : output ≡ replies_text lines answers
+pub record Writes (layout : Layout) (before : Run) (lines : List CallLine) (after : Run) (output : List ℕ) : Type 0
+  where
+    pub answers : List Answer
+    pub ran : Ran layout before lines answers after
+    pub is : output ≡ replies_text lines answers
 
 -- the output is what mode plain may write for these lines; it is one text alone unless memory is refused
 abbrev pub IsPlainOutput : Layout → Numbers → Option ℕ → List CallLine → List ℕ → Type 0

@@ -1,5 +1,6 @@
 -- What is known of a pass of a heap.
-use Rattle.std.specs.Prelude.{◌≡◌, ℕ, zero, suc, ◌==◌, nat_lt, not, is_some, Bool, true, false, List, [], ◌∷◌, ◌++◌, Option, Some, None, if◌then◌else◌}
+use Rattle.std.specs.Prelude.{◌≡◌, ℕ, zero, suc, ◌==◌, nat_lt, not, is_some, Bool, true, false, List, [], ◌∷◌, ◌++◌}
+use Rattle.std.specs.Prelude.{Option, Some, None, if◌then◌else◌}
 use Rattle.std.specs.List.{AllZip}
 use Rattle.sh_key.specs.Layout.{Layout, unpacked}
 use Rattle.sh_shape.specs.Shape.{Numbers}
@@ -90,7 +91,8 @@ is_key_of_shard layout (Some shard) key = elim (unpacked layout key) [ Some p �
 
 -- which numbers are keys
 abbrev pub is_run_key : RunTerms → ℕ → Bool
-is_run_key terms key = if terms.placed then is_placed_key terms.layout terms.shape key else is_some (unpacked terms.layout key)
+is_run_key terms key = if terms.placed then is_placed_key terms.layout terms.shape key else is_some
+    (unpacked terms.layout key)
 
 -- which keys an insert may give where this shard is owned
 abbrev pub is_own_key : RunTerms → Option ℕ → ℕ → Bool
@@ -102,7 +104,8 @@ heap_terms layout shape = record { layout = layout; shape = shape; placed = true
 
 -- of no heap
 abbrev pub no_terms : RunTerms
-no_terms = heap_terms (record { shard_bits = 0; page_bits = 0; gen_max = 0; guard_max = 0 }) (record { shards = 0; segments = 0; passes = 0 })
+no_terms = heap_terms (record { shard_bits = 0; page_bits = 0; gen_max = 0; guard_max = 0 })
+    (record { shards = 0; segments = 0; passes = 0 })
 
 -- of the plain store, which knows no shape
 abbrev pub plain_terms : Layout → Numbers → RunTerms

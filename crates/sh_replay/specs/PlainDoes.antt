@@ -31,7 +31,8 @@ reference_used (call.Release r) = Some r
 reference_used _ = None
 
 -- a call of mode plain: the entries are a legal history, and the name that it is on stands for this number
-pub record IsPlainCall (layout : Layout) (shape : Numbers) (run : plain.Run) (v : PassPart) (c : Call) (bound : Option ℕ) : Type 0 where
+pub record IsPlainCall (layout : Layout) (shape : Numbers) (run : plain.Run) (v : PassPart) (c : Call)
+    (bound : Option ℕ) : Type 0 where
   pub part : IsPlainPart run v
   pub shards : run.shards ≡ shape.shards
   pub few : run.store.pass < length run.owners
@@ -39,7 +40,8 @@ pub record IsPlainCall (layout : Layout) (shape : Numbers) (run : plain.Run) (v 
   pub stands : (r : Reference) → reference_used c ≡ Some r → NameStandsFor run bound r
 
 -- the call of the pass whose turn it is may be answered so by a pass with its part
-pub record PlainAnswersSo (layout : Layout) (shape : Numbers) (run : plain.Run) (v : PassPart) (c : Call) (bound : Option ℕ) (a : Answer) (next : plain.Run) : Type 0 where
+pub record PlainAnswersSo (layout : Layout) (shape : Numbers) (run : plain.Run) (v : PassPart) (c : Call)
+    (bound : Option ℕ) (a : Answer) (next : plain.Run) : Type 0 where
   pub part : PassPart
   pub does : CallAnswers (plain_terms layout shape) run.tag run.store.pass v c bound a part
   pub is : IsPlainPart next part
@@ -47,5 +49,7 @@ pub record PlainAnswersSo (layout : Layout) (shape : Numbers) (run : plain.Run) 
 -- what mode plain answers to a call is one of what a pass may be answered: mode plain adds only which
 abbrev pub PlainDoes : Type 0
 PlainDoes =
-    (layout : Layout) (shape : Numbers) (run : plain.Run) (v : PassPart) (c : Call) (bound : Option ℕ) (a : Answer) (next : plain.Run)
-    → IsPlainCall layout shape run v c bound → plain.CallDoes layout run c a next → PlainAnswersSo layout shape run v c bound a next
+    (layout : Layout) (shape : Numbers) (run : plain.Run) (v : PassPart) (c : Call) (bound : Option ℕ) (a : Answer)
+    (next : plain.Run)
+    → IsPlainCall layout shape run v c bound → plain.CallDoes layout run c a next
+    → PlainAnswersSo layout shape run v c bound a next

@@ -1,10 +1,13 @@
 -- A run of calls on the plain store, line by line.
-use Rattle.std.specs.Prelude.{◌≡◌, ℕ, ok_or, nat_lt, nat_le, not, Bool, true, false, List, [], ◌∷◌, ◌++◌, length, replicate, slice_get, slice_index_or, slice_set, Option, Some, None, IsSome, Result, Ok, Err, if◌then◌else◌}
+use Rattle.std.specs.Prelude.{◌≡◌, ℕ, ok_or, nat_lt, nat_le, not, Bool, true, false, List, [], ◌∷◌, ◌++◌, length}
+use Rattle.std.specs.Prelude.{replicate, slice_get, slice_index_or, slice_set, Option, Some, None, IsSome, Result, Ok}
+use Rattle.std.specs.Prelude.{Err, if◌then◌else◌}
 use Rattle.std.specs.Result.{result_ok}
 use Rattle.sh_value.specs.declared.refusal.Refusal.{Refusal}
 use Rattle.sh_value.specs.declared.refusal.Refusal.TheVariants as refusal
 use Rattle.sh_key.specs.Layout.{Layout}
-use Rattle.sh_plain.specs.Plain.{Plain, PlainReply, Replied, refused, with_added, insert_reply, get_reply, read_answer, remove_reply, release_reply}
+use Rattle.sh_plain.specs.Plain.{Plain, PlainReply, Replied, refused, with_added, insert_reply, get_reply, read_answer}
+use Rattle.sh_plain.specs.Plain.{remove_reply, release_reply}
 use Rattle.sh_script.specs.declared.calls.Reference.{Reference}
 use Rattle.sh_script.specs.declared.calls.Reference.TheVariants as reference
 use Rattle.sh_script.specs.declared.calls.Call.{Call}
@@ -15,8 +18,8 @@ use Rattle.sh_replay.specs.declared.answer.Answer.TheVariants as answer
 use Rattle.sh_replay.specs.Keys.{key_shown}
 pub use Rattle.sh_replay.specs.Results.{done_answer, value_answer, key_answer}
 
--- the tag of the keys in the script, if they have one; the store; for each pass whether it has a shard; for each name that
--- is bound its key, or none where the insert was refused or a post bound it
+-- the tag of the keys in the script, if they have one; the store; for each pass whether it has a shard; for each name
+-- that is bound its key, or none where the insert was refused or a post bound it
 pub record Run : Type 0 where
   pub shards : ℕ
   pub tag : Option ℕ

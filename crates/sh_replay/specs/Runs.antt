@@ -30,10 +30,15 @@ abbrev pub with_part : (ℕ → PassPart) → ℕ → PassPart → ℕ → PassP
 with_part parts pass part p = cond (p == pass) part (parts p)
 
 abbrev pub next_run : CallsRun → CallLine → Answer → PassPart → CallsRun
-next_run run line a part = record { numbers = with_number run.numbers line.call a; parts = with_part run.parts line.pass part }
+next_run run line a part = record {
+  numbers = with_number run.numbers line.call a;
+  parts = with_part run.parts line.pass
+      part;
+}
 
 -- The line is answered so. It sees the part of its own pass alone, and the numbers of the names bound before.
-pub record LineAnswered (terms : RunTerms) (tag : Option ℕ) (run : CallsRun) (line : CallLine) (a : Answer) (next : CallsRun) : Type 0 where
+pub record LineAnswered (terms : RunTerms) (tag : Option ℕ) (run : CallsRun) (line : CallLine) (a : Answer)
+    (next : CallsRun) : Type 0 where
   pub part : PassPart
   pub does : CallAnswers terms tag line.pass (run.parts line.pass) line.call (number_meant run.numbers line.call) a part
   pub next_is : next ≡ next_run run line a part
@@ -43,4 +48,5 @@ abbrev pub LinesAnswered : RunTerms → Option ℕ → CallsRun → List CallLin
 LinesAnswered terms tag run [] [] after = after ≡ run
 LinesAnswered terms tag run [] (a ∷ answers) after = ⊥
 LinesAnswered terms tag run (l ∷ lines) [] after = ⊥
-LinesAnswered terms tag run (l ∷ lines) (a ∷ answers) after = (next : CallsRun) × LineAnswered terms tag run l a next × LinesAnswered terms tag next lines answers after
+LinesAnswered terms tag run (l ∷ lines) (a ∷ answers) after = (next : CallsRun) × LineAnswered terms tag run l a next
+    × LinesAnswered terms tag next lines answers after

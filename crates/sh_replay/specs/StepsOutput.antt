@@ -1,5 +1,5 @@
--- What mode steps writes for a script of events: a line for each, and then, where they are asked for, the accounts of the
--- pages.
+-- What mode steps writes for a script of events: a line for each, and then, where they are asked for, the accounts of
+-- the pages.
 use Rattle.std.specs.Prelude.{ℕ, List, [], ◌∷◌, ◌++◌, Bool, cond, codes, decimal, Option, Some, None, option_map}
 use Rattle.std.specs.List.{filter_map, flat_map, range_with_len}
 use Rattle.sh_history.specs.declared.entry.Entry.{Entry}
@@ -74,11 +74,16 @@ abbrev pub event_line : Option ℕ → (pass : ℕ) → ActionKind → Outcome �
 event_line tag pass kind outcome =
     decimal pass ++ codes " " ++ kind_name kind ++ codes " " ++ outcome_text tag outcome ++ codes "\n"
 
--- a line for each event of the script: for an event of the heap by what came of it, which is next, and any other is skipped
+-- a line for each event of the script: for an event of the heap by what came of it, which is next, and any other is
+-- skipped
 unfoldable pub event_lines : Option ℕ → List Event → List Outcome → List ℕ
 event_lines tag [] outcomes = []
 event_lines tag (e ∷ lines) outcomes = elim (event_shown tag e) [
-  | Some _ ↦ elim outcomes [ o ∷ rest ↦ event_line tag e.pass (kind_of_action e.action) o ++ event_lines tag lines rest | [] ↦ [] ]
+  | Some _ ↦ elim outcomes [
+    | o ∷ rest ↦ event_line tag e.pass (kind_of_action e.action) o
+        ++ event_lines tag lines rest
+    | [] ↦ []
+  ]
   | None ↦ event_line tag e.pass (kind_of_action e.action) Skipped ++ event_lines tag lines outcomes
 ]
 
@@ -86,11 +91,13 @@ event_lines tag (e ∷ lines) outcomes = elim (event_shown tag e) [
 
 -- how many of its slots have a value, or none any more
 abbrev pub used_text : Accounts → List ℕ
-used_text a = codes " live " ++ decimal a.live ++ codes " marked " ++ decimal a.marked ++ codes " retired " ++ decimal a.retired
+used_text a = codes " live " ++ decimal a.live ++ codes " marked " ++ decimal a.marked ++ codes " retired "
+    ++ decimal a.retired
 
 -- how many are empty
 abbrev pub empty_text : Accounts → List ℕ
-empty_text a = codes " mine " ++ decimal a.mine ++ codes " hand " ++ decimal a.hand ++ codes " queued " ++ decimal a.queued
+empty_text a = codes " mine " ++ decimal a.mine ++ codes " hand " ++ decimal a.hand ++ codes " queued "
+    ++ decimal a.queued
 
 abbrev pub page_name : (shard page : ℕ) → List ℕ
 page_name shard page = codes "page " ++ decimal shard ++ codes "." ++ decimal page
@@ -105,7 +112,8 @@ page_text shard page a = elim (a.class) [ Some class ↦ account_line shard page
 
 -- the pages of a shard, in order
 abbrev pub shard_text : Numbers → (ℕ → Accounts) → (shard : ℕ) → List ℕ
-shard_text shape of_page shard = flat_map (λ page. page_text shard page (of_page (page_number shape shard page))) (range_with_len 0 (pages_of shape))
+shard_text shape of_page shard = flat_map (λ page. page_text shard page (of_page (page_number shape shard page)))
+    (range_with_len 0 (pages_of shape))
 
 -- by shards, and then by pages, where each page has these accounts by its number over the whole heap
 abbrev pub accounts_text : Numbers → (ℕ → Accounts) → List ℕ

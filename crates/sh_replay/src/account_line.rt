@@ -7,7 +7,8 @@ ghost use Rattle.sh_step.specs.Plans.{plan_of};
 ghost use Rattle.sh_core.specs.Kept.{StandsFor};
 ghost use Rattle.sh_core.specs.Lists.{accounts, lists_of};
 ghost use Rattle.sh_core.specs.Worlds.{run};
-ghost use Rattle.sh_replay.specs.StepsOutput.{page_name, used_text, empty_text, account_line, page_text, shard_text, accounts_text};
+ghost use Rattle.sh_replay.specs.StepsOutput.{page_name, used_text, empty_text, account_line, page_text, shard_text};
+ghost use Rattle.sh_replay.specs.StepsOutput.{accounts_text};
 
 use crate::numbers::push_number;
 use sh_accounts::page;
@@ -74,7 +75,8 @@ fn push_page<L: KeyLayout>(
     requires page { number < pages_of world.now.shape }
     ensures { (es : List Event) → let plan = plan_of L.layout world.now.shape in StandsFor world.now (run plan es)
         → OnOk result (out.new.items ≡ out.old.items
-        ++ page_text shard number (accounts (run plan es) (lists_of plan es) (page_number world.now.shape shard number))) }
+        ++ page_text shard number (accounts (run plan es) (lists_of plan es)
+        (page_number world.now.shape shard number))) }
 {
     let Some(accounts) = page(world, shard, number) else {
         return Ok(());
@@ -102,8 +104,8 @@ fn push_shard<L: KeyLayout>(
     Ok(())
 }
 
-/// Adds the account lines of the pages with a class, by shards and then by pages. They are the pages' accounts after every
-/// list of events that leads to this world.
+/// Adds the account lines of the pages with a class, by shards and then by pages. They are the pages' accounts after
+/// every list of events that leads to this world.
 pub fn push_accounts<L: KeyLayout>(out: &mut Vec<u8>, world: &World<L>) -> Result<(), AllocError>
     requires fits { Fits L.layout world.now.shape }
     ensures { (es : List Event) → let plan = plan_of L.layout world.now.shape in StandsFor world.now (run plan es)

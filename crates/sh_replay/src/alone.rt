@@ -36,8 +36,8 @@ fn met<S: Side>(sides: Vec<S>) -> Option<S>
     Some(carrier)
 }
 
-/// Runs the lines in their order. Answers the reply lines, and the pass that carries the tale of all once all owners have left and
-/// all passes have met; none where an owner could not leave.
+/// Runs the lines in their order. Answers the reply lines, and the pass that carries the tale of all once all owners
+/// have left and all passes have met; none where an owner could not leave.
 pub fn alone_lines<S: Side>(
     alloc: Global,
     lines: &[CallLine],
@@ -49,7 +49,9 @@ pub fn alone_lines<S: Side>(
     requires sides { map S.seen sides.items ≡ new_passes at.0 at.1 at.1.shape.passes }
     requires passes { All (λ (l : CallLine). l.pass < at.1.shape.passes) lines.now }
     ensures replies { IfOk result (λ ran. AreReplies at.1 tag lines.now ran.0.items) }
-    ensures told { IfOk result (λ ran. IfSome ran.1 (λ carrier. IsTold at.1 tag lines.now ran.0.items (tale_told (S.seen carrier)) × CarriesTale at.0 at.1 (Some (S.seen carrier)) (tale_told (S.seen carrier)) × OwnsNone (Some (S.seen carrier)))) }
+    ensures told { IfOk result (λ ran. IfSome ran.1 (λ carrier. IsTold at.1 tag lines.now ran.0.items
+        (tale_told (S.seen carrier)) × CarriesTale at.0 at.1 (Some (S.seen carrier)) (tale_told (S.seen carrier))
+        × OwnsNone (Some (S.seen carrier)))) }
     ensures fault { IfErr result (λ fault. fault ≡ Fault.Memory) }
 {
     let mut numbers: Vec<Option<u64>> = Vec::new(alloc);

@@ -20,7 +20,8 @@ fn read_piece<R: Read>(reader: &mut R, text: &mut Vec<u8>, most: usize) -> Resul
     requires some { 0 < most }
     requires few { most ≤ 4096 }
     ensures fault { IfErr result IsEndFault }
-    ensures ok { IfOk result (λ n. MovesPiece (R.remaining reader.old) (R.remaining reader.new) text.old.items text.new.items n most) }
+    ensures ok { IfOk result (λ n. MovesPiece (R.remaining reader.old) (R.remaining reader.new) text.old.items
+        text.new.items n most) }
     ensures reads { ReadsAtMostBytes (R.remaining reader.old) (R.remaining reader.new) most }
 {
     let mut piece = [0u8; PIECE];
@@ -36,7 +37,8 @@ fn read_piece<R: Read>(reader: &mut R, text: &mut Vec<u8>, most: usize) -> Resul
 /// All that a reader gives, up to one byte more than a script may have; the rest is left unread.
 #[tactic(auto, using(crate::proofs::EndLemmas::reads_more, crate::proofs::EndLemmas::reads_done))]
 pub fn read_text<R: Read>(alloc: Global, reader: &mut R) -> Result<Vec<u8>, Fault>
-    ensures text { (input : List ℕ) → R.remaining reader.old ≡ Some input → IfOk result (λ text. text.items ≡ take 1048577 input) }
+    ensures text { (input : List ℕ) → R.remaining reader.old ≡ Some input
+        → IfOk result (λ text. text.items ≡ take 1048577 input) }
     ensures fault { IfErr result IsEndFault }
     ensures reads { ReadsAtMostBytes (R.remaining reader.old) (R.remaining reader.new) 1048577 }
 {

@@ -65,7 +65,8 @@ fn push_outcome(out: &mut Vec<u8>, tag: Option<u8>, outcome: &Outcome) -> Result
     }
 }
 
-/// Adds the line of an event, by its pass, its kind and what came of it. Where there is a tag, a key in it is below 2^52.
+/// Adds the line of an event, by its pass, its kind and what came of it. Where there is a tag, a key in it is below
+/// 2^52.
 pub fn push_event(
     out: &mut Vec<u8>,
     tag: Option<u8>,

@@ -2,7 +2,8 @@
 ghost use Rattle.std.specs.Prelude.{◌≡◌, ◌<◌, ◌+◌, ◌++◌, IfOk, MatchResult, Ok, Err, None, map};
 ghost use Rattle.sh_key.specs.Layout.{first_key, key_count};
 ghost use Rattle.sh_replay.specs.Parts.{SeenPass, SamePass, HasWholeTale, tale_told, told_pass, passes_below};
-ghost use Rattle.sh_replay.specs.Calls.{AdoptAnswers, LeaveAnswers, ValueInserted, GetAnswers, ReadAnswers, RemoveAnswers, ReleaseAnswers};
+ghost use Rattle.sh_replay.specs.Calls.{AdoptAnswers, LeaveAnswers, ValueInserted, GetAnswers, ReadAnswers};
+ghost use Rattle.sh_replay.specs.Calls.{RemoveAnswers, ReleaseAnswers};
 
 use crate::side::Side;
 use sh_value::{Hold, Refusal, Value};
@@ -16,7 +17,8 @@ pub trait Calls: Drop {
     ghost seen: { Self → SeenPass };
 
     fn get(&mut self, key: u64) -> Result<Hold, Refusal>
-        ensures does { GetAnswers (seen self.old).terms (seen self.old).pass (seen self.old).part key result (seen self.new).part }
+        ensures does { GetAnswers (seen self.old).terms (seen self.old).pass (seen self.old).part key result
+            (seen self.new).part }
         ensures same { SamePass (seen self.old) (seen self.new) }
         ensures shard { (seen self.new).part.shard ≡ (seen self.old).part.shard };
 
@@ -26,7 +28,8 @@ pub trait Calls: Drop {
         ensures shard { (seen self.new).part.shard ≡ (seen self.old).part.shard };
 
     fn remove(&mut self, key: u64) -> Result<(), Refusal>
-        ensures does { RemoveAnswers (seen self.old).terms (seen self.old).pass (seen self.old).part key result (seen self.new).part }
+        ensures does { RemoveAnswers (seen self.old).terms (seen self.old).pass (seen self.old).part key result
+            (seen self.new).part }
         ensures same { SamePass (seen self.old) (seen self.new) }
         ensures shard { (seen self.new).part.shard ≡ (seen self.old).part.shard };
 
@@ -54,24 +57,31 @@ pub trait Heap {
     ) -> Result<Self::Shard, (Self::Pass, Refusal)>
         requires none { (Self.Pass.seen pass).part.shard ≡ None }
         ensures { MatchResult result
-            (λ s. AdoptAnswers (Self.Pass.seen pass).terms (Self.Pass.seen pass).part shard (Ok tt) (Self.Shard.seen s).part × SamePass (Self.Pass.seen pass) (Self.Shard.seen s))
-            (λ e. AdoptAnswers (Self.Pass.seen pass).terms (Self.Pass.seen pass).part shard (Err e.1) (Self.Pass.seen e.0).part × SamePass (Self.Pass.seen pass) (Self.Pass.seen e.0)) };
+            (λ s. AdoptAnswers (Self.Pass.seen pass).terms (Self.Pass.seen pass).part shard (Ok tt)
+            (Self.Shard.seen s).part × SamePass (Self.Pass.seen pass) (Self.Shard.seen s))
+            (λ e. AdoptAnswers (Self.Pass.seen pass).terms (Self.Pass.seen pass).part shard (Err e.1)
+            (Self.Pass.seen e.0).part × SamePass (Self.Pass.seen pass) (Self.Pass.seen e.0)) };
 
     fn leave(shard: Self::Shard) -> Result<Self::Pass, (Self::Shard, Refusal)>
         ensures { MatchResult result
-            (λ p. LeaveAnswers (Self.Shard.seen shard).part (Ok tt) (Self.Pass.seen p).part × SamePass (Self.Shard.seen shard) (Self.Pass.seen p))
-            (λ e. LeaveAnswers (Self.Shard.seen shard).part (Err e.1) (Self.Shard.seen e.0).part × SamePass (Self.Shard.seen shard) (Self.Shard.seen e.0)) };
+            (λ p. LeaveAnswers (Self.Shard.seen shard).part (Ok tt) (Self.Pass.seen p).part
+            × SamePass (Self.Shard.seen shard) (Self.Pass.seen p))
+            (λ e. LeaveAnswers (Self.Shard.seen shard).part (Err e.1) (Self.Shard.seen e.0).part
+            × SamePass (Self.Shard.seen shard) (Self.Shard.seen e.0)) };
 
     fn join(one: Self::Pass, other: Self::Pass) -> Self::Pass
         requires heap { (Self.Pass.seen one).heap ≡ (Self.Pass.seen other).heap }
         ensures heap { (Self.Pass.seen result).heap ≡ (Self.Pass.seen one).heap }
         ensures terms { (Self.Pass.seen result).terms ≡ (Self.Pass.seen one).terms }
         ensures none { (Self.Pass.seen result).part.shard ≡ (Self.Pass.seen one).part.shard }
-        ensures tale { tale_told (Self.Pass.seen result) ≡ tale_told (Self.Pass.seen one) ++ tale_told (Self.Pass.seen other) };
+        ensures tale { tale_told (Self.Pass.seen result) ≡ tale_told (Self.Pass.seen one)
+            ++ tale_told (Self.Pass.seen other) };
 
     fn insert(shard: &mut Self::Shard, value: &Value) -> Result<u64, Refusal>
-        ensures does { ValueInserted (Self.Shard.seen shard.old).terms (Self.Shard.seen shard.old).pass (Self.Shard.seen shard.old).part value.now result (Self.Shard.seen shard.new).part }
-        ensures small { IfOk result (λ key. key < first_key (Self.Shard.seen shard.old).terms.layout + key_count (Self.Shard.seen shard.old).terms.layout) }
+        ensures does { ValueInserted (Self.Shard.seen shard.old).terms (Self.Shard.seen shard.old).pass
+            (Self.Shard.seen shard.old).part value.now result (Self.Shard.seen shard.new).part }
+        ensures small { IfOk result (λ key. key < first_key (Self.Shard.seen shard.old).terms.layout + key_count
+            (Self.Shard.seen shard.old).terms.layout) }
         ensures same { SamePass (Self.Shard.seen shard.old) (Self.Shard.seen shard.new) }
         ensures shard { (Self.Shard.seen shard.new).part.shard ≡ (Self.Shard.seen shard.old).part.shard };
 }

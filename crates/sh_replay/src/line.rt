@@ -2,7 +2,9 @@
 ghost use Rattle.std.specs.Prelude.{◌≡◌, ℕ, IfOk, true, false, is_some};
 ghost use Rattle.sh_replay.specs.Keys.{HasTagRoom};
 ghost use Rattle.sh_replay.specs.Parts.{SeenPass, SamePass};
-ghost use Rattle.sh_replay.specs.Calls.{CallAnswers, AnswerSays, GetAnswers, ReadAnswers, RemoveAnswers, ReleaseAnswers, AdoptAnswers, LeaveAnswers, WordsAnswers, key_meant, name_referred, name_used, binds, number_told};
+ghost use Rattle.sh_replay.specs.Calls.{CallAnswers, AnswerSays, GetAnswers, ReadAnswers, RemoveAnswers};
+ghost use Rattle.sh_replay.specs.Calls.{ReleaseAnswers, AdoptAnswers, LeaveAnswers, WordsAnswers, key_meant};
+ghost use Rattle.sh_replay.specs.Calls.{name_referred, name_used, binds, number_told};
 ghost use Rattle.sh_replay.specs.Results.{done_answer, value_answer, key_answer};
 ghost use Rattle.sh_replay.specs.Runs.{number_bound, number_meant};
 
@@ -43,7 +45,8 @@ fn key_meant(tag: Option<u8>, bound: Option<u64>, reference: Reference) -> Resul
 #[tactic(auto, using(crate::proofs::CallLemmas::too_long, crate::proofs::CallLemmas::fits))]
 fn insert<S: Side>(side: &mut S, tag: Option<u8>, words: &[u64]) -> Answer
     requires room { HasTagRoom (S.seen side.old).terms.layout tag }
-    ensures does { AnswerSays (key_answer tag) (WordsAnswers (S.seen side.old).terms (S.seen side.old).pass (S.seen side.old).part words.now) result (S.seen side.new).part }
+    ensures does { AnswerSays (key_answer tag) (WordsAnswers (S.seen side.old).terms (S.seen side.old).pass
+        (S.seen side.old).part words.now) result (S.seen side.new).part }
     ensures same { SamePass (S.seen side.old) (S.seen side.new) }
 {
     let value = match Value::new(words) {
@@ -66,7 +69,8 @@ pub fn answered<S: Side>(
     bound: Option<u64>,
 ) -> Answer
     requires room { HasTagRoom (S.seen side.old).terms.layout tag }
-    ensures does { CallAnswers (S.seen side.old).terms tag (S.seen side.old).pass (S.seen side.old).part call.now bound result (S.seen side.new).part }
+    ensures does { CallAnswers (S.seen side.old).terms tag (S.seen side.old).pass (S.seen side.old).part call.now bound
+        result (S.seen side.new).part }
     ensures same { SamePass (S.seen side.old) (S.seen side.new) }
 {
     match call {

@@ -4,7 +4,9 @@ ghost use Rattle.std.specs.Vec.{vec_capacity, vec_len};
 ghost use Rattle.sh_key.specs.Layout.{Layout, first_key, key_count};
 ghost use Rattle.sh_plain.specs.Plain.{Plain, PlainReply, Replied, with_added, get_reply, remove_reply, release_reply};
 ghost use Rattle.sh_replay.specs.Keys.{HasTagRoom};
-ghost use Rattle.sh_replay.specs.PlainRun.{run_of, at_turn, has_shard, adopt_answer, adopts, opening_run, leave_answer, leaves, insert_attempt, Inserts, key_of, done_answer, Tells, MayEnd, Reads, EndsAt, TakesLine};
+ghost use Rattle.sh_replay.specs.PlainRun.{run_of, at_turn, has_shard, adopt_answer, adopts, opening_run, leave_answer};
+ghost use Rattle.sh_replay.specs.PlainRun.{leaves, insert_attempt, Inserts, key_of, done_answer, Tells, MayEnd, Reads};
+ghost use Rattle.sh_replay.specs.PlainRun.{EndsAt, TakesLine};
 
 use crate::Answer;
 use crate::keys::{key_shown, shown};
@@ -39,7 +41,8 @@ impl<L: KeyLayout> PlainRun<L> {
     ) -> Result<Self, AllocError>
         requires some { 1 ≤ passes }
         requires few { passes ≤ 64 }
-        ensures opens { IfOk result (λ run. run_of run.shards run.tag run.store run.owners run.keys.items ≡ opening_run shards passes tag) }
+        ensures opens { IfOk result (λ run. run_of run.shards run.tag run.store run.owners run.keys.items
+            ≡ opening_run shards passes tag) }
         ensures names { IfOk result (λ run. names ≤ vec_capacity run.keys) }
     {
         let keys = Vec::with_capacity(alloc, names)?;
@@ -86,7 +89,8 @@ impl<L: KeyLayout> PlainRun<L> {
     fn adopt(&mut self, pass: u32, shard: u64) -> Answer
         requires own { pass ≡ self.old.store.pass }
         requires few { pass < 64 }
-        ensures answer { result ≡ adopt_answer (run_of self.old.shards self.old.tag self.old.store self.old.owners self.old.keys.items) shard }
+        ensures answer { result ≡ adopt_answer (run_of self.old.shards self.old.tag self.old.store self.old.owners
+            self.old.keys.items) shard }
         ensures adopts { run_of self.new.shards self.new.tag self.new.store self.new.owners self.new.keys.items
             ≡ adopts (run_of self.old.shards self.old.tag self.old.store self.old.owners self.old.keys.items) shard }
         ensures names { self.new.keys ≡ self.old.keys }
@@ -104,7 +108,8 @@ impl<L: KeyLayout> PlainRun<L> {
     fn leave(&mut self, pass: u32) -> Answer
         requires own { pass ≡ self.old.store.pass }
         requires few { pass < 64 }
-        ensures answer { result ≡ leave_answer (run_of self.old.shards self.old.tag self.old.store self.old.owners self.old.keys.items) }
+        ensures answer { result ≡ leave_answer (run_of self.old.shards self.old.tag self.old.store self.old.owners
+            self.old.keys.items) }
         ensures leaves { run_of self.new.shards self.new.tag self.new.store self.new.owners self.new.keys.items
             ≡ leaves (run_of self.old.shards self.old.tag self.old.store self.old.owners self.old.keys.items) }
         ensures names { self.new.keys ≡ self.old.keys }
@@ -120,7 +125,8 @@ impl<L: KeyLayout> PlainRun<L> {
     fn try_insert(&mut self, pass: u32, words: &[u64]) -> Result<u64, Refusal>
         requires own { pass ≡ self.old.store.pass }
         requires few { pass < 64 }
-        ensures replied { Replied (insert_attempt L.layout (run_of self.old.shards self.old.tag self.old.store self.old.owners self.old.keys.items) words.now)
+        ensures replied { Replied (insert_attempt L.layout (run_of self.old.shards self.old.tag self.old.store
+            self.old.owners self.old.keys.items) words.now)
             self.old.store result self.new.store }
         ensures same { self.new ≡ record self.old { store = self.new.store } }
         ensures small { IfOk result (λ key. key < first_key L.layout + key_count L.layout) }
@@ -170,7 +176,8 @@ impl<L: KeyLayout> PlainRun<L> {
 
     // The key that a call speaks of, or what it is answered where there is none.
     fn key_of(&self, reference: Reference) -> Result<u64, Answer>
-        ensures { result ≡ key_of (run_of self.now.shards self.now.tag self.now.store self.now.owners self.now.keys.items) reference }
+        ensures { result ≡ key_of (run_of self.now.shards self.now.tag self.now.store self.now.owners
+            self.now.keys.items) reference }
     {
         match reference {
             Reference::Key(number) => match key_shown(self.tag, number) {
@@ -187,7 +194,8 @@ impl<L: KeyLayout> PlainRun<L> {
     fn get(&mut self, reference: Reference) -> Result<Answer, Fault>
         ensures tells { IfOk result (λ answer. Tells (get_reply L.layout)
             (run_of self.old.shards self.old.tag self.old.store self.old.owners self.old.keys.items)
-            (key_of (run_of self.old.shards self.old.tag self.old.store self.old.owners self.old.keys.items) reference) answer
+            (key_of (run_of self.old.shards self.old.tag self.old.store self.old.owners self.old.keys.items) reference)
+            answer
             (run_of self.new.shards self.new.tag self.new.store self.new.owners self.new.keys.items)) }
         ensures memory { IfErr result (λ fault. (fault ≡ Fault.Memory) × MayEnd (get_reply L.layout)
             (run_of self.old.shards self.old.tag self.old.store self.old.owners self.old.keys.items)
@@ -203,7 +211,8 @@ impl<L: KeyLayout> PlainRun<L> {
 
     fn read(&mut self, reference: Reference) -> Answer
         ensures reads { Reads (run_of self.old.shards self.old.tag self.old.store self.old.owners self.old.keys.items)
-            (key_of (run_of self.old.shards self.old.tag self.old.store self.old.owners self.old.keys.items) reference) result
+            (key_of (run_of self.old.shards self.old.tag self.old.store self.old.owners self.old.keys.items) reference)
+            result
             (run_of self.new.shards self.new.tag self.new.store self.new.owners self.new.keys.items) }
         ensures names { self.new.keys ≡ self.old.keys }
     {
@@ -220,7 +229,8 @@ impl<L: KeyLayout> PlainRun<L> {
     fn remove(&mut self, reference: Reference) -> Result<Answer, Fault>
         ensures tells { IfOk result (λ answer. Tells (remove_reply L.layout)
             (run_of self.old.shards self.old.tag self.old.store self.old.owners self.old.keys.items)
-            (key_of (run_of self.old.shards self.old.tag self.old.store self.old.owners self.old.keys.items) reference) answer
+            (key_of (run_of self.old.shards self.old.tag self.old.store self.old.owners self.old.keys.items) reference)
+            answer
             (run_of self.new.shards self.new.tag self.new.store self.new.owners self.new.keys.items)) }
         ensures memory { IfErr result (λ fault. (fault ≡ Fault.Memory) × MayEnd (remove_reply L.layout)
             (run_of self.old.shards self.old.tag self.old.store self.old.owners self.old.keys.items)
@@ -237,7 +247,8 @@ impl<L: KeyLayout> PlainRun<L> {
     fn release(&mut self, reference: Reference) -> Result<Answer, Fault>
         ensures tells { IfOk result (λ answer. Tells release_reply
             (run_of self.old.shards self.old.tag self.old.store self.old.owners self.old.keys.items)
-            (key_of (run_of self.old.shards self.old.tag self.old.store self.old.owners self.old.keys.items) reference) answer
+            (key_of (run_of self.old.shards self.old.tag self.old.store self.old.owners self.old.keys.items) reference)
+            answer
             (run_of self.new.shards self.new.tag self.new.store self.new.owners self.new.keys.items)) }
         ensures memory { IfErr result (λ fault. (fault ≡ Fault.Memory) × MayEnd release_reply
             (run_of self.old.shards self.old.tag self.old.store self.old.owners self.old.keys.items)

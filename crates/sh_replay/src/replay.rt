@@ -42,9 +42,9 @@ fn run<W: Write>(
 
 /// Reads a script, runs it in a mode and writes its replies.
 ///
-/// It reads until a read gives no byte, or 1,048,577 bytes, and parses the whole script before anything runs. A fault is
-/// the first fault of the script, or `Memory`, or `Io` where a read or a write failed. The flag asks for accounts, which
-/// mode plain has none of.
+/// It reads until a read gives no byte, or 1,048,577 bytes, and parses the whole script before anything runs. A fault
+/// is the first fault of the script, or `Memory`, or `Io` where a read or a write failed. The flag asks for accounts,
+/// which mode plain has none of.
 pub fn replay_alone<R: Read, W: Write>(
     alloc: Global,
     reader: &mut R,

@@ -2,12 +2,14 @@
 ghost use Rattle.std.specs.Prelude.{◌≡◌, ◌<◌, ◌+◌, ◌∷◌, ◌++◌, IfOk, true, None, map};
 ghost use Rattle.sh_key.specs.Layout.{first_key, key_count};
 ghost use Rattle.sh_replay.specs.Parts.{SeenPass, SamePass, HasWholeTale, tale_told, told_pass, passes_below};
-ghost use Rattle.sh_replay.specs.Calls.{AdoptAnswers, LeaveAnswers, InsertAnswers, GetAnswers, ReadAnswers, RemoveAnswers, ReleaseAnswers};
+ghost use Rattle.sh_replay.specs.Calls.{AdoptAnswers, LeaveAnswers, InsertAnswers, GetAnswers, ReadAnswers};
+ghost use Rattle.sh_replay.specs.Calls.{RemoveAnswers, ReleaseAnswers};
 
 use sh_value::{Hold, Refusal, Value};
 use std::alloc::Global;
 
-/// A pass, which may own a shard. Its clauses say of each call which refusal comes exactly where, and what its log gains.
+/// A pass, which may own a shard. Its clauses say of each call which refusal comes exactly where, and what its log
+/// gains.
 pub trait Side: Drop {
     // What a contract sees.
     ghost seen: { Self → SeenPass };
@@ -21,12 +23,15 @@ pub trait Side: Drop {
         ensures same { SamePass (seen self.old) (seen self.new) };
 
     fn insert(&mut self, value: &Value) -> Result<u64, Refusal>
-        ensures does { InsertAnswers (seen self.old).terms (seen self.old).pass (seen self.old).part value.now result (seen self.new).part }
-        ensures small { IfOk result (λ key. key < first_key (seen self.old).terms.layout + key_count (seen self.old).terms.layout) }
+        ensures does { InsertAnswers (seen self.old).terms (seen self.old).pass (seen self.old).part value.now result
+            (seen self.new).part }
+        ensures small { IfOk result (λ key. key < first_key (seen self.old).terms.layout + key_count
+            (seen self.old).terms.layout) }
         ensures same { SamePass (seen self.old) (seen self.new) };
 
     fn get(&mut self, key: u64) -> Result<Hold, Refusal>
-        ensures does { GetAnswers (seen self.old).terms (seen self.old).pass (seen self.old).part key result (seen self.new).part }
+        ensures does { GetAnswers (seen self.old).terms (seen self.old).pass (seen self.old).part key result
+            (seen self.new).part }
         ensures same { SamePass (seen self.old) (seen self.new) };
 
     fn read(&mut self, hold: Hold) -> Result<Value, Refusal>
@@ -34,7 +39,8 @@ pub trait Side: Drop {
         ensures same { SamePass (seen self.old) (seen self.new) };
 
     fn remove(&mut self, key: u64) -> Result<(), Refusal>
-        ensures does { RemoveAnswers (seen self.old).terms (seen self.old).pass (seen self.old).part key result (seen self.new).part }
+        ensures does { RemoveAnswers (seen self.old).terms (seen self.old).pass (seen self.old).part key result
+            (seen self.new).part }
         ensures same { SamePass (seen self.old) (seen self.new) };
 
     fn release(&mut self, hold: Hold) -> Result<(), Refusal>

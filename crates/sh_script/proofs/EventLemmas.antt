@@ -1,5 +1,7 @@
 -- The words of an event are read as that event, and no others are.
-use Rattle.std.proofs.Common.{◌≡◌, ℕ, ◌+◌, ◌-◌, ◌^◌, ◌<◌, ◌≤◌, ◌==◌, nat_lt, zero, suc, Bool, true, false, List, [], ◌∷◌, ◌++◌, length, map, cond, Option, Some, None, Ok, inl, inr, codes, decimal, refl, sym, ap, ap₂, subst, ◌∙◌, arith, ltb-false, lt-ltb, le-ltb, ne_eqb}
+use Rattle.std.proofs.Common.{◌≡◌, ℕ, ◌+◌, ◌-◌, ◌^◌, ◌<◌, ◌≤◌, ◌==◌, nat_lt, zero, suc, Bool, true, false, List, []}
+use Rattle.std.proofs.Common.{◌∷◌, ◌++◌, length, map, cond, Option, Some, None, Ok, inl, inr, codes, decimal, refl, sym}
+use Rattle.std.proofs.Common.{ap, ap₂, subst, ◌∙◌, arith, ltb-false, lt-ltb, le-ltb, ne_eqb}
 use Rattle.std.specs.List.{find}
 use Rattle.std.specs.Str.{bytes_eq}
 use Rattle.std.proofs.lemmas.List.{length-map}
@@ -15,12 +17,15 @@ use Rattle.sh_script.specs.Words.{Word}
 use Rattle.sh_script.specs.Trouble.{◌>>=◌}
 use Rattle.sh_script.specs.Arguments.{two_of}
 use Rattle.sh_script.specs.Meaning.{IsPage}
-use Rattle.sh_script.specs.EventLines.{kinds, kind_named, number_alone, page_alone, bare, enter_of, drop_of, put_of, fill_of, part_of, read_by, read_of, set_class_of, action_of, event_of, event_added}
+use Rattle.sh_script.specs.EventLines.{kinds, kind_named, number_alone, page_alone, bare, enter_of, drop_of, put_of}
+use Rattle.sh_script.specs.EventLines.{fill_of, part_of, read_by, read_of, set_class_of, action_of, event_of}
+use Rattle.sh_script.specs.EventLines.{event_added}
 use Rattle.sh_script.specs.EventMeaning.{IsWithNumber, IsReadKey, IsAction, IsEventLine, SaysEvent}
 use Rattle.sh_script.proofs.NumberLemmas.{number_is, number_gives, number_of_decimal}
 use Rattle.sh_script.proofs.ArgumentLemmas.{numbers_are, numbers_give}
 use Rattle.sh_script.proofs.PlaceLemmas.{page_is, page_gives, slot_is, slot_gives}
-use Rattle.sh_script.proofs.Steps.{bind_ok, or_ok, ok_is, ok_of, if_cases, if_read, else_ok, empty_is, next_ok, only_ok, two_is, none_is, pass_at_ok, Agrees}
+use Rattle.sh_script.proofs.Steps.{bind_ok, or_ok, ok_is, ok_of, if_cases, if_read, else_ok, empty_is, next_ok, only_ok}
+use Rattle.sh_script.proofs.Steps.{two_is, none_is, pass_at_ok, Agrees}
 
 -- ---- the kind
 
@@ -75,12 +80,15 @@ alone_gives : (n : ℕ) → n < 2 ^ 64 → number_alone (decimal n ∷ []) ≡ O
 alone_gives n small = rw (number_of_decimal n small) refl
 
 -- an action of a number
-number_action : (front ws : List Word) (f : ℕ → Action) (a : Action) → ((n : ℕ) (words : List Word) → IsWithNumber front words n → IsAction words (f n)) → (number_alone ws >>= λ n. Ok (f n)) ≡ Ok a
+number_action : (front ws : List Word) (f : ℕ → Action) (a : Action)
+    → ((n : ℕ) (words : List Word) → IsWithNumber front words n → IsAction words (f n))
+    → (number_alone ws >>= λ n. Ok (f n)) ≡ Ok a
     → IsAction (front ++ ws) a
 number_action front ws f a means e =
     let x = bind_ok _ _ a e in
     let n = alone_is ws x.0 x.1 in
-    subst (IsAction (front ++ ws)) (ok_is (f x.0) a x.2) (means x.0 (front ++ ws) (record { says = ap (λ xs. front ++ xs) n.says; small = n.small }))
+    subst (IsAction (front ++ ws)) (ok_is (f x.0) a x.2) (means x.0 (front ++ ws)
+    (record { says = ap (λ xs. front ++ xs) n.says; small = n.small }))
 
 record IsPageAlone (ws : List Word) (page : PageName) : Type 0 where
   place : Word
@@ -88,7 +96,8 @@ record IsPageAlone (ws : List Word) (page : PageName) : Type 0 where
   is : IsPage place page
 
 page_alone_is : (ws : List Word) (page : PageName) → page_alone ws ≡ Ok page → IsPageAlone ws page
-page_alone_is ws page e = let a = bind_ok _ _ page e in record { place = a.0; says = only_ok ws a.0 a.1; is = page_is a.0 page a.2 }
+page_alone_is ws page e = let a = bind_ok _ _ page e in record
+    { place = a.0; says = only_ok ws a.0 a.1; is = page_is a.0 page a.2 }
 
 page_alone_gives : (w : Word) (page : PageName) → IsPage w page → page_alone (w ∷ []) ≡ Ok page
 page_alone_gives w page x = page_gives w page x
@@ -106,19 +115,22 @@ enter_is ws a e =
       | inl h ↦
           let way : (x.0).0 ≡ codes "get" = (bytes_eq-Decides _ _).0 h.0 in
           let Q : Word → Type 0 = λ w. IsAction (codes "Enter" ∷ w ∷ (x.0).1) a in
-          subst Q (sym way) (number_action (codes "Enter" ∷ codes "get" ∷ []) (x.0).1 (λ n. action.EnterGet n) a (λ n words h. h) h.1)
+          subst Q (sym way) (number_action (codes "Enter" ∷ codes "get" ∷ []) (x.0).1 (λ n. action.EnterGet n) a
+          (λ n words h. h) h.1)
       | inr h ↦
           let k = if_read (bytes_eq (x.0).0 (codes "remove")) _ _ a h.1 in
           let way : (x.0).0 ≡ codes "remove" = (bytes_eq-Decides _ _).0 k.0 in
           let Q : Word → Type 0 = λ w. IsAction (codes "Enter" ∷ w ∷ (x.0).1) a in
-          subst Q (sym way) (number_action (codes "Enter" ∷ codes "remove" ∷ []) (x.0).1 (λ n. action.EnterRemove n) a (λ n words h. h) k.1)
+          subst Q (sym way) (number_action (codes "Enter" ∷ codes "remove" ∷ []) (x.0).1 (λ n. action.EnterRemove n) a
+          (λ n words h. h) k.1)
     ])
 
 drop_is : (ws : List Word) (a : Action) → drop_of ws ≡ Ok a → IsAction (codes "Drop" ∷ ws) a
 unfolding drop_of
 drop_is ws a e =
     elim (if_cases (length ws == 0) _ _ (Ok a) e) [
-      | inl h ↦ subst (IsAction (codes "Drop" ∷ ws)) (ok_is action.Drop a h.1) (ap (λ xs. codes "Drop" ∷ xs) (empty_is ws h.0))
+      | inl h ↦ subst (IsAction (codes "Drop" ∷ ws)) (ok_is action.Drop a h.1)
+          (ap (λ xs. codes "Drop" ∷ xs) (empty_is ws h.0))
       | inr h ↦ number_action (codes "Drop" ∷ []) ws (λ n. action.DropHold n) a (λ n words h. h) h.1
     ]
 
@@ -126,7 +138,8 @@ put_is : (ws : List Word) (a : Action) → put_of ws ≡ Ok a → IsAction (code
 unfolding put_of
 put_is ws a e =
     elim (if_cases (length ws == 0) _ _ (Ok a) e) [
-      | inl h ↦ subst (IsAction (codes "Put" ∷ ws)) (ok_is action.Put a h.1) (ap (λ xs. codes "Put" ∷ xs) (empty_is ws h.0))
+      | inl h ↦ subst (IsAction (codes "Put" ∷ ws)) (ok_is action.Put a h.1)
+          (ap (λ xs. codes "Put" ∷ xs) (empty_is ws h.0))
       | inr h ↦
           let w = bind_ok _ _ a h.1 in
           let s = bind_ok _ _ a w.2 in
@@ -144,9 +157,17 @@ fill_is (w ∷ ws) a e =
     let n = numbers_are ws [] v.0 v.1 in
     let count : length ws ≡ length n.value = ap length n.says ∙ length-map n.value decimal in
     let short : length ws ≤ 16 = ltb-false _ _ few.0 in
-    let same : action.FillSlot s.0 n.value ≡ a = ap (λ xs. action.FillSlot s.0 xs) (sym n.is) ∙ ok_is (action.FillSlot s.0 v.0) a v.2 in
+    let same : action.FillSlot s.0 n.value ≡ a = ap (λ xs. action.FillSlot s.0 xs) (sym n.is)
+    ∙ ok_is (action.FillSlot s.0 v.0) a v.2 in
     subst (IsAction (codes "Fill" ∷ w ∷ ws)) same
-    (record { place = w; says = ap (λ xs. codes "Fill" ∷ w ∷ xs) n.says; is = slot_is w s.0 s.1; few = omega (arith, count, short); small = n.small })
+    (record {
+      place = w;
+      says = ap (λ xs. codes "Fill" ∷ w ∷ xs) n.says;
+      is = slot_is w s.0 s.1;
+      few = omega
+          (arith, count, short);
+      small = n.small;
+    })
 
 above_zero : (i : ℕ) → (suc (suc i) == 0) ≡ false
 above_zero i = ne_eqb (suc (suc i)) 0 (λ e. omega (arith, e))
@@ -162,11 +183,13 @@ part_is words k (suc (suc i)) x =
     let P : ℕ → Type 0 = λ j. IsReadKey words k j in
     rw (above_zero i, above_one i) (subst P (sym two) x)
 
-read_by_is : (o : Option (Word × Word)) (ws : List Word) (a : Action) → ((p : Word × Word) → o ≡ Some p → ws ≡ p.0 ∷ p.1 ∷ []) → read_by o ws ≡ Ok a → IsAction (codes "Read" ∷ ws) a
+read_by_is : (o : Option (Word × Word)) (ws : List Word) (a : Action)
+    → ((p : Word × Word) → o ≡ Some p → ws ≡ p.0 ∷ p.1 ∷ []) → read_by o ws ≡ Ok a → IsAction (codes "Read" ∷ ws) a
 read_by_is None ws a two e =
     let p = bind_ok _ _ a e in
     let x = page_alone_is ws p.0 p.1 in
-    subst (IsAction (codes "Read" ∷ ws)) (ok_is (action.ReadPage p.0) a p.2) (record { place = x.place; says = ap (λ xs. codes "Read" ∷ xs) x.says; is = x.is })
+    subst (IsAction (codes "Read" ∷ ws)) (ok_is (action.ReadPage p.0) a p.2)
+    (record { place = x.place; says = ap (λ xs. codes "Read" ∷ xs) x.says; is = x.is })
 read_by_is (Some p) ws a two e =
     let k = bind_ok _ _ a e in
     let j = bind_ok _ _ a k.2 in
@@ -174,7 +197,12 @@ read_by_is (Some p) ws a two e =
     let part = number_is p.1 j.0 (or_ok _ _ _ j.1) in
     subst (IsAction (codes "Read" ∷ ws)) (ok_is (part_of k.0 j.0) a j.2)
     (part_is (codes "Read" ∷ ws) k.0 j.0
-    (record { says = ap (λ xs. codes "Read" ∷ xs) (two p refl) ∙ ap₂ (λ (x y : Word). codes "Read" ∷ x ∷ y ∷ []) key.digits part.digits; key_small = key.small; part_small = part.small }))
+    (record {
+      says = ap (λ xs. codes "Read" ∷ xs) (two p refl) ∙ ap₂ (λ (x y : Word). codes "Read" ∷ x ∷ y ∷ [])
+          key.digits part.digits;
+      key_small = key.small;
+      part_small = part.small;
+    }))
 
 read_is : (ws : List Word) (a : Action) → read_of ws ≡ Ok a → IsAction (codes "Read" ∷ ws) a
 unfolding read_of
@@ -189,12 +217,21 @@ set_class_is ws a e =
     let number = number_is (p.0).1 class.0 (or_ok _ _ _ class.1) in
     let two : ws ≡ (p.0).0 ∷ (p.0).1 ∷ [] = two_is ws p.0 (or_ok _ _ _ p.1) in
     subst (IsAction (codes "SetClass" ∷ ws)) (ok_is (action.SetClass page.0 class.0) a class.2)
-    (record { place = (p.0).0; says = ap (λ xs. codes "SetClass" ∷ xs) two ∙ ap (λ w. codes "SetClass" ∷ (p.0).0 ∷ w ∷ []) number.digits; is = page_is (p.0).0 page.0 page.1; small = number.small })
+    (record {
+      place = (p.0).0;
+      says = ap (λ xs. codes "SetClass" ∷ xs) two
+          ∙ ap (λ w. codes "SetClass" ∷ (p.0).0 ∷ w ∷ []) number.digits;
+      is = page_is (p.0).0 page.0 page.1;
+      small =
+          number.small;
+    })
 
 bare_is : (name : Word) (ws : List Word) (a b : Action) → bare a ws ≡ Ok b → (name ∷ ws ≡ name ∷ []) × (a ≡ b)
 bare_is name ws a b e = let x = bind_ok _ _ b e in (ap (λ xs. name ∷ xs) (none_is ws x.0 x.1), ok_is a b x.2)
 
-page_action : (name : Word) (ws : List Word) (f : PageName → Action) (a : Action) → ((page : PageName) → IsPageAlone ws page → IsAction (name ∷ ws) (f page)) → (page_alone ws >>= λ p. Ok (f p)) ≡ Ok a
+page_action : (name : Word) (ws : List Word) (f : PageName → Action) (a : Action)
+    → ((page : PageName) → IsPageAlone ws page → IsAction (name ∷ ws) (f page)) → (page_alone ws >>= λ p. Ok (f p))
+    ≡ Ok a
     → IsAction (name ∷ ws) a
 page_action name ws f a means e =
     let p = bind_ok _ _ a e in
@@ -205,24 +242,36 @@ page_action name ws f a means e =
 action_is : (k : ActionKind) (ws : List Word) (a : Action) → action_of k ws ≡ Ok a → IsAction (kind_name k ∷ ws) a
 unfolding action_of
 action_is kind.Enter ws a e = enter_is ws a e
-action_is kind.Mark ws a e = let x = bare_is (codes "Mark") ws action.Mark a e in subst (IsAction (codes "Mark" ∷ ws)) x.1 x.0
+action_is kind.Mark ws a e = let x = bare_is (codes "Mark") ws action.Mark a e
+    in subst (IsAction (codes "Mark" ∷ ws)) x.1 x.0
 action_is kind.Drop ws a e = drop_is ws a e
-action_is kind.Finish ws a e = let x = bare_is (codes "Finish") ws action.Finish a e in subst (IsAction (codes "Finish" ∷ ws)) x.1 x.0
+action_is kind.Finish ws a e = let x = bare_is (codes "Finish") ws action.Finish a e
+    in subst (IsAction (codes "Finish" ∷ ws)) x.1 x.0
 action_is kind.Fill ws a e = fill_is ws a e
-action_is kind.Publish ws a e = let x = bare_is (codes "Publish") ws action.Publish a e in subst (IsAction (codes "Publish" ∷ ws)) x.1 x.0
+action_is kind.Publish ws a e = let x = bare_is (codes "Publish") ws action.Publish a e
+    in subst (IsAction (codes "Publish" ∷ ws)) x.1 x.0
 action_is kind.Read ws a e = read_is ws a e
 action_is kind.SetClass ws a e = set_class_is ws a e
-action_is kind.Take ws a e = page_action (codes "Take") ws (λ p. action.Take p) a (λ p x. record { place = x.place; says = ap (λ xs. codes "Take" ∷ xs) x.says; is = x.is }) e
-action_is kind.Follow ws a e = page_action (codes "Follow") ws (λ p. action.Follow p) a (λ p x. record { place = x.place; says = ap (λ xs. codes "Follow" ∷ xs) x.says; is = x.is }) e
+action_is kind.Take ws a e = page_action (codes "Take") ws (λ p. action.Take p) a
+    (λ p x. record { place = x.place; says = ap (λ xs. codes "Take" ∷ xs) x.says; is = x.is }) e
+action_is kind.Follow ws a e = page_action (codes "Follow") ws (λ p. action.Follow p) a
+    (λ p x. record { place = x.place; says = ap (λ xs. codes "Follow" ∷ xs) x.says; is = x.is }) e
 action_is kind.Put ws a e = put_is ws a e
-action_is kind.Tie ws a e = let x = bare_is (codes "Tie") ws action.Tie a e in subst (IsAction (codes "Tie" ∷ ws)) x.1 x.0
+action_is kind.Tie ws a e = let x = bare_is (codes "Tie") ws action.Tie a e
+    in subst (IsAction (codes "Tie" ∷ ws)) x.1 x.0
 action_is kind.Adopt ws a e = number_action (codes "Adopt" ∷ []) ws (λ n. action.Adopt n) a (λ n words h. h) e
-action_is kind.Leave ws a e = let x = bare_is (codes "Leave") ws action.Leave a e in subst (IsAction (codes "Leave" ∷ ws)) x.1 x.0
-action_is kind.Arm ws a e = page_action (codes "Arm") ws (λ p. action.Arm p) a (λ p x. record { place = x.place; says = ap (λ xs. codes "Arm" ∷ xs) x.says; is = x.is }) e
-action_is kind.Ring ws a e = let x = bare_is (codes "Ring") ws action.Ring a e in subst (IsAction (codes "Ring" ∷ ws)) x.1 x.0
-action_is kind.RingTie ws a e = let x = bare_is (codes "RingTie") ws action.RingTie a e in subst (IsAction (codes "RingTie" ∷ ws)) x.1 x.0
-action_is kind.TakeBell ws a e = let x = bare_is (codes "TakeBell") ws action.TakeBell a e in subst (IsAction (codes "TakeBell" ∷ ws)) x.1 x.0
-action_is kind.FollowBell ws a e = let x = bare_is (codes "FollowBell") ws action.FollowBell a e in subst (IsAction (codes "FollowBell" ∷ ws)) x.1 x.0
+action_is kind.Leave ws a e = let x = bare_is (codes "Leave") ws action.Leave a e
+    in subst (IsAction (codes "Leave" ∷ ws)) x.1 x.0
+action_is kind.Arm ws a e = page_action (codes "Arm") ws (λ p. action.Arm p) a
+    (λ p x. record { place = x.place; says = ap (λ xs. codes "Arm" ∷ xs) x.says; is = x.is }) e
+action_is kind.Ring ws a e = let x = bare_is (codes "Ring") ws action.Ring a e
+    in subst (IsAction (codes "Ring" ∷ ws)) x.1 x.0
+action_is kind.RingTie ws a e = let x = bare_is (codes "RingTie") ws action.RingTie a e
+    in subst (IsAction (codes "RingTie" ∷ ws)) x.1 x.0
+action_is kind.TakeBell ws a e = let x = bare_is (codes "TakeBell") ws action.TakeBell a e
+    in subst (IsAction (codes "TakeBell" ∷ ws)) x.1 x.0
+action_is kind.FollowBell ws a e = let x = bare_is (codes "FollowBell") ws action.FollowBell a e
+    in subst (IsAction (codes "FollowBell" ∷ ws)) x.1 x.0
 
 record IsActionRead (words : List Word) (a : Action) : Type 0 where
   kind : ActionKind
@@ -232,20 +281,55 @@ record IsActionRead (words : List Word) (a : Action) : Type 0 where
 
 action_gives : (words : List Word) (a : Action) → IsAction words a → IsActionRead words a
 unfolding action_of enter_of drop_of put_of fill_of read_of set_class_of
-action_gives words (action.EnterGet k) x = record { kind = kind.Enter; others = codes "get" ∷ decimal k ∷ []; says = x.says; reads = rw (number_of_decimal k x.small) refl }
-action_gives words (action.EnterRemove k) x = record { kind = kind.Enter; others = codes "remove" ∷ decimal k ∷ []; says = x.says; reads = rw (number_of_decimal k x.small) refl }
+action_gives words (action.EnterGet k) x = record {
+  kind = kind.Enter;
+  others = codes "get" ∷ decimal k ∷ [];
+  says =
+      x.says;
+  reads = rw (number_of_decimal k x.small) refl;
+}
+action_gives words (action.EnterRemove k) x = record {
+  kind = kind.Enter;
+  others = codes "remove" ∷ decimal k ∷ [];
+  says = x.says;
+  reads = rw (number_of_decimal k x.small) refl;
+}
 action_gives words action.Mark x = record { kind = kind.Mark; others = []; says = x; reads = refl }
 action_gives words action.Drop x = record { kind = kind.Drop; others = []; says = x; reads = refl }
-action_gives words (action.DropHold k) x = record { kind = kind.Drop; others = decimal k ∷ []; says = x.says; reads = rw (number_of_decimal k x.small) refl }
+action_gives words (action.DropHold k) x = record {
+  kind = kind.Drop;
+  others = decimal k ∷ [];
+  says = x.says;
+  reads = rw
+      (number_of_decimal k x.small) refl;
+}
 action_gives words action.Finish x = record { kind = kind.Finish; others = []; says = x; reads = refl }
 action_gives words (action.FillSlot slot value) x =
     let count : length (map decimal value) ≡ length value = length-map value decimal in
     let short : length (map decimal value) ≤ 16 = omega (arith, count, x.few) in
-    record { kind = kind.Fill; others = x.place ∷ map decimal value; says = x.says; reads = rw (le-ltb _ _ short, slot_gives x.place slot x.is, numbers_give value [] x.small) refl }
+    record {
+      kind = kind.Fill;
+      others = x.place ∷ map decimal value;
+      says = x.says;
+      reads = rw
+          (le-ltb _ _ short, slot_gives x.place slot x.is, numbers_give value [] x.small) refl;
+    }
 action_gives words action.Fill x = record { kind = kind.Fill; others = []; says = x; reads = refl }
 action_gives words action.Publish x = record { kind = kind.Publish; others = []; says = x; reads = refl }
-action_gives words (action.ReadClass k) x = record { kind = kind.Read; others = decimal k ∷ decimal 0 ∷ []; says = x.says; reads = rw (number_of_decimal k x.key_small, number_of_decimal 0 x.part_small) refl }
-action_gives words (action.ReadLength k) x = record { kind = kind.Read; others = decimal k ∷ decimal 1 ∷ []; says = x.says; reads = rw (number_of_decimal k x.key_small, number_of_decimal 1 x.part_small) refl }
+action_gives words (action.ReadClass k) x = record {
+  kind = kind.Read;
+  others = decimal k ∷ decimal 0 ∷ [];
+  says =
+      x.says;
+  reads = rw (number_of_decimal k x.key_small, number_of_decimal 0 x.part_small) refl;
+}
+action_gives words (action.ReadLength k) x = record {
+  kind = kind.Read;
+  others = decimal k ∷ decimal 1 ∷ [];
+  says =
+      x.says;
+  reads = rw (number_of_decimal k x.key_small, number_of_decimal 1 x.part_small) refl;
+}
 action_gives words (action.ReadWord k i) x =
     let back : (2 + i) - 2 ≡ i = omega arith in
     let zero_not : (2 + i == 0) ≡ false = ne_eqb (2 + i) 0 (λ e. omega (arith, e)) in
@@ -254,18 +338,61 @@ action_gives words (action.ReadWord k i) x =
       kind = kind.Read;
       others = decimal k ∷ decimal (2 + i) ∷ [];
       says = x.says;
-      reads = rw (number_of_decimal k x.key_small, number_of_decimal (2 + i) x.part_small, zero_not, one_not) (ap (λ n. ok_of (action.ReadWord k n)) back);
+      reads = rw (number_of_decimal k x.key_small, number_of_decimal (2 + i) x.part_small, zero_not, one_not)
+          (ap (λ n. ok_of (action.ReadWord k n)) back);
     }
-action_gives words (action.ReadPage page) x = record { kind = kind.Read; others = x.place ∷ []; says = x.says; reads = rw (page_gives x.place page x.is) refl }
-action_gives words (action.SetClass page class) x = record { kind = kind.SetClass; others = x.place ∷ decimal class ∷ []; says = x.says; reads = rw (page_gives x.place page x.is, number_of_decimal class x.small) refl }
-action_gives words (action.Take page) x = record { kind = kind.Take; others = x.place ∷ []; says = x.says; reads = rw (page_gives x.place page x.is) refl }
-action_gives words (action.Follow page) x = record { kind = kind.Follow; others = x.place ∷ []; says = x.says; reads = rw (page_gives x.place page x.is) refl }
+action_gives words (action.ReadPage page) x = record {
+  kind = kind.Read;
+  others = x.place ∷ [];
+  says = x.says;
+  reads =
+      rw (page_gives x.place page x.is) refl;
+}
+action_gives words (action.SetClass page class) x = record {
+  kind = kind.SetClass;
+  others = x.place ∷ decimal class ∷
+      [];
+  says = x.says;
+  reads = rw (page_gives x.place page x.is, number_of_decimal class x.small) refl;
+}
+action_gives words (action.Take page) x = record {
+  kind = kind.Take;
+  others = x.place ∷ [];
+  says = x.says;
+  reads = rw
+      (page_gives x.place page x.is) refl;
+}
+action_gives words (action.Follow page) x = record {
+  kind = kind.Follow;
+  others = x.place ∷ [];
+  says = x.says;
+  reads =
+      rw (page_gives x.place page x.is) refl;
+}
 action_gives words action.Put x = record { kind = kind.Put; others = []; says = x; reads = refl }
-action_gives words (action.PutSlot slot) x = record { kind = kind.Put; others = x.place ∷ []; says = x.says; reads = rw (slot_gives x.place slot x.is) refl }
+action_gives words (action.PutSlot slot) x = record {
+  kind = kind.Put;
+  others = x.place ∷ [];
+  says = x.says;
+  reads = rw
+      (slot_gives x.place slot x.is) refl;
+}
 action_gives words action.Tie x = record { kind = kind.Tie; others = []; says = x; reads = refl }
-action_gives words (action.Adopt n) x = record { kind = kind.Adopt; others = decimal n ∷ []; says = x.says; reads = rw (number_of_decimal n x.small) refl }
+action_gives words (action.Adopt n) x = record {
+  kind = kind.Adopt;
+  others = decimal n ∷ [];
+  says = x.says;
+  reads = rw
+      (number_of_decimal n x.small) refl;
+}
 action_gives words action.Leave x = record { kind = kind.Leave; others = []; says = x; reads = refl }
-action_gives words (action.Arm page) x = record { kind = kind.Arm; others = x.place ∷ []; says = x.says; reads = rw (page_gives x.place page x.is) refl }
+action_gives words (action.Arm page) x = record {
+  kind = kind.Arm;
+  others = x.place ∷ [];
+  says = x.says;
+  reads = rw
+      (page_gives x.place page x.is) refl;
+}
 action_gives words action.Ring x = record { kind = kind.Ring; others = []; says = x; reads = refl }
 action_gives words action.RingTie x = record { kind = kind.RingTie; others = []; says = x; reads = refl }
 action_gives words action.TakeBell x = record { kind = kind.TakeBell; others = []; says = x; reads = refl }
@@ -281,7 +408,8 @@ event_is passes ws event e =
     let d = bind_ok _ _ event c.2 in
     let f = bind_ok _ _ event d.2 in
     let pass = pass_at_ok passes ws a.0 a.1 in
-    let spoken : (a.0).1 ≡ kind_name d.0 ∷ (c.0).1 = next_ok _ (a.0).1 c.0 c.1 ∙ ap (λ x. x ∷ (c.0).1) (kind_is (c.0).0 d.0 (or_ok _ _ _ d.1)) in
+    let spoken : (a.0).1 ≡ kind_name d.0 ∷ (c.0).1 = next_ok _ (a.0).1 c.0 c.1
+    ∙ ap (λ x. x ∷ (c.0).1) (kind_is (c.0).0 d.0 (or_ok _ _ _ d.1)) in
     subst (IsEventLine passes ws) (ok_is _ event f.2) (record {
       first = pass.first.word;
       others = (a.0).1;
@@ -291,7 +419,8 @@ event_is passes ws event e =
       acts = subst (λ xs. IsAction xs f.0) (sym spoken) (action_is d.0 (c.0).1 f.0 f.1);
     })
 
-event_gives : (passes : ℕ) (ws : List Word) (event : Event) → IsEventLine passes ws event → event_of passes ws ≡ Ok event
+event_gives : (passes : ℕ) (ws : List Word) (event : Event) → IsEventLine passes ws event → event_of passes ws
+    ≡ Ok event
 unfolding event_of
 event_gives passes ws event x =
     let r = action_gives x.others event.action x.acts in
@@ -299,12 +428,14 @@ event_gives passes ws event x =
 
 -- ---- the events so far
 
-added_is : (passes : ℕ) (before : List Event) (ws : List Word) (now : List Event) → event_added passes before ws ≡ Ok now → SaysEvent passes before ws now
+added_is : (passes : ℕ) (before : List Event) (ws : List Word) (now : List Event) → event_added passes before ws
+    ≡ Ok now → SaysEvent passes before ws now
 added_is passes before ws now e =
     let a = bind_ok _ _ now e in
     record { event = a.0; is = event_is passes ws a.0 a.1; now_is = sym (ok_is (before ++ a.0 ∷ []) now a.2) }
 
-added_gives : (passes : ℕ) (before : List Event) (ws : List Word) (now : List Event) → SaysEvent passes before ws now → event_added passes before ws ≡ Ok now
+added_gives : (passes : ℕ) (before : List Event) (ws : List Word) (now : List Event) → SaysEvent passes before ws now
+    → event_added passes before ws ≡ Ok now
 added_gives passes before ws now x = rw (event_gives passes ws x.event x.is) (ap ok_of (sym x.now_is))
 
 pub events_agree : Agrees event_added SaysEvent

@@ -1,5 +1,7 @@
 -- Where a name is found among those that are bound.
-use Rattle.std.proofs.Common.{◌≡◌, ◌≢◌, ℕ, ◌+◌, ◌<◌, zero, suc, Bool, true, false, List, [], ◌∷◌, ◌++◌, length, get_or, map, take, slice_get, cond, Option, Some, None, ◌⊎◌, inl, inr, refl, sym, ap, ap₂, ◌∙◌, arith}
+use Rattle.std.proofs.Common.{◌≡◌, ◌≢◌, ℕ, ◌+◌, ◌<◌, zero, suc, Bool, true, false, List, [], ◌∷◌, ◌++◌, length, get_or}
+use Rattle.std.proofs.Common.{map, take, slice_get, cond, Option, Some, None, ◌⊎◌, inl, inr, refl, sym, ap, ap₂, ◌∙◌}
+use Rattle.std.proofs.Common.{arith}
 use Rattle.std.specs.List.{Contains}
 use Rattle.std.specs.Str.{bytes_eq}
 use Rattle.std.proofs.lemmas.Slice.Eq.{bytes_eq-Decides}
@@ -31,7 +33,8 @@ differ x y e same = not_both _ (name_test x y same) e
 holds_none : (x : Word) → ¬ Contains [] x
 holds_none x h = absurd (omega (arith, h.1))
 
-holds_at : (x y : Word) (xs : List Word) (k : ℕ) → k < length (x ∷ xs) → get_or (x ∷ xs) k y ≡ y → (x ≡ y) ⊎ Contains xs y
+holds_at : (x y : Word) (xs : List Word) (k : ℕ) → k < length (x ∷ xs) → get_or (x ∷ xs) k y ≡ y → (x ≡ y)
+    ⊎ Contains xs y
 holds_at x y xs zero lt e = inl e
 holds_at x y xs (suc k) lt e = inr (k, omega (arith, lt), e)
 
@@ -58,7 +61,8 @@ pub record IsFound (names : List Binding) (name : Word) (n : ℕ) (f : Found) : 
   pub stands : slice_get names index ≡ Some (bound_as name f.by)
   pub first : ¬ Contains (names_of (take index names)) name
 
-pub find_is : (names : List Binding) (n : ℕ) (name : Word) (f : Found) → find_from n names name ≡ Some f → IsFound names name n f
+pub find_is : (names : List Binding) (n : ℕ) (name : Word) (f : Found) → find_from n names name ≡ Some f
+    → IsFound names name n f
 find_is [] n name f e = cc
 find_is (b ∷ bs) n name f e = by (find_is bs (n + 1) name f) (bytes_eq b.name name) refl e
   where
@@ -70,7 +74,8 @@ find_is (b ∷ bs) n name f e = by (find_is bs (n + 1) name f) (bytes_eq b.name 
         record {
           index = zero;
           place = sym (ap (λ (x : Found). x.place) same) ∙ here;
-          stands = ap₂ (λ (x : Word) (y : Binder). Some (bound_as x y)) (same_word b.name name h) (ap (λ (x : Found). x.by) same);
+          stands = ap₂ (λ (x : Word) (y : Binder). Some (bound_as x y)) (same_word b.name name h)
+              (ap (λ (x : Found). x.by) same);
           first = holds_none name;
         }
     by next false h e =
@@ -80,33 +85,42 @@ find_is (b ∷ bs) n name f e = by (find_is bs (n + 1) name f) (bytes_eq b.name 
           index = suc r.index;
           place = r.place ∙ on;
           stands = r.stands;
-          first = λ w. elim (holds_cases b.name name (names_of (take r.index bs)) w) [ inl same ↦ differ _ _ h same | inr later ↦ r.first later ];
+          first = λ w. elim (holds_cases b.name name (names_of (take r.index bs)) w)
+              [ inl same ↦ differ _ _ h same | inr later ↦ r.first later ];
         }
 
-pub find_none : (names : List Binding) (n : ℕ) (name : Word) → find_from n names name ≡ None → ¬ Contains (names_of names) name
+pub find_none : (names : List Binding) (n : ℕ) (name : Word) → find_from n names name ≡ None
+    → ¬ Contains (names_of names) name
 find_none [] n name e = holds_none name
 find_none (b ∷ bs) n name e = by (find_none bs (n + 1) name) (bytes_eq b.name name) refl e
   where
-    by : (find_from (n + 1) bs name ≡ None → ¬ Contains (names_of bs) name) → (t : Bool) → bytes_eq b.name name ≡ t → cond t (Some (found_at n b.by)) (find_from (n + 1) bs name) ≡ None → ¬ Contains (names_of (b ∷ bs)) name
+    by : (find_from (n + 1) bs name ≡ None → ¬ Contains (names_of bs) name) → (t : Bool) → bytes_eq b.name name ≡ t
+        → cond t (Some (found_at n b.by)) (find_from (n + 1) bs name) ≡ None → ¬ Contains (names_of (b ∷ bs)) name
     by next true h e = cc
-    by next false h e = λ w. elim (holds_cases b.name name (names_of bs) w) [ inl same ↦ differ _ _ h same | inr later ↦ next e later ]
+    by next false h e = λ w. elim (holds_cases b.name name (names_of bs) w)
+        [ inl same ↦ differ _ _ h same | inr later ↦ next e later ]
 
-pub find_gives : (names : List Binding) (n i : ℕ) (name : Word) (by : Binder) → slice_get names i ≡ Some (bound_as name by) → ¬ Contains (names_of (take i names)) name
+pub find_gives : (names : List Binding) (n i : ℕ) (name : Word) (by : Binder) → slice_get names i
+    ≡ Some (bound_as name by) → ¬ Contains (names_of (take i names)) name
     → find_from n names name ≡ Some (found_at (n + i) by)
 find_gives [] n i name by stands first = cc
 find_gives (b ∷ bs) n zero name by stands first =
     let same : b ≡ bound_as name by = some_is b (bound_as name by) stands in
     let here : n ≡ n + 0 = omega arith in
-    rw (name_test b.name name (ap (λ (x : Binding). x.name) same)) (ap₂ (λ (k : ℕ) (y : Binder). Some (found_at k y)) here (ap (λ (x : Binding). x.by) same))
+    rw (name_test b.name name (ap (λ (x : Binding). x.name) same))
+    (ap₂ (λ (k : ℕ) (y : Binder). Some (found_at k y)) here (ap (λ (x : Binding). x.by) same))
 find_gives (b ∷ bs) n (suc i) name by stands first =
     let on : (n + 1) + i ≡ n + suc i = omega arith in
     rw (other_name b.name name (λ same. first (holds_first b.name name (names_of (take i bs)) same)))
-    (find_gives bs (n + 1) i name by stands (λ later. first (holds_later b.name name (names_of (take i bs)) later)) ∙ ap (λ k. Some (found_at k by)) on)
+    (find_gives bs (n + 1) i name by stands (λ later. first (holds_later b.name name (names_of (take i bs)) later))
+    ∙ ap (λ k. Some (found_at k by)) on)
 
-pub find_gives_none : (names : List Binding) (n : ℕ) (name : Word) → ¬ Contains (names_of names) name → find_from n names name ≡ None
+pub find_gives_none : (names : List Binding) (n : ℕ) (name : Word) → ¬ Contains (names_of names) name
+    → find_from n names name ≡ None
 find_gives_none [] n name absent = refl
 find_gives_none (b ∷ bs) n name absent =
-    rw (other_name b.name name (λ same. absent (holds_first b.name name (names_of bs) same))) (find_gives_none bs (n + 1) name (λ later. absent (holds_later b.name name (names_of bs) later)))
+    rw (other_name b.name name (λ same. absent (holds_first b.name name (names_of bs) same)))
+    (find_gives_none bs (n + 1) name (λ later. absent (holds_later b.name name (names_of bs) later)))
 
 -- ---- one name more
 
@@ -118,10 +132,13 @@ abbrev pub or_new : Word → Found → Option Found → Word → Option Found
 or_new name f old q = cond (bytes_eq name q) (Some f) old
 
 push_cons : (x b : Binding) (xs : List Binding) (n : ℕ) (q : Word) → bytes_eq x.name b.name ≡ false
-    → find_from (n + 1) (xs ++ b ∷ []) q ≡ or_new b.name (found_at ((n + 1) + length xs) b.by) (find_from (n + 1) xs q) q → (t : Bool) → bytes_eq x.name q ≡ t
-    → find_from n (x ∷ (xs ++ b ∷ [])) q ≡ or_new b.name (found_at (n + length (x ∷ xs)) b.by) (find_from n (x ∷ xs) q) q
+    → find_from (n + 1) (xs ++ b ∷ []) q ≡ or_new b.name (found_at ((n + 1) + length xs) b.by) (find_from (n + 1) xs q)
+    q → (t : Bool) → bytes_eq x.name q ≡ t
+    → find_from n (x ∷ (xs ++ b ∷ [])) q ≡ or_new b.name (found_at (n + length (x ∷ xs)) b.by) (find_from n (x ∷ xs) q)
+    q
 push_cons x b xs n q apart next true e =
-    let other : bytes_eq b.name q ≡ false = other_name b.name q (λ same. differ _ _ apart (same_word x.name q e ∙ sym same)) in
+    let other : bytes_eq b.name q ≡ false = other_name b.name q
+    (λ same. differ _ _ apart (same_word x.name q e ∙ sym same)) in
     rw (e, other) refl
 push_cons x b xs n q apart next false e =
     let on : (n + 1) + length xs ≡ n + length (x ∷ xs) = omega arith in
@@ -135,12 +152,16 @@ find_push (x ∷ xs) n b q h =
     push_cons x b xs n q apart.0 (find_push xs (n + 1) b q apart.1) (bytes_eq x.name q) refl
 
 -- the same for a list that grew, and for what a map found in it before and finds in it now
-pub grown_finds : (old new : List Bound) (b : Bound) (place : ℕ) (q : Word) (before now : Option Found) → new ≡ old ++ b ∷ [] → place ≡ length old → find_from 0 (map binding_of old) b.name.now ≡ None
-    → before ≡ find_from 0 (map binding_of old) q → now ≡ or_new b.name.now (found_at place b.by) before q → now ≡ find_from 0 (map binding_of new) q
+pub grown_finds : (old new : List Bound) (b : Bound) (place : ℕ) (q : Word) (before now : Option Found) → new ≡ old
+    ++ b ∷ [] → place ≡ length old → find_from 0 (map binding_of old) b.name.now ≡ None
+    → before ≡ find_from 0 (map binding_of old) q → now ≡ or_new b.name.now (found_at place b.by) before q → now
+    ≡ find_from 0 (map binding_of new) q
 grown_finds old new b place q before now grown at fresh was is =
     let names : List Binding = map binding_of old in
     let same_length : length names ≡ length old = length-map old binding_of in
     let spot : place ≡ 0 + length names = omega arith in
-    let more : map binding_of new ≡ names ++ binding_of b ∷ [] = ap (map binding_of) grown ∙ map-append binding_of old (b ∷ []) in
-    is ∙ ap (λ o. or_new b.name.now (found_at place b.by) o q) was ∙ ap (λ k. or_new b.name.now (found_at k b.by) (find_from 0 names q) q) spot
+    let more : map binding_of new ≡ names ++ binding_of b ∷ [] = ap (map binding_of) grown
+    ∙ map-append binding_of old (b ∷ []) in
+    is ∙ ap (λ o. or_new b.name.now (found_at place b.by) o q) was
+    ∙ ap (λ k. or_new b.name.now (found_at k b.by) (find_from 0 names q) q) spot
     ∙ sym (ap (λ ns. find_from 0 ns q) more ∙ find_push names 0 (binding_of b) q fresh)

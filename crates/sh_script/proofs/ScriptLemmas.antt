@@ -1,5 +1,6 @@
 -- Scripts of calls and scripts of events: what was returned for a text is what it means.
-use Rattle.std.proofs.Common.{◌≡◌, ◌≢◌, ◌<◌, ℕ, List, [], Option, Some, None, Result, Ok, Err, IfOk, IfErr, refl, sym, ap, subst}
+use Rattle.std.proofs.Common.{◌≡◌, ◌≢◌, ◌<◌, ℕ, List, [], Option, Some, None, Result, Ok, Err, IfOk, IfErr, refl, sym}
+use Rattle.std.proofs.Common.{ap, subst}
 use Rattle.std.specs.List.{All}
 use Rattle.std.proofs.lemmas.List.Elements.{All-nil, All-push}
 use Rattle.sh_step.specs.declared.action.Event.{Event}
@@ -39,13 +40,16 @@ bind_err (Err t) f e h = ap (λ x. Err x) (err_is (Err t) t e refl h)
 abbrev lines_in : Header × CallsSoFar → Header × List CallLine
 lines_in x = (x.0, (x.1).lines)
 
-pub calls_only : (text : List ℕ) (header : Header) (calls : List CallLine) → IsCalls text header calls → calls_of text ≡ Ok (header, calls)
-calls_only text header calls x = rw (script_only call_added SaysCall calls_agree no_calls text header (record { names = x.0; lines = calls }) x.1) refl
+pub calls_only : (text : List ℕ) (header : Header) (calls : List CallLine) → IsCalls text header calls → calls_of text
+    ≡ Ok (header, calls)
+calls_only text header calls x = rw (script_only call_added SaysCall calls_agree no_calls text header
+    (record { names = x.0; lines = calls }) x.1) refl
 
 pub calls_fault_only : (text : List ℕ) (f : Fault) → IsCallsFault text f → calls_of text ≡ Err f
 calls_fault_only text f x = rw (fault_only call_added SaysCall calls_agree no_calls text f x) refl
 
-calls_found : (text : List ℕ) (header : Header) (calls : List CallLine) → calls_of text ≡ Ok (header, calls) → IsCalls text header calls
+calls_found : (text : List ℕ) (header : Header) (calls : List CallLine) → calls_of text ≡ Ok (header, calls)
+    → IsCalls text header calls
 calls_found text header calls e =
     let a = bind_ok (script_of call_added no_calls text) _ _ e in
     let x = script_found call_added SaysCall calls_agree no_calls text (a.0).0 (a.0).1 a.1 in
@@ -53,13 +57,16 @@ calls_found text header calls e =
     subst P (fine_is (lines_in a.0) (header, calls) a.2) (((a.0).1).names, x)
 
 calls_fault_found : (text : List ℕ) (f : Fault) → calls_of text ≡ Err f → IsCallsFault text f
-calls_fault_found text f e = fault_found call_added SaysCall calls_agree no_calls text f (bind_err (script_of call_added no_calls text) lines_in f e)
+calls_fault_found text f e = fault_found call_added SaysCall calls_agree no_calls text f
+    (bind_err (script_of call_added no_calls text) lines_in f e)
 
-pub calls_of_result : (text : List ℕ) (r : Result Calls Fault) → GivesCalls r (calls_of text) → IfOk r (λ c. IsCalls text c.header c.lines.items)
+pub calls_of_result : (text : List ℕ) (r : Result Calls Fault) → GivesCalls r (calls_of text)
+    → IfOk r (λ c. IsCalls text c.header c.lines.items)
 calls_of_result text (Ok c) h = calls_found text c.header c.lines.items h
 calls_of_result text (Err f) h = tt
 
-pub calls_fault_of_result : (text : List ℕ) (r : Result Calls Fault) → GivesCalls r (calls_of text) → IfErr r (λ f. f ≢ fault.Memory → IsCallsFault text f)
+pub calls_fault_of_result : (text : List ℕ) (r : Result Calls Fault) → GivesCalls r (calls_of text)
+    → IfErr r (λ f. f ≢ fault.Memory → IsCallsFault text f)
 calls_fault_of_result text (Ok c) h = tt
 calls_fault_of_result text (Err fault.Memory) h = λ no. absurd (no refl)
 calls_fault_of_result text (Err fault.Waiting) h = λ no. calls_fault_found text fault.Waiting h
@@ -74,11 +81,14 @@ CallsBelow h calls = All (λ (l : CallLine). l.pass < h.shape.passes) calls.line
 calls_stay_below : IsLasting SaysCall no_calls CallsBelow
 calls_stay_below = record {
   begins = λ v ws h x. All-nil (λ (l : CallLine). l.pass < h.shape.passes);
-  lasts = λ h before now ws k x. subst (CallsBelow h) (sym x.now_is) (All-push (λ (l : CallLine). l.pass < h.shape.passes) before.lines x.line k x.is.below);
+  lasts = λ h before now ws k x. subst (CallsBelow h) (sym x.now_is)
+      (All-push (λ (l : CallLine). l.pass < h.shape.passes) before.lines x.line k x.is.below);
 }
 
-pub passes_of_calls : (text : List ℕ) (r : Result Calls Fault) → GivesCalls r (calls_of text) → IfOk r (λ c. All (λ l. l.pass < c.header.shape.passes) c.lines.items)
-passes_of_calls text (Ok c) h = let x = calls_found text c.header c.lines.items h in script_keeps SaysCall no_calls CallsBelow calls_stay_below text c.header _ x.1
+pub passes_of_calls : (text : List ℕ) (r : Result Calls Fault) → GivesCalls r (calls_of text)
+    → IfOk r (λ c. All (λ l. l.pass < c.header.shape.passes) c.lines.items)
+passes_of_calls text (Ok c) h = let x = calls_found text c.header c.lines.items h
+    in script_keeps SaysCall no_calls CallsBelow calls_stay_below text c.header _ x.1
 passes_of_calls text (Err f) h = tt
 
 -- the header has a tag where it may
@@ -92,28 +102,37 @@ tag_stands layout.Tagged ws None x = x
 tag_stands layout.Tagged ws (Some t) x = x.small
 
 tag_lasts : {S : Type 0} (means : Means S) (start : S) → IsLasting means start KeepsTag
-tag_lasts means start = record { begins = λ v ws h x. tag_stands h.layout x.behind h.tag x.is_tag; lasts = λ h before now ws k x. k }
+tag_lasts means start = record {
+  begins = λ v ws h x. tag_stands h.layout x.behind h.tag x.is_tag;
+  lasts = λ h before
+      now ws k x. k;
+}
 
-pub tag_of_calls : (text : List ℕ) (r : Result Calls Fault) → GivesCalls r (calls_of text) → IfOk r (λ c. HasTag c.header.layout c.header.tag)
-tag_of_calls text (Ok c) h = let x = calls_found text c.header c.lines.items h in script_keeps SaysCall no_calls KeepsTag (tag_lasts SaysCall no_calls) text c.header _ x.1
+pub tag_of_calls : (text : List ℕ) (r : Result Calls Fault) → GivesCalls r (calls_of text)
+    → IfOk r (λ c. HasTag c.header.layout c.header.tag)
+tag_of_calls text (Ok c) h = let x = calls_found text c.header c.lines.items h
+    in script_keeps SaysCall no_calls KeepsTag (tag_lasts SaysCall no_calls) text c.header _ x.1
 tag_of_calls text (Err f) h = tt
 
 -- ---- events
 
-pub events_only : (text : List ℕ) (header : Header) (events : List Event) → IsEvents text header events → script_of event_added [] text ≡ Ok (header, events)
+pub events_only : (text : List ℕ) (header : Header) (events : List Event) → IsEvents text header events
+    → script_of event_added [] text ≡ Ok (header, events)
 events_only text header events x = script_only event_added SaysEvent events_agree [] text header events x
 
 pub events_fault_only : (text : List ℕ) (f : Fault) → IsEventsFault text f → script_of event_added [] text ≡ Err f
 events_fault_only text f x = fault_only event_added SaysEvent events_agree [] text f x
 
-pub events_of_result : (text : List ℕ) (r : Result Events Fault) → GivesEvents r (script_of event_added [] text) → IfOk r (λ e. IsEvents text e.header e.lines.items)
+pub events_of_result : (text : List ℕ) (r : Result Events Fault) → GivesEvents r (script_of event_added [] text)
+    → IfOk r (λ e. IsEvents text e.header e.lines.items)
 events_of_result text (Ok e) h = script_found event_added SaysEvent events_agree [] text e.header e.lines.items h
 events_of_result text (Err f) h = tt
 
 events_fault_found : (text : List ℕ) (f : Fault) → script_of event_added [] text ≡ Err f → IsEventsFault text f
 events_fault_found text f e = fault_found event_added SaysEvent events_agree [] text f e
 
-pub events_fault_of_result : (text : List ℕ) (r : Result Events Fault) → GivesEvents r (script_of event_added [] text) → IfErr r (λ f. f ≢ fault.Memory → IsEventsFault text f)
+pub events_fault_of_result : (text : List ℕ) (r : Result Events Fault) → GivesEvents r (script_of event_added [] text)
+    → IfErr r (λ f. f ≢ fault.Memory → IsEventsFault text f)
 events_fault_of_result text (Ok e) h = tt
 events_fault_of_result text (Err fault.Memory) h = λ no. absurd (no refl)
 events_fault_of_result text (Err fault.Waiting) h = λ no. events_fault_found text fault.Waiting h
@@ -127,13 +146,18 @@ EventsBelow h events = All (λ (e : Event). e.pass < h.shape.passes) events
 events_stay_below : IsLasting SaysEvent [] EventsBelow
 events_stay_below = record {
   begins = λ v ws h x. All-nil (λ (e : Event). e.pass < h.shape.passes);
-  lasts = λ h before now ws k x. subst (EventsBelow h) (sym x.now_is) (All-push (λ (e : Event). e.pass < h.shape.passes) before x.event k x.is.below);
+  lasts = λ h before now ws k x. subst (EventsBelow h) (sym x.now_is)
+      (All-push (λ (e : Event). e.pass < h.shape.passes) before x.event k x.is.below);
 }
 
-pub passes_of_events : (text : List ℕ) (r : Result Events Fault) → GivesEvents r (script_of event_added [] text) → IfOk r (λ e. All (λ l. l.pass < e.header.shape.passes) e.lines.items)
-passes_of_events text (Ok e) h = script_keeps SaysEvent [] EventsBelow events_stay_below text e.header e.lines.items (script_found event_added SaysEvent events_agree [] text e.header e.lines.items h)
+pub passes_of_events : (text : List ℕ) (r : Result Events Fault) → GivesEvents r (script_of event_added [] text)
+    → IfOk r (λ e. All (λ l. l.pass < e.header.shape.passes) e.lines.items)
+passes_of_events text (Ok e) h = script_keeps SaysEvent [] EventsBelow events_stay_below text e.header e.lines.items
+    (script_found event_added SaysEvent events_agree [] text e.header e.lines.items h)
 passes_of_events text (Err f) h = tt
 
-pub tag_of_events : (text : List ℕ) (r : Result Events Fault) → GivesEvents r (script_of event_added [] text) → IfOk r (λ e. HasTag e.header.layout e.header.tag)
-tag_of_events text (Ok e) h = script_keeps SaysEvent [] KeepsTag (tag_lasts SaysEvent []) text e.header e.lines.items (script_found event_added SaysEvent events_agree [] text e.header e.lines.items h)
+pub tag_of_events : (text : List ℕ) (r : Result Events Fault) → GivesEvents r (script_of event_added [] text)
+    → IfOk r (λ e. HasTag e.header.layout e.header.tag)
+tag_of_events text (Ok e) h = script_keeps SaysEvent [] KeepsTag (tag_lasts SaysEvent []) text e.header e.lines.items
+    (script_found event_added SaysEvent events_agree [] text e.header e.lines.items h)
 tag_of_events text (Err f) h = tt

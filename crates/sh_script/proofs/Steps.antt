@@ -1,5 +1,6 @@
 -- Steps that may fail, taken apart.
-use Rattle.std.proofs.Common.{◌≡◌, ℕ, ◌<◌, ◌==◌, ltb-true, Bool, true, false, not, List, [], ◌∷◌, length, cond, Option, Some, None, Result, Ok, Err, ◌⊎◌, inl, inr, refl, ap, subst, ◌∙◌, arith, eqb-true}
+use Rattle.std.proofs.Common.{◌≡◌, ℕ, ◌<◌, ◌==◌, ltb-true, Bool, true, false, not, List, [], ◌∷◌, length, cond, Option}
+use Rattle.std.proofs.Common.{Some, None, Result, Ok, Err, ◌⊎◌, inl, inr, refl, ap, subst, ◌∙◌, arith, eqb-true}
 use Rattle.std.proofs.lemmas.Option.{cond_some}
 use Rattle.std.specs.Option.{is_some}
 use Rattle.std.specs.Str.{bytes_eq}
@@ -14,7 +15,8 @@ use Rattle.sh_script.specs.declared.trouble.Trouble.{Trouble}
 use Rattle.sh_script.specs.declared.fault.Fault.{Fault}
 
 -- what two steps gave, the first gave to the second
-pub bind_ok : {A B E : Type 0} (r : Result A E) (f : A → Result B E) (y : B) → (r >>= f) ≡ Ok y → (x : A) × (r ≡ Ok x) × (f x ≡ Ok y)
+pub bind_ok : {A B E : Type 0} (r : Result A E) (f : A → Result B E) (y : B) → (r >>= f) ≡ Ok y → (x : A) × (r ≡ Ok x)
+    × (f x ≡ Ok y)
 bind_ok (Ok x) f y e = (x, refl, e)
 bind_ok (Err t) f y e = cc
 
@@ -46,11 +48,13 @@ pub if_ok : {A : Type 0} (b : Bool) (x z : A) (t : Trouble) → cond b (Ok x) (E
 if_ok true x z t e = (refl, ok_is x z e)
 if_ok false x z t e = cc
 
-pub if_read : {A : Type 0} (b : Bool) (r : Result A Trouble) (t : Trouble) (z : A) → cond b r (Err t) ≡ Ok z → (b ≡ true) × (r ≡ Ok z)
+pub if_read : {A : Type 0} (b : Bool) (r : Result A Trouble) (t : Trouble) (z : A) → cond b r (Err t) ≡ Ok z
+    → (b ≡ true) × (r ≡ Ok z)
 if_read true r t z e = (refl, e)
 if_read false r t z e = cc
 
-pub else_ok : {A E : Type 0} (b : Bool) (t : E) (r : Result A E) (z : A) → cond b (Err t) r ≡ Ok z → (b ≡ false) × (r ≡ Ok z)
+pub else_ok : {A E : Type 0} (b : Bool) (t : E) (r : Result A E) (z : A) → cond b (Err t) r ≡ Ok z → (b ≡ false)
+    × (r ≡ Ok z)
 else_ok true t r z e = cc
 else_ok false t r z e = (refl, e)
 
@@ -96,7 +100,12 @@ number_at_ok c ws x e =
     let a = bind_ok _ _ x e in
     let b = bind_ok _ _ x a.2 in
     let p : (b.0, (a.0).1) ≡ x = ok_is (b.0, (a.0).1) x b.2 in
-    record { word = (a.0).0; is = next_ok c ws a.0 a.1 ∙ ap (λ (y : ℕ × List Word). (a.0).0 ∷ y.1) p; number = or_ok _ _ _ b.1 ∙ ap (λ (y : ℕ × List Word). Some y.0) p }
+    record {
+      word = (a.0).0;
+      is = next_ok c ws a.0 a.1 ∙ ap (λ (y : ℕ × List Word). (a.0).0 ∷ y.1) p;
+      number = or_ok _ _
+          _ b.1 ∙ ap (λ (y : ℕ × List Word). Some y.0) p;
+    }
 
 pub only_ok : (ws : List Word) (w : Word) → only_of ws ≡ Ok w → ws ≡ w ∷ []
 only_ok ws w e =
@@ -132,5 +141,7 @@ none_is ws u e = empty_is ws ((if_ok (length ws == 0) tt u _ e).0)
 -- ---- what a line adds is what it means
 
 pub record Agrees {S : Type 0} (adds : Adds S) (means : Means S) : Type 0 where
-  pub is : (passes : ℕ) (before : S) (ws : List Word) (now : S) → adds passes before ws ≡ Ok now → means passes before ws now
-  pub gives : (passes : ℕ) (before : S) (ws : List Word) (now : S) → means passes before ws now → adds passes before ws ≡ Ok now
+  pub is : (passes : ℕ) (before : S) (ws : List Word) (now : S) → adds passes before ws ≡ Ok now
+      → means passes before ws now
+  pub gives : (passes : ℕ) (before : S) (ws : List Word) (now : S) → means passes before ws now → adds passes before ws
+      ≡ Ok now

@@ -1,5 +1,6 @@
 -- A text is cut at its newlines into the lines that it is spelled from.
-use Rattle.std.proofs.Common.{◌≡◌, ◌≢◌, ℕ, Bool, true, false, List, [], ◌∷◌, ◌++◌, refl, ap, ap₂, ◌∙◌, eqb-true, eq-eqb, ne_eqb}
+use Rattle.std.proofs.Common.{◌≡◌, ◌≢◌, ℕ, Bool, true, false, List, [], ◌∷◌, ◌++◌, refl, ap, ap₂, ◌∙◌, eqb-true, eq-eqb}
+use Rattle.std.proofs.Common.{ne_eqb}
 use Rattle.std.specs.List.{All, slice_split, onto_first}
 use Rattle.std.proofs.lemmas.List.Elements.{All-nil, All-cons, All-head, All-tail}
 use Rattle.std.proofs.lemmas.List.Splits.{slice_split-cons_yes, slice_split-cons_no}
@@ -22,15 +23,19 @@ empty_line = All-nil (λ x. x ≢ 10)
 
 piece_of_line : (l ys : List ℕ) → IsLine l → slice_split is_newline (l ++ 10 ∷ ys) ≡ l ∷ slice_split is_newline ys
 piece_of_line [] ys h = slice_split-cons_yes is_newline 10 ys refl
-piece_of_line (b ∷ bs) ys h = slice_split-cons_no is_newline b (bs ++ 10 ∷ ys) (no_newline b bs h) ∙ ap (onto_first b) (piece_of_line bs ys (others_too b bs h))
+piece_of_line (b ∷ bs) ys h = slice_split-cons_no is_newline b (bs ++ 10 ∷ ys) (no_newline b bs h)
+    ∙ ap (onto_first b) (piece_of_line bs ys (others_too b bs h))
 
 piece_of_rest : (l : List ℕ) → IsLine l → slice_split is_newline l ≡ l ∷ []
 piece_of_rest [] h = refl
-piece_of_rest (b ∷ bs) h = slice_split-cons_no is_newline b bs (no_newline b bs h) ∙ ap (onto_first b) (piece_of_rest bs (others_too b bs h))
+piece_of_rest (b ∷ bs) h = slice_split-cons_no is_newline b bs (no_newline b bs h)
+    ∙ ap (onto_first b) (piece_of_rest bs (others_too b bs h))
 
-pub pieces_spelled : (ls : List (List ℕ)) (rest : List ℕ) → All IsLine ls → IsLine rest → pieces_of (spelling ls rest) ≡ ls ++ rest ∷ []
+pub pieces_spelled : (ls : List (List ℕ)) (rest : List ℕ) → All IsLine ls → IsLine rest → pieces_of (spelling ls rest)
+    ≡ ls ++ rest ∷ []
 pieces_spelled [] rest h r = piece_of_rest rest r
-pieces_spelled (l ∷ ls) rest h r = piece_of_line l (spelling ls rest) (All-head IsLine l ls h) ∙ ap (λ xs. l ∷ xs) (pieces_spelled ls rest (All-tail IsLine l ls h) r)
+pieces_spelled (l ∷ ls) rest h r = piece_of_line l (spelling ls rest) (All-head IsLine l ls h)
+    ∙ ap (λ xs. l ∷ xs) (pieces_spelled ls rest (All-tail IsLine l ls h) r)
 
 -- a text cut at its newlines
 pub record IsCut (text : List ℕ) : Type 0 where
@@ -40,8 +45,15 @@ pub record IsCut (text : List ℕ) : Type 0 where
   pub lines_are : All IsLine lines
   pub rest_is : IsLine rest
 
-cut_on : (b : ℕ) (bs rest : List ℕ) (lines : List (List ℕ)) → bs ≡ spelling lines rest → All IsLine lines → IsLine rest → is_newline b ≡ false → IsCut (b ∷ bs)
-cut_on b bs rest [] e h r n = record { lines = []; rest = b ∷ rest; spelled = ap (λ xs. b ∷ xs) e; lines_are = h; rest_is = line_cons b rest n r }
+cut_on : (b : ℕ) (bs rest : List ℕ) (lines : List (List ℕ)) → bs ≡ spelling lines rest → All IsLine lines → IsLine rest
+    → is_newline b ≡ false → IsCut (b ∷ bs)
+cut_on b bs rest [] e h r n = record {
+  lines = [];
+  rest = b ∷ rest;
+  spelled = ap (λ xs. b ∷ xs) e;
+  lines_are = h;
+  rest_is = line_cons b rest n r;
+}
 cut_on b bs rest (l ∷ ls) e h r n = record {
   lines = (b ∷ l) ∷ ls;
   rest = rest;

@@ -1,5 +1,6 @@
 -- The words of a line, taken one after the other.
-use Rattle.std.specs.Prelude.{ℕ, ◌==◌, nat_lt, List, [], ◌∷◌, ◌++◌, length, Option, Some, None, Result, Ok, Err, if◌then◌else◌}
+use Rattle.std.specs.Prelude.{ℕ, ◌==◌, nat_lt, List, [], ◌∷◌, ◌++◌, length, Option, Some, None, Result, Ok, Err}
+use Rattle.std.specs.Prelude.{if◌then◌else◌}
 use Rattle.sh_script.specs.Words.{Word, number_of}
 use Rattle.sh_script.specs.Trouble.{◌>>=◌, or_cause}
 use Rattle.sh_script.specs.declared.fault.Cause.{Cause}
@@ -18,7 +19,8 @@ number_at c ws = next_of c ws >>= λ w. or_cause c (number_of w.0) >>= λ n. Ok 
 
 -- the next word, which is the number of a pass
 abbrev pub pass_at : ℕ → List Word → Result (ℕ × List Word) Trouble
-pass_at passes ws = number_at cause.Number ws >>= λ p. if nat_lt p.0 passes then Ok p else Err (trouble.Because cause.Pass)
+pass_at passes ws = number_at cause.Number ws >>= λ p. if nat_lt p.0 passes then Ok p else Err
+    (trouble.Because cause.Pass)
 
 -- the one word that there is
 abbrev pub only_of : List Word → Result Word Trouble

@@ -1,5 +1,6 @@
 -- What a line with a call gives as it is read, or the first fault in it: the steps stand in the order of the faults.
-use Rattle.std.specs.Prelude.{ℕ, ◌==◌, Bool, true, false, not, List, [], ◌∷◌, ◌++◌, drop, Option, Some, None, is_some, Result, Ok, Err, slice_index, codes, if◌then◌else◌}
+use Rattle.std.specs.Prelude.{ℕ, ◌==◌, Bool, true, false, not, List, [], ◌∷◌, ◌++◌, drop, Option, Some, None, is_some}
+use Rattle.std.specs.Prelude.{Result, Ok, Err, slice_index, codes, if◌then◌else◌}
 use Rattle.std.specs.Str.{bytes_eq}
 use Rattle.sh_script.specs.Words.{Word, number_of, is_name}
 use Rattle.sh_script.specs.Names.{Binding, find_from}
@@ -38,7 +39,8 @@ key_from word = or_cause cause.Number (number_of (drop 1 word)) >>= λ k. Ok (re
 
 -- a name bound before to a key
 abbrev pub keyed_of : List Binding → Word → Result Reference Trouble
-keyed_of names word = found_of names word >>= λ f. if has_key f.by then Ok (reference.Name f.place) else Err (trouble.Because cause.Unbound)
+keyed_of names word = found_of names word >>= λ f. if has_key f.by then Ok (reference.Name f.place) else Err
+    (trouble.Because cause.Unbound)
 
 unfoldable pub reference_of : List Binding → Word → Result Reference Trouble
 reference_of names word = if slice_index word 0 == 35 then key_from word else keyed_of names word

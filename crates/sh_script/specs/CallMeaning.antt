@@ -57,7 +57,8 @@ pub record IsInsert (names : List Binding) (words : List Word) (value : List ℕ
   pub binds_name : binds ≡ Some (record { name = name; by = binder.Insert })
 
 -- the words are a command and the name or key that it is about
-pub record IsAbout (command : Word) (names : List Binding) (words : List Word) (r : Reference) (binds : Option Binding) : Type 0 where
+pub record IsAbout (command : Word) (names : List Binding) (words : List Word) (r : Reference)
+    (binds : Option Binding) : Type 0 where
   pub word : Word
   pub says : words ≡ command ∷ word ∷ []
   pub about : IsReference names word r
@@ -91,7 +92,8 @@ IsCall names words call.Post binds = IsPost names words binds
 IsCall names words (call.Wait i) binds = IsWait names words i binds
 
 -- the words are the number of a pass below the passes, and a call
-pub record IsCallLine (passes : ℕ) (names : List Binding) (words : List Word) (line : CallLine) (binds : Option Binding) : Type 0 where
+pub record IsCallLine (passes : ℕ) (names : List Binding) (words : List Word) (line : CallLine)
+    (binds : Option Binding) : Type 0 where
   pub first : Word
   pub others : List Word
   pub says : words ≡ first ∷ others

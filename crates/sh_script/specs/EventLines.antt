@@ -1,5 +1,6 @@
 -- What a line with an event gives as it is read, or the first fault in it: the steps stand in the order of the faults.
-use Rattle.std.specs.Prelude.{ℕ, ◌-◌, ◌==◌, nat_lt, List, [], ◌∷◌, ◌++◌, length, Option, Some, None, Result, Ok, Err, codes, if◌then◌else◌}
+use Rattle.std.specs.Prelude.{ℕ, ◌-◌, ◌==◌, nat_lt, List, [], ◌∷◌, ◌++◌, length, Option, Some, None, Result, Ok, Err}
+use Rattle.std.specs.Prelude.{codes, if◌then◌else◌}
 use Rattle.std.specs.Str.{bytes_eq}
 use Rattle.std.specs.List.{find}
 use Rattle.sh_step.specs.Kinds.{kind_name}
@@ -21,8 +22,10 @@ use Rattle.sh_script.specs.declared.trouble.Trouble.TheVariants as trouble
 
 abbrev pub kinds : List ActionKind
 kinds =
-    kind.Enter ∷ kind.Mark ∷ kind.Drop ∷ kind.Finish ∷ kind.Fill ∷ kind.Publish ∷ kind.Read ∷ kind.SetClass ∷ kind.Take ∷ kind.Follow
-    ∷ kind.Put ∷ kind.Tie ∷ kind.Adopt ∷ kind.Leave ∷ kind.Arm ∷ kind.Ring ∷ kind.RingTie ∷ kind.TakeBell ∷ kind.FollowBell ∷ []
+    kind.Enter ∷ kind.Mark ∷ kind.Drop ∷ kind.Finish ∷ kind.Fill ∷ kind.Publish ∷ kind.Read ∷ kind.SetClass ∷ kind.Take
+    ∷ kind.Follow
+    ∷ kind.Put ∷ kind.Tie ∷ kind.Adopt ∷ kind.Leave ∷ kind.Arm ∷ kind.Ring ∷ kind.RingTie ∷ kind.TakeBell ∷
+    kind.FollowBell ∷ []
 
 -- the kind that the word names
 abbrev pub kind_named : Word → Option ActionKind

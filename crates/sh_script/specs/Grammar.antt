@@ -40,7 +40,8 @@ pub record SaysHeader {S : Type 0} (v : Version) (before : Read S) (words : List
   pub now_is : now ≡ with_opening before (opening.Headed header)
 
 -- the words add to the body, under a header
-pub record SaysMore {S : Type 0} (means : Means S) (before : Read S) (header : Header) (words : List Word) (now : Read S) : Type 0 where
+pub record SaysMore {S : Type 0} (means : Means S) (before : Read S) (header : Header) (words : List Word)
+    (now : Read S) : Type 0 where
   pub body : S
   pub is : means header.shape.passes before.body words body
   pub now_is : now ≡ with_body before body
@@ -52,7 +53,8 @@ SaysNext means before opening.Versioned words now = SaysHeader version.Two befor
 SaysNext means before (opening.Headed h) words now = SaysMore means before h words now
 
 abbrev pub Mean : {S : Type 0} → Means S → Read S → List Word → Read S → Type 0
-Mean means before words now = (IsSilent words × (now ≡ before)) ⊎ ((¬ IsSilent words) × SaysNext means before before.opening words now)
+Mean means before words now = (IsSilent words × (now ≡ before)) ⊎
+    ((¬ IsSilent words) × SaysNext means before before.opening words now)
 
 -- a byte from 32 to 126
 pub record IsPrinted (b : ℕ) : Type 0 where
@@ -91,13 +93,14 @@ Leads means before [] now = before ≡ now
 Leads means before (l ∷ ls) now = (next : Read _) × Says means before l next × Leads means next ls now
 
 -- the text is a script with this header, whose other lines lead from the start to this body
-pub record IsScript {S : Type 0} (means : Means S) (start : S) (text : List ℕ) (header : Header) (body : S) : Type 0 where
-  pub lines : List (List ℕ)
-  pub now : Read S
-  pub is_text : IsText text lines []
-  pub leads : Leads means (begin start) lines now
-  pub header_is : now.opening ≡ opening.Headed header
-  pub body_is : now.body ≡ body
+pub record IsScript {S : Type 0} (means : Means S) (start : S) (text : List ℕ) (header : Header) (body : S) : Type 0
+  where
+    pub lines : List (List ℕ)
+    pub now : Read S
+    pub is_text : IsText text lines []
+    pub leads : Leads means (begin start) lines now
+    pub header_is : now.opening ≡ opening.Headed header
+    pub body_is : now.body ≡ body
 
 -- ---- the first fault
 
@@ -107,17 +110,18 @@ pub record IsTooLong (text : List ℕ) (f : Fault) : Type 0 where
   pub is : f ≡ fault.Script 0 cause.Size
 
 -- the first line with a fault is this one
-pub record HasBadLine {S : Type 0} (means : Means S) (adds : Adds S) (start : S) (text : List ℕ) (f : Fault) : Type 0 where
-  pub before : List (List ℕ)
-  pub bad : List ℕ
-  pub after : List (List ℕ)
-  pub rest : List ℕ
-  pub now : Read S
-  pub trouble : Trouble
-  pub is_text : IsText text (before ++ bad ∷ after) rest
-  pub leads : Leads means (begin start) before now
-  pub bad_is : after_line adds now bad ≡ Err trouble
-  pub is : f ≡ at_line (1 + length before) trouble
+pub record HasBadLine {S : Type 0} (means : Means S) (adds : Adds S) (start : S) (text : List ℕ) (f : Fault) : Type 0
+  where
+    pub before : List (List ℕ)
+    pub bad : List ℕ
+    pub after : List (List ℕ)
+    pub rest : List ℕ
+    pub now : Read S
+    pub trouble : Trouble
+    pub is_text : IsText text (before ++ bad ∷ after) rest
+    pub leads : Leads means (begin start) before now
+    pub bad_is : after_line adds now bad ≡ Err trouble
+    pub is : f ≡ at_line (1 + length before) trouble
 
 -- no line has a fault, but the end has
 pub record HasBadEnd {S : Type 0} (means : Means S) (start : S) (text : List ℕ) (f : Fault) : Type 0 where

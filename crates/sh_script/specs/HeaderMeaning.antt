@@ -48,7 +48,8 @@ HasTag layout.Wide tag = tag ≡ None
 -- the words are `heap`, the name of a layout of the version, the numbers of a shape that fits the layout, and the tag
 pub record IsHeader (version : Version) (words : List Word) (header : Header) : Type 0 where
   pub behind : List Word
-  pub says : words ≡ codes "heap" ∷ layout_name header.layout ∷ decimal header.shape.shards ∷ decimal header.shape.segments ∷ decimal header.shape.passes ∷ behind
+  pub says : words ≡ codes "heap" ∷ layout_name header.layout ∷ decimal header.shape.shards ∷ decimal
+      header.shape.segments ∷ decimal header.shape.passes ∷ behind
   pub has_layout : HasLayout version header.layout
   pub is_tag : AreTag header.layout behind header.tag
   pub is_shape : IsShape header.shape

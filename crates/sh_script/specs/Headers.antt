@@ -1,5 +1,6 @@
 -- What the line of the header gives as it is read, and the version line before it, or the first fault in them.
-use Rattle.std.specs.Prelude.{ℕ, ◌*◌, ◌^◌, ◌==◌, ◌&&◌, Bool, true, false, not, nat_lt, nat_le, List, length, Option, Some, None, Result, Ok, Err, codes, if◌then◌else◌}
+use Rattle.std.specs.Prelude.{ℕ, ◌*◌, ◌^◌, ◌==◌, ◌&&◌, Bool, true, false, not, nat_lt, nat_le, List, length, Option}
+use Rattle.std.specs.Prelude.{Some, None, Result, Ok, Err, codes, if◌then◌else◌}
 use Rattle.std.specs.Str.{bytes_eq}
 use Rattle.sh_key.specs.Layout.{Layout}
 use Rattle.sh_shape.specs.Shape.{Numbers, segment_pages}
@@ -23,7 +24,8 @@ use Rattle.sh_script.specs.declared.header.Opening.TheVariants as opening
 -- at least one of each, at most 256 segments in all shards together, at most 64 passes
 abbrev pub is_shape : Numbers → Bool
 is_shape n =
-    nat_le 1 n.shards && (nat_le 1 n.segments && (nat_le (n.shards * n.segments) 256 && (nat_le 1 n.passes && nat_le n.passes 64)))
+    nat_le 1 n.shards && (nat_le 1 n.segments && (nat_le (n.shards * n.segments) 256 &&
+    (nat_le 1 n.passes && nat_le n.passes 64)))
 
 -- each shard and each page of a shard has a number in the layout
 abbrev pub fits : Layout → Numbers → Bool
@@ -80,7 +82,8 @@ header_of v ws = do
   passes ← number_at cause.Header segments.1
   if not (bytes_eq heap.0 (codes "heap")) then Err (trouble.Because cause.Header)
       else or_cause cause.Header (layout_and_tag v name.0 passes.1) >>= λ l.
-      or_trouble trouble.BadShape (shape_of (layout_of l.0) (record { shards = shards.0; segments = segments.0; passes = passes.0 })) >>= λ shape.
+      or_trouble trouble.BadShape (shape_of (layout_of l.0) (record
+      { shards = shards.0; segments = segments.0; passes = passes.0 })) >>= λ shape.
       Ok (record { layout = l.0; shape = shape; tag = l.1 })
 
 -- ---- the first line that says something
@@ -94,4 +97,5 @@ abbrev pub is_version_line : List Word → Bool
 is_version_line ws = is_version_in (two_of ws)
 
 abbrev pub opening_of : List Word → Result Opening Trouble
-opening_of ws = if is_version_line ws then Ok opening.Versioned else header_of version.One ws >>= λ h. Ok (opening.Headed h)
+opening_of ws = if is_version_line ws then Ok opening.Versioned else header_of version.One ws >>= λ h. Ok
+    (opening.Headed h)

@@ -20,4 +20,5 @@ names_of bindings = map (λ b. b.name) bindings
 -- the first place of a name, where the first of these has place n, and what binds it
 abbrev pub find_from : ℕ → List Binding → Word → Option Found
 find_from n [] name = None
-find_from n (b ∷ bs) name = if bytes_eq b.name name then Some (record { place = n; by = b.by }) else find_from (n + 1) bs name
+find_from n (b ∷ bs) name = if bytes_eq b.name name then Some (record { place = n; by = b.by }) else find_from (n + 1)
+    bs name

@@ -1,5 +1,5 @@
--- A whole script as it is read, or its first fault. What a line behind the header adds is given by `adds`, from the number
--- of passes and what there was before it.
+-- A whole script as it is read, or its first fault. What a line behind the header adds is given by `adds`, from the
+-- number of passes and what there was before it.
 use Rattle.std.specs.Prelude.{ℕ, ◌+◌, ◌==◌, nat_lt, List, [], ◌∷◌, length, Result, Ok, Err, slice_index, if◌then◌else◌}
 use Rattle.std.specs.List.{slice_split, list_all}
 use Rattle.std.specs.Int.{is_in_range}
@@ -42,7 +42,8 @@ whole_line line =
 -- a line that says something is the header, perhaps after a version line, or one that adds to the body
 abbrev pub said : {S : Type 0} → Adds S → Read S → Opening → List Word → Result (Read S) Trouble
 said adds before opening.Unread words = opening_of words >>= λ o. Ok (with_opening before o)
-said adds before opening.Versioned words = header_of version.Two words >>= λ h. Ok (with_opening before (opening.Headed h))
+said adds before opening.Versioned words = header_of version.Two words >>= λ h. Ok
+    (with_opening before (opening.Headed h))
 said adds before (opening.Headed h) words = adds h.shape.passes before.body words >>= λ b. Ok (with_body before b)
 
 -- a line without a word, or that begins with ;, says nothing
@@ -74,7 +75,8 @@ ended before n (b ∷ bs) = Err (fault.Script n (if nat_lt 512 (length (b ∷ bs
 abbrev pub read_from : {S : Type 0} → Adds S → Read S → ℕ → List (List ℕ) → Result (Header × S) Fault
 read_from adds before n [] = ended before n []
 read_from adds before n (rest ∷ []) = ended before n rest
-read_from adds before n (line ∷ next ∷ more) = placed n (after_line adds before line) >>= λ now. read_from adds now (n + 1) (next ∷ more)
+read_from adds before n (line ∷ next ∷ more) = placed n (after_line adds before line) >>= λ now. read_from adds now
+    (n + 1) (next ∷ more)
 
 -- what a text gives, or its first fault
 abbrev pub script_of : {S : Type 0} → Adds S → S → List ℕ → Result (Header × S) Fault

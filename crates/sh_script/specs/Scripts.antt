@@ -19,7 +19,8 @@ use Rattle.sh_script.specs.declared.event.Events.{Events}
 
 -- the text is a script with this header and these calls, which bind some names
 abbrev pub IsCalls : List ℕ → Header → List CallLine → Type 0
-IsCalls text header calls = (names : List Binding) × IsScript SaysCall no_calls text header (record { names = names; lines = calls })
+IsCalls text header calls = (names : List Binding) × IsScript SaysCall no_calls text header
+    (record { names = names; lines = calls })
 
 -- the first fault of a script of calls
 abbrev pub IsCallsFault : List ℕ → Fault → Type 0

@@ -1,5 +1,6 @@
 -- Words, numbers and names of a line, as they are read.
-use Rattle.std.specs.Prelude.{ℕ, ◌+◌, ◌-◌, ◌*◌, ◌^◌, ◌==◌, ◌&&◌, ◌||◌, Bool, false, not, nat_lt, nat_le, List, [], ◌∷◌, length, Option, Some, None, option_map, take, drop, filter, if◌then◌else◌}
+use Rattle.std.specs.Prelude.{ℕ, ◌+◌, ◌-◌, ◌*◌, ◌^◌, ◌==◌, ◌&&◌, ◌||◌, Bool, false, not, nat_lt, nat_le, List, [], ◌∷◌}
+use Rattle.std.specs.Prelude.{length, Option, Some, None, option_map, take, drop, filter, if◌then◌else◌}
 use Rattle.std.specs.List.{slice_split, list_all, position}
 
 abbrev pub Word : Type 0
@@ -32,7 +33,8 @@ split_dot word = option_map (λ i. (take i word, drop (i + 1) word)) (position i
 -- the number that digits go on to, from what stands before them
 abbrev pub number_from : ℕ → Word → Option ℕ
 number_from n [] = Some n
-number_from n (b ∷ bs) = if is_digit b && nat_lt (n * 10 + (b - 48)) (2 ^ 64) then number_from (n * 10 + (b - 48)) bs else None
+number_from n (b ∷ bs) = if is_digit b && nat_lt (n * 10 + (b - 48)) (2 ^ 64) then number_from (n * 10 + (b - 48)) bs
+    else None
 
 -- `0`, or digits that don't begin with 0, below 2^64
 abbrev pub number_of : Word → Option ℕ

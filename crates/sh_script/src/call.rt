@@ -2,7 +2,8 @@
 ghost use Rattle.std.specs.Prelude.{◌≡◌, map, option_map, None, IfOk, IfSome};
 ghost use Rattle.sh_script.specs.Trouble.{Gives};
 ghost use Rattle.sh_script.specs.Names.{binding_of, find_from};
-ghost use Rattle.sh_script.specs.CallLines.{found_of, reference_of, about_of, new_name, command_of, call_of, line_of, call_added};
+ghost use Rattle.sh_script.specs.CallLines.{found_of, reference_of, about_of, new_name, command_of, call_of, line_of};
+ghost use Rattle.sh_script.specs.CallLines.{call_added};
 
 use crate::arguments::{next, next_pass, none, number_or_cause, only};
 use crate::calls::{Call, CallLine, Reference};
@@ -120,7 +121,8 @@ fn call<'a>(
     command: Command,
     words: &[&'a [u8]],
 ) -> Result<(Call, Option<Bound<'a>>), Trouble>
-    ensures call { Gives (λ c. (c.0, option_map binding_of c.1)) result (call_of names.now command (map (λ w. w.now) words.now)) }
+    ensures call { Gives (λ c. (c.0, option_map binding_of c.1)) result
+        (call_of names.now command (map (λ w. w.now) words.now)) }
     ensures new { IfOk result (λ c. IfSome c.1 (λ b. find_from 0 names.now b.name.now ≡ None)) }
 {
     match command {
@@ -163,7 +165,8 @@ pub fn line<'a>(
     names: &Names<'_>,
     words: &[&'a [u8]],
 ) -> Result<(CallLine, Option<Bound<'a>>), Trouble>
-    ensures line { Gives (λ c. (c.0, option_map binding_of c.1)) result (line_of passes names.now (map (λ w. w.now) words.now)) }
+    ensures line { Gives (λ c. (c.0, option_map binding_of c.1)) result
+        (line_of passes names.now (map (λ w. w.now) words.now)) }
     ensures new { IfOk result (λ c. IfSome c.1 (λ b. find_from 0 names.now b.name.now ≡ None)) }
 {
     let (pass, rest) = next_pass(passes, words)?;

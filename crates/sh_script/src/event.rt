@@ -1,7 +1,9 @@
 //! A line with an event, read from its words.
 ghost use Rattle.std.specs.Prelude.{◌≡◌, map};
 ghost use Rattle.sh_script.specs.Trouble.{Gives};
-ghost use Rattle.sh_script.specs.EventLines.{kinds, kind_named, number_alone, page_alone, bare, enter_of, drop_of, fill_of, part_of, read_of, set_class_of, put_of, action_of, event_of, event_added};
+ghost use Rattle.sh_script.specs.EventLines.{kinds, kind_named, number_alone, page_alone, bare, enter_of, drop_of};
+ghost use Rattle.sh_script.specs.EventLines.{fill_of, part_of, read_of, set_class_of, put_of, action_of, event_of};
+ghost use Rattle.sh_script.specs.EventLines.{event_added};
 
 use crate::arguments::{next, next_pass, none, number_or_cause, only, two};
 use crate::fault::Cause;

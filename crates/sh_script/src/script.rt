@@ -8,7 +8,8 @@ ghost use Rattle.sh_script.specs.declared.calls.CallLine.{CallLine};
 ghost use Rattle.sh_script.specs.HeaderMeaning.{HasTag};
 ghost use Rattle.sh_script.specs.EventLines.{event_added};
 ghost use Rattle.sh_script.specs.Script.{script_of};
-ghost use Rattle.sh_script.specs.Scripts.{IsCalls, IsCallsFault, IsEvents, IsEventsFault, calls_of, GivesCalls, GivesEvents};
+ghost use Rattle.sh_script.specs.Scripts.{IsCalls, IsCallsFault, IsEvents, IsEventsFault, calls_of, GivesCalls};
+ghost use Rattle.sh_script.specs.Scripts.{GivesEvents};
 
 use crate::call::CallsRead;
 use crate::calls::Calls;

@@ -1,7 +1,8 @@
 //! Words, numbers and names.
 ghost use Rattle.std.specs.Prelude.{◌≡◌, IfOk, map};
 ghost use Rattle.std.specs.List.{list_all};
-ghost use Rattle.sh_script.specs.Words.{words_in, number_of, number_from, is_digit, is_small_letter, is_name_byte, is_name};
+ghost use Rattle.sh_script.specs.Words.{words_in, number_of, number_from, is_digit, is_small_letter, is_name_byte};
+ghost use Rattle.sh_script.specs.Words.{is_name};
 
 use std::alloc::{AllocError, Global};
 

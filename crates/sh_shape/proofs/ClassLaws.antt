@@ -1,12 +1,14 @@
 -- The class of a length is the least that is wide enough, and there is one up to 16 words.
-use Rattle.std.proofs.Common.{◌≡◌, ℕ, ◌+◌, ◌*◌, ◌<◌, ◌≤◌, Bool, true, false, Option, Some, None, zero, suc, refl, arith, cond, leb-true, leb-false, ltb-false}
+use Rattle.std.proofs.Common.{◌≡◌, ℕ, ◌+◌, ◌*◌, ◌<◌, ◌≤◌, Bool, true, false, Option, Some, None, zero, suc, refl, arith}
+use Rattle.std.proofs.Common.{cond, leb-true, leb-false, ltb-false}
 use Rattle.std.specs.Prelude.{nat_le, nat_lt, MatchOption}
 use Rattle.std.specs.List.{position_or_len}
 use Rattle.std.proofs.lemmas.List.Quantifiers.{position-Some}
 use Rattle.std.proofs.Math.Nat.{mul_comm}
 use Rattle.std.proofs.lemmas.Nat.{mul-add-lt}
 use Rattle.std.proofs.lemmas.List.Sums.{fails_before_first}
-use Rattle.sh_shape.specs.Classes.{widths, class_of, IsClassOf, SlotsFitPage, SlotWordsFitPage, WidthsAreFew, width, slots}
+use Rattle.sh_shape.specs.Classes.{widths, class_of, IsClassOf, SlotsFitPage, SlotWordsFitPage, WidthsAreFew, width}
+use Rattle.sh_shape.specs.Classes.{slots}
 
 pub class_of_is : (len class : ℕ) → class_of len ≡ Some class → IsClassOf len class
 class_of_is len class is =
@@ -47,7 +49,8 @@ slots_fit_page (suc (suc (suc (suc (suc (suc (suc (suc n)))))))) = omega arith
 
 pub slot_words_fit_page : SlotWordsFitPage
 slot_words_fit_page class slot i few inside =
-    let below : slot * width class + i < width class * slots class = mul-add-lt slot (width class) i (slots class) few inside in
+    let below : slot * width class + i < width class * slots class = mul-add-lt slot (width class) i (slots class) few
+    inside in
     let fit = slots_fit_page class in
     omega (arith, mul_comm (slots class) (width class))
 

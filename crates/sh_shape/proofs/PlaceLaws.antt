@@ -1,11 +1,13 @@
 -- No two places of a heap have the same number, and each is one of its words.
 use Rattle.std.proofs.Common.{◌≡◌, ℕ, ◌+◌, ◌-◌, ◌*◌, ◌/◌, ◌%◌, ◌<◌, ◌≤◌, zero, suc, inl, inr, sym, ◌∙◌, ap, arith}
 use Rattle.sh_shape.specs.declared.places.Place.{Place}
-use Rattle.sh_shape.specs.declared.places.Place.TheVariants.{Class, Head, PageLink, State, Link, Length, Payload, Owner, Bell}
+use Rattle.sh_shape.specs.declared.places.Place.TheVariants.{Class, Head, PageLink, State, Link, Length, Payload, Owner}
+use Rattle.sh_shape.specs.declared.places.Place.TheVariants.{Bell}
 use Rattle.std.proofs.lemmas.Nat.{mul-add-lt, div-mul-add, mod-mul-add, div_below, mod_below, div-add-mod'}
 use Rattle.std.proofs.lemmas.Bool.{cases_lt}
 use Rattle.sh_shape.specs.Shape.{Numbers, IsShape}
-use Rattle.sh_shape.specs.Places.{pages_of, all_pages, page_number, IsPlace, number, page_words, PagesDiffer, PagesHaveShards, PlacesDiffer, PlacesAreWords, WordsHavePlaces}
+use Rattle.sh_shape.specs.Places.{pages_of, all_pages, page_number, IsPlace, number, page_words, PagesDiffer}
+use Rattle.sh_shape.specs.Places.{PagesHaveShards, PlacesDiffer, PlacesAreWords, WordsHavePlaces}
 
 -- how many pages a heap has at most
 pub few_pages : (shape : Numbers) → IsShape shape → all_pages shape ≤ 2048
@@ -25,7 +27,8 @@ some_page shape n h = elim (cases_lt 0 (pages_of shape)) [
   | inl lt ↦ lt
   | inr past ↦
       let none : pages_of shape ≡ 0 = omega arith in
-      let empty : all_pages shape ≡ 0 = ap (λ m. shape.shards * m) none ∙ (let z : shape.shards * 0 ≡ 0 = omega arith in z) in absurd (omega arith)
+      let empty : all_pages shape ≡ 0 = ap (λ m. shape.shards * m) none
+      ∙ (let z : shape.shards * 0 ≡ 0 = omega arith in z) in absurd (omega arith)
 ]
 
 pub pages_differ : PagesDiffer

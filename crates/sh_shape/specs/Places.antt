@@ -1,10 +1,11 @@
 -- The places of a heap's words, and the number of each place among the words.
 --
--- A page has 195 words: its class, its head and its page link; for each of 48 slots a state, a link and a length; and 48
--- payload words. After all pages each shard has two: its owner word and its bell.
+-- A page has 195 words: its class, its head and its page link; for each of 48 slots a state, a link and a length; and
+-- 48 payload words. After all pages each shard has two: its owner word and its bell.
 use Rattle.std.specs.Prelude.{◌≡◌, ℕ, ◌+◌, ◌*◌, ◌<◌}
 use Rattle.sh_shape.specs.declared.places.Place.{Place}
-use Rattle.sh_shape.specs.declared.places.Place.TheVariants.{Class, Head, PageLink, State, Link, Length, Payload, Owner, Bell}
+use Rattle.sh_shape.specs.declared.places.Place.TheVariants.{Class, Head, PageLink, State, Link, Length, Payload, Owner}
+use Rattle.sh_shape.specs.declared.places.Place.TheVariants.{Bell}
 use Rattle.sh_shape.specs.Shape.{Numbers, segment_pages}
 
 -- for how many slots a page has places, and how many payload words it has
@@ -34,7 +35,8 @@ page_number shape shard page = shard * pages_of shape + page
 abbrev pub PagesDiffer : Type 0
 PagesDiffer =
     (shape : Numbers) (shard page other_shard other_page : ℕ) → page < pages_of shape → other_page < pages_of shape
-    → page_number shape shard page ≡ page_number shape other_shard other_page → (shard ≡ other_shard) × (page ≡ other_page)
+    → page_number shape shard page ≡ page_number shape other_shard other_page → (shard ≡ other_shard)
+    × (page ≡ other_page)
 
 -- each page of the heap is one of a shard
 abbrev pub PagesHaveShards : Type 0

@@ -1,7 +1,8 @@
 //! The places of a heap's words: each place of the shape has the number of one word, and no two have the same.
 ghost use Rattle.std.specs.Prelude.{◌≡◌, ◌+◌, ◌*◌, ◌<◌, ◌≤◌};
 ghost use Rattle.sh_shape.specs.Shape.{IsShape};
-ghost use Rattle.sh_shape.specs.Places.{pages_of, all_pages, page_number, page_words, slot_places, payload_words, IsPlace, number, words_of};
+ghost use Rattle.sh_shape.specs.Places.{pages_of, all_pages, page_number, page_words, slot_places, payload_words};
+ghost use Rattle.sh_shape.specs.Places.{IsPlace, number, words_of};
 
 use crate::Shape;
 

@@ -31,7 +31,8 @@ impl Shape {
     /// The shape with these numbers: at least one of each, at most 256 segments in all shards together, at most 64
     /// passes. Else it is refused as `BadShape`.
     pub fn new(shards: u32, segments: u32, passes: u32) -> Result<Shape, Refusal>
-        ensures numbers { IfOk result (λ shape. shape ≡ record { shards = shards; segments = segments; passes = passes }) }
+        ensures numbers { IfOk result (λ shape. shape ≡ record
+            { shards = shards; segments = segments; passes = passes }) }
         ensures within { IsOk result ↔ IsShape (record { shards = shards; segments = segments; passes = passes }) }
         ensures outside { IfErr result (λ refusal. refusal ≡ Refusal.BadShape) }
     {

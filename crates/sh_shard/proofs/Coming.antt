@@ -1,5 +1,6 @@
 -- A slot that came to be the owner's stands in its page's lists.
-use Rattle.std.proofs.Common.{◌≡◌, ◌≢◌, ℕ, suc, ◌+◌, ◌*◌, ◌<◌, ◌≤◌, ⊎_elim, Option, Some, None, IfSome, List, ◌++◌, length, get_or, set, refl, ap, ◌∙◌, sym, subst, arith}
+use Rattle.std.proofs.Common.{◌≡◌, ◌≢◌, ℕ, suc, ◌+◌, ◌*◌, ◌<◌, ◌≤◌, ⊎_elim, Option, Some, None, IfSome, List, ◌++◌}
+use Rattle.std.proofs.Common.{length, get_or, set, refl, ap, ◌∙◌, sym, subst, arith}
 use Rattle.std.proofs.lemmas.Bool.{cases_eq}
 use Rattle.std.proofs.Math.Nat.{mul-le-mul_right}
 use Rattle.std.proofs.lemmas.List.{get_or-set_same, get_or-set_other, length-set}
@@ -9,7 +10,8 @@ use Rattle.sh_slots.specs.declared.hand.Spot.{Spot}
 use Rattle.sh_step.specs.declared.action.PageName.{PageName}
 use Rattle.sh_table.specs.Tales.{ViewStands}
 use Rattle.sh_pass.specs.Passes.{Caller}
-use Rattle.sh_pass.specs.Owners.{SeenPage, SeenBell, CallLeaves, SlotCame, MayTouch, SamePages, OnPage, heap_page, own_body, seen_page, page_with}
+use Rattle.sh_pass.specs.Owners.{SeenPage, SeenBell, CallLeaves, SlotCame, MayTouch, SamePages, OnPage, heap_page}
+use Rattle.sh_pass.specs.Owners.{own_body, seen_page, page_with}
 use Rattle.sh_shard.specs.declared.pages.PageState.{PageState}
 use Rattle.sh_shard.specs.Pages.{shard_page, SlotComes}
 use Rattle.sh_shard.specs.Kept.{KeepsPage, KeepsPages, MayCome, Came, blank_state, with_local}
@@ -18,34 +20,51 @@ use Rattle.sh_shard.proofs.Keeping.{page_of, here_at, others_at, all_at, rings_s
 use Rattle.sh_shard.proofs.Working.{paged_of}
 
 -- the pages of a shard are among those of the heap
-pub few_pages : {layout : Layout} {v : Caller} {shard : ℕ} {rings : Option ℕ} {states : List PageState} → KeepsPages layout v shard rings states → shard * length states + length states ≤ 2048
-few_pages {layout} {v} {shard} {states = states} k = go (length states) k.few (k.stands.owner.owned shard k.owned) k.stands.few_pages where
-  go : (n : ℕ) → n ≡ pages_of v.view.shape → shard < v.view.shape.shards → v.view.shape.shards * pages_of v.view.shape ≤ 2048 → shard * n + n ≤ 2048
-  go n e l few =
-      let a : shard * pages_of v.view.shape + pages_of v.view.shape ≤ v.view.shape.shards * pages_of v.view.shape = more shard v.view.shape.shards (pages_of v.view.shape) l in
-      subst (λ z. shard * z + z ≤ 2048) (sym e) (omega arith) where
-        more : (s t n : ℕ) → s < t → s * n + n ≤ t * n
-        more s t n l = let x : suc s * n ≤ t * n = mul-le-mul_right {m = suc s} {n = t} n l in omega arith
+pub few_pages : {layout : Layout} {v : Caller} {shard : ℕ} {rings : Option ℕ} {states : List PageState}
+    → KeepsPages layout v shard rings states → shard * length states + length states ≤ 2048
+few_pages {layout} {v} {shard} {states = states} k = go (length states) k.few (k.stands.owner.owned shard k.owned)
+    k.stands.few_pages where
+      go : (n : ℕ) → n ≡ pages_of v.view.shape → shard < v.view.shape.shards
+          → v.view.shape.shards * pages_of v.view.shape ≤ 2048 → shard * n + n ≤ 2048
+      go n e l few =
+          let a : shard * pages_of v.view.shape + pages_of v.view.shape ≤ v.view.shape.shards * pages_of v.view.shape = more
+          shard v.view.shape.shards (pages_of v.view.shape) l in
+          subst (λ z. shard * z + z ≤ 2048) (sym e) (omega arith) where
+            more : (s t n : ℕ) → s < t → s * n + n ≤ t * n
+            more s t n l = let x : suc s * n ≤ t * n = mul-le-mul_right {m = suc s} {n = t} n l in omega arith
 
 -- the page that is named is one of the shard
-named : {layout : Layout} {v : Caller} {shard : ℕ} {rings : Option ℕ} {states : List PageState} (y : PageName) → KeepsPages layout v shard rings states → MayTouch v y → y.shard ≡ shard
+named : {layout : Layout} {v : Caller} {shard : ℕ} {rings : Option ℕ} {states : List PageState} (y : PageName)
+    → KeepsPages layout v shard rings states → MayTouch v y → y.shard ≡ shard
 named y k t = let e : Some y.shard ≡ Some _ = sym t.owned ∙ k.owned in cc
 
-pub may_come : {layout : Layout} {v : Caller} {shard : ℕ} {rings : Option ℕ} {states : List PageState} (came : Option Spot) (w : Caller) → KeepsPages layout v shard rings states → SlotCame came v w → MayCome shard states came
+pub may_come : {layout : Layout} {v : Caller} {shard : ℕ} {rings : Option ℕ} {states : List PageState}
+    (came : Option Spot) (w : Caller) → KeepsPages layout v shard rings states → SlotCame came v w
+    → MayCome shard states came
 may_come None w k s = tt
 may_come {layout} {v} {shard} {rings} {states} (Some x) w k s =
     let y : PageName = s.0 in
     let is : y.shard ≡ shard = named y k s.1 in
     let at : x.page ≡ heap_page v (shard_page shard y.page) = s.2 ∙ ap (λ z. z * pages_of v.view.shape + y.page) is in
-    let l : y.page < length states = let f = k.few in let t = s.1.page in omega arith in
-    (y.page, l, at ∙ ap (λ z. shard * z + y.page) (sym k.few), s.3, misses_has x.slot _ ((k.pages y.page l).mine x.slot ∙ (ap (λ z. (seen_page v z).mine x.slot) (sym at) ∙ s.4)))
+    let l : y.page < length states = let f = k.few in let t = s.1.page in omega arith in (
+      y.page,
+      l,
+      at ∙ ap (λ z. shard * z + y.page) (sym k.few),
+      s.3,
+      misses_has x.slot _
+          ((k.pages y.page l).mine x.slot ∙ (ap (λ z. (seen_page v z).mine x.slot) (sym at) ∙ s.4)),
+    )
 
 -- what is kept is known still
-pub record KeptAfter (layout : Layout) (v w : Caller) (shard : ℕ) (rings : Option ℕ) (old new : List PageState) (page : Option ℕ) : Type 0 where
+pub record KeptAfter (layout : Layout) (v w : Caller) (shard : ℕ) (rings : Option ℕ) (old new : List PageState)
+    (page : Option ℕ) : Type 0 where
   pub keeps : KeepsPages layout w shard rings new
   pub comes : SlotComes page (paged_of layout v shard (length old)) (paged_of layout w shard (length new))
 
-pub kept_after : {layout : Layout} {v : Caller} {shard : ℕ} {rings : Option ℕ} {states : List PageState} (came : Option Spot) (page : Option ℕ) (w : Caller) (after : List PageState) → KeepsPages layout v shard rings states → CallLeaves layout came v w → ViewStands layout w.view → Came shard came states page after → KeptAfter layout v w shard rings states after page
+pub kept_after : {layout : Layout} {v : Caller} {shard : ℕ} {rings : Option ℕ} {states : List PageState}
+    (came : Option Spot) (page : Option ℕ) (w : Caller) (after : List PageState)
+    → KeepsPages layout v shard rings states → CallLeaves layout came v w → ViewStands layout w.view
+    → Came shard came states page after → KeptAfter layout v w shard rings states after page
 kept_after {layout} {v} {shard} {rings} {states} None page w after k h stands c =
     let same = all_at v w shard h.same.shape h.slot in
     let size : length after ≡ length states = ap length c.1 in record {
@@ -55,7 +74,8 @@ kept_after {layout} {v} {shard} {rings} {states} None page w after k h stands c 
         owned = h.owned ∙ k.owned;
         bell = ap (λ (b : SeenBell). b.cursor) (h.bells shard) ∙ (k.bell ∙ rings_same v w shard rings h.same.shape);
         few = size ∙ (k.few ∙ ap pages_of (sym h.same.shape));
-        pages = λ p l. subst (λ (z : List PageState). KeepsPage (get_or z p blank_state) (page_of w shard p)) (sym c.1) (subst (KeepsPage (get_or states p blank_state)) (sym (same p)) (k.pages p (omega arith)));
+        pages = λ p l. subst (λ (z : List PageState). KeepsPage (get_or z p blank_state) (page_of w shard p)) (sym c.1)
+            (subst (KeepsPage (get_or states p blank_state)) (sym (same p)) (k.pages p (omega arith)));
       };
       comes = record {
         owned = h.owned;
@@ -64,14 +84,16 @@ kept_after {layout} {v} {shard} {rings} {states} None page w after k h stands c 
         shard = refl;
         count = size;
         inside = subst (λ (z : Option ℕ). IfSome z (λ p. p < length after)) (sym c.0) tt;
-        here = subst (λ (z : Option ℕ). IfSome z (λ p. (s : ℕ) × (page_of w shard p ≡ page_with (page_of v shard p) s))) (sym c.0) tt;
+        here = subst (λ (z : Option ℕ). IfSome z (λ p. (s : ℕ) × (page_of w shard p ≡ page_with (page_of v shard p) s)))
+            (sym c.0) tt;
         others = λ q ne. same q;
       };
     }
 kept_after {layout} {v} {shard} {rings} {states} (Some x) page w after k h stands c =
     let p : ℕ = c.0 in
     let place : x.page ≡ heap_page v (shard_page shard p) = c.3 ∙ ap (λ z. shard * z + p) k.few in
-    let on : OnPage (heap_page v (shard_page shard p)) (page_with (page_of v shard p) x.slot) v w = subst (λ z. OnPage z (page_with (seen_page v z) x.slot) v w) place h.slot.5 in
+    let on : OnPage (heap_page v (shard_page shard p)) (page_with (page_of v shard p) x.slot) v w = subst
+    (λ z. OnPage z (page_with (seen_page v z) x.slot) v w) place h.slot.5 in
     let st : PageState = with_local (get_or states p blank_state) x.slot in
     let here : page_of w shard p ≡ page_with (page_of v shard p) x.slot = here_at v w shard p h.same.shape on in
     let others = others_at v w shard p h.same.shape on in
@@ -82,10 +104,17 @@ kept_after {layout} {v} {shard} {rings} {states} (Some x) page w after k h stand
         owned = h.owned ∙ k.owned;
         bell = ap (λ (b : SeenBell). b.cursor) (h.bells shard) ∙ (k.bell ∙ rings_same v w shard rings h.same.shape);
         few = size ∙ (k.few ∙ ap pages_of (sym h.same.shape));
-        pages = λ q l. subst (λ (z : List PageState). KeepsPage (get_or z q blank_state) (page_of w shard q)) (sym c.4) (⊎_elim
-            (λ (is : q ≡ p). subst (λ z. KeepsPage (get_or (set states p st) z blank_state) (page_of w shard z)) (sym is)
-            (subst (λ (z : PageState). KeepsPage z (page_of w shard p)) (sym (get_or-set_same states p st blank_state c.2)) (subst (KeepsPage st) (sym here) (kept_with (get_or states p blank_state) (page_of v shard p) x.slot st.lists (k.pages p c.2) refl))))
-            (λ (ne : q ≢ p). subst (λ (z : PageState). KeepsPage z (page_of w shard q)) (sym (get_or-set_other states p q st blank_state ne)) (subst (KeepsPage (get_or states q blank_state)) (sym (others q ne)) (k.pages q (omega arith))))
+        pages = λ q l. subst (λ (z : List PageState). KeepsPage (get_or z q blank_state) (page_of w shard q)) (sym c.4)
+            (⊎_elim
+            (λ (is : q ≡ p). subst (λ z. KeepsPage (get_or (set states p st) z blank_state) (page_of w shard z))
+            (sym is)
+            (subst (λ (z : PageState). KeepsPage z (page_of w shard p))
+            (sym (get_or-set_same states p st blank_state c.2))
+            (subst (KeepsPage st) (sym here) (kept_with (get_or states p blank_state) (page_of v shard p) x.slot
+            st.lists (k.pages p c.2) refl))))
+            (λ (ne : q ≢ p). subst (λ (z : PageState). KeepsPage z (page_of w shard q))
+            (sym (get_or-set_other states p q st blank_state ne))
+            (subst (KeepsPage (get_or states q blank_state)) (sym (others q ne)) (k.pages q (omega arith))))
             (cases_eq q p));
       };
       comes = record {
@@ -95,7 +124,8 @@ kept_after {layout} {v} {shard} {rings} {states} (Some x) page w after k h stand
         shard = refl;
         count = size;
         inside = subst (λ (z : Option ℕ). IfSome z (λ p. p < length after)) (sym c.1) (let l = c.2 in omega arith);
-        here = subst (λ (z : Option ℕ). IfSome z (λ p. (s : ℕ) × (page_of w shard p ≡ page_with (page_of v shard p) s))) (sym c.1) (x.slot, here);
+        here = subst (λ (z : Option ℕ). IfSome z (λ p. (s : ℕ) × (page_of w shard p ≡ page_with (page_of v shard p) s)))
+            (sym c.1) (x.slot, here);
         others = λ q ne. others q (λ (is : q ≡ p). ne (c.1 ∙ ap Some (sym is)));
       };
     }

@@ -1,9 +1,11 @@
 -- Pages come back from the full queue, and the pages of a shard that is adopted come to their queues.
-use Rattle.std.proofs.Common.{◌≡◌, ◌≢◌, ℕ, zero, suc, ◌+◌, ◌-◌, ◌*◌, ◌<◌, ◌≤◌, ◌⊎◌, inl, inr, ⊎_elim, Bool, true, false, Option, Some, None, List, [], ◌∷◌, length, refl, ap, ◌∙◌, sym, subst, arith}
+use Rattle.std.proofs.Common.{◌≡◌, ◌≢◌, ℕ, zero, suc, ◌+◌, ◌-◌, ◌*◌, ◌<◌, ◌≤◌, ◌⊎◌, inl, inr, ⊎_elim, Bool, true, false}
+use Rattle.std.proofs.Common.{Option, Some, None, List, [], ◌∷◌, length, refl, ap, ◌∙◌, sym, subst, arith}
 use Rattle.std.proofs.lemmas.Bool.{cases_eq, cases_lt, false≢true}
 use Rattle.sh_queue.specs.Numbers.{has_number}
 use Rattle.sh_queue.specs.Queues.{PageQueues, EachOnce, class_queue, at_back, none_opened, one_more_segment}
-use Rattle.sh_queue.proofs.PageLaws.{has_number-from_without, has_number-at_back, full_opened, blank_opened, class_apart, EachOnce-at_back}
+use Rattle.sh_queue.proofs.PageLaws.{has_number-from_without, has_number-at_back, full_opened, blank_opened}
+use Rattle.sh_queue.proofs.PageLaws.{class_apart, EachOnce-at_back}
 use Rattle.sh_pass.specs.Owners.{SeenPage, page_with}
 use Rattle.sh_shard.specs.Pages.{Paged, page_at, seen_class, SlotComes}
 use Rattle.sh_shard.specs.Shards.{SortedPages, FullPage}
@@ -15,14 +17,32 @@ word_of g word is = ap (λ (o : Option ℕ). elim o as (λ _. ℕ) [ Some m ↦ 
 
 -- ---- what holds where pages may stand in the full queue that are not full
 
-pub but_none : (v : Paged) (q : PageQueues) (named : ℕ → Type 0) → SortedBut named v q → ((p : ℕ) → has_number p q.full ≡ true → ¬ named p) → SortedPages v q
-but_none v q named s none = record { all = s.all; later = s.later; classes = s.classes; full = λ p here. s.full p here (none p here); blank = s.blank }
+pub but_none : (v : Paged) (q : PageQueues) (named : ℕ → Type 0) → SortedBut named v q
+    → ((p : ℕ) → has_number p q.full ≡ true → ¬ named p) → SortedPages v q
+but_none v q named s none = record {
+  all = s.all;
+  later = s.later;
+  classes = s.classes;
+  full = λ p here. s.full p here
+      (none p here);
+  blank = s.blank;
+}
 
-pub but_fewer : (v : Paged) (q : PageQueues) (named named' : ℕ → Type 0) → SortedBut named v q → ((p : ℕ) → named p → named' p) → SortedBut named' v q
-but_fewer v q named named' s more = record { all = s.all; later = s.later; classes = s.classes; full = λ p here none. s.full p here (λ n. none (more p n)); word = s.word; blank = s.blank }
+pub but_fewer : (v : Paged) (q : PageQueues) (named named' : ℕ → Type 0) → SortedBut named v q
+    → ((p : ℕ) → named p → named' p) → SortedBut named' v q
+but_fewer v q named named' s more = record {
+  all = s.all;
+  later = s.later;
+  classes = s.classes;
+  full = λ p here none.
+      s.full p here (λ n. none (more p n));
+  word = s.word;
+  blank = s.blank;
+}
 
 -- work that changed no page's class
-pub but_classes : (v w : Paged) (q : PageQueues) → SortedPages v q → w.count ≡ v.count → ((p : ℕ) → (page_at w p).class ≡ (page_at v p).class)
+pub but_classes : (v w : Paged) (q : PageQueues) → SortedPages v q → w.count ≡ v.count
+    → ((p : ℕ) → (page_at w p).class ≡ (page_at v p).class)
     → (named : ℕ → Type 0) → ((p : ℕ) → ¬ named p → page_at w p ≡ page_at v p) → SortedBut named w q
 but_classes v w q s count class named others = record {
   all = s.all ∙ sym count;
@@ -30,23 +50,28 @@ but_classes v w q s count class named others = record {
   classes = λ c p here. class p ∙ s.classes c p here;
   full = λ p here none. subst FullPage (sym (others p none)) (s.full p here);
   word = λ p here. let f = s.full p here in
-      let e : seen_class (page_at w p) ≡ seen_class (page_at v p) = ap (λ (o : Option ℕ). elim o as (λ _. ℕ) [ Some m ↦ m | None ↦ 0 ]) (class p) in
+      let e : seen_class (page_at w p) ≡ seen_class (page_at v p) = ap
+      (λ (o : Option ℕ). elim o as (λ _. ℕ) [ Some m ↦ m | None ↦ 0 ]) (class p) in
       let a = f.classed in let b = f.few in (omega arith, omega arith);
   blank = λ p here. class p ∙ s.blank p here;
 }
 
 -- a slot came to be the owner's
-pub but_came : (came : Option ℕ) (v w : Paged) (q : PageQueues) → SortedPages v q → SlotComes came v w → SortedBut (λ p. came ≡ Some p) w q
-but_came came v w q s k = but_classes v w q s k.count (class came k) (λ p. came ≡ Some p) (λ p none. k.others p none) where
-  class : (came : Option ℕ) → SlotComes came v w → (p : ℕ) → (page_at w p).class ≡ (page_at v p).class
-  class None k p = ap (λ (g : SeenPage). g.class) (k.others p (λ e. let z : ⊥ = cc in z))
-  class (Some r) k p = ⊎_elim
-      (λ (is : r ≡ p). subst (λ z. (page_at w z).class ≡ (page_at v z).class) is (ap (λ (g : SeenPage). g.class) k.here.1))
-      (λ (other : r ≢ p). ap (λ (g : SeenPage). g.class) (k.others p (λ e. other (let z : r ≡ p = cc in z))))
-      (cases_eq r p)
+pub but_came : (came : Option ℕ) (v w : Paged) (q : PageQueues) → SortedPages v q → SlotComes came v w
+    → SortedBut (λ p. came ≡ Some p) w q
+but_came came v w q s k = but_classes v w q s k.count (class came k) (λ p. came ≡ Some p) (λ p none. k.others p none)
+  where
+    class : (came : Option ℕ) → SlotComes came v w → (p : ℕ) → (page_at w p).class ≡ (page_at v p).class
+    class None k p = ap (λ (g : SeenPage). g.class) (k.others p (λ e. let z : ⊥ = cc in z))
+    class (Some r) k p = ⊎_elim
+        (λ (is : r ≡ p). subst (λ z. (page_at w z).class ≡ (page_at v z).class) is
+        (ap (λ (g : SeenPage). g.class) k.here.1))
+        (λ (other : r ≢ p). ap (λ (g : SeenPage). g.class) (k.others p (λ e. other (let z : r ≡ p = cc in z))))
+        (cases_eq r p)
 
 -- page p was looked at, and went back where it was not full
-module _ (v : Paged) (q q' : PageQueues) (p : ℕ) (named named' : ℕ → Type 0) (s : SortedBut named v q) (once : EachOnce q) (fewer : (r : ℕ) → ¬ named' r → r ≢ p → ¬ named r) where
+module _ (v : Paged) (q q' : PageQueues) (p : ℕ) (named named' : ℕ → Type 0) (s : SortedBut named v q)
+    (once : EachOnce q) (fewer : (r : ℕ) → ¬ named' r → r ≢ p → ¬ named r) where
   stayed : q' ≡ q → (has_number p q.full ≡ false) ⊎ FullPage (page_at v p) → SortedBut named' v q'
   stayed is why = subst (SortedBut named' v) (sym is) (record {
     all = s.all;
@@ -54,7 +79,8 @@ module _ (v : Paged) (q q' : PageQueues) (p : ℕ) (named named' : ℕ → Type 
     classes = s.classes;
     full = λ r here none. ⊎_elim
         (λ (e : r ≡ p). ⊎_elim
-        (λ (no : has_number p q.full ≡ false). absurd (false≢true (sym no ∙ subst (λ z. has_number z q.full ≡ true) e here)))
+        (λ (no : has_number p q.full ≡ false). absurd (false≢true
+        (sym no ∙ subst (λ z. has_number z q.full ≡ true) e here)))
         (λ (f : FullPage (page_at v p)). subst (λ z. FullPage (page_at v z)) (sym e) f)
         why)
         (λ (other : r ≢ p). s.full r here (fewer r none other))
@@ -63,15 +89,19 @@ module _ (v : Paged) (q q' : PageQueues) (p : ℕ) (named named' : ℕ → Type 
     blank = s.blank;
   })
 
-  went : has_number p q.full ≡ true → q' ≡ at_back (seen_class (page_at v p) - 1) p q → (page_at v p).class ≡ Some (seen_class (page_at v p)) → SortedBut named' v q'
+  went : has_number p q.full ≡ true → q' ≡ at_back (seen_class (page_at v p) - 1) p q → (page_at v p).class
+      ≡ Some (seen_class (page_at v p)) → SortedBut named' v q'
   went here is class = subst (SortedBut named' v) (sym is) (record {
     all = s.all;
     later = s.later;
     classes = λ e r h. ⊎_elim
         (λ (t : has_number r (class_queue q e) ≡ true). s.classes e r t)
-        (λ (t : (e ≡ d) × (r ≡ p)). let P : ℕ × ℕ → Type 0 = λ z. (page_at v z.1).class ≡ Some (z.0 + 1) in subst P (λ i. (sym t.0 i, sym t.1 i)) (class ∙ ap (λ (z : ℕ). Some z) next))
-        (has_number-at_back d p q e r (let m = once.classes in let w = s.word p here in let w1 = w.1 in let w0 = w.0 in omega arith) h);
-    full = λ r h none. s.full r (has_number-from_without r p q.full h) (fewer r none (λ (e : r ≡ p). false≢true (sym gone ∙ subst (λ z. has_number z now.full ≡ true) e h)));
+        (λ (t : (e ≡ d) × (r ≡ p)). let P : ℕ × ℕ → Type 0 = λ z. (page_at v z.1).class ≡ Some (z.0 + 1)
+        in subst P (λ i. (sym t.0 i, sym t.1 i)) (class ∙ ap (λ (z : ℕ). Some z) next))
+        (has_number-at_back d p q e r (let m = once.classes in let w = s.word p here in let w1 = w.1 in let w0 = w.0
+        in omega arith) h);
+    full = λ r h none. s.full r (has_number-from_without r p q.full h)
+        (fewer r none (λ (e : r ≡ p). false≢true (sym gone ∙ subst (λ z. has_number z now.full ≡ true) e h)));
     word = λ r h. s.word r (has_number-from_without r p q.full h);
     blank = λ r h. s.blank r (has_number-from_without r p q.blank h);
   }) where
@@ -85,9 +115,11 @@ module _ (v : Paged) (q q' : PageQueues) (p : ℕ) (named named' : ℕ → Type 
     next = let w = s.word p here in let w0 = w.0 in omega arith
 
     gone : has_number p now.full ≡ false
-    gone = let w = s.word p here in let w1 = w.1 in let w0 = w.0 in (stands_at_back q p d once (omega arith) (full_opened p q once here)).0
+    gone = let w = s.word p here in let w1 = w.1 in let w0 = w.0 in
+        (stands_at_back q p d once (omega arith) (full_opened p q once here)).0
 
-  pub but_returned : (page_at v p).class ≡ Some (seen_class (page_at v p)) ⊎ (has_number p q.full ≡ false) → ReturnsPage p v q q' → SortedBut named' v q'
+  pub but_returned : (page_at v p).class ≡ Some (seen_class (page_at v p)) ⊎ (has_number p q.full ≡ false)
+      → ReturnsPage p v q q' → SortedBut named' v q'
   but_returned class why = ⊎_elim
       (λ (h : (q' ≡ q) × ((has_number p q.full ≡ false) ⊎ FullPage (page_at v p))). stayed h.0 h.1)
       (λ (h : (has_number p q.full ≡ true) × (q' ≡ at_back (seen_class (page_at v p) - 1) p q)). went h.0 h.1 (⊎_elim
@@ -100,20 +132,24 @@ module _ (v : Paged) (q q' : PageQueues) (p : ℕ) (named named' : ℕ → Type 
 pub classed_is : (g : SeenPage) → 0 < seen_class g → g.class ≡ Some (seen_class g)
 classed_is g some = go g.class refl some where
   go : (o : Option ℕ) → g.class ≡ o → 0 < seen_class g → g.class ≡ Some (seen_class g)
-  go None is l = let e : seen_class g ≡ 0 = ap (λ (o : Option ℕ). elim o as (λ _. ℕ) [ Some m ↦ m | None ↦ 0 ]) is in absurd (omega arith)
+  go None is l = let e : seen_class g ≡ 0 = ap (λ (o : Option ℕ). elim o as (λ _. ℕ) [ Some m ↦ m | None ↦ 0 ]) is
+      in absurd (omega arith)
   go (Some m) is l = is ∙ ap (λ z. Some z) (sym (word_of g m is))
 
 -- a page of the full queue has its word
-pub full_classed : (v : Paged) (q : PageQueues) (p : ℕ) (named : ℕ → Type 0) → SortedBut named v q → (page_at v p).class ≡ Some (seen_class (page_at v p)) ⊎ (has_number p q.full ≡ false)
+pub full_classed : (v : Paged) (q : PageQueues) (p : ℕ) (named : ℕ → Type 0) → SortedBut named v q → (page_at v p).class
+    ≡ Some (seen_class (page_at v p)) ⊎ (has_number p q.full ≡ false)
 full_classed v q p named s = go (has_number p q.full) refl where
-  go : (b : Bool) → has_number p q.full ≡ b → (page_at v p).class ≡ Some (seen_class (page_at v p)) ⊎ (has_number p q.full ≡ false)
+  go : (b : Bool) → has_number p q.full ≡ b → (page_at v p).class ≡ Some (seen_class (page_at v p))
+      ⊎ (has_number p q.full ≡ false)
   go true is = inl (classed_is (page_at v p) (s.word p is).0)
   go false is = inr is
 
 pub returns_opened : (p : ℕ) (v : Paged) (q q' : PageQueues) → ReturnsPage p v q q' → q'.opened ≡ q.opened
 returns_opened p v q q' k = ⊎_elim
     (λ (h : (q' ≡ q) × ((has_number p q.full ≡ false) ⊎ FullPage (page_at v p))). ap (λ (z : PageQueues). z.opened) h.0)
-    (λ (h : (has_number p q.full ≡ true) × (q' ≡ at_back (seen_class (page_at v p) - 1) p q)). ap (λ (z : PageQueues). z.opened) h.1)
+    (λ (h : (has_number p q.full ≡ true) × (q' ≡ at_back (seen_class (page_at v p) - 1) p q)). ap
+    (λ (z : PageQueues). z.opened) h.1)
     k
 
 -- ---- the pages of a shard that is adopted
@@ -131,19 +167,33 @@ blank_none segments = record { all = omega arith; classes = λ c p. none c p; fu
   none (suc (suc (suc (suc (suc (suc (suc zero))))))) p = refl
   none (suc (suc (suc (suc (suc (suc (suc (suc c)))))))) p = refl
 
-pub blank_more : (count : ℕ) (q q' : PageQueues) → AllBlank count q → q.unopened ≢ 0 → q' ≡ one_more_segment q → AllBlank count q'
-blank_more count q q' b some is = subst (AllBlank count) (sym is) (record { all = let a = b.all in let s = some_more q.unopened some in omega arith; classes = b.classes; full = b.full }) where
-  some_more : (n : ℕ) → n ≢ 0 → 1 ≤ n
-  some_more zero none = absurd (none refl)
-  some_more (suc n) none = omega arith
+pub blank_more : (count : ℕ) (q q' : PageQueues) → AllBlank count q → q.unopened ≢ 0 → q' ≡ one_more_segment q
+    → AllBlank count q'
+blank_more count q q' b some is = subst (AllBlank count) (sym is)
+    (record {
+      all = let a = b.all in let s = some_more q.unopened some
+          in omega arith;
+      classes = b.classes;
+      full = b.full;
+    }) where
+      some_more : (n : ℕ) → n ≢ 0 → 1 ≤ n
+      some_more zero none = absurd (none refl)
+      some_more (suc n) none = omega arith
 
 pub filed_none : (v : Paged) (q : PageQueues) → AllBlank v.count q → FiledBelow 0 v q
-filed_none v q b = record { all = b.all; classes = λ c p here. absurd (false≢true (sym (b.classes c p) ∙ here)); full = b.full; blank = λ p here below. absurd (omega arith) }
+filed_none v q b = record {
+  all = b.all;
+  classes = λ c p here. absurd (false≢true (sym (b.classes c p) ∙ here));
+  full =
+      b.full;
+  blank = λ p here below. absurd (omega arith);
+}
 
 below_next : (p k : ℕ) → p < k + 1 → (p ≡ k) ⊎ (p < k)
 below_next p k l = ⊎_elim (λ (h : p < k). inr h) (λ (h : k ≤ p). inl (omega arith)) (cases_lt p k)
 
-pub filed_blank : (k : ℕ) (v : Paged) (q : PageQueues) → FiledBelow k v q → (page_at v k).class ≡ Some 0 → FiledBelow (k + 1) v q
+pub filed_blank : (k : ℕ) (v : Paged) (q : PageQueues) → FiledBelow k v q → (page_at v k).class ≡ Some 0
+    → FiledBelow (k + 1) v q
 filed_blank k v q f is = record {
   all = f.all;
   classes = f.classes;
@@ -154,12 +204,14 @@ filed_blank k v q f is = record {
       (below_next p k below);
 }
 
-pub filed_more : (k word : ℕ) (v : Paged) (q q' : PageQueues) → FiledBelow k v q → EachOnce q → k < q.opened → (page_at v k).class ≡ Some word → word ≢ 0 → word ≤ 8 → q' ≡ at_back (word - 1) k q → FiledBelow (k + 1) v q'
+pub filed_more : (k word : ℕ) (v : Paged) (q q' : PageQueues) → FiledBelow k v q → EachOnce q → k < q.opened
+    → (page_at v k).class ≡ Some word → word ≢ 0 → word ≤ 8 → q' ≡ at_back (word - 1) k q → FiledBelow (k + 1) v q'
 filed_more k word v q q' f once inside class some few is = subst (FiledBelow (k + 1) v) (sym is) (record {
   all = f.all;
   classes = λ e r h. ⊎_elim
       (λ (t : has_number r (class_queue q e) ≡ true). f.classes e r t)
-      (λ (t : (e ≡ d) × (r ≡ k)). let P : ℕ × ℕ → Type 0 = λ z. (page_at v z.1).class ≡ Some (z.0 + 1) in subst P (λ i. (sym t.0 i, sym t.1 i)) (class ∙ ap (λ (z : ℕ). Some z) next))
+      (λ (t : (e ≡ d) × (r ≡ k)). let P : ℕ × ℕ → Type 0 = λ z. (page_at v z.1).class ≡ Some (z.0 + 1)
+      in subst P (λ i. (sym t.0 i, sym t.1 i)) (class ∙ ap (λ (z : ℕ). Some z) next))
       (has_number-at_back d k q e r (let m = once.classes in let z = less in omega arith) h);
   full = λ r. none r (has_number r now.full) refl;
   blank = λ r h below. ⊎_elim
@@ -190,7 +242,8 @@ filed_more k word v q q' f once inside class some few is = subst (FiledBelow (k 
   none r false e = e
   none r true e = absurd (false≢true (sym (f.full r) ∙ has_number-from_without r k q.full e))
 
-pub filed_all : (v : Paged) (q : PageQueues) (k : ℕ) → FiledBelow k v q → EachOnce q → q.opened ≤ k → ((p : ℕ) → q.opened ≤ p → p < v.count → (page_at v p).class ≡ Some 0) → SortedPages v q
+pub filed_all : (v : Paged) (q : PageQueues) (k : ℕ) → FiledBelow k v q → EachOnce q → q.opened ≤ k
+    → ((p : ℕ) → q.opened ≤ p → p < v.count → (page_at v p).class ≡ Some 0) → SortedPages v q
 filed_all v q k f once end later = record {
   all = f.all;
   later = later;

@@ -1,5 +1,6 @@
 -- What is read from the bell.
-use Rattle.std.proofs.Common.{◌≡◌, ◌≢◌, ℕ, zero, suc, ◌+◌, ◌-◌, ◌<◌, ◌≤◌, ◌==◌, ◌||◌, ◌⊎◌, inl, inr, ⊎_elim, Bool, true, false, Some, refl, ap, ◌∙◌, sym, subst, arith}
+use Rattle.std.proofs.Common.{◌≡◌, ◌≢◌, ℕ, zero, suc, ◌+◌, ◌-◌, ◌<◌, ◌≤◌, ◌==◌, ◌||◌, ◌⊎◌, inl, inr, ⊎_elim, Bool, true}
+use Rattle.std.proofs.Common.{false, Some, refl, ap, ◌∙◌, sym, subst, arith}
 use Rattle.std.proofs.lemmas.Bool.{cases_eq, false≢true}
 use Rattle.std.proofs.lemmas.Bool.Decides.{nat_tests}
 use Rattle.sh_queue.specs.Numbers.{has_number}
@@ -13,16 +14,33 @@ use Rattle.sh_shard.specs.Searches.{Heard, Hears}
 use Rattle.sh_shard.proofs.Sides.{aside_none, aside_then}
 
 pub hears_none : (c : ℕ) (o : Sharded) → Hears c false o o
-hears_none c o = record { aside = aside_none _; put = refl; log = refl; shard = refl; count = refl; classes = λ q. refl; page_takes = λ q. refl; page_met = λ q. refl; takes = refl; met = omega arith; pages = λ r q e. refl; queue = λ r q e. e }
+hears_none c o = record {
+  aside = aside_none _;
+  put = refl;
+  log = refl;
+  shard = refl;
+  count = refl;
+  classes = λ q. refl;
+  page_takes = λ q. refl;
+  page_met = λ q. refl;
+  takes = refl;
+  met = omega arith;
+  pages = λ r q e. refl;
+  queue = λ r q
+      e. e;
+}
 
-by_cases : (p : ℕ) {B : Type 0} (f : SeenPage → B) (o n : Paged) → BellReads p o n → f (page_at n p) ≡ f (page_at o p) → (q : ℕ) → f (page_at n q) ≡ f (page_at o q)
-by_cases p f o n b e q = ⊎_elim (λ (is : q ≡ p). subst (λ z. f (page_at n z) ≡ f (page_at o z)) (sym is) e) (λ (ne : q ≢ p). ap f (b.others q ne)) (cases_eq q p)
+by_cases : (p : ℕ) {B : Type 0} (f : SeenPage → B) (o n : Paged) → BellReads p o n → f (page_at n p) ≡ f (page_at o p)
+    → (q : ℕ) → f (page_at n q) ≡ f (page_at o q)
+by_cases p f o n b e q = ⊎_elim (λ (is : q ≡ p). subst (λ z. f (page_at n z) ≡ f (page_at o z)) (sym is) e)
+    (λ (ne : q ≢ p). ap f (b.others q ne)) (cases_eq q p)
 
 read_class : (p : ℕ) (o n : Paged) → BellReads p o n → (r : ℕ) → (page_at n r).class ≡ (page_at o r).class
 read_class p o n b r = by_cases p (λ g. g.class) o n b (ap (λ (g : SeenPage). g.class) b.here) r
 
 -- one page more
-pub hears_more : (c word : ℕ) (read read' : Bool) (o n m : Sharded) → c < 8 → Hears c read o n → EachOnce n.queues → Heard word n m → (read' ≡ false → (read ≡ false) × (word ≢ c + 1)) → Hears c read' o m
+pub hears_more : (c word : ℕ) (read read' : Bool) (o n m : Sharded) → c < 8 → Hears c read o n → EachOnce n.queues
+    → Heard word n m → (read' ≡ false → (read ≡ false) × (word ≢ c + 1)) → Hears c read' o m
 hears_more c word read read' o n m l h once d quiet = record {
   aside = aside_then h.aside d.reads.aside;
   put = d.reads.put ∙ h.put;
@@ -30,23 +48,31 @@ hears_more c word read read' o n m l h once d quiet = record {
   shard = d.reads.shard ∙ h.shard;
   count = d.reads.count ∙ h.count;
   classes = λ q. read_class d.page n.pages m.pages d.reads q ∙ h.classes q;
-  page_takes = λ q. by_cases d.page (λ g. g.takes) n.pages m.pages d.reads (ap (λ (g : SeenPage). g.takes) d.reads.here) q ∙ h.page_takes q;
-  page_met = λ q. by_cases d.page (λ g. g.met) n.pages m.pages d.reads (ap (λ (g : SeenPage). g.met) d.reads.here) q ∙ h.page_met q;
+  page_takes = λ q. by_cases d.page (λ g. g.takes) n.pages m.pages d.reads (ap (λ (g : SeenPage). g.takes) d.reads.here)
+      q ∙ h.page_takes q;
+  page_met = λ q. by_cases d.page (λ g. g.met) n.pages m.pages d.reads (ap (λ (g : SeenPage). g.met) d.reads.here) q
+      ∙ h.page_met q;
   takes = d.reads.takes ∙ h.takes;
   met = let a = h.met in let b = d.reads.met in omega arith;
   pages = λ r q e. let k = quiet r in d.reads.others q (λ (is : q ≡ d.page). k.1 (other q is e)) ∙ h.pages k.0 q e;
   queue = λ r q e. let k = quiet r in h.queue k.0 q (⊎_elim
       (λ (t : m.queues ≡ n.queues). sym (ap (λ (z : PageQueues). has_number q (class_queue z c)) t) ∙ e)
-      (λ (t : (m.queues ≡ at_back (word - 1) d.page n.queues) × (0 < word) × (word ≤ 8)). again q k.1 t.0 t.1 t.2 (sym (ap (λ (z : PageQueues). has_number q (class_queue z c)) t.0) ∙ e))
+      (λ (t : (m.queues ≡ at_back (word - 1) d.page n.queues) × (0 < word) × (word ≤ 8)). again q k.1 t.0 t.1 t.2
+      (sym (ap (λ (z : PageQueues). has_number q (class_queue z c)) t.0) ∙ e))
       d.queues);
 } where
   other : (q : ℕ) → q ≡ d.page → (page_at o.pages q).class ≡ Some (c + 1) → word ≡ c + 1
   other q is e =
-      let f : Some word ≡ Some (c + 1) = sym d.class ∙ (read_class d.page n.pages m.pages d.reads d.page ∙ (h.classes d.page ∙ (ap (λ z. (page_at o.pages z).class) (sym is) ∙ e))) in
+      let f : Some word ≡ Some (c + 1) = sym d.class ∙ (read_class d.page n.pages m.pages d.reads d.page
+      ∙ (h.classes d.page ∙ (ap (λ z. (page_at o.pages z).class) (sym is) ∙ e))) in
       let g : word ≡ c + 1 = cc in g
 
-  again : (q : ℕ) → word ≢ c + 1 → m.queues ≡ at_back (word - 1) d.page n.queues → 0 < word → word ≤ 8 → has_number q (class_queue (at_back (word - 1) d.page n.queues) c) ≡ true → has_number q (class_queue n.queues c) ≡ true
-  again q ne is some few e = ⊎_elim (λ (t : has_number q (class_queue n.queues c) ≡ true). t) (λ (t : (c ≡ word - 1) × (q ≡ d.page)). absurd (ne (let z = t.0 in omega arith))) (has_number-at_back (word - 1) d.page n.queues c q (let z = once.classes in omega arith) e)
+  again : (q : ℕ) → word ≢ c + 1 → m.queues ≡ at_back (word - 1) d.page n.queues → 0 < word → word ≤ 8
+      → has_number q (class_queue (at_back (word - 1) d.page n.queues) c) ≡ true → has_number q (class_queue n.queues c)
+      ≡ true
+  again q ne is some few e = ⊎_elim (λ (t : has_number q (class_queue n.queues c) ≡ true). t)
+      (λ (t : (c ≡ word - 1) × (q ≡ d.page)). absurd (ne (let z = t.0 in omega arith)))
+      (has_number-at_back (word - 1) d.page n.queues c q (let z = once.classes in omega arith) e)
 
 -- one page less is armed
 count_alike : (f g : ℕ → Bool) (p n : ℕ) → n ≤ p → ((q : ℕ) → q ≢ p → g q ≡ f q) → count_below g n ≡ count_below f n
@@ -55,10 +81,12 @@ count_alike f g p (suc n) l same =
     let x : if1 (g n) ≡ if1 (f n) = ap if1 (same n (λ e. absurd (omega arith))) in
     let z = count_alike f g p n (omega arith) same in omega arith
 
-count_less : (f g : ℕ → Bool) (p n : ℕ) → p < n → f p ≡ true → g p ≡ false → ((q : ℕ) → q ≢ p → g q ≡ f q) → count_below g n + 1 ≡ count_below f n
+count_less : (f g : ℕ → Bool) (p n : ℕ) → p < n → f p ≡ true → g p ≡ false → ((q : ℕ) → q ≢ p → g q ≡ f q)
+    → count_below g n + 1 ≡ count_below f n
 count_less f g p zero l a b same = absurd (omega arith)
 count_less f g p (suc n) l a b same = go (λ k. count_less f g p n k a b same) (cases_eq n p) where
-  go : (p < n → count_below g n + 1 ≡ count_below f n) → (n ≡ p) ⊎ (n ≢ p) → (if1 (g n) + count_below g n) + 1 ≡ if1 (f n) + count_below f n
+  go : (p < n → count_below g n + 1 ≡ count_below f n) → (n ≡ p) ⊎ (n ≢ p) → (if1 (g n) + count_below g n) + 1
+      ≡ if1 (f n) + count_below f n
   go rest (inl is) =
       let x : if1 (f n) ≡ 1 = ap if1 (ap f is ∙ a) in
       let y : if1 (g n) ≡ 0 = ap if1 (ap g is ∙ b) in
@@ -73,7 +101,9 @@ pub armed_less : (word : ℕ) (n m : Sharded) → Heard word n m → armed_pages
 armed_less word n m d =
     let size : m.pages.count ≡ n.pages.count = d.reads.count in
     ap (λ k. count_below (λ p. (page_at m.pages p).armed) k + 1) size
-    ∙ count_less (λ p. (page_at n.pages p).armed) (λ p. (page_at m.pages p).armed) d.page n.pages.count (let i = d.reads.inside in omega arith) d.reads.was (ap (λ (g : SeenPage). g.armed) d.reads.here) (λ q ne. ap (λ (g : SeenPage). g.armed) (d.reads.others q ne))
+    ∙ count_less (λ p. (page_at n.pages p).armed) (λ p. (page_at m.pages p).armed) d.page n.pages.count
+    (let i = d.reads.inside in omega arith) d.reads.was (ap (λ (g : SeenPage). g.armed) d.reads.here)
+    (λ q ne. ap (λ (g : SeenPage). g.armed) (d.reads.others q ne))
 
 count_few : (f : ℕ → Bool) (n : ℕ) → count_below f n ≤ n
 count_few f zero = omega arith
@@ -92,7 +122,8 @@ not_either a b word c e f = go a (sym e ∙ f) where
   go false h = (refl, λ k. false≢true (sym h ∙ (let z : (word == c + 1) ≡ true = grind (arith, nat_tests) in z)))
 
 -- the bell's cursor stopped
-pub hears_stops : (c : ℕ) (read : Bool) (o n m : Sharded) → Hears c read o n → m.queues ≡ n.queues → BellStops n.pages m.pages → Hears c read o m
+pub hears_stops : (c : ℕ) (read : Bool) (o n m : Sharded) → Hears c read o n → m.queues ≡ n.queues
+    → BellStops n.pages m.pages → Hears c read o m
 hears_stops c read o n m h same s = record {
   aside = aside_then h.aside s.aside;
   put = s.put ∙ h.put;

@@ -1,5 +1,7 @@
 -- What is kept of the pages stays what is known of them, step by step.
-use Rattle.std.proofs.Common.{◌≡◌, ◌≢◌, ℕ, zero, suc, ◌+◌, ◌-◌, ◌*◌, ◌/◌, ◌<◌, ◌≤◌, ◌==◌, ⊎_elim, Bool, true, false, cond, Option, Some, None, List, [], ◌++◌, length, get_or, set, IfSome, refl, ap, ◌∙◌, sym, subst, arith, append-nil}
+use Rattle.std.proofs.Common.{◌≡◌, ◌≢◌, ℕ, zero, suc, ◌+◌, ◌-◌, ◌*◌, ◌/◌, ◌<◌, ◌≤◌, ◌==◌, ⊎_elim, Bool, true, false}
+use Rattle.std.proofs.Common.{cond, Option, Some, None, List, [], ◌++◌, length, get_or, set, IfSome, refl, ap, ◌∙◌, sym}
+use Rattle.std.proofs.Common.{subst, arith, append-nil}
 use Rattle.std.specs.Prelude.{nat_lt}
 use Rattle.std.proofs.lemmas.List.{get_or-set_same, get_or-set_other, length-set, get_or_read}
 use Rattle.std.proofs.lemmas.Bool.{cases_eq}
@@ -19,7 +21,8 @@ use Rattle.sh_stack.specs.Stack.{link_item}
 use Rattle.sh_step.specs.Rows.{owned_by, own}
 use Rattle.sh_table.specs.Tales.{ViewStands}
 use Rattle.sh_pass.specs.Passes.{Caller}
-use Rattle.sh_pass.specs.Owners.{HasNothing, SeenPage, SeenBell, Aside, OwnerActs, OnPage, SamePages, SameBells, MayTouch, heap_page, own_body, seen_page, seen_bell, page_on_bell, bell_followed}
+use Rattle.sh_pass.specs.Owners.{HasNothing, SeenPage, SeenBell, Aside, OwnerActs, OnPage, SamePages, SameBells}
+use Rattle.sh_pass.specs.Owners.{MayTouch, heap_page, own_body, seen_page, seen_bell, page_on_bell, bell_followed}
 use Rattle.sh_shard.specs.declared.pages.PageState.{PageState}
 use Rattle.sh_shard.specs.Pages.{shard_page}
 use Rattle.sh_shard.specs.Kept.{KeepsPage, KeepsPages, blank_state, rings_at}
@@ -29,7 +32,8 @@ use Rattle.sh_shard.proofs.PageLaws.{misses_has}
 abbrev pub page_of : Caller → (shard p : ℕ) → SeenPage
 page_of v shard p = seen_page v (heap_page v (shard_page shard p))
 
-pub same_place : (v w : Caller) → w.view.shape ≡ v.view.shape → (shard p : ℕ) → heap_page w (shard_page shard p) ≡ heap_page v (shard_page shard p)
+pub same_place : (v w : Caller) → w.view.shape ≡ v.view.shape → (shard p : ℕ) → heap_page w (shard_page shard p)
+    ≡ heap_page v (shard_page shard p)
 same_place v w same shard p = ap (λ (z : Numbers). shard * pages_of z + p) same
 
 pub apart : (v : Caller) (shard p q : ℕ) → q ≢ p → heap_page v (shard_page shard q) ≢ heap_page v (shard_page shard p)
@@ -37,53 +41,80 @@ apart v shard p q ne e = ne (alike (shard * pages_of v.view.shape) q p e) where
   alike : (n q p : ℕ) → n + q ≡ n + p → q ≡ p
   alike n q p e = omega arith
 
-pub here_at : (v w : Caller) (shard p : ℕ) {g : SeenPage} → w.view.shape ≡ v.view.shape → OnPage (heap_page v (shard_page shard p)) g v w → page_of w shard p ≡ g
+pub here_at : (v w : Caller) (shard p : ℕ) {g : SeenPage} → w.view.shape ≡ v.view.shape
+    → OnPage (heap_page v (shard_page shard p)) g v w → page_of w shard p ≡ g
 here_at v w shard p same on = ap (seen_page w) (same_place v w same shard p) ∙ on.here
 
-pub others_at : (v w : Caller) (shard p : ℕ) {g : SeenPage} → w.view.shape ≡ v.view.shape → OnPage (heap_page v (shard_page shard p)) g v w → (q : ℕ) → q ≢ p → page_of w shard q ≡ page_of v shard q
-others_at v w shard p same on q ne = ap (seen_page w) (same_place v w same shard q) ∙ on.others (heap_page v (shard_page shard q)) (apart v shard p q ne)
+pub others_at : (v w : Caller) (shard p : ℕ) {g : SeenPage} → w.view.shape ≡ v.view.shape
+    → OnPage (heap_page v (shard_page shard p)) g v w → (q : ℕ) → q ≢ p → page_of w shard q ≡ page_of v shard q
+others_at v w shard p same on q ne = ap (seen_page w) (same_place v w same shard q)
+    ∙ on.others (heap_page v (shard_page shard q)) (apart v shard p q ne)
 
-pub all_at : (v w : Caller) (shard : ℕ) → w.view.shape ≡ v.view.shape → SamePages v w → (q : ℕ) → page_of w shard q ≡ page_of v shard q
+pub all_at : (v w : Caller) (shard : ℕ) → w.view.shape ≡ v.view.shape → SamePages v w → (q : ℕ) → page_of w shard q
+    ≡ page_of v shard q
 all_at v w shard same on q = ap (seen_page w) (same_place v w same shard q) ∙ on (heap_page v (shard_page shard q))
 
 -- a step on page p, which leaves the states of all others
-pub keeps_on : {layout : Layout} {v w : Caller} {shard : ℕ} {rings rings' : Option ℕ} {states after : List PageState} {es : List LogEntry} {n : ℕ} {g : SeenPage} (p : ℕ) → KeepsPages layout v shard rings states → OwnerActs Idle es n v w → (own_body w).bell_cursor ≡ rings_at w shard rings'
-    → OnPage (heap_page v (shard_page shard p)) g v w → ViewStands layout w.view → length after ≡ length states → KeepsPage (get_or after p blank_state) g → ((q : ℕ) → q ≢ p → get_or after q blank_state ≡ get_or states q blank_state) → KeepsPages layout w shard rings' after
-keeps_on {layout} {v} {w} {shard} {states = states} {after = after} {g = g} p k acts bells on stands size here others = record {
-  bell = bells;
-  stands = stands;
-  idle = acts.hand;
-  owned = acts.aside.owned ∙ k.owned;
-  few = size ∙ (k.few ∙ ap pages_of (sym acts.aside.same.shape));
-  pages = λ q l. ⊎_elim
-      (λ (is : q ≡ p). let P : ℕ → Type 0 = λ z. KeepsPage (get_or after z blank_state) (page_of w shard z) in subst P (sym is) (subst (KeepsPage (get_or after p blank_state)) (sym (here_at v w shard p acts.aside.same.shape on)) here))
-      (λ (ne : q ≢ p). let P : PageState × SeenPage → Type 0 = λ z. KeepsPage z.0 z.1 in
-      let h = others_at v w shard p acts.aside.same.shape on q ne in
-      subst P (λ i. (sym (others q ne) i, sym h i)) (k.pages q (subst (λ m. q < m) size l)))
-      (cases_eq q p);
-}
+pub keeps_on : {layout : Layout} {v w : Caller} {shard : ℕ} {rings rings' : Option ℕ} {states after : List PageState}
+    {es : List LogEntry} {n : ℕ} {g : SeenPage} (p : ℕ) → KeepsPages layout v shard rings states
+    → OwnerActs Idle es n v w → (own_body w).bell_cursor ≡ rings_at w shard rings'
+    → OnPage (heap_page v (shard_page shard p)) g v w → ViewStands layout w.view → length after ≡ length states
+    → KeepsPage (get_or after p blank_state) g → ((q : ℕ) → q ≢ p → get_or after q blank_state
+    ≡ get_or states q blank_state) → KeepsPages layout w shard rings' after
+keeps_on {layout} {v} {w} {shard} {states = states} {after = after} {g = g} p k acts bells on stands size here others =
+    record {
+      bell = bells;
+      stands = stands;
+      idle = acts.hand;
+      owned = acts.aside.owned ∙ k.owned;
+      few = size ∙ (k.few ∙ ap pages_of (sym acts.aside.same.shape));
+      pages = λ q l. ⊎_elim
+          (λ (is : q ≡ p). let P : ℕ → Type 0 = λ z. KeepsPage (get_or after z blank_state) (page_of w shard z)
+          in subst P (sym is) (subst (KeepsPage (get_or after p blank_state))
+          (sym (here_at v w shard p acts.aside.same.shape on)) here))
+          (λ (ne : q ≢ p). let P : PageState × SeenPage → Type 0 = λ z. KeepsPage z.0 z.1 in
+          let h = others_at v w shard p acts.aside.same.shape on q ne in
+          subst P (λ i. (sym (others q ne) i, sym h i)) (k.pages q (subst (λ m. q < m) size l)))
+          (cases_eq q p);
+    }
 
-pub rings_same : (v w : Caller) (shard : ℕ) (rings : Option ℕ) → w.view.shape ≡ v.view.shape → rings_at v shard rings ≡ rings_at w shard rings
+pub rings_same : (v w : Caller) (shard : ℕ) (rings : Option ℕ) → w.view.shape ≡ v.view.shape → rings_at v shard rings
+    ≡ rings_at w shard rings
 rings_same v w shard None same = refl
 rings_same v w shard (Some p) same = λ i. Some (shard * pages_of (sym same i) + p)
 
-bell_kept : {layout : Layout} {v w : Caller} {shard : ℕ} {rings : Option ℕ} {states : List PageState} → KeepsPages layout v shard rings states → Aside v w → SameBells layout v w → (own_body w).bell_cursor ≡ rings_at w shard rings
-bell_kept {v = v} {w = w} {shard = shard} {rings = rings} k aside same = ap (λ (b : SeenBell). b.cursor) (same shard) ∙ (k.bell ∙ rings_same v w shard rings aside.same.shape)
+bell_kept : {layout : Layout} {v w : Caller} {shard : ℕ} {rings : Option ℕ} {states : List PageState}
+    → KeepsPages layout v shard rings states → Aside v w → SameBells layout v w → (own_body w).bell_cursor
+    ≡ rings_at w shard rings
+bell_kept {v = v} {w = w} {shard = shard} {rings = rings} k aside same = ap (λ (b : SeenBell). b.cursor) (same shard)
+    ∙ (k.bell ∙ rings_same v w shard rings aside.same.shape)
 
-pub keeps_set : {layout : Layout} {v w : Caller} {shard : ℕ} {rings : Option ℕ} {states : List PageState} {es : List LogEntry} {n : ℕ} {g : SeenPage} (p : ℕ) (st : PageState) → KeepsPages layout v shard rings states → OwnerActs Idle es n v w → SameBells layout v w → OnPage (heap_page v (shard_page shard p)) g v w → ViewStands layout w.view
+pub keeps_set : {layout : Layout} {v w : Caller} {shard : ℕ} {rings : Option ℕ} {states : List PageState}
+    {es : List LogEntry} {n : ℕ} {g : SeenPage} (p : ℕ) (st : PageState) → KeepsPages layout v shard rings states
+    → OwnerActs Idle es n v w → SameBells layout v w → OnPage (heap_page v (shard_page shard p)) g v w
+    → ViewStands layout w.view
     → p < length states → KeepsPage st g → KeepsPages layout w shard rings (set states p st)
 keeps_set {states = states} {g = g} p st k acts bells on stands l a =
-    keeps_on p k acts (bell_kept k acts.aside bells) on stands (length-set states p st) (subst (λ (z : PageState). KeepsPage z g) (sym (get_or-set_same states p st blank_state l)) a) (λ q ne. get_or-set_other states p q st blank_state ne)
+    keeps_on p k acts (bell_kept k acts.aside bells) on stands (length-set states p st)
+    (subst (λ (z : PageState). KeepsPage z g) (sym (get_or-set_same states p st blank_state l)) a)
+    (λ q ne. get_or-set_other states p q st blank_state ne)
 
-pub keeps_same : {layout : Layout} {v w : Caller} {shard : ℕ} {rings : Option ℕ} {states : List PageState} {es : List LogEntry} {n : ℕ} {g : SeenPage} (p : ℕ) → KeepsPages layout v shard rings states → OwnerActs Idle es n v w → SameBells layout v w → OnPage (heap_page v (shard_page shard p)) g v w → ViewStands layout w.view
+pub keeps_same : {layout : Layout} {v w : Caller} {shard : ℕ} {rings : Option ℕ} {states : List PageState}
+    {es : List LogEntry} {n : ℕ} {g : SeenPage} (p : ℕ) → KeepsPages layout v shard rings states
+    → OwnerActs Idle es n v w → SameBells layout v w → OnPage (heap_page v (shard_page shard p)) g v w
+    → ViewStands layout w.view
     → KeepsPage (get_or states p blank_state) g → KeepsPages layout w shard rings states
 keeps_same p k acts bells on stands a = keeps_on p k acts (bell_kept k acts.aside bells) on stands refl a (λ q ne. refl)
 
 -- what the code has in hand of a page
-pub state_kept : {layout : Layout} {v : Caller} {shard : ℕ} {rings : Option ℕ} {states : List PageState} (p : ℕ) (st : PageState) → KeepsPages layout v shard rings states → p < length states → st ≡ get_or states p st → KeepsPage st (page_of v shard p)
-state_kept {v = v} {shard = shard} {states = states} p st k l e = subst (λ (z : PageState). KeepsPage z (page_of v shard p)) (sym (get_or_read states p st l e blank_state)) (k.pages p l)
+pub state_kept : {layout : Layout} {v : Caller} {shard : ℕ} {rings : Option ℕ} {states : List PageState} (p : ℕ)
+    (st : PageState) → KeepsPages layout v shard rings states → p < length states → st ≡ get_or states p st
+    → KeepsPage st (page_of v shard p)
+state_kept {v = v} {shard = shard} {states = states} p st k l e = subst
+    (λ (z : PageState). KeepsPage z (page_of v shard p)) (sym (get_or_read states p st l e blank_state)) (k.pages p l)
 
-pub may_touch : {layout : Layout} {v : Caller} {shard : ℕ} {rings : Option ℕ} {states : List PageState} (p : ℕ) → KeepsPages layout v shard rings states → p < length states → MayTouch v (shard_page shard p)
+pub may_touch : {layout : Layout} {v : Caller} {shard : ℕ} {rings : Option ℕ} {states : List PageState} (p : ℕ)
+    → KeepsPages layout v shard rings states → p < length states → MayTouch v (shard_page shard p)
 may_touch p k l = record { idle = k.idle; owned = k.owned; page = let f = k.few in omega arith }
 
 -- what stands where the cursor is followed
@@ -91,7 +122,9 @@ pub record Ready (st : PageState) (s : ℕ) : Type 0 where
   pub small : s < 48
   pub apart : Misses s (st.lists.free ++ st.lists.local)
 
-pub ready : {layout : Layout} {v : Caller} {shard : ℕ} {rings : Option ℕ} {states : List PageState} (p s : ℕ) (st : PageState) → KeepsPages layout v shard rings states → p < length states → st ≡ get_or states p st → (page_of v shard p).cursor ≡ Some s → Ready st s
+pub ready : {layout : Layout} {v : Caller} {shard : ℕ} {rings : Option ℕ} {states : List PageState} (p s : ℕ)
+    (st : PageState) → KeepsPages layout v shard rings states → p < length states → st ≡ get_or states p st
+    → (page_of v shard p).cursor ≡ Some s → Ready st s
 ready {v = v} {shard = shard} p s st k l e cursor =
     let a = state_kept p st k l e in
     let c = k.stands.owner.cursors (heap_page v (shard_page shard p)) s cursor in record {
@@ -102,20 +135,26 @@ ready {v = v} {shard = shard} p s st k l e cursor =
 -- ---- the bell
 
 -- steps that leave each page as it was
-pub keeps_pages : {layout : Layout} {v w : Caller} {shard : ℕ} {rings rings' : Option ℕ} {states : List PageState} {es : List LogEntry} {n : ℕ} → KeepsPages layout v shard rings states → OwnerActs Idle es n v w → (own_body w).bell_cursor ≡ rings_at w shard rings' → SamePages v w → ViewStands layout w.view → KeepsPages layout w shard rings' states
+pub keeps_pages : {layout : Layout} {v w : Caller} {shard : ℕ} {rings rings' : Option ℕ} {states : List PageState}
+    {es : List LogEntry} {n : ℕ} → KeepsPages layout v shard rings states → OwnerActs Idle es n v w
+    → (own_body w).bell_cursor ≡ rings_at w shard rings' → SamePages v w → ViewStands layout w.view
+    → KeepsPages layout w shard rings' states
 keeps_pages {v = v} {w = w} {shard = shard} {states = states} k acts bells pages stands = record {
   stands = stands;
   idle = acts.hand;
   owned = acts.aside.owned ∙ k.owned;
   bell = bells;
   few = k.few ∙ ap pages_of (sym acts.aside.same.shape);
-  pages = λ p l. subst (KeepsPage (get_or states p blank_state)) (sym (all_at v w shard acts.aside.same.shape pages p)) (k.pages p l);
+  pages = λ p l. subst (KeepsPage (get_or states p blank_state)) (sym (all_at v w shard acts.aside.same.shape pages p))
+      (k.pages p l);
 }
 
 -- a word of the bell names a page of the shard by its number there
-pub rung_at : (v w : Caller) (shard n : ℕ) (b : ℕ → Option ℕ) (k : ℕ) → w.view.shape ≡ v.view.shape → b n ≡ cond (nat_lt n k) None (Some (n - k)) → page_on_bell v shard k n ≡ rings_at w shard (b n)
+pub rung_at : (v w : Caller) (shard n : ℕ) (b : ℕ → Option ℕ) (k : ℕ) → w.view.shape ≡ v.view.shape → b n
+    ≡ cond (nat_lt n k) None (Some (n - k)) → page_on_bell v shard k n ≡ rings_at w shard (b n)
 rung_at v w shard n b k same e = go (nat_lt n k) ∙ ap (rings_at w shard) (sym e) where
-  go : (t : Bool) → cond t None (Some (shard * pages_of v.view.shape + (n - k))) ≡ rings_at w shard (cond t None (Some (n - k)))
+  go : (t : Bool) → cond t None (Some (shard * pages_of v.view.shape + (n - k)))
+      ≡ rings_at w shard (cond t None (Some (n - k)))
   go true = refl
   go false = λ i. Some (shard * pages_of (sym same i) + (n - k))
 
@@ -130,43 +169,69 @@ pub record AtBell (v : Caller) (shard p : ℕ) (states : List PageState) : Type 
   pub cursor : (own_body v).bell_cursor ≡ Some (heap_page v (shard_page shard p))
 
 below_pages : (shard p n : ℕ) → (shard * n + p) / n ≡ shard → 0 < n → p < n
-below_pages shard p n e some = let d = lt-div-mul-add {a = shard * n + p} {b = n} some in let f : (shard * n + p) / n * n ≡ shard * n = ap (λ z. z * n) e in omega arith
+below_pages shard p n e some = let d = lt-div-mul-add {a = shard * n + p} {b = n} some
+    in let f : (shard * n + p) / n * n ≡ shard * n = ap (λ z. z * n) e in omega arith
 
 within : (p shard n shards k : ℕ) → (shard * n + p) / n ≡ shard → k ≡ n → shard * n + p < shards * n → p < k
 within p shard zero shards k e size l = absurd (omega arith)
 within p shard (suc n) shards k e size l = let z = below_pages shard p (suc n) e (omega arith) in omega arith
 
-pub at_bell : {layout : Layout} {v : Caller} {shard : ℕ} {rings : Option ℕ} {states : List PageState} (p : ℕ) → KeepsPages layout v shard rings states → rings ≡ Some p → AtBell v shard p states
+pub at_bell : {layout : Layout} {v : Caller} {shard : ℕ} {rings : Option ℕ} {states : List PageState} (p : ℕ)
+    → KeepsPages layout v shard rings states → rings ≡ Some p → AtBell v shard p states
 at_bell {layout} {v} {shard} {rings} {states} p k is =
-    let cursor : (own_body v).bell_cursor ≡ Some (heap_page v (shard_page shard p)) = k.bell ∙ ap (rings_at v shard) is in
+    let cursor : (own_body v).bell_cursor ≡ Some (heap_page v (shard_page shard p)) = k.bell
+    ∙ ap (rings_at v shard) is in
     let b = k.stands.owner.bell (heap_page v (shard_page shard p)) cursor in
     let plan = plan_of layout v.view.shape in
-    let own_is : (shard == home plan (heap_page v (shard_page shard p))) ≡ true = sym (ap (λ (z : Option ℕ). owned_by plan z (heap_page v (shard_page shard p))) k.owned) ∙ b.0 in
+    let own_is : (shard == home plan (heap_page v (shard_page shard p)))
+    ≡ true = sym (ap (λ (z : Option ℕ). owned_by plan z (heap_page v (shard_page shard p))) k.owned) ∙ b.0 in
     let home_is : shard ≡ home plan (heap_page v (shard_page shard p)) = grind (arith, nat_tests) in
-    record { inside = within p shard (pages_of v.view.shape) v.view.shape.shards (length states) (sym (home_div plan (heap_page v (shard_page shard p))) ∙ sym home_is) k.few b.1; armed = b.2; cursor = cursor }
+    record {
+      inside = within p shard (pages_of v.view.shape) v.view.shape.shards (length states)
+          (sym (home_div plan (heap_page v (shard_page shard p))) ∙ sym home_is) k.few b.1;
+      armed = b.2;
+      cursor = cursor;
+    }
 
 -- the page that was read from the bell is no longer armed, and the bell goes on
-pub keeps_bell : {layout : Layout} {v w : Caller} {shard : ℕ} {rings : Option ℕ} {states : List PageState} {es : List LogEntry} {m : ℕ} {g : SeenPage} (p n : ℕ) (rings' : Option ℕ) (st : PageState) → KeepsPages layout v shard rings states → OwnerActs Idle es m v w
-    → seen_bell layout w shard ≡ bell_followed v shard n (seen_bell layout v shard) → OnPage (heap_page v (shard_page shard p)) g v w → ViewStands layout w.view → p < length states → (n ≡ 0 → ⊥) → rings' ≡ link_item n → KeepsPage st g → KeepsPages layout w shard rings' (set states p st)
-keeps_bell {layout} {v = v} {w = w} {shard = shard} {states = states} {g = g} p n rings' st k acts bell on stands l some next a =
+pub keeps_bell : {layout : Layout} {v w : Caller} {shard : ℕ} {rings : Option ℕ} {states : List PageState}
+    {es : List LogEntry} {m : ℕ} {g : SeenPage} (p n : ℕ) (rings' : Option ℕ) (st : PageState)
+    → KeepsPages layout v shard rings states → OwnerActs Idle es m v w
+    → seen_bell layout w shard ≡ bell_followed v shard n (seen_bell layout v shard)
+    → OnPage (heap_page v (shard_page shard p)) g v w → ViewStands layout w.view → p < length states → (n ≡ 0 → ⊥)
+    → rings' ≡ link_item n → KeepsPage st g → KeepsPages layout w shard rings' (set states p st)
+keeps_bell {layout} {v = v} {w = w} {shard = shard} {states = states} {g = g} p n rings' st k acts bell on stands l some
+    next a =
     let e : (n == 0) ≡ false = grind (arith, nat_tests) in
     let b : SeenBell = seen_bell layout v shard in
-    let cursor : (bell_followed v shard n b).cursor ≡ page_on_bell v shard 2 n = ap (λ t. (cond t (record b { met = b.met + 1 }) (record b { cursor = page_on_bell v shard 2 n })).cursor) e in
-    keeps_on p k acts (ap (λ (z : SeenBell). z.cursor) bell ∙ (cursor ∙ (rung_at v w shard n link_item 2 acts.aside.same.shape refl ∙ ap (rings_at w shard) (sym next)))) on stands (length-set states p st) (subst (λ (z : PageState). KeepsPage z g) (sym (get_or-set_same states p st blank_state l)) a) (λ q ne. get_or-set_other states p q st blank_state ne)
+    let cursor : (bell_followed v shard n b).cursor ≡ page_on_bell v shard 2 n = ap
+    (λ t. (cond t (record b { met = b.met + 1 }) (record b { cursor = page_on_bell v shard 2 n })).cursor) e in
+    keeps_on p k acts (ap (λ (z : SeenBell). z.cursor) bell ∙
+    (cursor ∙ (rung_at v w shard n link_item 2 acts.aside.same.shape refl ∙ ap (rings_at w shard) (sym next)))) on
+    stands (length-set states p st) (subst (λ (z : PageState). KeepsPage z g)
+    (sym (get_or-set_same states p st blank_state l)) a) (λ q ne. get_or-set_other states p q st blank_state ne)
 
 -- the link at the bell's cursor was not written
-pub keeps_bell_waiting : {layout : Layout} {v w : Caller} {shard : ℕ} {rings : Option ℕ} {states : List PageState} {es : List LogEntry} {m : ℕ} {g : SeenPage} (p n : ℕ) → KeepsPages layout v shard rings states → OwnerActs Idle es m v w
-    → seen_bell layout w shard ≡ bell_followed v shard n (seen_bell layout v shard) → OnPage (heap_page v (shard_page shard p)) g v w → ViewStands layout w.view → n ≡ 0 → KeepsPage (get_or states p blank_state) g → KeepsPages layout w shard rings states
+pub keeps_bell_waiting : {layout : Layout} {v w : Caller} {shard : ℕ} {rings : Option ℕ} {states : List PageState}
+    {es : List LogEntry} {m : ℕ} {g : SeenPage} (p n : ℕ) → KeepsPages layout v shard rings states
+    → OwnerActs Idle es m v w
+    → seen_bell layout w shard ≡ bell_followed v shard n (seen_bell layout v shard)
+    → OnPage (heap_page v (shard_page shard p)) g v w → ViewStands layout w.view → n ≡ 0
+    → KeepsPage (get_or states p blank_state) g → KeepsPages layout w shard rings states
 keeps_bell_waiting {layout} {v = v} {w = w} {shard = shard} {rings = rings} p n k acts bell on stands none a =
     let e : (n == 0) ≡ true = grind (arith, nat_tests) in
     let b : SeenBell = seen_bell layout v shard in
-    let cursor : (bell_followed v shard n b).cursor ≡ b.cursor = ap (λ t. (cond t (record b { met = b.met + 1 }) (record b { cursor = page_on_bell v shard 2 n })).cursor) e in
-    keeps_on p k acts (ap (λ (z : SeenBell). z.cursor) bell ∙ (cursor ∙ (k.bell ∙ rings_same v w shard rings acts.aside.same.shape))) on stands refl a (λ q ne. refl)
+    let cursor : (bell_followed v shard n b).cursor ≡ b.cursor = ap
+    (λ t. (cond t (record b { met = b.met + 1 }) (record b { cursor = page_on_bell v shard 2 n })).cursor) e in
+    keeps_on p k acts (ap (λ (z : SeenBell). z.cursor) bell ∙
+    (cursor ∙ (k.bell ∙ rings_same v w shard rings acts.aside.same.shape))) on stands refl a (λ q ne. refl)
 
 -- a cursor that a step left is at a slot of the page
-pub small_cursor : {layout : Layout} {v w : Caller} {q : ℕ} {g : SeenPage} (c : Option ℕ) → g.cursor ≡ c → OnPage q g v w → ViewStands layout w.view → IfSome c (λ s. s < 48)
+pub small_cursor : {layout : Layout} {v w : Caller} {q : ℕ} {g : SeenPage} (c : Option ℕ) → g.cursor ≡ c
+    → OnPage q g v w → ViewStands layout w.view → IfSome c (λ s. s < 48)
 small_cursor None e on stands = tt
-small_cursor {q = q} (Some s) e on stands = let h = stands.owner.cursors q s (ap (λ (z : SeenPage). z.cursor) on.here ∙ e) in h.2
+small_cursor {q = q} (Some s) e on stands = let h = stands.owner.cursors q s
+    (ap (λ (z : SeenPage). z.cursor) on.here ∙ e) in h.2
 
 slots_below : (c s : ℕ) → (c ≡ 0 → ⊥) → s < slots_under c → s < slots (c - 1)
 slots_below c s some l =
@@ -177,18 +242,25 @@ slots_below c s some l =
       go false e = refl
 
 -- a slot of its own is one of the page's class
-pub below_class : {layout : Layout} {v : Caller} {shard : ℕ} {rings : Option ℕ} {states : List PageState} (p : ℕ) (st : PageState) → KeepsPages layout v shard rings states → KeepsPage st (page_of v shard p) → (st.class_word ≡ 0 → ⊥) → (s : ℕ) → (page_of v shard p).mine s ≡ true → s < slots (st.class_word - 1)
-below_class {v = v} {shard = shard} p st k a some s h = slots_below st.class_word s some (k.stands.owner.mine_below (record { page = heap_page v (shard_page shard p); slot = s }) st.class_word h a.class)
+pub below_class : {layout : Layout} {v : Caller} {shard : ℕ} {rings : Option ℕ} {states : List PageState} (p : ℕ)
+    (st : PageState) → KeepsPages layout v shard rings states → KeepsPage st (page_of v shard p)
+    → (st.class_word ≡ 0 → ⊥) → (s : ℕ) → (page_of v shard p).mine s ≡ true → s < slots (st.class_word - 1)
+below_class {v = v} {shard = shard} p st k a some s h = slots_below st.class_word s some
+    (k.stands.owner.mine_below (record { page = heap_page v (shard_page shard p); slot = s }) st.class_word h a.class)
 
 -- ---- a shard of which nothing is left
 
-place_of : {layout : Layout} {v : Caller} {shard : ℕ} {rings : Option ℕ} {states : List PageState} → KeepsPages layout v shard rings states → (q : ℕ) → own (plan_of layout v.view.shape) (own_body v) q ≡ true → q < v.view.shape.shards * pages_of v.view.shape → (p : ℕ) × (p < length states) × (heap_page v (shard_page shard p) ≡ q)
+place_of : {layout : Layout} {v : Caller} {shard : ℕ} {rings : Option ℕ} {states : List PageState}
+    → KeepsPages layout v shard rings states → (q : ℕ) → own (plan_of layout v.view.shape) (own_body v) q ≡ true
+    → q < v.view.shape.shards * pages_of v.view.shape → (p : ℕ) × (p < length states)
+    × (heap_page v (shard_page shard p) ≡ q)
 place_of {layout} {v} {shard} {states = states} k q mine l =
     let plan = plan_of layout v.view.shape in
     let own_is : (shard == home plan q) ≡ true = sym (ap (λ (z : Option ℕ). owned_by plan z q) k.owned) ∙ mine in
     let home_is : shard ≡ home plan q = grind (arith, nat_tests) in
     go (pages_of v.view.shape) k.few l (sym (home_div plan q) ∙ sym home_is) where
-      go : (n : ℕ) → length states ≡ n → q < v.view.shape.shards * n → q / n ≡ shard → (p : ℕ) × (p < length states) × (shard * n + p ≡ q)
+      go : (n : ℕ) → length states ≡ n → q < v.view.shape.shards * n → q / n ≡ shard → (p : ℕ) × (p < length states)
+          × (shard * n + p ≡ q)
       go zero size l e = absurd (omega arith)
       go (suc n) size l e =
           let low = div-mul-le_self q (suc n) in
@@ -196,9 +268,17 @@ place_of {layout} {v} {shard} {states = states} k q mine l =
           let f : q / suc n * suc n ≡ shard * suc n = ap (λ z. z * suc n) e in
           (q - shard * suc n, omega arith, omega arith)
 
-pub nothing_left : {layout : Layout} {v : Caller} {shard : ℕ} {rings : Option ℕ} {states : List PageState} → KeepsPages layout v shard rings states → ((p : ℕ) → p < length states → HasNothing (page_of v shard p)) → (q : ℕ) → HasNothing (seen_page v q)
-nothing_left {layout} {v} {shard} {states = states} k none q = record { mine = λ s. mine s ((seen_page v q).mine s) refl; cursor = cursor (seen_page v q).cursor refl; armed = armed (seen_page v q).armed refl } where
-  at : own (plan_of layout v.view.shape) (own_body v) q ≡ true → q < v.view.shape.shards * pages_of v.view.shape → HasNothing (seen_page v q)
+pub nothing_left : {layout : Layout} {v : Caller} {shard : ℕ} {rings : Option ℕ} {states : List PageState}
+    → KeepsPages layout v shard rings states → ((p : ℕ) → p < length states → HasNothing (page_of v shard p)) → (q : ℕ)
+    → HasNothing (seen_page v q)
+nothing_left {layout} {v} {shard} {states = states} k none q = record {
+  mine = λ s. mine s ((seen_page v q).mine s) refl;
+  cursor = cursor (seen_page v q).cursor refl;
+  armed = armed
+      (seen_page v q).armed refl;
+} where
+  at : own (plan_of layout v.view.shape) (own_body v) q ≡ true → q < v.view.shape.shards * pages_of v.view.shape
+      → HasNothing (seen_page v q)
   at o l = let x = place_of k q o l in subst (λ z. HasNothing (seen_page v z)) x.2 (none x.0 x.1)
 
   mine : (s : ℕ) (b : Bool) → (seen_page v q).mine s ≡ b → b ≡ false
@@ -215,11 +295,19 @@ nothing_left {layout} {v} {shard} {states = states} k none q = record { mine = �
 
 -- ---- two steps that put a slot
 
-pub two_acts : {u v w : Caller} {h k : Hand} → OwnerActs h [] 1 u v → OwnerActs k [] 1 v w → k ≡ Idle → OwnerActs Idle [] 2 u w
+pub two_acts : {u v w : Caller} {h k : Hand} → OwnerActs h [] 1 u v → OwnerActs k [] 1 v w → k ≡ Idle
+    → OwnerActs Idle [] 2 u w
 two_acts {u} {v} g h idle = record {
   aside = record {
     heap = h.aside.heap ∙ g.aside.heap;
-    same = record { shape = h.aside.same.shape ∙ g.aside.same.shape; pass = h.aside.same.pass ∙ g.aside.same.pass; told = h.aside.same.told ∙ g.aside.same.told; orders = h.aside.same.orders ∙ g.aside.same.orders };
+    same = record {
+      shape = h.aside.same.shape ∙ g.aside.same.shape;
+      pass = h.aside.same.pass
+          ∙ g.aside.same.pass;
+      told = h.aside.same.told ∙ g.aside.same.told;
+      orders = h.aside.same.orders
+          ∙ g.aside.same.orders;
+    };
     owned = h.aside.owned ∙ g.aside.owned;
     holds = h.aside.holds ∙ g.aside.holds;
   };

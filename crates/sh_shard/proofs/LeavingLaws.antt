@@ -1,17 +1,35 @@
 -- Leaving a shard: what is collected, what is put back, and what is left.
-use Rattle.std.proofs.Common.{◌≡◌, ◌≢◌, ℕ, zero, suc, ◌+◌, ◌<◌, ◌≤◌, ◌==◌, ◌&&◌, ◌⊎◌, inl, inr, ⊎_elim, Bool, true, false, cond, Option, Some, None, MatchOption, MatchBool, List, [], ◌++◌, refl, ap, ◌∙◌, sym, subst, arith, append-nil}
+use Rattle.std.proofs.Common.{◌≡◌, ◌≢◌, ℕ, zero, suc, ◌+◌, ◌<◌, ◌≤◌, ◌==◌, ◌&&◌, ◌⊎◌, inl, inr, ⊎_elim, Bool, true}
+use Rattle.std.proofs.Common.{false, cond, Option, Some, None, MatchOption, MatchBool, List, [], ◌++◌, refl, ap, ◌∙◌}
+use Rattle.std.proofs.Common.{sym, subst, arith, append-nil}
 use Rattle.std.specs.Prelude.{not}
 use Rattle.std.proofs.lemmas.Bool.{cases_eq, false≢true}
 use Rattle.std.proofs.lemmas.Bool.Decides.{nat_tests}
 use Rattle.sh_step.specs.Collections.{if1}
 use Rattle.sh_pass.specs.Passes.{Caller}
 use Rattle.sh_pass.specs.Owners.{SeenPage, SeenBell, Aside, HasNothing, page_without}
-use Rattle.sh_shard.specs.Pages.{Paged, page_at, count_below, own_slots, armed_pages, CursorStands, NothingMine, WaitsSince, WorksOn, TakesPage, CursorStops, BellTakes, BellStops, BellReads, ShardLeft}
-use Rattle.sh_shard.specs.Leaving.{Collecting, BellFollowed, BellEmptied, PageEmptied, EmptiesPage, PagesEmptied, AtRest, AllAtRest, NotAtRest, RestsNot, Waiting, PutsOne, PutsBack, PutsAllBack}
+use Rattle.sh_shard.specs.Pages.{Paged, page_at, count_below, own_slots, armed_pages, CursorStands, NothingMine}
+use Rattle.sh_shard.specs.Pages.{WaitsSince, WorksOn, TakesPage, CursorStops, BellTakes, BellStops, BellReads}
+use Rattle.sh_shard.specs.Pages.{ShardLeft}
+use Rattle.sh_shard.specs.Leaving.{Collecting, BellFollowed, BellEmptied, PageEmptied, EmptiesPage, PagesEmptied}
+use Rattle.sh_shard.specs.Leaving.{AtRest, AllAtRest, NotAtRest, RestsNot, Waiting, PutsOne, PutsBack, PutsAllBack}
 use Rattle.sh_shard.proofs.Working.{aside_none, aside_more, works_more, count_few}
 
 pub collecting_none : (o : Paged) → Collecting o o
-collecting_none o = record { aside = aside_none o.owner; put = refl; arm = refl; log = refl; shard = refl; count = refl; classes = λ q. refl; takes = λ q. omega arith; met = λ q. omega arith; bell_takes = omega arith; bell_met = omega arith }
+collecting_none o = record {
+  aside = aside_none o.owner;
+  put = refl;
+  arm = refl;
+  log = refl;
+  shard = refl;
+  count = refl;
+  classes = λ q. refl;
+  takes = λ q. omega arith;
+  met = λ q. omega arith;
+  bell_takes = omega arith;
+  bell_met = omega
+      arith;
+}
 
 pub collecting_more : (o m n : Paged) → Collecting o m → Collecting m n → Collecting o n
 collecting_more o m n g h = record {
@@ -63,8 +81,10 @@ collecting_stops o n b = record {
   bell_met = b.met;
 }
 
-read_of : (p : ℕ) {B : Type 0} (f : SeenPage → B) (o n : Paged) → BellReads p o n → f (page_at n p) ≡ f (page_at o p) → (q : ℕ) → f (page_at n q) ≡ f (page_at o q)
-read_of p f o n b e q = ⊎_elim (λ (is : q ≡ p). subst (λ z. f (page_at n z) ≡ f (page_at o z)) (sym is) e) (λ (ne : q ≢ p). ap f (b.others q ne)) (cases_eq q p)
+read_of : (p : ℕ) {B : Type 0} (f : SeenPage → B) (o n : Paged) → BellReads p o n → f (page_at n p) ≡ f (page_at o p)
+    → (q : ℕ) → f (page_at n q) ≡ f (page_at o q)
+read_of p f o n b e q = ⊎_elim (λ (is : q ≡ p). subst (λ z. f (page_at n z) ≡ f (page_at o z)) (sym is) e)
+    (λ (ne : q ≢ p). ap f (b.others q ne)) (cases_eq q p)
 
 pub collecting_reads : (p : ℕ) (o n : Paged) → BellReads p o n → Collecting o n
 collecting_reads p o n b = record {
@@ -75,8 +95,10 @@ collecting_reads p o n b = record {
   shard = b.shard;
   count = b.count;
   classes = read_of p (λ g. g.class) o n b (ap (λ (g : SeenPage). g.class) b.here);
-  takes = λ q. as_much (page_at n q).takes (page_at o q).takes (read_of p (λ g. g.takes) o n b (ap (λ (g : SeenPage). g.takes) b.here) q);
-  met = λ q. as_much (page_at n q).met (page_at o q).met (read_of p (λ g. g.met) o n b (ap (λ (g : SeenPage). g.met) b.here) q);
+  takes = λ q. as_much (page_at n q).takes (page_at o q).takes
+      (read_of p (λ g. g.takes) o n b (ap (λ (g : SeenPage). g.takes) b.here) q);
+  met = λ q. as_much (page_at n q).met (page_at o q).met (read_of p (λ g. g.met) o n b
+      (ap (λ (g : SeenPage). g.met) b.here) q);
   bell_takes = let e = b.takes in omega arith;
   bell_met = let e = b.met in omega arith;
 }
@@ -91,10 +113,12 @@ count_others f g p (suc n) l same =
 more : (p n : ℕ) → p < suc n → n ≢ p → p < n
 more p n l ne = grind (arith, nat_tests)
 
-pub count_less : (f g : ℕ → Bool) (p n : ℕ) → p < n → f p ≡ true → g p ≡ false → ((q : ℕ) → q ≢ p → g q ≡ f q) → count_below g n + 1 ≡ count_below f n
+pub count_less : (f g : ℕ → Bool) (p n : ℕ) → p < n → f p ≡ true → g p ≡ false → ((q : ℕ) → q ≢ p → g q ≡ f q)
+    → count_below g n + 1 ≡ count_below f n
 count_less f g p zero l a b same = absurd (omega arith)
 count_less f g p (suc n) l a b same = go (λ k. count_less f g p n k a b same) (cases_eq n p) where
-  go : (p < n → count_below g n + 1 ≡ count_below f n) → (n ≡ p) ⊎ (n ≢ p) → (if1 (g n) + count_below g n) + 1 ≡ if1 (f n) + count_below f n
+  go : (p < n → count_below g n + 1 ≡ count_below f n) → (n ≡ p) ⊎ (n ≢ p) → (if1 (g n) + count_below g n) + 1
+      ≡ if1 (f n) + count_below f n
   go rest (inl is) =
       let x : if1 (f n) ≡ 1 = ap if1 (ap f is ∙ a) in
       let y : if1 (g n) ≡ 0 = ap if1 (ap g is ∙ b) in
@@ -107,7 +131,8 @@ pub armed_less : (p : ℕ) (n m : Paged) → BellReads p n m → armed_pages m +
 armed_less p n m b =
     let size : m.count ≡ n.count = b.count in
     ap (λ k. count_below (λ q. (page_at m q).armed) k + 1) size
-    ∙ count_less (λ q. (page_at n q).armed) (λ q. (page_at m q).armed) p n.count (let i = b.inside in omega arith) b.was (ap (λ (g : SeenPage). g.armed) b.here) (λ q ne. ap (λ (g : SeenPage). g.armed) (b.others q ne))
+    ∙ count_less (λ q. (page_at n q).armed) (λ q. (page_at m q).armed) p n.count (let i = b.inside in omega arith) b.was
+    (ap (λ (g : SeenPage). g.armed) b.here) (λ q ne. ap (λ (g : SeenPage). g.armed) (b.others q ne))
 
 pub armed_few : (v : Paged) → armed_pages v ≤ v.count
 armed_few v = count_few (λ p. (page_at v p).armed) v.count
@@ -128,7 +153,8 @@ following_more turn p o n m f b = record {
   few = let e = armed_less p n m b in let l = f.few in omega arith;
 }
 
-weaken : (c : Option ℕ) (a b d : ℕ) → a ≤ b → MatchOption c (Unit {0}) (λ _. b < d) → MatchOption c (Unit {0}) (λ _. a < d)
+weaken : (c : Option ℕ) (a b d : ℕ) → a ≤ b → MatchOption c (Unit {0}) (λ _. b < d)
+    → MatchOption c (Unit {0}) (λ _. a < d)
 weaken None a b d l h = tt
 weaken (Some s) a b d l h = omega arith
 
@@ -142,14 +168,16 @@ followed_to turn o n m f b = record {
 pub never_past : {A : Type 0} (turn : ℕ) (o n : Paged) → Following turn o n → o.count + 1 ≤ turn → A
 never_past turn o n f l = let k = f.few in absurd (omega arith)
 
-emptied_first : (c : Option ℕ) (a b m n : ℕ) → CursorStands c → MatchOption c (Unit {0}) (λ _. m < n) → MatchOption c (a < b) (λ _. m < n)
+emptied_first : (c : Option ℕ) (a b m n : ℕ) → CursorStands c → MatchOption c (Unit {0}) (λ _. m < n)
+    → MatchOption c (a < b) (λ _. m < n)
 emptied_first None a b m n s h = absurd s
 emptied_first (Some x) a b m n s h = h
 
 pub bell_waits : (o m : Paged) → BellFollowed o m → CursorStands m.bell.cursor → BellEmptied o m
 bell_waits o m f s = emptied_first m.bell.cursor o.bell.takes m.bell.takes o.bell.met m.bell.met s f.waits
 
-emptied_then : (c : Option ℕ) (a b m k n : ℕ) → a < b → m ≤ k → MatchOption c (Unit {0}) (λ _. k < n) → MatchOption c (a < b) (λ _. m < n)
+emptied_then : (c : Option ℕ) (a b m k n : ℕ) → a < b → m ≤ k → MatchOption c (Unit {0}) (λ _. k < n)
+    → MatchOption c (a < b) (λ _. m < n)
 emptied_then None a b m k n l e h = l
 emptied_then (Some x) a b m k n l e h = omega arith
 
@@ -160,10 +188,14 @@ bell_emptied o m t n f b h = emptied_then n.bell.cursor o.bell.takes n.bell.take
 
 -- ---- the pages
 
-pub works_of : (p : ℕ) {B : Type 0} (R : B → B → Type 0) (f : SeenPage → B) (o n : Paged) → WorksOn p o n → ((b : B) → R b b) → R (f (page_at o p)) (f (page_at n p)) → (q : ℕ) → R (f (page_at o q)) (f (page_at n q))
-works_of p R f o n w same e q = ⊎_elim (λ (is : q ≡ p). subst (λ z. R (f (page_at o z)) (f (page_at n z))) (sym is) e) (λ (ne : q ≢ p). subst (λ z. R (f (page_at o q)) z) (ap f (sym (w.others q ne))) (same (f (page_at o q)))) (cases_eq q p)
+pub works_of : (p : ℕ) {B : Type 0} (R : B → B → Type 0) (f : SeenPage → B) (o n : Paged) → WorksOn p o n
+    → ((b : B) → R b b) → R (f (page_at o p)) (f (page_at n p)) → (q : ℕ) → R (f (page_at o q)) (f (page_at n q))
+works_of p R f o n w same e q = ⊎_elim (λ (is : q ≡ p). subst (λ z. R (f (page_at o z)) (f (page_at n z))) (sym is) e)
+    (λ (ne : q ≢ p). subst (λ z. R (f (page_at o q)) z) (ap f (sym (w.others q ne))) (same (f (page_at o q))))
+    (cases_eq q p)
 
-pub collecting_works : (p : ℕ) (o n : Paged) → WorksOn p o n → n.owner.view.own.trail ≡ n.owner.view.own.trail → EmptiesPage p o n → Collecting o n
+pub collecting_works : (p : ℕ) (o n : Paged) → WorksOn p o n → n.owner.view.own.trail ≡ n.owner.view.own.trail
+    → EmptiesPage p o n → Collecting o n
 collecting_works p o n w e h = record {
   aside = w.aside;
   put = w.put;
@@ -180,14 +212,25 @@ collecting_works p o n w e h = record {
 
 -- the cursor is followed and waits
 pub empties_waiting : (p : ℕ) (o n : Paged) → CursorStops p o n → CursorStands (page_at n p).cursor → EmptiesPage p o n
-empties_waiting p o n s c = record { works = s.works; arm = s.arm; emptied = record { waits = s.waits; taken = λ e a. absurd (subst CursorStands e c) } }
+empties_waiting p o n s c = record {
+  works = s.works;
+  arm = s.arm;
+  emptied = record
+      { waits = s.waits; taken = λ e a. absurd (subst CursorStands e c) };
+}
 
 -- it is followed to its end, and the page is not armed
 pub empties_calm : (p : ℕ) (o n : Paged) → CursorStops p o n → (page_at n p).armed ≡ false → EmptiesPage p o n
-empties_calm p o n s c = record { works = s.works; arm = s.arm; emptied = record { waits = s.waits; taken = λ e a. absurd (false≢true (sym c ∙ a)) } }
+empties_calm p o n s c = record {
+  works = s.works;
+  arm = s.arm;
+  emptied = record
+      { waits = s.waits; taken = λ e a. absurd (false≢true (sym c ∙ a)) };
+}
 
 -- it is followed to its end, and what was put on the page is taken and followed
-pub empties_taken : (p : ℕ) (o m t n : Paged) → CursorStops p o m → TakesPage p m t → CursorStops p t n → EmptiesPage p o n
+pub empties_taken : (p : ℕ) (o m t n : Paged) → CursorStops p o m → TakesPage p m t → CursorStops p t n
+    → EmptiesPage p o n
 empties_taken p o m t n s k h =
     let w = works_more p o t n (works_more p o m t s.works k.works) h.works in record {
       works = w;
@@ -208,20 +251,32 @@ pub emptying_none : (o : Paged) → Emptying 0 o o
 emptying_none o = record { through = collecting_none o; bell = refl; pages = λ p l. absurd (omega arith) }
 
 emptied_after : (g h k : SeenPage) → g.met ≤ h.met → g.takes ≤ h.takes → PageEmptied h k → PageEmptied g k
-emptied_after g h k m t e = record { waits = weaken k.cursor g.met h.met k.met m e.waits; taken = λ c a. let z = e.taken c a in omega arith }
+emptied_after g h k m t e = record {
+  waits = weaken k.cursor g.met h.met k.met m e.waits;
+  taken = λ c a. let z = e.taken
+      c a in omega arith;
+}
 
 pub emptying_more : (page : ℕ) (o n m : Paged) → Emptying page o n → EmptiesPage page n m → Emptying (page + 1) o m
 emptying_more page o n m f e = record {
   through = collecting_more o n m f.through (collecting_works page n m e.works refl e);
   bell = e.works.bell ∙ f.bell;
   pages = λ p l. ⊎_elim
-      (λ (is : p ≡ page). subst (λ z. PageEmptied (page_at o z) (page_at m z)) (sym is) (emptied_after (page_at o page) (page_at n page) (page_at m page) (f.through.met page) (f.through.takes page) e.emptied))
-      (λ (ne : p ≢ page). subst (PageEmptied (page_at o p)) (sym (e.works.others p ne)) (f.pages p (more p page (let z = l in omega arith) (λ is. ne (sym is)))))
+      (λ (is : p ≡ page). subst (λ z. PageEmptied (page_at o z) (page_at m z)) (sym is)
+      (emptied_after (page_at o page) (page_at n page) (page_at m page) (f.through.met page) (f.through.takes page)
+      e.emptied))
+      (λ (ne : p ≢ page). subst (PageEmptied (page_at o p)) (sym (e.works.others p ne))
+      (f.pages p (more p page (let z = l in omega arith) (λ is. ne (sym is)))))
       (cases_eq p page);
 }
 
 pub pages_emptied : (page : ℕ) (o n : Paged) → Emptying page o n → o.count ≤ page → PagesEmptied o n
-pages_emptied page o n f l = record { through = f.through; bell = f.bell; pages = λ p k. f.pages p (let e = f.through.count in omega arith) }
+pages_emptied page o n f l = record {
+  through = f.through;
+  bell = f.bell;
+  pages = λ p k. f.pages p
+      (let e = f.through.count in omega arith);
+}
 
 -- ---- why it waits
 
@@ -241,18 +296,41 @@ pub waiting : (o m n : Paged) → Collecting o m → BellEmptied o m → PagesEm
 waiting o m n g b e w = record {
   through = collecting_more o m n g e.through;
   why = ⊎_elim
-      (λ (s : CursorStands n.bell.cursor). inl (s, subst (λ (z : SeenBell). o.bell.met < z.met) (sym e.bell) (bell_met m.bell.cursor o.bell.takes m.bell.takes o.bell.met m.bell.met (subst (λ (z : SeenBell). CursorStands z.cursor) e.bell s) b)))
-      (λ (s : (n.bell.cursor ≡ None) × ((p : ℕ) × (p < n.count) × (CursorStands (page_at n p).cursor ⊎ (((page_at n p).cursor ≡ None) × ((page_at n p).armed ≡ true))))). inr (s.1.0, s.1.1, page s.0 s.1.0 s.1.1 s.1.2))
+      (λ (s : CursorStands n.bell.cursor). inl (
+        s,
+        subst (λ (z : SeenBell). o.bell.met < z.met) (sym e.bell)
+            (bell_met m.bell.cursor o.bell.takes m.bell.takes o.bell.met m.bell.met
+            (subst (λ (z : SeenBell). CursorStands z.cursor) e.bell s) b),
+      ))
+      (λ (s : (n.bell.cursor ≡ None) × ((p : ℕ) × (p < n.count) ×
+      (CursorStands (page_at n p).cursor ⊎ (((page_at n p).cursor ≡ None) × ((page_at n p).armed ≡ true))))). inr
+      (s.1.0, s.1.1, page s.0 s.1.0 s.1.1 s.1.2))
       w;
 } where
-  page : n.bell.cursor ≡ None → (p : ℕ) → p < n.count → CursorStands (page_at n p).cursor ⊎ (((page_at n p).cursor ≡ None) × ((page_at n p).armed ≡ true))
-      → (CursorStands (page_at n p).cursor × ((page_at o p).met < (page_at n p).met)) ⊎ ((n.bell.cursor ≡ None) × ((page_at n p).armed ≡ true) × ((page_at o p).takes < (page_at n p).takes) × (o.bell.takes < n.bell.takes))
-  page none p l (inl s) = inl (s, met_since (page_at n p).cursor (page_at o p).met (page_at m p).met (page_at n p).met s (g.met p) (e.pages p l).waits)
-  page none p l (inr t) = inr (none, t.1, (let a = g.takes p in let z = (e.pages p l).taken t.0 t.1 in omega arith), subst (λ (z : SeenBell). o.bell.takes < z.takes) (sym e.bell) (bell_taken m.bell.cursor o.bell.takes m.bell.takes o.bell.met m.bell.met (sym (ap (λ (z : SeenBell). z.cursor) e.bell) ∙ none) b))
+  page : n.bell.cursor ≡ None → (p : ℕ) → p < n.count → CursorStands (page_at n p).cursor
+      ⊎ (((page_at n p).cursor ≡ None) × ((page_at n p).armed ≡ true))
+      → (CursorStands (page_at n p).cursor × ((page_at o p).met < (page_at n p).met))
+      ⊎ ((n.bell.cursor ≡ None) × ((page_at n p).armed ≡ true) × ((page_at o p).takes < (page_at n p).takes)
+      × (o.bell.takes < n.bell.takes))
+  page none p l (inl s) = inl (
+    s,
+    met_since (page_at n p).cursor (page_at o p).met (page_at m p).met (page_at n p).met s
+        (g.met p) (e.pages p l).waits,
+  )
+  page none p l (inr t) = inr (
+    none,
+    t.1,
+    (let a = g.takes p in let z = (e.pages p l).taken t.0 t.1 in omega arith),
+    subst (λ (z : SeenBell). o.bell.takes < z.takes) (sym e.bell)
+        (bell_taken m.bell.cursor o.bell.takes m.bell.takes o.bell.met m.bell.met
+        (sym (ap (λ (z : SeenBell). z.cursor) e.bell) ∙ none) b),
+  )
 
 -- ---- what is put back
 
-pub puts_one : (o n : Paged) (p s : ℕ) → Aside o.owner n.owner → n.bell ≡ o.bell → n.owner.view.own.log ≡ o.owner.view.own.log → n.shard ≡ o.shard → n.count ≡ o.count → page_at n p ≡ page_without (page_at o p) s → ((q : ℕ) → q ≢ p → page_at n q ≡ page_at o q) → (page_at o p).mine s ≡ true → s < 48 → PutsOne p o n
+pub puts_one : (o n : Paged) (p s : ℕ) → Aside o.owner n.owner → n.bell ≡ o.bell → n.owner.view.own.log
+    ≡ o.owner.view.own.log → n.shard ≡ o.shard → n.count ≡ o.count → page_at n p ≡ page_without (page_at o p) s
+    → ((q : ℕ) → q ≢ p → page_at n q ≡ page_at o q) → (page_at o p).mine s ≡ true → s < 48 → PutsOne p o n
 puts_one o n p s aside bell log shard count here others mine small = record {
   aside = aside;
   bell = bell;
@@ -261,7 +339,10 @@ puts_one o n p s aside bell log shard count here others mine small = record {
   count = count;
   cursor = ap (λ (g : SeenPage). g.cursor) here;
   armed = ap (λ (g : SeenPage). g.armed) here;
-  less = ap (λ (g : SeenPage). own_slots g + 1) here ∙ count_less (page_at o p).mine (λ t. (page_at o p).mine t && not (t == s)) s 48 small mine (ap (λ b. (page_at o p).mine s && not b) (same s) ∙ never ((page_at o p).mine s)) (λ q ne. ap (λ b. (page_at o p).mine q && not b) (differ q ne) ∙ always ((page_at o p).mine q));
+  less = ap (λ (g : SeenPage). own_slots g + 1) here ∙ count_less (page_at o p).mine
+      (λ t. (page_at o p).mine t && not (t == s)) s 48 small mine
+      (ap (λ b. (page_at o p).mine s && not b) (same s) ∙ never ((page_at o p).mine s))
+      (λ q ne. ap (λ b. (page_at o p).mine q && not b) (differ q ne) ∙ always ((page_at o p).mine q));
   others = others;
 } where
   same : (s : ℕ) → (s == s) ≡ true
@@ -291,7 +372,18 @@ pub record Putting (turn p : ℕ) (o n : Paged) : Type 0 where
   pub others : (q : ℕ) → q ≢ p → page_at n q ≡ page_at o q
 
 pub putting_none : (p : ℕ) (o : Paged) → Putting 0 p o o
-putting_none p o = record { aside = aside_none o.owner; bell = refl; log = refl; shard = refl; count = refl; cursor = refl; armed = refl; few = let l = count_few (page_at o p).mine 48 in omega arith; others = λ q ne. refl }
+putting_none p o = record {
+  aside = aside_none o.owner;
+  bell = refl;
+  log = refl;
+  shard = refl;
+  count = refl;
+  cursor =
+      refl;
+  armed = refl;
+  few = let l = count_few (page_at o p).mine 48 in omega arith;
+  others = λ q ne. refl;
+}
 
 pub putting_more : (turn p : ℕ) (o m n : Paged) → Putting turn p o m → PutsOne p m n → Putting (turn + 1) p o n
 putting_more turn p o m n g h = record {
@@ -307,7 +399,19 @@ putting_more turn p o m n g h = record {
 }
 
 pub put_done : (turn p : ℕ) (o m n : Paged) → Putting turn p o m → n ≡ m → NothingMine (page_at m p) → PutsBack p o n
-put_done turn p o m n g is none = subst (PutsBack p o) (sym is) (record { aside = g.aside; bell = g.bell; log = g.log; shard = g.shard; count = g.count; cursor = g.cursor; armed = g.armed; mine = none; others = g.others })
+put_done turn p o m n g is none = subst (PutsBack p o) (sym is)
+    (record {
+      aside = g.aside;
+      bell = g.bell;
+      log = g.log;
+      shard = g.shard;
+      count = g.count;
+      cursor = g.cursor;
+      armed =
+          g.armed;
+      mine = none;
+      others = g.others;
+    })
 
 pub never_more : {A : Type 0} (turn p : ℕ) (o n : Paged) → Putting turn p o n → 49 ≤ turn → A
 never_more turn p o n g l = let f = g.few in absurd (omega arith)
@@ -323,9 +427,19 @@ pub record Returning (page : ℕ) (o n : Paged) : Type 0 where
   pub mine : (p : ℕ) → p < page → NothingMine (page_at n p)
 
 pub returning_none : (o : Paged) → AllAtRest o → Returning 0 o o
-returning_none o a = record { aside = aside_none o.owner; log = refl; shard = refl; count = refl; bell = refl; rest = a.pages; mine = λ p l. absurd (omega arith) }
+returning_none o a = record {
+  aside = aside_none o.owner;
+  log = refl;
+  shard = refl;
+  count = refl;
+  bell = refl;
+  rest =
+      a.pages;
+  mine = λ p l. absurd (omega arith);
+}
 
-pub returning_more : (page : ℕ) (o m n : Paged) → Returning page o m → page < o.count → PutsBack page m n → Returning (page + 1) o n
+pub returning_more : (page : ℕ) (o m n : Paged) → Returning page o m → page < o.count → PutsBack page m n
+    → Returning (page + 1) o n
 returning_more page o m n g l h = record {
   aside = aside_more g.aside h.aside;
   log = h.log ∙ g.log;
@@ -333,12 +447,14 @@ returning_more page o m n g l h = record {
   count = h.count ∙ g.count;
   bell = h.bell ∙ g.bell;
   rest = λ p k. ⊎_elim
-      (λ (is : p ≡ page). subst (λ z. AtRest (page_at n z)) (sym is) (record { cursor = h.cursor ∙ (g.rest page l).cursor; armed = h.armed ∙ (g.rest page l).armed }))
+      (λ (is : p ≡ page). subst (λ z. AtRest (page_at n z)) (sym is)
+      (record { cursor = h.cursor ∙ (g.rest page l).cursor; armed = h.armed ∙ (g.rest page l).armed }))
       (λ (ne : p ≢ page). subst AtRest (sym (h.others p ne)) (g.rest p k))
       (cases_eq p page);
   mine = λ p k. ⊎_elim
       (λ (is : p ≡ page). subst (λ z. NothingMine (page_at n z)) (sym is) h.mine)
-      (λ (ne : p ≢ page). subst NothingMine (sym (h.others p ne)) (g.mine p (more p page (let z = k in omega arith) (λ is. ne (sym is)))))
+      (λ (ne : p ≢ page). subst NothingMine (sym (h.others p ne))
+      (g.mine p (more p page (let z = k in omega arith) (λ is. ne (sym is)))))
       (cases_eq p page);
 }
 
@@ -348,21 +464,36 @@ returned page o n g bell l = record {
   log = g.log;
   shard = g.shard;
   bell = ap (λ (b : SeenBell). b.cursor) g.bell ∙ bell;
-  pages = λ p k. let e = g.count in record { mine = g.mine p (omega arith); cursor = (g.rest p (omega arith)).cursor; armed = (g.rest p (omega arith)).armed };
+  pages = λ p k. let e = g.count in record {
+    mine = g.mine p (omega arith);
+    cursor = (g.rest p (omega arith)).cursor;
+    armed = (g.rest p (omega arith)).armed;
+  };
 }
 
-pub left_after : (o m : Paged) (w : Caller) → Aside o.owner m.owner → m.owner.view.own.log ≡ o.owner.view.own.log → ShardLeft m.owner w → ShardLeft o.owner w
+pub left_after : (o m : Paged) (w : Caller) → Aside o.owner m.owner → m.owner.view.own.log ≡ o.owner.view.own.log
+    → ShardLeft m.owner w → ShardLeft o.owner w
 left_after o m w a log h = record {
   heap = h.heap ∙ a.heap;
-  same = record { shape = h.same.shape ∙ a.same.shape; pass = h.same.pass ∙ a.same.pass; told = h.same.told ∙ a.same.told; orders = h.same.orders ∙ a.same.orders };
+  same = record {
+    shape = h.same.shape ∙ a.same.shape;
+    pass = h.same.pass ∙ a.same.pass;
+    told = h.same.told
+        ∙ a.same.told;
+    orders = h.same.orders ∙ a.same.orders;
+  };
   log = h.log ∙ log;
   holds = h.holds ∙ a.holds;
   hand = h.hand;
   owned = h.owned;
 }
 
-pub leaves : (o m n t : Paged) (w : Caller) → Collecting o m → PagesEmptied m n → PutsAllBack n t → ShardLeft t.owner w → ShardLeft o.owner w
-leaves o m n t w g e b h = left_after o t w (aside_more g.aside (aside_more e.through.aside b.aside)) (b.log ∙ (e.through.log ∙ g.log)) h
+pub leaves : (o m n t : Paged) (w : Caller) → Collecting o m → PagesEmptied m n → PutsAllBack n t → ShardLeft t.owner w
+    → ShardLeft o.owner w
+leaves o m n t w g e b h = left_after o t w (aside_more g.aside (aside_more e.through.aside b.aside))
+    (b.log ∙ (e.through.log ∙ g.log)) h
 
-pub rests_more : (v : Paged) (page : ℕ) → ((p : ℕ) → p < page → AtRest (page_at v p)) → AtRest (page_at v page) → (p : ℕ) → p < page + 1 → AtRest (page_at v p)
-rests_more v page h e p l = ⊎_elim (λ (is : p ≡ page). subst (λ z. AtRest (page_at v z)) (sym is) e) (λ (ne : p ≢ page). h p (more p page (let z = l in omega arith) (λ is. ne (sym is)))) (cases_eq p page)
+pub rests_more : (v : Paged) (page : ℕ) → ((p : ℕ) → p < page → AtRest (page_at v p)) → AtRest (page_at v page)
+    → (p : ℕ) → p < page + 1 → AtRest (page_at v p)
+rests_more v page h e p l = ⊎_elim (λ (is : p ≡ page). subst (λ z. AtRest (page_at v z)) (sym is) e)
+    (λ (ne : p ≢ page). h p (more p page (let z = l in omega arith) (λ is. ne (sym is)))) (cases_eq p page)

@@ -1,5 +1,7 @@
 -- A page whose lists or whose notes change is kept as the owner sees it.
-use Rattle.std.proofs.Common.{◌≡◌, ◌≢◌, ℕ, zero, suc, ◌+◌, ◌<◌, ◌≤◌, ◌==◌, ◌&&◌, ◌||◌, Bool, true, false, cond, Option, Some, None, List, [], ◌∷◌, ◌++◌, refl, ap, ◌∙◌, sym, subst, arith, append-nil, ne_eqb, eq-eqb}
+use Rattle.std.proofs.Common.{◌≡◌, ◌≢◌, ℕ, zero, suc, ◌+◌, ◌<◌, ◌≤◌, ◌==◌, ◌&&◌, ◌||◌, Bool, true, false, cond, Option}
+use Rattle.std.proofs.Common.{Some, None, List, [], ◌∷◌, ◌++◌, refl, ap, ◌∙◌, sym, subst, arith, append-nil, ne_eqb}
+use Rattle.std.proofs.Common.{eq-eqb}
 use Rattle.std.specs.Prelude.{nat_lt, nat_le, not}
 use Rattle.std.proofs.lemmas.Bool.{false≢true}
 use Rattle.std.proofs.lemmas.Bool.Decides.{nat_tests}
@@ -9,7 +11,8 @@ use Rattle.sh_lists.specs.Numbers.{Misses, upward}
 use Rattle.sh_queue.specs.Numbers.{has_number}
 use Rattle.sh_shape.specs.Classes.{slots}
 use Rattle.sh_stack.specs.Stack.{top_item, link_item}
-use Rattle.sh_pass.specs.Owners.{SeenPage, page_taken, page_armed, page_followed, page_without, page_with, page_given, page_rung}
+use Rattle.sh_pass.specs.Owners.{SeenPage, page_taken, page_armed, page_followed, page_without, page_with, page_given}
+use Rattle.sh_pass.specs.Owners.{page_rung}
 use Rattle.sh_shard.specs.declared.pages.PageState.{PageState}
 use Rattle.sh_shard.specs.Pages.{seen_class}
 use Rattle.sh_shard.specs.Kept.{KeepsPage}
@@ -21,7 +24,9 @@ never_armed false = refl
 pub class_kept : (st : PageState) (g : SeenPage) → KeepsPage st g → seen_class g ≡ st.class_word
 class_kept st g a = ap (λ (c : Option ℕ). elim c [ Some n ↦ n | None ↦ 0 ]) a.class
 
-pub kept_taken : (st : PageState) (g : SeenPage) (n : ℕ) (l : Lists) (c : Option ℕ) (b : Bool) → KeepsPage st g → l ≡ record st.lists { cursor = c } → c ≡ top_item (top_of n) → b ≡ cond (is_armed n) false st.armed → KeepsPage (record { lists = l; class_word = st.class_word; armed = b }) (page_taken g n)
+pub kept_taken : (st : PageState) (g : SeenPage) (n : ℕ) (l : Lists) (c : Option ℕ) (b : Bool) → KeepsPage st g → l
+    ≡ record st.lists { cursor = c } → c ≡ top_item (top_of n) → b ≡ cond (is_armed n) false st.armed
+    → KeepsPage (record { lists = l; class_word = st.class_word; armed = b }) (page_taken g n)
 kept_taken st g n l c b a e f h = record {
   class = a.class;
   few = a.few;
@@ -31,7 +36,9 @@ kept_taken st g n l c b a e f h = record {
   blank = λ z. h ∙ (ap (λ t. cond (is_armed n) false t) (a.blank z) ∙ never_armed (is_armed n));
 }
 
-pub kept_armed : (st : PageState) (g : SeenPage) (n : ℕ) (l : Lists) (c : Option ℕ) → KeepsPage st g → 0 < seen_class g → l ≡ record st.lists { cursor = c } → c ≡ top_item (top_of n) → KeepsPage (record { lists = l; class_word = st.class_word; armed = true }) (page_armed g n)
+pub kept_armed : (st : PageState) (g : SeenPage) (n : ℕ) (l : Lists) (c : Option ℕ) → KeepsPage st g → 0 < seen_class g
+    → l ≡ record st.lists { cursor = c } → c ≡ top_item (top_of n)
+    → KeepsPage (record { lists = l; class_word = st.class_word; armed = true }) (page_armed g n)
 kept_armed st g n l c a some e f = record {
   class = a.class;
   few = a.few;
@@ -45,7 +52,8 @@ kept_armed st g n l c a some e f = record {
 
 pub has_append : (s : ℕ) (a b : List ℕ) → has_number s (a ++ b) ≡ has_number s a || has_number s b
 has_append s [] b = refl
-has_append s (x ∷ a) b = elim (x == s) as (λ t. t || has_number s (a ++ b) ≡ (t || has_number s a) || has_number s b) [ true ↦ refl | false ↦ has_append s a b ]
+has_append s (x ∷ a) b = elim (x == s) as (λ t. t || has_number s (a ++ b) ≡ (t || has_number s a) || has_number s b)
+    [ true ↦ refl | false ↦ has_append s a b ]
 
 or_swap : (a b c : Bool) → ((a || (b || false)) || c) ≡ (b || (a || c))
 or_swap true true c = refl
@@ -64,9 +72,12 @@ eqb_sym a b = go (a == b) refl where
   go true e = let z : (b == a) ≡ true = grind (arith, nat_tests) in sym z
   go false e = let z : (b == a) ≡ false = grind (arith, nat_tests) in sym z
 
-pub kept_followed : (st : PageState) (g : SeenPage) (s n : ℕ) (l : Lists) → KeepsPage st g → (n ≡ 0 → ⊥) → l ≡ record { free = st.lists.free ++ s ∷ []; local = st.lists.local; cursor = link_item n } → KeepsPage (record { lists = l; class_word = st.class_word; armed = st.armed }) (page_followed g s n)
+pub kept_followed : (st : PageState) (g : SeenPage) (s n : ℕ) (l : Lists) → KeepsPage st g → (n ≡ 0 → ⊥) → l
+    ≡ record { free = st.lists.free ++ s ∷ []; local = st.lists.local; cursor = link_item n }
+    → KeepsPage (record { lists = l; class_word = st.class_word; armed = st.armed }) (page_followed g s n)
 kept_followed st g s n l a some e = go (n == 0) refl where
-  go : (b : Bool) → (n == 0) ≡ b → KeepsPage (record { lists = l; class_word = st.class_word; armed = st.armed }) (cond b (record g { met = g.met + 1 }) (record g { mine = λ t. (t == s) || g.mine t; cursor = link_item n }))
+  go : (b : Bool) → (n == 0) ≡ b → KeepsPage (record { lists = l; class_word = st.class_word; armed = st.armed })
+      (cond b (record g { met = g.met + 1 }) (record g { mine = λ t. (t == s) || g.mine t; cursor = link_item n }))
   go true z = absurd (some (let y : n ≡ 0 = grind (arith, nat_tests) in y))
   go false z = record {
     class = a.class;
@@ -85,11 +96,22 @@ kept_followed st g s n l a some e = go (n == 0) refl where
 pub kept_met : (st : PageState) (g : SeenPage) (s n : ℕ) → KeepsPage st g → n ≡ 0 → KeepsPage st (page_followed g s n)
 kept_met st g s n a e =
     let z : (n == 0) ≡ true = grind (arith, nat_tests) in
-    let P : Bool → Type 0 = λ b. KeepsPage st (cond b (record g { met = g.met + 1 }) (record g { mine = λ t. (t == s) || g.mine t; cursor = link_item n })) in
-    subst P (sym z) (record { class = a.class; few = a.few; cursor = a.cursor; armed = a.armed; mine = a.mine; blank = a.blank })
+    let P : Bool → Type 0 = λ b. KeepsPage st (cond b (record g { met = g.met + 1 })
+    (record g { mine = λ t. (t == s) || g.mine t; cursor = link_item n })) in
+    subst P (sym z) (record {
+      class = a.class;
+      few = a.few;
+      cursor = a.cursor;
+      armed = a.armed;
+      mine = a.mine;
+      blank =
+          a.blank;
+    })
 
 -- a slot that came stands in front of `local`
-pub kept_with : (st : PageState) (g : SeenPage) (s : ℕ) (l : Lists) → KeepsPage st g → l ≡ record st.lists { local = s ∷ st.lists.local } → KeepsPage (record { lists = l; class_word = st.class_word; armed = st.armed }) (page_with g s)
+pub kept_with : (st : PageState) (g : SeenPage) (s : ℕ) (l : Lists) → KeepsPage st g → l
+    ≡ record st.lists { local = s ∷ st.lists.local } → KeepsPage
+    (record { lists = l; class_word = st.class_word; armed = st.armed }) (page_with g s)
 kept_with st g s l a e = record {
   class = a.class;
   few = a.few;
@@ -103,7 +125,8 @@ kept_with st g s l a e = record {
   blank = a.blank;
 }
 
-misses_head : (x y : ℕ) (ys : List ℕ) (t : Bool) → (y == x) ≡ t → (t || has_number x ys) ≡ false → (has_number x ys ≡ false → Misses x ys) → (x ≢ y) × Misses x ys
+misses_head : (x y : ℕ) (ys : List ℕ) (t : Bool) → (y == x) ≡ t → (t || has_number x ys) ≡ false
+    → (has_number x ys ≡ false → Misses x ys) → (x ≢ y) × Misses x ys
 misses_head x y ys true e f r = absurd (false≢true (sym f))
 misses_head x y ys false e f r = ((λ is. false≢true (sym e ∙ eq-eqb y x (sym is))), r f)
 
@@ -123,22 +146,27 @@ pub record UsesSlot (x : ℕ) (old new : Lists) : Type 0 where
   pub apart : Misses x (new.free ++ new.local)
   pub cursor : new.cursor ≡ old.cursor
 
-refilled_all : (free local : List ℕ) (c : Option ℕ) → (refilled (record { free = free; local = local; cursor = c })).free ++ (refilled (record { free = free; local = local; cursor = c })).local ≡ free ++ local
+refilled_all : (free local : List ℕ) (c : Option ℕ) → (refilled
+    (record { free = free; local = local; cursor = c })).free ++
+    (refilled (record { free = free; local = local; cursor = c })).local ≡ free ++ local
 refilled_all [] local c = append-nil local
 refilled_all (x ∷ free) local c = refl
 
-refilled_cursor : (free local : List ℕ) (c : Option ℕ) → (refilled (record { free = free; local = local; cursor = c })).cursor ≡ c
+refilled_cursor : (free local : List ℕ) (c : Option ℕ) → (refilled
+    (record { free = free; local = local; cursor = c })).cursor ≡ c
 refilled_cursor [] local c = refl
 refilled_cursor (x ∷ free) local c = refl
 
-pub uses_slot : (x : ℕ) (old new : Lists) → refilled old ≡ record new { free = x ∷ new.free } → Misses x (new.free ++ new.local) → UsesSlot x old new
+pub uses_slot : (x : ℕ) (old new : Lists) → refilled old ≡ record new { free = x ∷ new.free }
+    → Misses x (new.free ++ new.local) → UsesSlot x old new
 uses_slot x old new e m = record {
   order = sym (refilled_all old.free old.local old.cursor) ∙ ap (λ (z : Lists). z.free ++ z.local) e;
   apart = m;
   cursor = sym (ap (λ (z : Lists). z.cursor) e) ∙ refilled_cursor old.free old.local old.cursor;
 }
 
-pub kept_without : (st : PageState) (g : SeenPage) (x : ℕ) (l : Lists) → KeepsPage st g → UsesSlot x st.lists l → KeepsPage (record { lists = l; class_word = st.class_word; armed = st.armed }) (page_without g x)
+pub kept_without : (st : PageState) (g : SeenPage) (x : ℕ) (l : Lists) → KeepsPage st g → UsesSlot x st.lists l
+    → KeepsPage (record { lists = l; class_word = st.class_word; armed = st.armed }) (page_without g x)
 kept_without st g x l a u = record {
   class = a.class;
   few = a.few;
@@ -159,11 +187,13 @@ kept_without st g x l a u = record {
   whole t = ap (has_number t) (sym u.order) ∙ a.mine t
 
   go : (t : ℕ) (b : Bool) → (t == x) ≡ b → has_number t (l.free ++ l.local) ≡ (g.mine t && not b)
-  go t true e = let is : t ≡ x = grind (arith, nat_tests) in subst (λ z. has_number z (l.free ++ l.local) ≡ false) (sym is) (has_misses x (l.free ++ l.local) u.apart) ∙ none (g.mine t)
+  go t true e = let is : t ≡ x = grind (arith, nat_tests) in subst (λ z. has_number z (l.free ++ l.local) ≡ false)
+      (sym is) (has_misses x (l.free ++ l.local) u.apart) ∙ none (g.mine t)
   go t false e = ap (λ b. b || has_number t (l.free ++ l.local)) (sym (eqb_sym x t ∙ e)) ∙ (whole t ∙ last (g.mine t))
 
 -- the slot that is used is the owner's
-pub used_is_mine : (st : PageState) (g : SeenPage) (x : ℕ) (l : Lists) → KeepsPage st g → UsesSlot x st.lists l → g.mine x ≡ true
+pub used_is_mine : (st : PageState) (g : SeenPage) (x : ℕ) (l : Lists) → KeepsPage st g → UsesSlot x st.lists l
+    → g.mine x ≡ true
 used_is_mine st g x l a u =
     let e : (x == x) ≡ true = grind (arith, nat_tests) in
     sym (a.mine x) ∙ (ap (has_number x) u.order ∙ ap (λ b. b || has_number x (l.free ++ l.local)) e)
@@ -176,7 +206,8 @@ up_has s i zero = go (nat_le i s) refl where
   go true e = let z : nat_lt s (i + 0) ≡ false = grind (arith, nat_tests) in sym z
   go false e = refl
 up_has s i (suc n) = ap (λ b. (i == s) || b) (up_has s (suc i) n) ∙ go (i == s) refl where
-  two : (b : Bool) → nat_le (suc i) s ≡ b → (i == s) ≡ false → (b && nat_lt s (suc i + n)) ≡ (nat_le i s && nat_lt s (i + suc n))
+  two : (b : Bool) → nat_le (suc i) s ≡ b → (i == s) ≡ false → (b && nat_lt s (suc i + n))
+      ≡ (nat_le i s && nat_lt s (i + suc n))
   two true e f =
       let x : nat_le i s ≡ true = grind (arith, nat_tests) in
       let y : suc i + n ≡ i + suc n = omega arith in
@@ -185,30 +216,45 @@ up_has s i (suc n) = ap (λ b. (i == s) || b) (up_has s (suc i) n) ∙ go (i == 
       let x : nat_le i s ≡ false = grind (arith, nat_tests) in
       ap (λ b. b && nat_lt s (i + suc n)) (sym x)
 
-  go : (b : Bool) → (i == s) ≡ b → (b || (nat_le (suc i) s && nat_lt s (suc i + n))) ≡ (nat_le i s && nat_lt s (i + suc n))
+  go : (b : Bool) → (i == s) ≡ b → (b || (nat_le (suc i) s && nat_lt s (suc i + n)))
+      ≡ (nat_le i s && nat_lt s (i + suc n))
   go true e =
       let x : nat_le i s ≡ true = grind (arith, nat_tests) in
       let y : nat_lt s (i + suc n) ≡ true = grind (arith, nat_tests) in
       rw (x, y) refl
   go false e = two (nat_le (suc i) s) refl e
 
-pub kept_given : (st : PageState) (g : SeenPage) (c n : ℕ) (l : Lists) → KeepsPage st g → c < 8 → l ≡ record { free = upward 0 n; local = []; cursor = st.lists.cursor } → n ≡ slots c → KeepsPage (record { lists = l; class_word = c + 1; armed = st.armed }) (page_given g c)
+pub kept_given : (st : PageState) (g : SeenPage) (c n : ℕ) (l : Lists) → KeepsPage st g → c < 8 → l
+    ≡ record { free = upward 0 n; local = []; cursor = st.lists.cursor } → n ≡ slots c
+    → KeepsPage (record { lists = l; class_word = c + 1; armed = st.armed }) (page_given g c)
 kept_given st g c n l a small e is = record {
   class = refl;
   few = omega arith;
   cursor = a.cursor ∙ ap (λ (z : Lists). z.cursor) (sym e);
   armed = a.armed;
-  mine = λ s. ap (λ (z : Lists). has_number s (z.free ++ z.local)) e ∙ (ap (has_number s) (append-nil (upward 0 n)) ∙ (up_has s 0 n ∙ ((let x : nat_le 0 s ≡ true = grind (arith, nat_tests) in ap (λ b. b && nat_lt s (0 + n)) x) ∙ (let y : 0 + n ≡ slots c = omega arith in ap (nat_lt s) y))));
+  mine = λ s. ap (λ (z : Lists). has_number s (z.free ++ z.local)) e
+      ∙ (ap (has_number s) (append-nil (upward 0 n)) ∙ (up_has s 0 n
+      ∙ ((let x : nat_le 0 s ≡ true = grind (arith, nat_tests) in ap (λ b. b && nat_lt s (0 + n)) x)
+      ∙ (let y : 0 + n ≡ slots c = omega arith in ap (nat_lt s) y))));
   blank = λ z. absurd (omega arith);
 }
 
 -- ---- a page that was read from the bell
 
-pub kept_rung : (st : PageState) (g : SeenPage) (n : ℕ) → KeepsPage st g → (n ≡ 0 → ⊥) → KeepsPage (record { lists = st.lists; class_word = st.class_word; armed = false }) (page_rung g n)
+pub kept_rung : (st : PageState) (g : SeenPage) (n : ℕ) → KeepsPage st g → (n ≡ 0 → ⊥)
+    → KeepsPage (record { lists = st.lists; class_word = st.class_word; armed = false }) (page_rung g n)
 kept_rung st g n a some = go (n == 0) refl where
-  go : (b : Bool) → (n == 0) ≡ b → KeepsPage (record { lists = st.lists; class_word = st.class_word; armed = false }) (cond b g (record g { armed = false }))
+  go : (b : Bool) → (n == 0) ≡ b → KeepsPage (record { lists = st.lists; class_word = st.class_word; armed = false })
+      (cond b g (record g { armed = false }))
   go true e = absurd (some (let y : n ≡ 0 = grind (arith, nat_tests) in y))
-  go false e = record { class = a.class; few = a.few; cursor = a.cursor; armed = refl; mine = a.mine; blank = λ z. refl }
+  go false e = record {
+    class = a.class;
+    few = a.few;
+    cursor = a.cursor;
+    armed = refl;
+    mine = a.mine;
+    blank = λ z. refl;
+  }
 
 pub kept_waiting : (st : PageState) (g : SeenPage) (n : ℕ) → KeepsPage st g → n ≡ 0 → KeepsPage st (page_rung g n)
 kept_waiting st g n a e =
@@ -217,4 +263,6 @@ kept_waiting st g n a e =
     subst P (sym z) a
 
 pub followed_cursor : (g : SeenPage) (s n : ℕ) → (n ≡ 0 → ⊥) → (page_followed g s n).cursor ≡ link_item n
-followed_cursor g s n some = let e : (n == 0) ≡ false = grind (arith, nat_tests) in ap (λ b. (cond b (record g { met = g.met + 1 }) (record g { mine = λ t. (t == s) || g.mine t; cursor = link_item n })).cursor) e
+followed_cursor g s n some = let e : (n == 0) ≡ false = grind (arith, nat_tests)
+    in ap (λ b. (cond b (record g { met = g.met + 1 }) (record g
+    { mine = λ t. (t == s) || g.mine t; cursor = link_item n })).cursor) e

@@ -1,5 +1,7 @@
 -- A search of the pages of a class.
-use Rattle.std.proofs.Common.{◌≡◌, ◌≢◌, ℕ, zero, suc, ◌+◌, ◌*◌, ◌<◌, ◌≤◌, ◌||◌, ◌⊎◌, inl, inr, ⊎_elim, Bool, true, false, Option, Some, None, MatchOption, List, [], ◌∷◌, ◌++◌, append_assoc, append-nil, length, slice_get, refl, ap, ◌∙◌, sym, subst, arith}
+use Rattle.std.proofs.Common.{◌≡◌, ◌≢◌, ℕ, zero, suc, ◌+◌, ◌*◌, ◌<◌, ◌≤◌, ◌||◌, ◌⊎◌, inl, inr, ⊎_elim, Bool, true}
+use Rattle.std.proofs.Common.{false, Option, Some, None, MatchOption, List, [], ◌∷◌, ◌++◌, append_assoc, append-nil}
+use Rattle.std.proofs.Common.{length, slice_get, refl, ap, ◌∙◌, sym, subst, arith}
 use Rattle.std.specs.List.{last_or}
 use Rattle.std.proofs.lemmas.Bool.{cases_eq, cases_lt, false≢true}
 use Rattle.std.specs.Prelude.{nat_lt}
@@ -8,13 +10,15 @@ use Rattle.sh_lists.proofs.Distincts.{Misses-left}
 use Rattle.sh_queue.specs.Numbers.{has_number}
 use Rattle.sh_queue.specs.Queues.{PageQueues, EachOnce, class_queue, at_back, among_full, one_more_segment}
 use Rattle.sh_queue.proofs.Numbers.{has_number-append, has_number-from_Misses, has_number-first, has_number-last}
-use Rattle.sh_queue.proofs.PageLaws.{has_number-only, class_queue-at_back_front, class_queue-among_full_front, class_distinct, length-class_queue, opened_somewhere}
+use Rattle.sh_queue.proofs.PageLaws.{has_number-only, class_queue-at_back_front, class_queue-among_full_front}
+use Rattle.sh_queue.proofs.PageLaws.{class_distinct, length-class_queue, opened_somewhere}
 use Rattle.sh_history.specs.declared.entry.Entry.TheVariants as entry
 use Rattle.sh_history.specs.declared.log.LogEntry.TheVariants.{Known}
 use Rattle.sh_key.specs.Layout.{Layout}
 use Rattle.sh_shape.specs.Classes.{slots}
 use Rattle.sh_pass.specs.Owners.{SeenPage, Aside, IsKeyIn}
-use Rattle.sh_shard.specs.Pages.{Paged, page_at, seen_class, WorksOn, PageDone, PageInserts, NothingMine, WhollyMine, GivesClass}
+use Rattle.sh_shard.specs.Pages.{Paged, page_at, seen_class, WorksOn, PageDone, PageInserts, NothingMine, WhollyMine}
+use Rattle.sh_shard.specs.Pages.{GivesClass}
 use Rattle.sh_shard.specs.Shards.{Sharded, SortedPages, FullPage, Added, NoneLeft, NoRoom, WorksThroughout}
 use Rattle.sh_shard.specs.Searches.{WorkedSince, Settles, Searched, Searching, Tried}
 use Rattle.sh_shard.proofs.Sides.{aside_none, aside_then}
@@ -22,7 +26,17 @@ use Rattle.sh_shard.proofs.Sides.{aside_none, aside_then}
 -- ---- work on pages, one after the other
 
 pub since_none : (o : Paged) → WorkedSince o o
-since_none o = record { aside = aside_none o.owner; put = refl; bell = refl; log = refl; shard = refl; count = refl; classes = λ q. refl; takes = λ q. omega arith; met = λ q. omega arith }
+since_none o = record {
+  aside = aside_none o.owner;
+  put = refl;
+  bell = refl;
+  log = refl;
+  shard = refl;
+  count = refl;
+  classes = λ q. refl;
+  takes = λ q. omega arith;
+  met = λ q. omega arith;
+}
 
 pub since_works : (p : ℕ) (o n m : Paged) → WorkedSince o n → WorksOn p n m → WorkedSince o m
 since_works p o n m s w = record {
@@ -32,12 +46,19 @@ since_works p o n m s w = record {
   log = w.log ∙ s.log;
   shard = w.shard ∙ s.shard;
   count = w.count ∙ s.count;
-  classes = λ q. ⊎_elim (λ (e : q ≡ p). subst (λ z. (page_at m z).class ≡ (page_at o z).class) (sym e) (w.class ∙ s.classes p)) (λ (ne : q ≢ p). ap (λ (g : SeenPage). g.class) (w.others q ne) ∙ s.classes q) (cases_eq q p);
-  takes = λ q. ⊎_elim (λ (e : q ≡ p). subst (λ z. (page_at o z).takes ≤ (page_at m z).takes) (sym e) (omega (arith, s.takes p, w.takes))) (λ (ne : q ≢ p). subst (λ (z : SeenPage). (page_at o q).takes ≤ z.takes) (sym (w.others q ne)) (s.takes q)) (cases_eq q p);
-  met = λ q. ⊎_elim (λ (e : q ≡ p). subst (λ z. (page_at o z).met ≤ (page_at m z).met) (sym e) (omega (arith, s.met p, w.met))) (λ (ne : q ≢ p). subst (λ (z : SeenPage). (page_at o q).met ≤ z.met) (sym (w.others q ne)) (s.met q)) (cases_eq q p);
+  classes = λ q. ⊎_elim (λ (e : q ≡ p). subst (λ z. (page_at m z).class ≡ (page_at o z).class) (sym e)
+      (w.class ∙ s.classes p)) (λ (ne : q ≢ p). ap (λ (g : SeenPage). g.class) (w.others q ne) ∙ s.classes q)
+      (cases_eq q p);
+  takes = λ q. ⊎_elim (λ (e : q ≡ p). subst (λ z. (page_at o z).takes ≤ (page_at m z).takes) (sym e)
+      (omega (arith, s.takes p, w.takes))) (λ (ne : q ≢ p). subst (λ (z : SeenPage). (page_at o q).takes ≤ z.takes)
+      (sym (w.others q ne)) (s.takes q)) (cases_eq q p);
+  met = λ q. ⊎_elim (λ (e : q ≡ p). subst (λ z. (page_at o z).met ≤ (page_at m z).met) (sym e)
+      (omega (arith, s.met p, w.met))) (λ (ne : q ≢ p). subst (λ (z : SeenPage). (page_at o q).met ≤ z.met)
+      (sym (w.others q ne)) (s.met q)) (cases_eq q p);
 }
 
-pub weaken_armed : (c : Option ℕ) (A : Type 0) (a b d : ℕ) → a ≤ b → MatchOption c A (λ _. b < d) → MatchOption c A (λ _. a < d)
+pub weaken_armed : (c : Option ℕ) (A : Type 0) (a b d : ℕ) → a ≤ b → MatchOption c A (λ _. b < d)
+    → MatchOption c A (λ _. a < d)
 weaken_armed None A a b d l h = h
 weaken_armed (Some s) A a b d l h = omega arith
 
@@ -47,10 +68,12 @@ done_here p o n m s d = record { mine = d.mine; waits = weaken_armed (page_at m 
 -- a page that nothing touched since stays done
 pub done_still : (o n m : Paged) (r : ℕ) → page_at m r ≡ page_at n r → PageDone o n r → PageDone o m r
 done_still o n m r e h =
-    let P : SeenPage → Type 0 = λ g. ((x : ℕ) → g.mine x ≡ false) × MatchOption g.cursor (g.armed ≡ true) (λ _. (page_at o r).met < g.met) in
+    let P : SeenPage → Type 0 = λ g. ((x : ℕ) → g.mine x ≡ false) × MatchOption g.cursor (g.armed ≡ true)
+    (λ _. (page_at o r).met < g.met) in
     let both = subst P (sym e) (h.mine, h.waits) in record { mine = both.0; waits = both.1 }
 
-done_kept : (p : ℕ) (o n m : Paged) (r : ℕ) → WorkedSince o n → WorksOn p n m → PageDone n m p → PageDone o n r → PageDone o m r
+done_kept : (p : ℕ) (o n m : Paged) (r : ℕ) → WorkedSince o n → WorksOn p n m → PageDone n m p → PageDone o n r
+    → PageDone o m r
 done_kept p o n m r s w d h = ⊎_elim
     (λ (e : r ≡ p). subst (PageDone o m) (sym e) (done_here p o n m s d))
     (λ (ne : r ≢ p). done_still o n m r (w.others r ne) h)
@@ -59,7 +82,8 @@ done_kept p o n m r s w d h = ⊎_elim
 -- ---- the queue of the class after a page went
 
 -- the page that stood last is not among those ahead of it
-last_in : (x last : ℕ) (xs : List ℕ) → xs ≢ [] → last_or (Some x) xs ≡ Some last → (last_or None xs ≡ Some last) × (has_number last xs ≡ true)
+last_in : (x last : ℕ) (xs : List ℕ) → xs ≢ [] → last_or (Some x) xs ≡ Some last → (last_or None xs ≡ Some last)
+    × (has_number last xs ≡ true)
 last_in x last [] ne e = absurd (ne refl)
 last_in x last (y ∷ ys) ne e = (e, has_number-last last (y ∷ ys) e)
 
@@ -69,7 +93,8 @@ or_cases false b e = inr e
 
 -- ---- the search
 
-pub begins : (c last : ℕ) (o : Sharded) → EachOnce o.queues → last_or None (class_queue o.queues c) ≡ Some last → Searching c 0 last o o
+pub begins : (c last : ℕ) (o : Sharded) → EachOnce o.queues → last_or None (class_queue o.queues c) ≡ Some last
+    → Searching c 0 last o o
 begins c last o once e = record {
   since = since_none o.pages;
   rest = class_queue o.queues c;
@@ -80,7 +105,8 @@ begins c last o once e = record {
   done = λ p h. absurd (false≢true h);
 }
 
-front_is : (c p turn last : ℕ) (o n : Sharded) (s : Searching c turn last o n) → slice_get (class_queue n.queues c) 0 ≡ Some p → (ys : List ℕ) × (s.rest ≡ p ∷ ys)
+front_is : (c p turn last : ℕ) (o n : Sharded) (s : Searching c turn last o n) → slice_get (class_queue n.queues c) 0
+    ≡ Some p → (ys : List ℕ) × (s.rest ≡ p ∷ ys)
 front_is c p turn last o n s e = go s.rest refl s.ends where
   go : (xs : List ℕ) → s.rest ≡ xs → last_or None xs ≡ Some last → (ys : List ℕ) × (s.rest ≡ p ∷ ys)
   go [] is l = absurd (let z : None ≡ Some last = l in cc)
@@ -88,7 +114,8 @@ front_is c p turn last o n s e = go s.rest refl s.ends where
       let f : Some x ≡ Some p = sym (ap (λ ys. slice_get ys 0) (s.queue ∙ ap (λ ys. ys ++ s.waited) is)) ∙ e in
       let k : x ≡ p = cc in (xs, is ∙ ap (λ z. z ∷ xs) k)
 
-pub front_has : (c p : ℕ) (q : PageQueues) → slice_get (class_queue q c) 0 ≡ Some p → has_number p (class_queue q c) ≡ true
+pub front_has : (c p : ℕ) (q : PageQueues) → slice_get (class_queue q c) 0 ≡ Some p → has_number p (class_queue q c)
+    ≡ true
 front_has c p q e = has_number-first p (class_queue q c) e
 
 -- what waits after one more page was tried
@@ -98,38 +125,51 @@ pub record Turned (c last : ℕ) (o z : Sharded) (p : ℕ) (ys : List ℕ) : Typ
   pub queue : class_queue z.queues c ≡ ys ++ waited
   pub done : (r : ℕ) → has_number r waited ≡ true → PageDone o.pages z.pages r
 
-turned : (c p turn last : ℕ) (o n m z : Sharded) (s : Searching c turn last o n) (ys : List ℕ) → s.rest ≡ p ∷ ys → EachOnce n.queues → c < 8 → m.queues ≡ n.queues
+turned : (c p turn last : ℕ) (o n m z : Sharded) (s : Searching c turn last o n) (ys : List ℕ) → s.rest ≡ p ∷ ys
+    → EachOnce n.queues → c < 8 → m.queues ≡ n.queues
     → WorksOn p n.pages m.pages → PageDone n.pages m.pages p → Settles c p m z → Turned c last o z p ys
 turned c p turn last o n m z s ys is once l same w d st =
     let q : class_queue n.queues c ≡ p ∷ (ys ++ s.waited) = s.queue ∙ ap (λ xs. xs ++ s.waited) is in
     let q' : class_queue m.queues c ≡ p ∷ (ys ++ s.waited) = ap (λ (k : PageQueues). class_queue k c) same ∙ q in
-    let since : WorkedSince o.pages z.pages = subst (WorkedSince o.pages) (sym st.pages) (since_works p o.pages n.pages m.pages s.since w) in
-    let old : (r : ℕ) → has_number r s.waited ≡ true → PageDone o.pages z.pages r = λ r h. subst (λ k. PageDone o.pages k r) (sym st.pages) (done_kept p o.pages n.pages m.pages r s.since w d (s.done r h)) in
-    let new : PageDone o.pages z.pages p = subst (λ k. PageDone o.pages k p) (sym st.pages) (done_here p o.pages n.pages m.pages s.since d) in
-    let inside : c < length m.queues.classes = (let e : length m.queues.classes ≡ length n.queues.classes = ap (λ (k : PageQueues). length k.classes) same in let f = once.classes in omega arith) in
+    let since : WorkedSince o.pages z.pages = subst (WorkedSince o.pages) (sym st.pages)
+    (since_works p o.pages n.pages m.pages s.since w) in
+    let old : (r : ℕ) → has_number r s.waited ≡ true → PageDone o.pages z.pages r = λ r h. subst
+    (λ k. PageDone o.pages k r) (sym st.pages) (done_kept p o.pages n.pages m.pages r s.since w d (s.done r h)) in
+    let new : PageDone o.pages z.pages p = subst (λ k. PageDone o.pages k p) (sym st.pages)
+    (done_here p o.pages n.pages m.pages s.since d) in
+    let inside : c < length m.queues.classes = (let e : length m.queues.classes
+    ≡ length n.queues.classes = ap (λ (k : PageQueues). length k.classes) same in let f = once.classes
+    in omega arith) in
     ⊎_elim
     (λ (b : z.queues ≡ at_back c p m.queues).
     let out : Turned c last o z p ys = record {
       since = since;
       waited = s.waited ++ p ∷ [];
-      queue = ap (λ (k : PageQueues). class_queue k c) b ∙ (class_queue-at_back_front c p m.queues (ys ++ s.waited) inside q' ∙ append_assoc ys s.waited (p ∷ []));
-      done = λ r h. ⊎_elim (λ (t : has_number r s.waited ≡ true). old r t) (λ (t : has_number r (p ∷ []) ≡ true). subst (PageDone o.pages z.pages) (sym (has_number-only r p t)) new) (or_cases (has_number r s.waited) (has_number r (p ∷ [])) (sym (has_number-append r s.waited (p ∷ [])) ∙ h));
+      queue = ap (λ (k : PageQueues). class_queue k c) b ∙ (class_queue-at_back_front c p m.queues (ys ++ s.waited)
+          inside q' ∙ append_assoc ys s.waited (p ∷ []));
+      done = λ r h. ⊎_elim (λ (t : has_number r s.waited ≡ true). old r t)
+          (λ (t : has_number r (p ∷ []) ≡ true). subst (PageDone o.pages z.pages) (sym (has_number-only r p t)) new)
+          (or_cases (has_number r s.waited) (has_number r (p ∷ [])) (sym (has_number-append r s.waited (p ∷ [])) ∙ h));
     } in out)
     (λ (b : z.queues ≡ among_full p m.queues).
     let out : Turned c last o z p ys = record {
       since = since;
       waited = s.waited;
-      queue = ap (λ (k : PageQueues). class_queue k c) b ∙ class_queue-among_full_front c p m.queues (ys ++ s.waited) q';
+      queue = ap (λ (k : PageQueues). class_queue k c) b ∙ class_queue-among_full_front c p m.queues (ys ++ s.waited)
+          q';
       done = old;
     } in out)
     st.queues
 
-pub more : (c p turn last : ℕ) (o n m z : Sharded) → Searching c turn last o n → slice_get (class_queue n.queues c) 0 ≡ Some p → EachOnce n.queues → c < 8 → m.queues ≡ n.queues
-    → WorksOn p n.pages m.pages → PageDone n.pages m.pages p → Settles c p m z → z.queues.opened ≡ n.queues.opened → p ≢ last → Searching c (turn + 1) last o z
+pub more : (c p turn last : ℕ) (o n m z : Sharded) → Searching c turn last o n → slice_get (class_queue n.queues c) 0
+    ≡ Some p → EachOnce n.queues → c < 8 → m.queues ≡ n.queues
+    → WorksOn p n.pages m.pages → PageDone n.pages m.pages p → Settles c p m z → z.queues.opened ≡ n.queues.opened
+    → p ≢ last → Searching c (turn + 1) last o z
 more c p turn last o n m z s e once l same w d st opened ne =
     let f = front_is c p turn last o n s e in
     let t = turned c p turn last o n m z s f.0 f.1 once l same w d st in
-    let some : f.0 ≢ [] = λ k. ne (let is : Some p ≡ Some last = sym (ap (last_or None) (f.1 ∙ ap (λ ys. p ∷ ys) k)) ∙ s.ends in let j : p ≡ last = cc in j) in
+    let some : f.0 ≢ [] = λ k. ne (let is : Some p ≡ Some last = sym (ap (last_or None) (f.1 ∙ ap (λ ys. p ∷ ys) k))
+    ∙ s.ends in let j : p ≡ last = cc in j) in
     let i = last_in p last f.0 some (sym (ap (last_or None) f.1) ∙ s.ends) in record {
       since = t.since;
       rest = f.0;
@@ -142,29 +182,39 @@ more c p turn last o n m z s e once l same w d st opened ne =
 
 none_behind : (p : ℕ) (xs : List ℕ) (w : List ℕ) → Distinct (p ∷ (xs ++ w)) → last_or (Some p) xs ≡ Some p → xs ≡ []
 none_behind p [] w d e = refl
-none_behind p (y ∷ ys) w d e = absurd (false≢true (sym (has_number-from_Misses p (y ∷ ys) (Misses-left p (y ∷ ys) w d.0)) ∙ has_number-last p (y ∷ ys) e))
+none_behind p (y ∷ ys) w d e = absurd (false≢true (sym (has_number-from_Misses p (y ∷ ys)
+    (Misses-left p (y ∷ ys) w d.0)) ∙ has_number-last p (y ∷ ys) e))
 
-pub ended : (c p turn last : ℕ) (o n m z : Sharded) → Searching c turn last o n → slice_get (class_queue n.queues c) 0 ≡ Some p → EachOnce n.queues → c < 8 → m.queues ≡ n.queues
+pub ended : (c p turn last : ℕ) (o n m z : Sharded) → Searching c turn last o n → slice_get (class_queue n.queues c) 0
+    ≡ Some p → EachOnce n.queues → c < 8 → m.queues ≡ n.queues
     → WorksOn p n.pages m.pages → PageDone n.pages m.pages p → Settles c p m z → p ≡ last → Searched c o z
 ended c p turn last o n m z s e once l same w d st is =
     let f = front_is c p turn last o n s e in
     let t = turned c p turn last o n m z s f.0 f.1 once l same w d st in
     let q : class_queue n.queues c ≡ p ∷ (f.0 ++ s.waited) = s.queue ∙ ap (λ xs. xs ++ s.waited) f.1 in
-    let none : f.0 ≡ [] = none_behind p f.0 s.waited (subst Distinct q (class_distinct n.queues once c)) (sym (ap (last_or None) f.1) ∙ (s.ends ∙ ap (λ (k : ℕ). Some k) (sym is))) in
-    record { since = t.since; done = λ r h. t.done r (sym (ap (has_number r) (t.queue ∙ ap (λ xs. xs ++ t.waited) none)) ∙ h) }
+    let none : f.0 ≡ [] = none_behind p f.0 s.waited (subst Distinct q (class_distinct n.queues once c))
+    (sym (ap (last_or None) f.1) ∙ (s.ends ∙ ap (λ (k : ℕ). Some k) (sym is))) in
+    record {
+      since = t.since;
+      done = λ r h. t.done r (sym (ap (has_number r) (t.queue ∙ ap (λ xs. xs ++ t.waited) none))
+          ∙ h);
+    }
 
 -- a search does not run out of turns, nor of pages
-pub out_of_turns : {A : Type 0} (c turn last k : ℕ) (o n : Sharded) → Searching c turn last o n → n.queues.opened ≡ k → k ≤ turn → A
+pub out_of_turns : {A : Type 0} (c turn last k : ℕ) (o n : Sharded) → Searching c turn last o n → n.queues.opened ≡ k
+    → k ≤ turn → A
 out_of_turns {A} c turn last k o n s e l = go s.rest refl s.ends where
   go : (xs : List ℕ) → s.rest ≡ xs → last_or None xs ≡ Some last → A
   go [] is m = absurd (let z : None ≡ Some last = m in cc)
   go (x ∷ xs) is m = let a = s.few in let b : length s.rest ≡ suc (length xs) = ap length is in absurd (omega arith)
 
-pub out_of_pages : {A : Type 0} (c turn last : ℕ) (o n : Sharded) → Searching c turn last o n → slice_get (class_queue n.queues c) 0 ≡ None → A
+pub out_of_pages : {A : Type 0} (c turn last : ℕ) (o n : Sharded) → Searching c turn last o n
+    → slice_get (class_queue n.queues c) 0 ≡ None → A
 out_of_pages {A} c turn last o n s e = go s.rest refl s.ends where
   go : (xs : List ℕ) → s.rest ≡ xs → last_or None xs ≡ Some last → A
   go [] is m = absurd (let z : None ≡ Some last = m in cc)
-  go (x ∷ xs) is m = absurd (let z : Some x ≡ None = sym (ap (λ ys. slice_get ys 0) (s.queue ∙ ap (λ ys. ys ++ s.waited) is)) ∙ e in cc)
+  go (x ∷ xs) is m = absurd (let z : Some x ≡ None = sym (ap (λ ys. slice_get ys 0)
+      (s.queue ∙ ap (λ ys. ys ++ s.waited) is)) ∙ e in cc)
 
 none_last : (x : ℕ) (xs : List ℕ) → last_or (Some x) xs ≡ None → ⊥
 none_last x [] e = let z : Some x ≡ None = e in cc
@@ -177,14 +227,16 @@ no_pages c o e = record { since = since_none o.pages; done = λ p h. go (class_q
   go (x ∷ xs) p e h = absurd (none_last x xs e)
 
 pub settled_opened : (c p : ℕ) (o n : Sharded) → Settles c p o n → n.queues.opened ≡ o.queues.opened
-settled_opened c p o n s = ⊎_elim (λ (b : n.queues ≡ at_back c p o.queues). ap (λ (q : PageQueues). q.opened) b) (λ (b : n.queues ≡ among_full p o.queues). ap (λ (q : PageQueues). q.opened) b) s.queues
+settled_opened c p o n s = ⊎_elim (λ (b : n.queues ≡ at_back c p o.queues). ap (λ (q : PageQueues). q.opened) b)
+    (λ (b : n.queues ≡ among_full p o.queues). ap (λ (q : PageQueues). q.opened) b) s.queues
 
 -- ---- a value was added
 
 pub added_here : (p key : ℕ) (value : List ℕ) (o n : Paged) → PageInserts p value key o n → Added value key o n
 added_here p key value o n i = record { aside = i.aside; put = i.put; log = i.log; shard = i.shard; count = i.count }
 
-pub added : (p key : ℕ) (value : List ℕ) (o n m : Paged) → WorkedSince o n → PageInserts p value key n m → Added value key o m
+pub added : (p key : ℕ) (value : List ℕ) (o n m : Paged) → WorkedSince o n → PageInserts p value key n m
+    → Added value key o m
 added p key value o n m s i = record {
   aside = aside_then s.aside i.aside;
   put = i.put ∙ s.put;
@@ -194,7 +246,8 @@ added p key value o n m s i = record {
 }
 
 -- in a page that was given a class
-pub added_given : (p c q key : ℕ) (value : List ℕ) (o n m : Paged) → GivesClass p c o n → PageInserts q value key n m → Added value key o m
+pub added_given : (p c q key : ℕ) (value : List ℕ) (o n m : Paged) → GivesClass p c o n → PageInserts q value key n m
+    → Added value key o m
 added_given p c q key value o n m g i = record {
   aside = aside_then g.aside i.aside;
   put = i.put ∙ g.put;
@@ -203,7 +256,8 @@ added_given p c q key value o n m g i = record {
   count = i.count ∙ g.count;
 }
 
-pub added_since : (key : ℕ) (value : List ℕ) (o n m : Paged) → WorksThroughout o n → Added value key n m → Added value key o m
+pub added_since : (key : ℕ) (value : List ℕ) (o n m : Paged) → WorksThroughout o n → Added value key n m
+    → Added value key o m
 added_since key value o n m s i = record {
   aside = aside_then s.aside i.aside;
   put = i.put ∙ s.put;
@@ -213,19 +267,35 @@ added_since key value o n m s i = record {
 }
 
 -- a key of the shard is one of the same shard before
-pub key_same : (layout : Layout) (o m : Paged) (key : ℕ) → Aside o.owner m.owner → m.shard ≡ o.shard → IsKeyIn layout m.owner m.shard key → IsKeyIn layout o.owner o.shard key
+pub key_same : (layout : Layout) (o m : Paged) (key : ℕ) → Aside o.owner m.owner → m.shard ≡ o.shard
+    → IsKeyIn layout m.owner m.shard key → IsKeyIn layout o.owner o.shard key
 key_same layout o m key a e is = subst (λ s. s) (ap2 a.same.shape e) is where
-  ap2 : m.owner.view.shape ≡ o.owner.view.shape → m.shard ≡ o.shard → IsKeyIn layout m.owner m.shard key ≡ IsKeyIn layout o.owner o.shard key
-  ap2 s e = λ i. (x : Rattle.sh_slots.specs.declared.hand.Name.Name) × (Rattle.sh_step.specs.Moves.place_named (Rattle.sh_step.specs.Plans.plan_of layout (s i)) key ≡ Some x) × (Rattle.sh_step.specs.Plans.home (Rattle.sh_step.specs.Plans.plan_of layout (s i)) x.page ≡ e i)
+  ap2 : m.owner.view.shape ≡ o.owner.view.shape → m.shard ≡ o.shard → IsKeyIn layout m.owner m.shard key
+      ≡ IsKeyIn layout o.owner o.shard key
+  ap2 s e = λ i. (x : Rattle.sh_slots.specs.declared.hand.Name.Name)
+      × (Rattle.sh_step.specs.Moves.place_named (Rattle.sh_step.specs.Plans.plan_of layout (s i)) key ≡ Some x)
+      × (Rattle.sh_step.specs.Plans.home (Rattle.sh_step.specs.Plans.plan_of layout (s i)) x.page ≡ e i)
 
 -- ---- each page of the class is done
 
 full_done : (o n : Paged) (p : ℕ) → FullPage (page_at n p) → PageDone o n p
-full_done o n p f = record { mine = f.mine; waits = subst (λ (c : Option ℕ). MatchOption c ((page_at n p).armed ≡ true) (λ _. (page_at o p).met < (page_at n p).met)) (sym f.cursor) f.armed }
+full_done o n p f = record {
+  mine = f.mine;
+  waits = subst (λ (c : Option ℕ). MatchOption c ((page_at n p).armed ≡ true)
+      (λ _. (page_at o p).met < (page_at n p).met)) (sym f.cursor) f.armed;
+}
 
-pub none_left : (c : ℕ) (o n : Sharded) → Tried c o n → SortedPages n.pages n.queues → EachOnce n.queues → NoneLeft c o.pages n.pages
-none_left c o n s k once = record { through = s.through; bell = s.bell; done = λ p l is. ⊎_elim (λ (h : p < n.queues.opened). inside p h is) (λ (h : n.queues.opened ≤ p). blank p (k.later p h l) is) (cases_lt p n.queues.opened) } where
-  blank : (p : ℕ) → (page_at n.pages p).class ≡ Some 0 → (page_at n.pages p).class ≡ Some (c + 1) → PageDone o.pages n.pages p
+pub none_left : (c : ℕ) (o n : Sharded) → Tried c o n → SortedPages n.pages n.queues → EachOnce n.queues
+    → NoneLeft c o.pages n.pages
+none_left c o n s k once = record {
+  through = s.through;
+  bell = s.bell;
+  done = λ p l is.
+      ⊎_elim (λ (h : p < n.queues.opened). inside p h is) (λ (h : n.queues.opened ≤ p). blank p (k.later p h l) is)
+      (cases_lt p n.queues.opened);
+} where
+  blank : (p : ℕ) → (page_at n.pages p).class ≡ Some 0 → (page_at n.pages p).class ≡ Some (c + 1)
+      → PageDone o.pages n.pages p
   blank p t is = let e : Some 0 ≡ Some (c + 1) = sym t ∙ is in let f : 0 ≡ c + 1 = cc in absurd (omega arith)
 
   inside : (p : ℕ) → p < n.queues.opened → (page_at n.pages p).class ≡ Some (c + 1) → PageDone o.pages n.pages p
@@ -245,17 +315,22 @@ word_of : (g : SeenPage) (word : ℕ) → g.class ≡ Some word → seen_class g
 word_of g word is = ap (λ (o : Option ℕ). elim o as (λ _. ℕ) [ Some m ↦ m | None ↦ 0 ]) is
 
 -- no page is blank, once none stands among the blank ones and no segment is unopened
-pub none_blank : (n : Sharded) → SortedPages n.pages n.queues → EachOnce n.queues → n.queues.unopened ≡ 0 → slice_get n.queues.blank 0 ≡ None
+pub none_blank : (n : Sharded) → SortedPages n.pages n.queues → EachOnce n.queues → n.queues.unopened ≡ 0
+    → slice_get n.queues.blank 0 ≡ None
     → (p : ℕ) → p < n.pages.count → (page_at n.pages p).class ≢ Some 0
-none_blank n k once none front p l is = not_blank (opened_somewhere p n.queues once (let a = k.all in omega arith)) where
-  empty : (xs : List ℕ) → slice_get xs 0 ≡ None → xs ≡ []
-  empty [] e = refl
-  empty (x ∷ xs) e = absurd (let z : Some x ≡ None = e in cc)
+none_blank n k once none front p l is = not_blank (opened_somewhere p n.queues once (let a = k.all in omega arith))
+  where
+    empty : (xs : List ℕ) → slice_get xs 0 ≡ None → xs ≡ []
+    empty [] e = refl
+    empty (x ∷ xs) e = absurd (let z : Some x ≡ None = e in cc)
 
-  not_blank : ((c : ℕ) × (c < 8) × (has_number p (class_queue n.queues c) ≡ true)) ⊎ ((has_number p n.queues.full ≡ true) ⊎ (has_number p n.queues.blank ≡ true)) → ⊥
-  not_blank (inl r) = let e : Some (r.0 + 1) ≡ Some 0 = sym (k.classes r.0 p r.2) ∙ is in let f : r.0 + 1 ≡ 0 = cc in absurd (omega arith)
-  not_blank (inr (inl t)) = let some = (k.full p t).classed in let e : seen_class (page_at n.pages p) ≡ 0 = word_of (page_at n.pages p) 0 is in absurd (omega arith)
-  not_blank (inr (inr t)) = absurd (false≢true (sym (ap (has_number p) (empty n.queues.blank front)) ∙ t))
+    not_blank : ((c : ℕ) × (c < 8) × (has_number p (class_queue n.queues c) ≡ true))
+        ⊎ ((has_number p n.queues.full ≡ true) ⊎ (has_number p n.queues.blank ≡ true)) → ⊥
+    not_blank (inl r) = let e : Some (r.0 + 1) ≡ Some 0 = sym (k.classes r.0 p r.2) ∙ is in let f : r.0 + 1 ≡ 0 = cc
+        in absurd (omega arith)
+    not_blank (inr (inl t)) = let some = (k.full p t).classed in let e : seen_class (page_at n.pages p)
+        ≡ 0 = word_of (page_at n.pages p) 0 is in absurd (omega arith)
+    not_blank (inr (inr t)) = absurd (false≢true (sym (ap (has_number p) (empty n.queues.blank front)) ∙ t))
 
 pub front_blank : (p : ℕ) (q : PageQueues) → slice_get q.blank 0 ≡ Some p → has_number p q.blank ≡ true
 front_blank p q e = has_number-first p q.blank e
@@ -273,7 +348,8 @@ slots_some (suc (suc (suc (suc (suc (suc (suc (suc c)))))))) l = absurd (omega a
 
 -- a page that was given a class has a slot
 pub some_given : {A : Type 0} (p c : ℕ) (o n : Paged) → c < 8 → GivesClass p c o n → NothingMine (page_at n p) → A
-some_given p c o n l g none = absurd (false≢true (sym (none 0) ∙ (ap (λ (z : SeenPage). z.mine 0) g.here ∙ slots_some c l)))
+some_given p c o n l g none = absurd (false≢true (sym (none 0) ∙
+    (ap (λ (z : SeenPage). z.mine 0) g.here ∙ slots_some c l)))
 
 pub some_blank : (q q' : PageQueues) → q' ≡ one_more_segment q → slice_get q'.blank 0 ≢ None
 some_blank q q' is e = go q.blank (sym (ap (λ (z : PageQueues). slice_get z.blank 0) is) ∙ e) where
@@ -282,7 +358,8 @@ some_blank q q' is e = go q.blank (sym (ap (λ (z : PageQueues). slice_get z.bla
   go (x ∷ xs) e = let z : Some x ≡ None = e in cc
 
 -- a page of the class with nothing left is not wholly its owner's
-pub not_whole : (c p : ℕ) (n : Paged) → c < 8 → NothingMine (page_at n p) → (page_at n p).class ≡ Some (c + 1) → ¬ WhollyMine (page_at n p)
+pub not_whole : (c p : ℕ) (n : Paged) → c < 8 → NothingMine (page_at n p) → (page_at n p).class ≡ Some (c + 1)
+    → ¬ WhollyMine (page_at n p)
 not_whole c p n class none is w =
     let e : Some (suc w.class) ≡ Some (c + 1) = sym w.classed ∙ is in
     let f : suc w.class ≡ c + 1 = cc in

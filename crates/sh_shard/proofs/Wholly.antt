@@ -1,5 +1,6 @@
 -- How many slots the lists of a page have, and whether these are all of its class.
-use Rattle.std.proofs.Common.{◌≡◌, ℕ, zero, suc, ◌+◌, ◌-◌, ◌<◌, ◌≤◌, ◌==◌, ◌||◌, Bool, true, false, Option, Some, None, MatchBool, List, [], ◌∷◌, ◌++◌, length, refl, ap, ◌∙◌, sym, subst, arith}
+use Rattle.std.proofs.Common.{◌≡◌, ℕ, zero, suc, ◌+◌, ◌-◌, ◌<◌, ◌≤◌, ◌==◌, ◌||◌, Bool, true, false, Option, Some, None}
+use Rattle.std.proofs.Common.{MatchBool, List, [], ◌∷◌, ◌++◌, length, refl, ap, ◌∙◌, sym, subst, arith}
 use Rattle.std.specs.Prelude.{nat_lt, nat_eq}
 use Rattle.std.proofs.lemmas.Bool.{false≢true}
 use Rattle.std.proofs.lemmas.Bool.Decides.{nat_tests}
@@ -48,7 +49,8 @@ count_alike f x (suc n) l =
 count_one_more : (f : ℕ → Bool) (x n : ℕ) → count_below (λ s. (x == s) || f s) n ≤ suc (count_below f n)
 count_one_more f x zero = omega arith
 count_one_more f x (suc n) = go (x == n) refl (count_one_more f x n) where
-  go : (b : Bool) → (x == n) ≡ b → count_below (λ s. (x == s) || f s) n ≤ suc (count_below f n) → if1 (b || f n) + count_below (λ s. (x == s) || f s) n ≤ suc (if1 (f n) + count_below f n)
+  go : (b : Bool) → (x == n) ≡ b → count_below (λ s. (x == s) || f s) n ≤ suc (count_below f n)
+      → if1 (b || f n) + count_below (λ s. (x == s) || f s) n ≤ suc (if1 (f n) + count_below f n)
   go true e rest = let is : x ≡ n = grind (arith, nat_tests) in let r = count_alike f x n (omega arith) in omega arith
   go false e rest = omega arith
 
@@ -71,16 +73,23 @@ enough n xs h = let a = count_all (λ s. has_number s xs) n h in let b = count_l
 -- ---- a page
 
 -- whether its lists have a slot
-pub some_slot : (st : PageState) (g : SeenPage) (n : ℕ) → KeepsPage st g → n ≡ length st.lists.free + length st.lists.local → MatchBool (nat_lt 0 n) ((s : ℕ) × (g.mine s ≡ true)) (NothingMine g)
-some_slot st g n a e = go (st.lists.free ++ st.lists.local) a.mine (length-append st.lists.free st.lists.local) (nat_lt 0 n) refl where
-  go : (xs : List ℕ) → ((s : ℕ) → has_number s xs ≡ g.mine s) → length xs ≡ length st.lists.free + length st.lists.local → (b : Bool) → nat_lt 0 n ≡ b → MatchBool b ((s : ℕ) × (g.mine s ≡ true)) (NothingMine g)
-  go [] h l true t = absurd (let z : 0 < n = grind (arith, nat_tests) in omega arith)
-  go [] h l false t = λ s. sym (h s)
-  go (x ∷ xs) h l true t = (x, sym (h x) ∙ head_has x xs)
-  go (x ∷ xs) h l false t = absurd (let z : n ≤ 0 = grind (arith, nat_tests) in omega arith)
+pub some_slot : (st : PageState) (g : SeenPage) (n : ℕ) → KeepsPage st g → n
+    ≡ length st.lists.free + length st.lists.local → MatchBool (nat_lt 0 n) ((s : ℕ) × (g.mine s ≡ true))
+    (NothingMine g)
+some_slot st g n a e = go (st.lists.free ++ st.lists.local) a.mine (length-append st.lists.free st.lists.local)
+    (nat_lt 0 n) refl where
+      go : (xs : List ℕ) → ((s : ℕ) → has_number s xs ≡ g.mine s) → length xs ≡ length st.lists.free + length st.lists.local
+          → (b : Bool) → nat_lt 0 n ≡ b → MatchBool b ((s : ℕ) × (g.mine s ≡ true)) (NothingMine g)
+      go [] h l true t = absurd (let z : 0 < n = grind (arith, nat_tests) in omega arith)
+      go [] h l false t = λ s. sym (h s)
+      go (x ∷ xs) h l true t = (x, sym (h x) ∙ head_has x xs)
+      go (x ∷ xs) h l false t = absurd (let z : n ≤ 0 = grind (arith, nat_tests) in omega arith)
 
 -- whether they have as many as the class has
-pub whole_page : (st : PageState) (g : SeenPage) (n k : ℕ) → KeepsPage st g → SlotsOnce st.lists → (st.class_word ≡ 0 → ⊥) → ((s : ℕ) → g.mine s ≡ true → s < slots (st.class_word - 1)) → n ≡ length st.lists.free + length st.lists.local → k ≡ slots (st.class_word - 1) → MatchBool (nat_eq n k) (WhollyMine g) (¬ WhollyMine g)
+pub whole_page : (st : PageState) (g : SeenPage) (n k : ℕ) → KeepsPage st g → SlotsOnce st.lists
+    → (st.class_word ≡ 0 → ⊥) → ((s : ℕ) → g.mine s ≡ true → s < slots (st.class_word - 1)) → n
+    ≡ length st.lists.free + length st.lists.local → k ≡ slots (st.class_word - 1)
+    → MatchBool (nat_eq n k) (WhollyMine g) (¬ WhollyMine g)
 whole_page st g n k a once some few e f = go (nat_eq n k) refl where
   size : length (st.lists.free ++ st.lists.local) ≡ length st.lists.free + length st.lists.local
   size = length-append st.lists.free st.lists.local
@@ -93,11 +102,16 @@ whole_page st g n k a once some few e f = go (nat_eq n k) refl where
       let is : n ≡ k = grind (arith, nat_tests) in record {
         class = st.class_word - 1;
         classed = a.class ∙ ap Some (omega (arith, some));
-        mine = λ s l. sym (a.mine s) ∙ all_there (slots (st.class_word - 1)) s (st.lists.free ++ st.lists.local) once.distinct below (omega (arith, size)) l;
+        mine = λ s l. sym (a.mine s) ∙ all_there (slots (st.class_word - 1)) s (st.lists.free ++ st.lists.local)
+            once.distinct below (omega (arith, size)) l;
       }
   go false t = λ w.
-      let same : suc w.class ≡ st.class_word = let h : Some (suc w.class) ≡ Some st.class_word = sym w.classed ∙ a.class in cc in
+      let same : suc w.class ≡ st.class_word = let h : Some (suc w.class) ≡ Some st.class_word = sym w.classed ∙ a.class
+      in cc in
       let is : w.class ≡ st.class_word - 1 = omega arith in
-      let l = enough (slots (st.class_word - 1)) (st.lists.free ++ st.lists.local) (λ s h. a.mine s ∙ w.mine s (subst (λ z. s < slots z) (sym is) h)) in
-      let m = length-le_from_Distinct (slots (st.class_word - 1)) (st.lists.free ++ st.lists.local) once.distinct below in
-      absurd (false≢true (sym t ∙ (let is : n ≡ k = omega (arith, size) in let z : nat_eq n k ≡ true = grind (arith, nat_tests) in z)))
+      let l = enough (slots (st.class_word - 1)) (st.lists.free ++ st.lists.local)
+      (λ s h. a.mine s ∙ w.mine s (subst (λ z. s < slots z) (sym is) h)) in
+      let m = length-le_from_Distinct (slots (st.class_word - 1)) (st.lists.free ++ st.lists.local) once.distinct below
+      in
+      absurd (false≢true (sym t ∙ (let is : n ≡ k = omega (arith, size) in let z : nat_eq n k
+      ≡ true = grind (arith, nat_tests) in z)))

@@ -1,5 +1,6 @@
 -- What is kept of the pages of an owner's shard.
-use Rattle.std.specs.Prelude.{◌≡◌, ℕ, ◌+◌, ◌*◌, ◌<◌, ◌≤◌, false, List, [], ◌∷◌, ◌++◌, length, get_or, slice_set, Option, Some, None}
+use Rattle.std.specs.Prelude.{◌≡◌, ℕ, ◌+◌, ◌*◌, ◌<◌, ◌≤◌, false, List, [], ◌∷◌, ◌++◌, length, get_or, slice_set, Option}
+use Rattle.std.specs.Prelude.{Some, None}
 use Rattle.sh_key.specs.Layout.{Layout}
 use Rattle.sh_lists.specs.Lists.{Lists}
 use Rattle.sh_lists.specs.Numbers.{Misses}
@@ -19,7 +20,8 @@ bare_lists = record { free = []; local = []; cursor = None }
 abbrev pub blank_state : PageState
 blank_state = record { lists = bare_lists; class_word = 0; armed = false }
 
--- what is kept of a page is what its owner knows of it: each slot of the lists is its own, and no other is; a blank page is not armed
+-- what is kept of a page is what its owner knows of it: each slot of the lists is its own, and no other is; a blank
+-- page is not armed
 pub record KeepsPage (st : PageState) (g : SeenPage) : Type 0 where
   pub class : g.class ≡ Some st.class_word
   pub few : st.class_word ≤ 8
@@ -33,24 +35,33 @@ abbrev pub rings_at : Caller → ℕ → Option ℕ → Option ℕ
 rings_at v shard rings = elim rings [ Some p ↦ Some (heap_page v (shard_page shard p)) | None ↦ None ]
 
 -- nothing is begun, the shard is its own, and of each page is kept what is known of it
-pub record KeepsPages (layout : Layout) (v : Caller) (shard : ℕ) (rings : Option ℕ) (states : List PageState) : Type 0 where
-  pub stands : ViewStands layout v.view
-  pub idle : (own_body v).hand ≡ Idle
-  pub owned : (own_body v).owned ≡ Some shard
-  pub bell : (own_body v).bell_cursor ≡ rings_at v shard rings
-  pub few : length states ≡ pages_of v.view.shape
-  pub pages : (p : ℕ) → p < length states → KeepsPage (get_or states p blank_state) (seen_page v (heap_page v (shard_page shard p)))
+pub record KeepsPages (layout : Layout) (v : Caller) (shard : ℕ) (rings : Option ℕ) (states : List PageState) : Type 0
+  where
+    pub stands : ViewStands layout v.view
+    pub idle : (own_body v).hand ≡ Idle
+    pub owned : (own_body v).owned ≡ Some shard
+    pub bell : (own_body v).bell_cursor ≡ rings_at v shard rings
+    pub few : length states ≡ pages_of v.view.shape
+    pub pages : (p : ℕ) → p < length states → KeepsPage (get_or states p blank_state)
+        (seen_page v (heap_page v (shard_page shard p)))
 
 -- the slot stands in no list of its page, which is one of the shard
 abbrev pub MayCome : ℕ → List PageState → Option Spot → Type 0
 MayCome shard states None = Unit {0}
-MayCome shard states (Some x) = (p : ℕ) × (p < length states) × (x.page ≡ shard * length states + p) × (x.slot < 48) × Misses x.slot ((get_or states p blank_state).lists.free ++ (get_or states p blank_state).lists.local)
+MayCome shard states (Some x) = (p : ℕ) × (p < length states) × (x.page ≡ shard * length states + p) × (x.slot < 48)
+    × Misses x.slot ((get_or states p blank_state).lists.free ++ (get_or states p blank_state).lists.local)
 
 -- the state with the slot in front of `local`
 abbrev pub with_local : PageState → ℕ → PageState
-with_local st s = record { lists = record st.lists { local = s ∷ st.lists.local }; class_word = st.class_word; armed = st.armed }
+with_local st s = record {
+  lists = record st.lists { local = s ∷ st.lists.local };
+  class_word = st.class_word;
+  armed =
+      st.armed;
+}
 
 -- the slot came to the lists of its page, whose number in the shard is answered
 abbrev pub Came : ℕ → Option Spot → List PageState → Option ℕ → List PageState → Type 0
 Came shard None old page new = (page ≡ None) × (new ≡ old)
-Came shard (Some x) old page new = (p : ℕ) × (page ≡ Some p) × (p < length old) × (x.page ≡ shard * length old + p) × (new ≡ slice_set old p (with_local (get_or old p blank_state) x.slot))
+Came shard (Some x) old page new = (p : ℕ) × (page ≡ Some p) × (p < length old) × (x.page ≡ shard * length old + p)
+    × (new ≡ slice_set old p (with_local (get_or old p blank_state) x.slot))

@@ -1,8 +1,10 @@
 -- How an owner leaves its shard: it empties the bell and the stacks, puts back what it has, and gives the shard up.
-use Rattle.std.specs.Prelude.{◌≡◌, ◌≢◌, ℕ, ◌+◌, ◌<◌, ◌≤◌, ◌⊎◌, true, false, List, Option, Some, None, MatchOption, Result, Ok, Err}
+use Rattle.std.specs.Prelude.{◌≡◌, ◌≢◌, ℕ, ◌+◌, ◌<◌, ◌≤◌, ◌⊎◌, true, false, List, Option, Some, None, MatchOption}
+use Rattle.std.specs.Prelude.{Result, Ok, Err}
 use Rattle.sh_pass.specs.Passes.{Caller}
 use Rattle.sh_pass.specs.Owners.{SeenPage, Aside, HasNothing, NonePut}
-use Rattle.sh_shard.specs.Pages.{Paged, page_at, own_slots, CursorStands, NothingMine, WaitsSince, WorksOn, NoArming, ShardLeft}
+use Rattle.sh_shard.specs.Pages.{Paged, page_at, own_slots, CursorStands, NothingMine, WaitsSince, WorksOn, NoArming}
+use Rattle.sh_shard.specs.Pages.{ShardLeft}
 
 -- work on pages and on the bell, which adds nothing to the log, puts nothing and arms nothing
 pub record Collecting (o n : Paged) : Type 0 where
@@ -22,7 +24,8 @@ pub record Collecting (o n : Paged) : Type 0 where
 abbrev pub BellEmptied : Paged → Paged → Type 0
 BellEmptied o n = MatchOption n.bell.cursor (o.bell.takes < n.bell.takes) (λ _. o.bell.met < n.bell.met)
 
--- where a cursor stands, a link was not written, and where the page is armed still, what was put on it was taken, in this work
+-- where a cursor stands, a link was not written, and where the page is armed still, what was put on it was taken, in
+-- this work
 pub record PageEmptied (g h : SeenPage) : Type 0 where
   pub waits : WaitsSince g h
   pub taken : h.cursor ≡ None → h.armed ≡ true → g.takes < h.takes
@@ -58,13 +61,16 @@ pub record AllAtRest (v : Paged) : Type 0 where
 -- the bell has a cursor, or it has none and a page has one, or is armed and has none
 abbrev pub NotAtRest : Paged → Type 0
 NotAtRest v = CursorStands v.bell.cursor
-    ⊎ ((v.bell.cursor ≡ None) × ((p : ℕ) × (p < v.count) × (CursorStands (page_at v p).cursor ⊎ (((page_at v p).cursor ≡ None) × ((page_at v p).armed ≡ true)))))
+    ⊎ ((v.bell.cursor ≡ None) × ((p : ℕ) × (p < v.count) × (CursorStands (page_at v p).cursor
+    ⊎ (((page_at v p).cursor ≡ None) × ((page_at v p).armed ≡ true)))))
 
--- the bell or a page is not at rest: a link of a cursor was not written in this call, or else the page is armed though both it and the bell were taken in this call, so the notice of its ring is yet to come
+-- the bell or a page is not at rest: a link of a cursor was not written in this call, or else the page is armed though
+-- both it and the bell were taken in this call, so the notice of its ring is yet to come
 abbrev pub RestsNot : Paged → Paged → Type 0
 RestsNot o n = (CursorStands n.bell.cursor × (o.bell.met < n.bell.met))
     ⊎ ((p : ℕ) × (p < n.count) × ((CursorStands (page_at n p).cursor × ((page_at o p).met < (page_at n p).met))
-    ⊎ ((n.bell.cursor ≡ None) × ((page_at n p).armed ≡ true) × ((page_at o p).takes < (page_at n p).takes) × (o.bell.takes < n.bell.takes))))
+    ⊎ ((n.bell.cursor ≡ None) × ((page_at n p).armed ≡ true) × ((page_at o p).takes < (page_at n p).takes)
+    × (o.bell.takes < n.bell.takes))))
 
 -- leaving waits for others: nothing was put, nothing armed, and no page changed its class
 pub record Waiting (o n : Paged) : Type 0 where

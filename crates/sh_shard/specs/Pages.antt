@@ -1,5 +1,6 @@
 -- What a contract sees of the pages of an owner's shard, and what work on them does.
-use Rattle.std.specs.Prelude.{◌≡◌, ◌≢◌, ℕ, zero, suc, ◌+◌, ◌-◌, ◌<◌, ◌≤◌, ◌⊎◌, Bool, true, false, List, [], ◌∷◌, ◌++◌, length, Option, Some, None, MatchOption, IfSome, Result, Ok, Err}
+use Rattle.std.specs.Prelude.{◌≡◌, ◌≢◌, ℕ, zero, suc, ◌+◌, ◌-◌, ◌<◌, ◌≤◌, ◌⊎◌, Bool, true, false, List, [], ◌∷◌, ◌++◌}
+use Rattle.std.specs.Prelude.{length, Option, Some, None, MatchOption, IfSome, Result, Ok, Err}
 use Rattle.sh_history.specs.declared.entry.Entry.TheVariants as entry
 use Rattle.sh_history.specs.declared.log.LogEntry.TheVariants.{Known}
 use Rattle.sh_shape.specs.Classes.{slots}
@@ -12,7 +13,8 @@ use Rattle.sh_value.specs.declared.refusal.Refusal.{Refusal}
 use Rattle.sh_value.specs.declared.refusal.Refusal.TheVariants as refusal
 use Rattle.sh_pass.specs.Growing.{SameTale}
 use Rattle.sh_pass.specs.Passes.{Caller}
-use Rattle.sh_pass.specs.Owners.{SeenPage, SeenBell, Aside, NonePut, NoneArmed, heap_page, own_body, page_given, page_with, seen_page}
+use Rattle.sh_pass.specs.Owners.{SeenPage, SeenBell, Aside, NonePut, NoneArmed, heap_page, own_body, page_given}
+use Rattle.sh_pass.specs.Owners.{page_with, seen_page}
 
 -- what the owner knows, its shard, how many pages that has, and its bell as the owner sees it
 pub record Paged : Type 0 where
@@ -109,7 +111,8 @@ pub record CollectsPage (p : ℕ) (o n : Paged) : Type 0 where
 -- after it the page is armed, unless a cursor stands; that cursor stood before, or met a link that was not written
 pub record GuardsPage (p : ℕ) (o n : Paged) : Type 0 where
   pub works : WorksOn p o n
-  pub waits : MatchOption (page_at n p).cursor ((page_at n p).armed ≡ true) (λ _. (n ≡ o) ⊎ ((page_at o p).met < (page_at n p).met))
+  pub waits : MatchOption (page_at n p).cursor ((page_at n p).armed ≡ true)
+      (λ _. (n ≡ o) ⊎ ((page_at o p).met < (page_at n p).met))
 
 -- nothing is left in the page: where it has a cursor, a link was not written in this call; else it is armed
 pub record PageDone (o n : Paged) (p : ℕ) : Type 0 where
@@ -230,10 +233,13 @@ pub record ShardLeft (v w : Caller) : Type 0 where
   pub hand : (own_body w).hand ≡ Idle
   pub owned : (own_body w).owned ≡ None
 
--- why a shard was not adopted: there is none of the number, it has an owner, as one more step tells, or memory was refused
+-- why a shard was not adopted: there is none of the number, it has an owner, as one more step tells, or memory was
+-- refused
 abbrev pub AdoptRefused : ℕ → Caller → Caller → Refusal → Type 0
 AdoptRefused shard v w refusal.NoShard = (v.view.shape.shards ≤ shard) × (w ≡ v)
-AdoptRefused shard v w refusal.Taken = (shard < v.view.shape.shards) × ShardLeft v w × (length w.view.own.trail ≡ length v.view.own.trail + 1) × (owner_met shard w.view.own.trail ≡ owner_met shard v.view.own.trail + 1)
+AdoptRefused shard v w refusal.Taken = (shard < v.view.shape.shards) × ShardLeft v w
+    × (length w.view.own.trail ≡ length v.view.own.trail + 1) ×
+    (owner_met shard w.view.own.trail ≡ owner_met shard v.view.own.trail + 1)
 AdoptRefused shard v w refusal.Memory = (shard < v.view.shape.shards) × ShardLeft v w
 AdoptRefused shard v w _ = ⊥
 

@@ -5,7 +5,8 @@ use Rattle.sh_queue.specs.Queues.{PageQueues, class_queue, at_back}
 use Rattle.sh_shard.specs.Pages.{Paged, page_at, seen_class}
 use Rattle.sh_shard.specs.Shards.{FullPage}
 
--- each page stands where it belongs, but that those named may stand in the full queue and have a slot or a cursor, or not be armed
+-- each page stands where it belongs, but that those named may stand in the full queue and have a slot or a cursor, or
+-- not be armed
 pub record SortedBut (named : ℕ → Type 0) (v : Paged) (q : PageQueues) : Type 0 where
   pub all : q.opened + 8 * q.unopened ≡ v.count
   pub later : (p : ℕ) → q.opened ≤ p → p < v.count → (page_at v p).class ≡ Some 0

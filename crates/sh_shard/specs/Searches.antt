@@ -1,5 +1,6 @@
 -- What a search of an owner's pages does, part by part.
-use Rattle.std.specs.Prelude.{◌≡◌, ◌≢◌, ℕ, ◌+◌, ◌-◌, ◌<◌, ◌≤◌, ◌⊎◌, Bool, true, false, List, ◌++◌, length, Some, None, MatchOption}
+use Rattle.std.specs.Prelude.{◌≡◌, ◌≢◌, ℕ, ◌+◌, ◌-◌, ◌<◌, ◌≤◌, ◌⊎◌, Bool, true, false, List, ◌++◌, length, Some, None}
+use Rattle.std.specs.Prelude.{MatchOption}
 use Rattle.std.specs.List.{last_or}
 use Rattle.sh_queue.specs.Numbers.{has_number}
 use Rattle.sh_queue.specs.Queues.{class_queue, at_back, among_full}
@@ -29,7 +30,8 @@ pub record Searched (c : ℕ) (o n : Sharded) : Type 0 where
   pub since : WorkedSince o.pages n.pages
   pub done : (p : ℕ) → has_number p (class_queue n.queues c) ≡ true → PageDone o.pages n.pages p
 
--- after so many turns: `rest` is yet to be tried, and ends in the page that was the last as the search began; those that were tried wait behind it
+-- after so many turns: `rest` is yet to be tried, and ends in the page that was the last as the search began; those
+-- that were tried wait behind it
 pub record Searching (c turn last : ℕ) (o n : Sharded) : Type 0 where
   pub since : WorkedSince o.pages n.pages
   pub rest : List ℕ
@@ -44,7 +46,8 @@ pub record RingsOut (c : ℕ) (read : Bool) (o n : Sharded) : Type 0 where
   pub through : WorksThroughout o.pages n.pages
   pub bell : BellDone o.pages n.pages
   pub pages : read ≡ false → (q : ℕ) → (page_at o.pages q).class ≡ Some (c + 1) → page_at n.pages q ≡ page_at o.pages q
-  pub queue : read ≡ false → (q : ℕ) → has_number q (class_queue n.queues c) ≡ true → has_number q (class_queue o.queues c) ≡ true
+  pub queue : read ≡ false → (q : ℕ) → has_number q (class_queue n.queues c) ≡ true
+      → has_number q (class_queue o.queues c) ≡ true
 
 -- each page that stands in the queue of class c is done, and so is the bell
 pub record Tried (c : ℕ) (o n : Sharded) : Type 0 where
@@ -72,7 +75,8 @@ pub record Hears (c : ℕ) (read : Bool) (o n : Sharded) : Type 0 where
   pub takes : n.pages.bell.takes ≡ o.pages.bell.takes
   pub met : o.pages.bell.met ≤ n.pages.bell.met
   pub pages : read ≡ false → (q : ℕ) → (page_at o.pages q).class ≡ Some (c + 1) → page_at n.pages q ≡ page_at o.pages q
-  pub queue : read ≡ false → (q : ℕ) → has_number q (class_queue n.queues c) ≡ true → has_number q (class_queue o.queues c) ≡ true
+  pub queue : read ≡ false → (q : ℕ) → has_number q (class_queue n.queues c) ≡ true
+      → has_number q (class_queue o.queues c) ≡ true
 
 -- its cursor is at its end, or met a link that was not written
 abbrev pub BellWaits : Sharded → Sharded → Type 0

@@ -1,5 +1,6 @@
 -- What a contract sees of an owner's shard, and what its calls do.
-use Rattle.std.specs.Prelude.{◌≡◌, ◌≢◌, ℕ, ◌+◌, ◌*◌, ◌<◌, ◌≤◌, ◌⊎◌, false, true, List, [], ◌∷◌, ◌++◌, length, None, Some, MatchOption, Result, Ok, Err, slice_get}
+use Rattle.std.specs.Prelude.{◌≡◌, ◌≢◌, ℕ, ◌+◌, ◌*◌, ◌<◌, ◌≤◌, ◌⊎◌, false, true, List, [], ◌∷◌, ◌++◌, length, None}
+use Rattle.std.specs.Prelude.{Some, MatchOption, Result, Ok, Err, slice_get}
 use Rattle.sh_history.specs.declared.entry.Entry.TheVariants as entry
 use Rattle.sh_history.specs.declared.log.LogEntry.TheVariants.{Known}
 use Rattle.sh_key.specs.Layout.{Layout}
@@ -13,7 +14,8 @@ use Rattle.sh_slots.specs.declared.hand.Hand.TheVariants.{Idle}
 use Rattle.sh_table.specs.Tales.{ViewStands}
 use Rattle.sh_pass.specs.Growing.{SameTale}
 use Rattle.sh_pass.specs.Owners.{SeenPage, Aside, NonePut, IsKeyIn, own_body}
-use Rattle.sh_shard.specs.Pages.{Paged, page_at, seen_class, NothingMine, WhollyMine, GivesClass, PageDone, TakesSteps, AdoptsShard, AdoptRefused, ShardLeft}
+use Rattle.sh_shard.specs.Pages.{Paged, page_at, seen_class, NothingMine, WhollyMine, GivesClass, PageDone, TakesSteps}
+use Rattle.sh_shard.specs.Pages.{AdoptsShard, AdoptRefused, ShardLeft}
 use Rattle.sh_shard.specs.Leaving.{Waiting}
 
 pub record Sharded : Type 0 where
@@ -100,8 +102,8 @@ PrepareServes c o (Err refusal.Full) n = (n ≡ o) × NoPageFor c o
 PrepareServes c o (Err refusal.Memory) n = (n ≡ o) × (o.queues.unopened ≢ 0)
 PrepareServes c o (Err _) n = ⊥
 
--- the shard has no room for class c: each page of the class is done, no page is blank, of no page are all slots its owner's, and no
--- segment is unopened
+-- the shard has no room for class c: each page of the class is done, no page is blank, of no page are all slots its
+-- owner's, and no segment is unopened
 pub record NoRoom (c : ℕ) (o n : Sharded) : Type 0 where
   pub left : NoneLeft c o.pages n.pages
   pub blank : (p : ℕ) → p < n.pages.count → (page_at n.pages p).class ≢ Some 0
@@ -118,15 +120,17 @@ pub record Added (value : List ℕ) (key : ℕ) (o n : Paged) : Type 0 where
 
 -- an insert of a value of class c: it joins the log, or there is no room, or a segment's growth was refused
 abbrev pub InsertServes : Layout → ℕ → List ℕ → Sharded → Result ℕ Refusal → Sharded → Type 0
-InsertServes layout c value o (Ok key) n = Added value key o.pages n.pages × IsKeyIn layout o.pages.owner o.pages.shard key
+InsertServes layout c value o (Ok key) n = Added value key o.pages n.pages
+    × IsKeyIn layout o.pages.owner o.pages.shard key
 InsertServes layout c value o (Err refusal.Full) n = NoRoom c o n
 InsertServes layout c value o (Err refusal.Memory) n = WorksThroughout o.pages n.pages
 InsertServes layout c value o (Err _) n = ⊥
 
--- an insert of a value of class c into a page that had another class or none: there is none where the value could go, or a segment's
--- growth was refused, and then nothing is changed
+-- an insert of a value of class c into a page that had another class or none: there is none where the value could go,
+-- or a segment's growth was refused, and then nothing is changed
 abbrev pub InsertsElsewhere : Layout → ℕ → List ℕ → Sharded → Result ℕ Refusal → Sharded → Type 0
-InsertsElsewhere layout c value o (Ok key) n = Added value key o.pages n.pages × IsKeyIn layout o.pages.owner o.pages.shard key
+InsertsElsewhere layout c value o (Ok key) n = Added value key o.pages n.pages
+    × IsKeyIn layout o.pages.owner o.pages.shard key
 InsertsElsewhere layout c value o (Err refusal.Full) n = (n ≡ o) × NoPageFor c o
 InsertsElsewhere layout c value o (Err refusal.Memory) n = n ≡ o
 InsertsElsewhere layout c value o (Err _) n = ⊥

@@ -12,4 +12,10 @@ shard_book o = o.pages.owner.view.own.log
 abbrev pub shard_setting : Layout → Sharded → Setting
 shard_setting layout o =
     let v = o.pages.owner.view in
-    record { pass = v.pass; passes = v.shape.passes; guard_max = layout.guard_max; answers_for = λ pass. pass == v.pass }
+    record {
+      pass = v.pass;
+      passes = v.shape.passes;
+      guard_max = layout.guard_max;
+      answers_for = λ pass. pass
+          == v.pass;
+    }

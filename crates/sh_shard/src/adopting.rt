@@ -13,9 +13,9 @@ use sh_value::Refusal;
 use std::alloc::Global;
 
 impl<'a, L: KeyLayout> Shard<'a, L> {
-    /// Makes the pass the owner of shard `n`: it finds what those before it left there. Refused, with the pass, as `NoShard`
-    /// exactly where the heap has no shard of this number, as `Taken` where the shard has an owner, and as `Memory` where
-    /// memory for its pages is refused: then the shard is left again.
+    /// Makes the pass the owner of shard `n`: it finds what those before it left there. Refused, with the pass, as
+    /// `NoShard` exactly where the heap has no shard of this number, as `Taken` where the shard has an owner, and as
+    /// `Memory` where memory for its pages is refused: then the shard is left again.
     pub fn adopt(alloc: Global, pass: Pass<'a, L>, n: u64) -> Result<Self, (Pass<'a, L>, Refusal)>
         ensures serves { AdoptServes n pass.entry result }
         ensures holds { IfOk result (HoldsShard L.layout) }

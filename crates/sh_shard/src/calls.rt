@@ -25,8 +25,8 @@ fn keep(states: &mut Vec<PageState>, shard: u64, came: Option<Spot>) -> Option<u
 }
 
 impl<'a, L: KeyLayout> Pages<'a, L> {
-    /// Takes a hold on a key. Refused as `BadKey`, `HoldsFull`, `Gone` or `Crowded`, tried in that order. Answers also the page
-    /// to which a slot came.
+    /// Takes a hold on a key. Refused as `BadKey`, `HoldsFull`, `Gone` or `Crowded`, tried in that order. Answers also
+    /// the page to which a slot came.
     pub(crate) fn get(&mut self, key: u64) -> (Result<Hold, Refusal>, Option<u64>)
         ensures does { GetDoes L.layout key self.old.owner result.0 self.new.owner }
         ensures came { SlotComes result.1 self.old self.new }

@@ -1,7 +1,8 @@
 // Collecting what others put on a page's stack.
 ghost use Rattle.std.specs.Prelude.{◌≡◌, ℕ, ◌<◌, None, IfSome, MatchBool, false, true, cond};
 ghost use Rattle.sh_bell.specs.Bell.{is_armed as armed_by};
-ghost use Rattle.sh_shard.specs.Pages.{page_at, seen_class, WorksOn, NoArming, TakesPage, CursorMoves, CursorStops, CollectsPage, GuardsPage};
+ghost use Rattle.sh_shard.specs.Pages.{page_at, seen_class, WorksOn, NoArming, TakesPage, CursorMoves, CursorStops};
+ghost use Rattle.sh_shard.specs.Pages.{CollectsPage, GuardsPage};
 
 use crate::pages::Pages;
 use sh_bell::{is_armed, top_of};

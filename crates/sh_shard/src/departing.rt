@@ -9,9 +9,9 @@ use sh_pass::Pass;
 use sh_value::Refusal;
 
 impl<'a, L: KeyLayout> Shard<'a, L> {
-    /// Leaves the shard: what others freed is collected, all that the owner has is put back for the next owner, and the pass
-    /// comes back. Refused as `Waiting`, with the shard, where another caller has begun a free in it that is yet to end: then
-    /// nothing is put back, and the shard serves as before.
+    /// Leaves the shard: what others freed is collected, all that the owner has is put back for the next owner, and the
+    /// pass comes back. Refused as `Waiting`, with the shard, where another caller has begun a free in it that is yet
+    /// to end: then nothing is put back, and the shard serves as before.
     pub fn leave(self) -> Result<Pass<'a, L>, (Self, Refusal)>
         ensures serves { LeaveServes self.entry result }
         ensures holds { IfErr result (λ r. HoldsShard L.layout r.0) }

@@ -58,7 +58,8 @@ impl<'a, L: KeyLayout> Shard<'a, L> {
         requires class { c < 8 }
         requires fits { length value.now ≤ width c }
         ensures used { MatchOption result
-            ((self.new ≡ self.old) × ((p : ℕ) → slice_get (class_queue self.old.queues c) 0 ≡ Some p → NothingMine (page_at self.old.pages p)))
+            ((self.new ≡ self.old) × ((p : ℕ) → slice_get (class_queue self.old.queues c) 0 ≡ Some p
+            → NothingMine (page_at self.old.pages p)))
             (λ key. Added value.now key self.old.pages self.new.pages) }
         ensures key { IfSome result (λ key. IsKeyIn L.layout self.old.pages.owner self.old.pages.shard key) }
         ensures steps { IfSome result (λ _. TakesSteps (length value.now + 2) self.old.pages self.new.pages) }
@@ -74,7 +75,8 @@ impl<'a, L: KeyLayout> Shard<'a, L> {
         requires here { has_number page (class_queue self.old.queues c) ≡ true }
         requires inside { page < self.old.queues.opened }
         requires fits { length value.now ≤ width c }
-        ensures used { MatchOption result ((self.new ≡ self.old) × NothingMine (page_at self.old.pages page)) (λ key. PageInserts page value.now key self.old.pages self.new.pages) }
+        ensures used { MatchOption result ((self.new ≡ self.old) × NothingMine (page_at self.old.pages page))
+            (λ key. PageInserts page value.now key self.old.pages self.new.pages) }
         ensures key { IfSome result (λ key. IsKeyIn L.layout self.old.pages.owner self.old.pages.shard key) }
         ensures steps { IfSome result (λ _. TakesSteps (length value.now + 2) self.old.pages self.new.pages) }
     {

@@ -1,7 +1,8 @@
 // Leaving the shard: what others put is collected, what the owner has is put back, and the shard is given up.
 ghost use Rattle.std.specs.Prelude.{◌≡◌, ℕ, ◌<◌, ◌⊎◌, None, MatchBool, Result, true, false};
 ghost use Rattle.sh_pass.specs.Owners.{HasNothing, heap_page as number_of};
-ghost use Rattle.sh_shard.specs.Leaving.{LeaveDoes, Collecting, BellFollowed, BellEmptied, EmptiesPage, PagesEmptied, AtRest, AllAtRest, NotAtRest, PutsOne, PutsBack, PutsAllBack};
+ghost use Rattle.sh_shard.specs.Leaving.{LeaveDoes, Collecting, BellFollowed, BellEmptied, EmptiesPage, PagesEmptied};
+ghost use Rattle.sh_shard.specs.Leaving.{AtRest, AllAtRest, NotAtRest, PutsOne, PutsBack, PutsAllBack};
 ghost use Rattle.sh_shard.specs.Pages.{page_at, shard_page, CursorStands, NothingMine, ShardLeft};
 
 use crate::pages::Pages;
@@ -66,7 +67,9 @@ impl<'a, L: KeyLayout> Pages<'a, L> {
     // Whether the page has no cursor and is not armed.
     fn rests(&self, page: u64) -> bool
         requires { page < self.now.count }
-        ensures { MatchBool result (AtRest (page_at self.now page)) (CursorStands (page_at self.now page).cursor ⊎ (((page_at self.now page).cursor ≡ None) × ((page_at self.now page).armed ≡ true))) }
+        ensures { MatchBool result (AtRest (page_at self.now page))
+            (CursorStands (page_at self.now page).cursor ⊎ (((page_at self.now page).cursor ≡ None)
+            × ((page_at self.now page).armed ≡ true))) }
     {
         if self.has_cursor(page) {
             return false;
@@ -101,7 +104,8 @@ impl<'a, L: KeyLayout> Pages<'a, L> {
     fn put_next(&mut self, page: u64) -> bool
         requires inside { page < self.old.count }
         requires calm { (page_at self.old page).armed ≡ false }
-        ensures { MatchBool result (PutsOne page self.old self.new) ((self.new ≡ self.old) × NothingMine (page_at self.old page)) }
+        ensures { MatchBool result (PutsOne page self.old self.new)
+            ((self.new ≡ self.old) × NothingMine (page_at self.old page)) }
     {
         let name = PageName {
             shard: self.shard,
@@ -159,9 +163,10 @@ impl<'a, L: KeyLayout> Pages<'a, L> {
         owner.into_pass()
     }
 
-    /// Leaves the shard: the bell is followed, taken and followed, cursors are followed, and each page still armed that has no
-    /// cursor is taken and followed. Where a cursor stands then or a page is armed, others have yet to end what they began:
-    /// nothing is put, and the pages come back. Else the owner's slots are put on their pages, and the shard is given up.
+    /// Leaves the shard: the bell is followed, taken and followed, cursors are followed, and each page still armed that
+    /// has no cursor is taken and followed. Where a cursor stands then or a page is armed, others have yet to end what
+    /// they began: nothing is put, and the pages come back. Else the owner's slots are put on their pages, and the
+    /// shard is given up.
     pub(crate) fn leave(mut self) -> Result<Pass<'a, L>, Self>
         ensures { LeaveDoes self.entry result }
     {

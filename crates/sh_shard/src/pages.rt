@@ -3,7 +3,8 @@ ghost use Rattle.std.specs.Prelude.{◌≡◌, ℕ, ◌<◌, ◌≤◌, Option, 
 ghost use Rattle.sh_slots.specs.declared.hand.Hand.TheVariants.{Idle};
 ghost use Rattle.sh_table.specs.Tales.{ViewStands};
 ghost use Rattle.sh_pass.specs.Owners.{HasNothing, own_body, seen_page};
-ghost use Rattle.sh_shard.specs.Pages.{page_at, AdoptsPages, AdoptsShard, CursorStands, NothingMine, ShardLeft, WhollyMine, seen_class};
+ghost use Rattle.sh_shard.specs.Pages.{page_at, AdoptsPages, AdoptsShard, CursorStands, NothingMine, ShardLeft};
+ghost use Rattle.sh_shard.specs.Pages.{WhollyMine, seen_class};
 
 use sh_key::KeyLayout;
 use sh_lists::PageLists;
@@ -43,15 +44,21 @@ impl<'a, L: KeyLayout> Model for Pages<'a, L> {
 
     ghost Value = { Paged };
 
-    ghost view = { λ p. record { owner = p.owner; shard = p.shard; count = length p.states.items; bell = seen_bell L.layout p.owner p.shard } };
+    ghost view = { λ p. record {
+      owner = p.owner;
+      shard = p.shard;
+      count = length p.states.items;
+      bell = seen_bell
+          L.layout p.owner p.shard;
+    } };
 
     ghost invariant = { λ p. KeepsPages L.layout p.owner p.shard p.rings p.states.items };
 }
 
 impl<'a, L: KeyLayout> Pages<'a, L> {
-    /// Makes the pass the owner of the shard, and reads the class word of each page in ascending order. Refused, with the
-    /// pass, as `NoShard` where there is no such shard, as `Taken` where it has an owner, and as `Memory` where memory for
-    /// the pages is refused: then the shard is left again.
+    /// Makes the pass the owner of the shard, and reads the class word of each page in ascending order. Refused, with
+    /// the pass, as `NoShard` where there is no such shard, as `Taken` where it has an owner, and as `Memory` where
+    /// memory for the pages is refused: then the shard is left again.
     pub(crate) fn adopt(
         alloc: Global,
         pass: Pass<'a, L>,
@@ -140,7 +147,8 @@ impl<'a, L: KeyLayout> Pages<'a, L> {
     /// Whether a slot of the page is the owner's.
     pub(crate) fn has_slot(&self, page: u64) -> bool
         requires { page < self.now.count }
-        ensures { MatchBool result ((s : ℕ) × ((page_at self.now page).mine s ≡ true)) (NothingMine (page_at self.now page)) }
+        ensures { MatchBool result ((s : ℕ) × ((page_at self.now page).mine s ≡ true))
+            (NothingMine (page_at self.now page)) }
     {
         self.states[page as usize].lists.len() > 0
     }

@@ -1,5 +1,6 @@
 // Giving a class to a page that is blank, or that has another class and all of whose slots are the owner's.
-ghost use Rattle.std.specs.Prelude.{◌≡◌, ◌≢◌, ℕ, ◌+◌, ◌<◌, None, Some, MatchOption, MatchBool, IfErr, OnOk, OnErr, slice_get};
+ghost use Rattle.std.specs.Prelude.{◌≡◌, ◌≢◌, ℕ, ◌+◌, ◌<◌, None, Some, MatchOption, MatchBool, IfErr, OnOk, OnErr};
+ghost use Rattle.std.specs.Prelude.{slice_get};
 ghost use Rattle.sh_shard.specs.Pages.{page_at};
 ghost use Rattle.sh_shard.specs.Shards.{IsSpare, PreparesPage, PrepareServes, StaysOwner};
 
@@ -8,10 +9,10 @@ use sh_key::KeyLayout;
 use sh_value::Refusal;
 
 impl<'a, L: KeyLayout> Shard<'a, L> {
-    /// Gives a page the class, from 0 to 7, puts it in front of the class's queue, and answers it: the lowest blank page of the
-    /// opened segments, else the lowest page of another class all of whose slots are the owner's, else the first page of the
-    /// next segment, which is opened. Refused, with nothing changed, as `Full` exactly where there is no such page, and as
-    /// `Memory` where the segment's growth is refused.
+    /// Gives a page the class, from 0 to 7, puts it in front of the class's queue, and answers it: the lowest blank
+    /// page of the opened segments, else the lowest page of another class all of whose slots are the owner's, else the
+    /// first page of the next segment, which is opened. Refused, with nothing changed, as `Full` exactly where there is
+    /// no such page, and as `Memory` where the segment's growth is refused.
     pub fn prepare(&mut self, class: u32) -> Result<u32, Refusal>
         requires { class < 8 }
         ensures serves { PrepareServes class self.old result self.new }
@@ -57,7 +58,8 @@ impl<'a, L: KeyLayout> Shard<'a, L> {
     // Gives the lowest blank page the class.
     fn give_blank(&mut self, class: u32) -> Option<u32>
         requires { class < 8 }
-        ensures { MatchOption result ((self.new ≡ self.old) × (slice_get self.old.queues.blank 0 ≡ None)) (λ page. PreparesPage class page self.old self.new) }
+        ensures { MatchOption result ((self.new ≡ self.old) × (slice_get self.old.queues.blank 0 ≡ None))
+            (λ page. PreparesPage class page self.old self.new) }
     {
         let _opened = self.queues.opened();
         let Some(page) = self.queues.blank() else {
@@ -71,7 +73,9 @@ impl<'a, L: KeyLayout> Shard<'a, L> {
     // Gives the lowest page of another class all of whose slots are the owner's this one.
     fn give_spare(&mut self, class: u32) -> Option<u32>
         requires { class < 8 }
-        ensures { MatchOption result ((self.new ≡ self.old) × ((p : ℕ) → p < self.old.pages.count → ¬ IsSpare class (page_at self.old.pages p))) (λ page. PreparesPage class page self.old self.new) }
+        ensures { MatchOption result ((self.new ≡ self.old) ×
+            ((p : ℕ) → p < self.old.pages.count → ¬ IsSpare class (page_at self.old.pages p)))
+            (λ page. PreparesPage class page self.old self.new) }
     {
         let Some(page) = self.spare(class) else {
             return None;
@@ -100,7 +104,8 @@ impl<'a, L: KeyLayout> Shard<'a, L> {
     // Whether the opened page has another class, and all its slots are the owner's.
     fn is_spare(&self, class: u32, page: u32) -> bool
         requires { page < self.now.queues.opened }
-        ensures { MatchBool result (IsSpare class (page_at self.now.pages page)) (¬ IsSpare class (page_at self.now.pages page)) }
+        ensures { MatchBool result (IsSpare class (page_at self.now.pages page))
+            (¬ IsSpare class (page_at self.now.pages page)) }
     {
         let page = page as u64;
         if self.pages.class_word(page) == class as u64 + 1 {

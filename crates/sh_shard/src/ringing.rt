@@ -53,9 +53,11 @@ impl<'a, L: KeyLayout> Shard<'a, L> {
         read
     }
 
-    // One step on the bell: a page that is read, where it is full, goes to the back of its class. Answers its class word.
+    // One step on the bell: a page that is read, where it is full, goes to the back of its class. Answers its class
+    // word.
     fn read_bell(&mut self) -> Option<u64>
-        ensures { MatchOption result ((self.new.queues ≡ self.old.queues) × BellStops self.old.pages self.new.pages) (λ word. Heard word self.old self.new) }
+        ensures { MatchOption result ((self.new.queues ≡ self.old.queues) × BellStops self.old.pages self.new.pages)
+            (λ word. Heard word self.old self.new) }
     {
         let opened = self.queues.opened();
         let Some(page) = self.pages.follow_bell() else {

@@ -17,7 +17,8 @@ impl<'a, L: KeyLayout> Shard<'a, L> {
     pub(crate) fn look(&mut self, c: u32, value: &Value) -> Option<u64>
         requires class { c < 8 }
         requires fits { length value.now ≤ width c }
-        ensures looked { MatchOption result (Tried c self.old self.new) (λ key. Added value.now key self.old.pages self.new.pages) }
+        ensures looked { MatchOption result (Tried c self.old self.new)
+            (λ key. Added value.now key self.old.pages self.new.pages) }
         ensures key { IfSome result (λ key. IsKeyIn L.layout self.old.pages.owner self.old.pages.shard key) }
     {
         if let Some(key) = self.search(c, value) {
@@ -34,7 +35,8 @@ impl<'a, L: KeyLayout> Shard<'a, L> {
     fn search(&mut self, c: u32, value: &Value) -> Option<u64>
         requires class { c < 8 }
         requires fits { length value.now ≤ width c }
-        ensures searched { MatchOption result (Searched c self.old self.new) (λ key. Added value.now key self.old.pages self.new.pages) }
+        ensures searched { MatchOption result (Searched c self.old self.new)
+            (λ key. Added value.now key self.old.pages self.new.pages) }
         ensures key { IfSome result (λ key. IsKeyIn L.layout self.old.pages.owner self.old.pages.shard key) }
     {
         let opened = self.queues.opened();
@@ -63,7 +65,9 @@ impl<'a, L: KeyLayout> Shard<'a, L> {
         requires inside { page < self.old.queues.opened }
         requires fits { length value.now ≤ width c }
         ensures queues { self.new.queues ≡ self.old.queues }
-        ensures tried { MatchOption result (WorksOn page self.old.pages self.new.pages × PageDone self.old.pages self.new.pages page) (λ key. PageInserts page value.now key self.old.pages self.new.pages) }
+        ensures tried { MatchOption result (WorksOn page self.old.pages self.new.pages
+            × PageDone self.old.pages self.new.pages page) (λ key. PageInserts page value.now key self.old.pages
+            self.new.pages) }
         ensures key { IfSome result (λ key. IsKeyIn L.layout self.old.pages.owner self.old.pages.shard key) }
     {
         let _opened = self.queues.opened();
@@ -76,7 +80,8 @@ impl<'a, L: KeyLayout> Shard<'a, L> {
         requires here { has_number page (class_queue self.old.queues c) ≡ true }
         requires inside { page < self.old.queues.opened }
         requires nothing { NothingMine (page_at self.old.pages page) }
-        requires waits { MatchOption (page_at self.old.pages page).cursor ((page_at self.old.pages page).armed ≡ true) (λ _. Unit {0}) }
+        requires waits { MatchOption (page_at self.old.pages page).cursor ((page_at self.old.pages page).armed ≡ true)
+            (λ _. Unit {0}) }
         ensures { Settles c page self.old self.new }
     {
         let _opened = self.queues.opened();

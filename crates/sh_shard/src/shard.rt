@@ -14,7 +14,8 @@ use std::marker::Model;
 
 /// A shard that a pass owns: it inserts there, and gets, reads, removes and releases as any pass does.
 ///
-/// Other passes act between all its calls. Memory is taken by `adopt`, and by an `insert` or a `prepare` that opens a segment.
+/// Other passes act between all its calls. Memory is taken by `adopt`, and by an `insert` or a `prepare` that opens a
+/// segment.
 #[derive(Drop)]
 pub struct Shard<'a, L: KeyLayout> {
     pub(crate) pages: Pages<'a, L>,
@@ -32,14 +33,15 @@ impl<'a, L: KeyLayout> Model for Shard<'a, L> {
 }
 
 impl<'a, L: KeyLayout> Shard<'a, L> {
-    /// Stores a value in the shard under a new key, and answers the key. Refused as `Full` where the shard has no room for a
-    /// value of its class, of which each page and the bell were looked at in this call, and as `Memory` where the growth of a
-    /// segment was refused; the log, the holds and the keys are then as they were.
+    /// Stores a value in the shard under a new key, and answers the key. Refused as `Full` where the shard has no room
+    /// for a value of its class, of which each page and the bell were looked at in this call, and as `Memory` where the
+    /// growth of a segment was refused; the log, the holds and the keys are then as they were.
     ///
     /// Where the front page of the class has a slot, it is done in as many steps as the value has words, and two more.
     pub fn insert(&mut self, value: &Value) -> Result<u64, Refusal>
         ensures serves { InsertServes L.layout (value_class value.now) value.now self.old result self.new }
-        ensures quick { IsQuick (value_class value.now) self.old → DoneIn (length value.now + 2) self.old result self.new }
+        ensures quick { IsQuick (value_class value.now) self.old → DoneIn (length value.now + 2) self.old result
+            self.new }
         ensures stays { StaysOwner L.layout self.old self.new }
     {
         let Some(class) = classes::class_of(value.words().len()) else {

@@ -30,7 +30,8 @@ impl<'a, L: KeyLayout> Pages<'a, L> {
 }
 
 impl<'a, L: KeyLayout> Shard<'a, L> {
-    /// The shape of the heap. Between its calls the owner has begun nothing, the shard is its own, and all that it knows stands.
+    /// The shape of the heap. Between its calls the owner has begun nothing, the shard is its own, and all that it
+    /// knows stands.
     pub fn shape(&self) -> &Shape
         ensures is { result.now ≡ self.now.pages.owner.heap.shape }
         ensures same { self.now.pages.owner.view.shape ≡ self.now.pages.owner.heap.shape }

@@ -1,5 +1,5 @@
-//! What calls on shards answer, by worked examples: which keys come in which order, what is refused, what a stopped caller
-//! leaves behind, and what stands after refused memory.
+//! What calls on shards answer, by worked examples: which keys come in which order, what is refused, what a stopped
+//! caller leaves behind, and what stands after refused memory.
 ghost use Rattle.std.specs.Prelude.{◌≡◌, ◌<◌};
 
 mod changing_hands;

@@ -2,7 +2,8 @@
 ghost use Rattle.std.specs.Prelude.{◌≡◌, ℕ, ◌+◌, ◌-◌, ◌<◌, ◌≤◌, ◌⊎◌, length, Some, MatchOption, IfSome};
 ghost use Rattle.sh_shape.specs.Classes.{width};
 ghost use Rattle.sh_pass.specs.Owners.{IsKeyIn};
-ghost use Rattle.sh_shard.specs.Pages.{page_at, seen_class, WorksOn, PageDone, NothingMine, WhollyMine, PageInserts, TakesSteps, GivesClass};
+ghost use Rattle.sh_shard.specs.Pages.{page_at, seen_class, WorksOn, PageDone, NothingMine, WhollyMine, PageInserts};
+ghost use Rattle.sh_shard.specs.Pages.{TakesSteps, GivesClass};
 
 use crate::pages::Pages;
 use sh_key::KeyLayout;
@@ -17,7 +18,8 @@ impl<'a, L: KeyLayout> Pages<'a, L> {
         requires inside { page < self.old.count }
         requires classed { 0 < seen_class (page_at self.old page) }
         requires fits { length value.now ≤ width (seen_class (page_at self.old page) - 1) }
-        ensures used { MatchOption result ((self.new ≡ self.old) × NothingMine (page_at self.old page)) (λ key. PageInserts page value.now key self.old self.new) }
+        ensures used { MatchOption result ((self.new ≡ self.old) × NothingMine (page_at self.old page))
+            (λ key. PageInserts page value.now key self.old self.new) }
         ensures key { IfSome result (λ key. IsKeyIn L.layout self.old.owner self.old.shard key) }
         ensures steps { IfSome result (λ _. TakesSteps (length value.now + 2) self.old self.new) }
     {
@@ -31,13 +33,14 @@ impl<'a, L: KeyLayout> Pages<'a, L> {
         Some(self.owner.insert_at(name, slot as u64, value, class_word))
     }
 
-    /// Tries one page: the owner's slots of it, then what was put on it, then what was put until it was armed. Answers the
-    /// key under which the value is, if it found a slot.
+    /// Tries one page: the owner's slots of it, then what was put on it, then what was put until it was armed. Answers
+    /// the key under which the value is, if it found a slot.
     pub(crate) fn try_page(&mut self, page: u64, value: &Value) -> Option<u64>
         requires inside { page < self.old.count }
         requires classed { 0 < seen_class (page_at self.old page) }
         requires fits { length value.now ≤ width (seen_class (page_at self.old page) - 1) }
-        ensures tried { MatchOption result (WorksOn page self.old self.new × PageDone self.old self.new page) (λ key. PageInserts page value.now key self.old self.new) }
+        ensures tried { MatchOption result (WorksOn page self.old self.new × PageDone self.old self.new page)
+            (λ key. PageInserts page value.now key self.old self.new) }
         ensures key { IfSome result (λ key. IsKeyIn L.layout self.old.owner self.old.shard key) }
     {
         if let Some(key) = self.use_slot(page, value) {
@@ -51,8 +54,8 @@ impl<'a, L: KeyLayout> Pages<'a, L> {
         self.use_slot(page, value)
     }
 
-    /// Gives the class to a page that is blank, or all of whose class's slots are the owner's. Then all slots of the new class
-    /// are the owner's.
+    /// Gives the class to a page that is blank, or all of whose class's slots are the owner's. Then all slots of the
+    /// new class are the owner's.
     pub(crate) fn give_class(&mut self, page: u64, class: u32)
         requires inside { page < self.old.count }
         requires may { ((page_at self.old page).class ≡ Some 0) ⊎ WhollyMine (page_at self.old page) }

@@ -22,7 +22,8 @@ live_at g n = (fields_of n).present && not (fields_of n).marked && ((fields_of n
 
 -- what a drop leaves in the hand
 abbrev pub after_drop : Spot → ℕ → Hand
-after_drop x n = cond ((fields_of n).present && (fields_of n).marked && ((fields_of n).count == 1)) (Finishing x (fields_of n).generation) Idle
+after_drop x n = cond ((fields_of n).present && (fields_of n).marked && ((fields_of n).count == 1))
+    (Finishing x (fields_of n).generation) Idle
 
 abbrev pub spot_of : Name → Spot
 spot_of n = record { page = n.page; slot = n.slot }
@@ -30,7 +31,8 @@ spot_of n = record { page = n.page; slot = n.slot }
 abbrev pub name_at : Spot → ℕ → Name
 name_at x g = record { page = x.page; slot = x.slot; generation = g }
 
--- the word of a marked slot that nobody is on, and what ends its generation: the slot is empty, in the next one, or retired
+-- the word of a marked slot that nobody is on, and what ends its generation: the slot is empty, in the next one, or
+-- retired
 abbrev pub marked_word : ℕ → ℕ
 marked_word g = word_of (record { generation = g; marked = true; present = true; count = 0 })
 

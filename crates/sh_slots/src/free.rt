@@ -1,6 +1,7 @@
 //! How a value leaves its slot: the first mark removes it, and the last pass on the slot ends its generation.
 ghost use Rattle.std.specs.Prelude.{◌≡◌, ◌+◌, ◌^◌, ◌<◌, ◌≢◌};
-ghost use Rattle.sh_slots.specs.Slots.{is_first_mark, after_drop, marked_word, reusable_word, retired_word, finished_word, is_reusable_after};
+ghost use Rattle.sh_slots.specs.Slots.{is_first_mark, after_drop, marked_word, reusable_word, retired_word};
+ghost use Rattle.sh_slots.specs.Slots.{finished_word, is_reusable_after};
 
 use crate::{Hand, Spot};
 use sh_word::{Kind, State};

@@ -14,6 +14,12 @@ freed_by p k other = record p {
 }
 
 pub freed_last : (p : Body) (k : ℕ) → has (λ j. j == k) (without (λ j. j == k) p.holds) ≡ false
-    → freed p k ≡ record p { holds = without (λ j. j == k) p.holds; widths = off (λ x. x.0 == k) p.widths; lengths = off (λ x. x.0 == k) p.lengths; contents = off (λ x. x.0 == k) p.contents }
+    → freed p k ≡ record p {
+      holds = without (λ j. j == k) p.holds;
+      widths = off (λ x. x.0 == k) p.widths;
+      lengths = off
+          (λ x. x.0 == k) p.lengths;
+      contents = off (λ x. x.0 == k) p.contents;
+    }
 unfolding freed_by
 freed_last p k last = ap (freed_by p k) last

@@ -1,5 +1,6 @@
 -- A key that a layout unpacks to a name is packed from parts in range.
-use Rattle.std.proofs.Common.{◌≡◌, refl, ℕ, ◌+◌, ◌*◌, Bool, true, false, cond, ap, ◌∙◌, sym, subst, ltb-true, Option, Some, None}
+use Rattle.std.proofs.Common.{◌≡◌, refl, ℕ, ◌+◌, ◌*◌, Bool, true, false, cond, ap, ◌∙◌, sym, subst, ltb-true, Option}
+use Rattle.std.proofs.Common.{Some, None}
 use Rattle.std.specs.Prelude.{nat_lt, ◌&&◌}
 use Rattle.std.proofs.lemmas.Nat.{div-mul-add, mod-mul-add}
 use Rattle.sh_key.specs.declared.parts.Parts.{Parts}
@@ -20,14 +21,22 @@ named_parts shards pages p n h = go (nat_lt p.shard shards) (nat_lt p.page pages
       let page = ltb-true p.page pages below in
       let shard = div-mul-add p.shard pages p.page page in
       let local = mod-mul-add p.shard pages p.page page in
-      let same : p ≡ parts_of pages name = λ i. record { generation = p.generation; shard = sym shard i; page = sym local i; slot = p.slot } in
+      let same : p ≡ parts_of pages name = λ i. record {
+        generation = p.generation;
+        shard = sym shard i;
+        page = sym
+            local i;
+        slot = p.slot;
+      } in
       same ∙ ap (parts_of pages) is
   go true false below h = absurd (let no : ⊥ = cc in no)
   go false b below h = absurd (let no : ⊥ = cc in no)
 
-pub parts_in_range : (layout : Layout) (shards pages k : ℕ) (n : Name) → (keys_of layout shards pages).unpack k ≡ Some n → IsInRange layout (parts_of pages n)
+pub parts_in_range : (layout : Layout) (shards pages k : ℕ) (n : Name) → (keys_of layout shards pages).unpack k ≡ Some n
+    → IsInRange layout (parts_of pages n)
 unfolding keys_of
 parts_in_range layout shards pages k n h = go (unpacked layout k) refl h where
-  go : (o : Option Parts) → unpacked layout k ≡ o → (elim o as (λ _. Option Name) [ Some p ↦ name_in shards pages p | None ↦ None ]) ≡ Some n → IsInRange layout (parts_of pages n)
+  go : (o : Option Parts) → unpacked layout k ≡ o → (elim o as (λ _. Option Name)
+      [ Some p ↦ name_in shards pages p | None ↦ None ]) ≡ Some n → IsInRange layout (parts_of pages n)
   go (Some p) e h = subst (IsInRange layout) (named_parts shards pages p n h) (unpacked_is layout k p e).in_range
   go None e h = absurd (let no : ⊥ = cc in no)

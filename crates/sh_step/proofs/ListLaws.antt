@@ -1,5 +1,6 @@
 -- The words of `Collections` by those of the library.
-use Rattle.std.proofs.Common.{◌≡◌, ℕ, ◌==◌, ◌||◌, ◌&&◌, ◌+◌, ◌-◌, ◌<◌, subst, arith, Bool, true, false, cond, not, List, [], ◌∷◌, ◌++◌, Option, Some, None, ◌≤◌, zero, suc, refl, ltb-false, ap, sym, ◌∙◌}
+use Rattle.std.proofs.Common.{◌≡◌, ℕ, ◌==◌, ◌||◌, ◌&&◌, ◌+◌, ◌-◌, ◌<◌, subst, arith, Bool, true, false, cond, not, List}
+use Rattle.std.proofs.Common.{[], ◌∷◌, ◌++◌, Option, Some, None, ◌≤◌, zero, suc, refl, ltb-false, ap, sym, ◌∙◌}
 use Rattle.std.specs.Prelude.{option_map, filter, nat_lt, length, OnSome, replicate, get_or}
 use Rattle.std.proofs.lemmas.Bool.Decides.{nat_tests}
 use Rattle.std.specs.List.{list_any, find, remove, position, position_or_len}
@@ -16,11 +17,14 @@ pub noted_is_found : (q : ℕ) (xs : List (ℕ × ℕ)) → noted q xs ≡ optio
 unfolding noted
 noted_is_found q [] = refl
 noted_is_found q (x ∷ xs) = go (x.0 == q) (noted_is_found q xs) where
-  go : (b : Bool) → noted q xs ≡ option_map (λ x. x.1) (find (λ x. x.0 == q) xs) → cond b (Some x.1) (noted q xs) ≡ option_map (λ x. x.1) (cond b (Some x) (find (λ x. x.0 == q) xs))
+  go : (b : Bool) → noted q xs ≡ option_map (λ x. x.1) (find (λ x. x.0 == q) xs) → cond b (Some x.1) (noted q xs)
+      ≡ option_map (λ x. x.1) (cond b (Some x) (find (λ x. x.0 == q) xs))
   go true rest = refl
   go false rest = rest
 
-without_split : {A : Type 0} (p : A → Bool) (x : A) (xs : List A) (b : Bool) → without p xs ≡ remove xs (position_or_len p xs) → cond b xs (x ∷ without p xs) ≡ remove (x ∷ xs) (cond (not b) (1 + position_or_len p xs) 0)
+without_split : {A : Type 0} (p : A → Bool) (x : A) (xs : List A) (b : Bool) → without p xs
+    ≡ remove xs (position_or_len p xs) → cond b xs (x ∷ without p xs)
+    ≡ remove (x ∷ xs) (cond (not b) (1 + position_or_len p xs) 0)
 without_split p x xs true rest = refl
 without_split p x xs false rest =
     let next : suc (position_or_len p xs) ≡ 1 + position_or_len p xs = omega arith in
@@ -46,7 +50,8 @@ remove_past (x ∷ xs) (suc i) h = ap (λ ys. x ∷ ys) (remove_past xs i (omega
 
 pub without_none : {A : Type 0} (p : A → Bool) (xs : List A) → position p xs ≡ None → without p xs ≡ xs
 without_none p xs e = without_is_removed p xs ∙ go (nat_lt (position_or_len p xs) (length xs)) refl e where
-  go : (b : Bool) → nat_lt (position_or_len p xs) (length xs) ≡ b → cond b (Some (position_or_len p xs)) None ≡ None → remove xs (position_or_len p xs) ≡ xs
+  go : (b : Bool) → nat_lt (position_or_len p xs) (length xs) ≡ b → cond b (Some (position_or_len p xs)) None ≡ None
+      → remove xs (position_or_len p xs) ≡ xs
   go true is e = absurd (let no_some : ⊥ = cc in no_some)
   go false is e = remove_past xs (position_or_len p xs) (ltb-false (position_or_len p xs) (length xs) is)
 
@@ -54,7 +59,8 @@ pub off_is_filtered : {A : Type 0} (p : A → Bool) (xs : List A) → filter (λ
 unfolding off
 off_is_filtered p [] = refl
 off_is_filtered p (x ∷ xs) = go (p x) (off_is_filtered p xs) where
-  go : (b : Bool) → filter (λ x. not (p x)) xs ≡ off p xs → cond (not b) (x ∷ filter (λ x. not (p x)) xs) (filter (λ x. not (p x)) xs) ≡ cond b (off p xs) (x ∷ off p xs)
+  go : (b : Bool) → filter (λ x. not (p x)) xs ≡ off p xs → cond (not b) (x ∷ filter (λ x. not (p x)) xs)
+      (filter (λ x. not (p x)) xs) ≡ cond b (off p xs) (x ∷ off p xs)
   go true rest = rest
   go false rest = ap (λ ys. x ∷ ys) rest
 
@@ -62,21 +68,25 @@ off_is_filtered p (x ∷ xs) = go (p x) (off_is_filtered p xs) where
 
 spots_next : (q s n m : ℕ) → n ≡ suc m → spots q s n ≡ record { page = q; slot = s } ∷ spots q (s + 1) m
 unfolding spots
-spots_next q s n m e = let P : ℕ → Type 0 = λ k. spots q s k ≡ record { page = q; slot = s } ∷ spots q (s + 1) m in subst P (sym e) refl
+spots_next q s n m e = let P : ℕ → Type 0 = λ k. spots q s k ≡ record { page = q; slot = s } ∷ spots q (s + 1) m
+    in subst P (sym e) refl
 
 -- the slot before them comes first
-pub spots_before : (q s n : ℕ) → 0 < s → s ≤ n → spots q (s - 1) (n - (s - 1)) ≡ record { page = q; slot = s - 1 } ∷ spots q s (n - s)
+pub spots_before : (q s n : ℕ) → 0 < s → s ≤ n → spots q (s - 1) (n - (s - 1))
+    ≡ record { page = q; slot = s - 1 } ∷ spots q s (n - s)
 spots_before q s n some within =
     let here : s - 1 + 1 ≡ s = omega arith in
     let more : n - (s - 1) ≡ suc (n - s) = omega arith in
-    spots_next q (s - 1) (n - (s - 1)) (n - s) more ∙ ap (λ (k : ℕ). record { page = q; slot = s - 1 } ∷ spots q k (n - s)) here
+    spots_next q (s - 1) (n - (s - 1)) (n - s) more ∙ ap (λ (k : ℕ). record { page = q; slot = s - 1 } ∷ spots q k
+    (n - s)) here
 
 pub spots_none : (q s n : ℕ) → n ≤ s → spots q s (n - s) ≡ []
 unfolding spots
 spots_none q s n past = let none : n - s ≡ 0 = omega arith in ap (λ k. spots q s k) none
 
 -- one slot more
-pub every_more : (P : Spot → Bool) (q s n : ℕ) → s < n → every P (spots q s (n - s)) ≡ (P (record { page = q; slot = s }) && every P (spots q (s + 1) (n - (s + 1))))
+pub every_more : (P : Spot → Bool) (q s n : ℕ) → s < n → every P (spots q s (n - s))
+    ≡ (P (record { page = q; slot = s }) && every P (spots q (s + 1) (n - (s + 1))))
 unfolding every
 every_more P q s n below =
     let more : n - s ≡ suc (n - (s + 1)) = omega arith in
@@ -93,8 +103,10 @@ on_some {A} {P} o x e h = let Q : Option A → Type 0 = λ o. OnSome o P in subs
 
 pub position_within : {A : Type 0} (p : A → Bool) (xs : List A) (i : ℕ) → position p xs ≡ Some i → i < length xs
 position_within p xs i e = go (nat_lt (position_or_len p xs) (length xs)) refl e where
-  go : (b : Bool) → nat_lt (position_or_len p xs) (length xs) ≡ b → cond b (Some (position_or_len p xs)) None ≡ Some i → i < length xs
-  go true is e = let at : position_or_len p xs ≡ i = cc in let less : position_or_len p xs < length xs = grind (arith, nat_tests) in omega arith
+  go : (b : Bool) → nat_lt (position_or_len p xs) (length xs) ≡ b → cond b (Some (position_or_len p xs)) None ≡ Some i
+      → i < length xs
+  go true is e = let at : position_or_len p xs ≡ i = cc in let less : position_or_len p xs < length xs = grind
+      (arith, nat_tests) in omega arith
   go false is e = absurd (let no_none : ⊥ = cc in no_none)
 
 -- one item more

@@ -1,6 +1,7 @@
 -- Where it has room, an operation does not wrap around.
 use Rattle.std.proofs.Common.{◌≡◌, ℕ, ◌+◌, ◌-◌, ◌%◌, ◌^◌, ◌<◌, ◌≤◌, refl, arith}
-use Rattle.sh_step.specs.declared.operation.Operation.TheVariants.{FetchAdd, FetchSub, FetchOr, Swap, Store, CompareExchange, Load}
+use Rattle.sh_step.specs.declared.operation.Operation.TheVariants.{FetchAdd, FetchSub, FetchOr, Swap, Store}
+use Rattle.sh_step.specs.declared.operation.Operation.TheVariants.{CompareExchange, Load}
 use Rattle.sh_step.specs.Operations.{RoomDoesNotWrap}
 
 add_stays : (n m : ℕ) → n + m < 2 ^ 64 → n + m ≡ (n + m) % 2 ^ 64

@@ -14,7 +14,8 @@ home_is_shard pages shards page some below = (div-lt_iff_lt-mul {k = pages} {x =
 page_number_lt : (plan : Plan) (n p : ℕ) → n < plan.shards → p < plan.pages → page_number plan n p < heap_pages plan
 unfolding page_number
 page_number_lt plan n p a b =
-    let h : (n + 1) * plan.pages ≤ plan.shards * plan.pages = mul-le (n + 1) plan.pages plan.shards plan.pages (omega arith) (omega arith) in
+    let h : (n + 1) * plan.pages ≤ plan.shards * plan.pages = mul-le (n + 1) plan.pages plan.shards plan.pages
+    (omega arith) (omega arith) in
     omega arith
 
 pub page_within : (plan : Plan) (y : PageName) → HasPage plan y → page_of plan y < heap_pages plan

@@ -36,7 +36,8 @@ and4 true true false d h = no_bool h
 and4 true false c d h = no_bool h
 and4 false b c d h = no_bool h
 
-pub and5 : (a b c d e : Bool) → (a && b && c && d && e) ≡ true → (a ≡ true) × (b ≡ true) × (c ≡ true) × (d ≡ true) × (e ≡ true)
+pub and5 : (a b c d e : Bool) → (a && b && c && d && e) ≡ true → (a ≡ true) × (b ≡ true) × (c ≡ true) × (d ≡ true)
+    × (e ≡ true)
 and5 true true true true true h = (refl, refl, refl, refl, refl)
 and5 true true true true false h = no_bool h
 and5 true true true false e h = no_bool h

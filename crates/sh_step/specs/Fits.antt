@@ -16,9 +16,11 @@ WordFits plan (Bell k) n = n ≤ heap_pages plan + 1
 WordFits plan (PageLink q) n = n ≤ heap_pages plan + 1
 WordFits plan _ n = Unit {0}
 
--- Its place is one of the shape, what it stores is a word, and a key that it issues names its slot in the generation found
+-- Its place is one of the shape, what it stores is a word, and a key that it issues names its slot in the generation
+-- found
 pub record RowFits (shape : Numbers) (plan : Plan) (r : Row) (n : ℕ) : Type 0 where
   pub place : IsPlace shape r.place
   pub stores : StoresWord r.operation
   pub word : WordFits plan r.place n
-  pub issues : (k : ℕ) (v : List ℕ) (q s : ℕ) → r.reply n ≡ Some (Insert k v) → r.place ≡ State q s → plan.keys.unpack k ≡ Some (record { page = q; slot = s; generation = (fields_of n).generation })
+  pub issues : (k : ℕ) (v : List ℕ) (q s : ℕ) → r.reply n ≡ Some (Insert k v) → r.place ≡ State q s → plan.keys.unpack k
+      ≡ Some (record { page = q; slot = s; generation = (fields_of n).generation })

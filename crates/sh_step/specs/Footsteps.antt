@@ -1,9 +1,11 @@
 -- What a pass did, step by step, and what is counted over a list of its steps.
-use Rattle.std.specs.Prelude.{ℕ, ◌≡◌, ◌+◌, ◌==◌, Bool, true, false, ◌&&◌, List, [], ◌∷◌, ◌++◌, Some, None, length, count_by}
+use Rattle.std.specs.Prelude.{ℕ, ◌≡◌, ◌+◌, ◌==◌, Bool, true, false, ◌&&◌, List, [], ◌∷◌, ◌++◌, Some, None, length}
+use Rattle.std.specs.Prelude.{count_by}
 use Rattle.sh_shape.specs.declared.places.Place.{Place}
 use Rattle.sh_shape.specs.declared.places.Place.TheVariants.{Head, Link, PageLink, Owner, Bell}
 use Rattle.sh_step.specs.declared.action.Action.{Action}
-use Rattle.sh_step.specs.declared.action.Action.TheVariants.{Take, Follow, Put, PutSlot, Adopt, Arm, TakeBell, FollowBell}
+use Rattle.sh_step.specs.declared.action.Action.TheVariants.{Take, Follow, Put, PutSlot, Adopt, Arm, TakeBell}
+use Rattle.sh_step.specs.declared.action.Action.TheVariants.{FollowBell}
 use Rattle.sh_step.specs.declared.footstep.Footstep.{Footstep}
 use Rattle.sh_step.specs.Collections.{if1}
 use Rattle.sh_step.specs.Operations.{answer}
@@ -92,4 +94,5 @@ arms trail = count_by arms_page trail
 
 -- one step more counts where it is such a step
 abbrev pub CountsGrow : Type 0
-CountsGrow = (is_such : Footstep → Bool) (trail : List Footstep) (t : Footstep) → count_by is_such (trail ++ t ∷ []) ≡ count_by is_such trail + if1 (is_such t)
+CountsGrow = (is_such : Footstep → Bool) (trail : List Footstep) (t : Footstep) → count_by is_such (trail ++ t ∷ [])
+    ≡ count_by is_such trail + if1 (is_such t)

@@ -17,7 +17,9 @@ use Rattle.sh_step.specs.Collections.{without}
 use Rattle.sh_step.specs.declared.operation.Operation.TheVariants.{Store}
 use Rattle.sh_step.specs.Parts.{newcomer}
 use Rattle.sh_step.specs.Plans.{Plan, heap_pages, page_of, slot_of}
-use Rattle.sh_step.specs.Rows.{Row, row, enter_get, enter_remove, mark, drop_hand, drop_key, finish, fill_slot, fill_in, publish, read_class, read_length, read_word, read_page, set_class, take_page, follow, put_at, tie, adopt, leave, arm, ring, ring_tie, take_bell, follow_bell}
+use Rattle.sh_step.specs.Rows.{Row, row, enter_get, enter_remove, mark, drop_hand, drop_key, finish, fill_slot, fill_in}
+use Rattle.sh_step.specs.Rows.{publish, read_class, read_length, read_word, read_page, set_class, take_page, follow}
+use Rattle.sh_step.specs.Rows.{put_at, tie, adopt, leave, arm, ring, ring_tie, take_bell, follow_bell}
 
 -- the row of a move
 abbrev pub row_of : Plan → Body → Move → Row
@@ -48,7 +50,8 @@ row_of plan p (move.RingTie q l) = ring_tie p q l
 row_of plan p (move.TakeBell n) = take_bell plan p n
 row_of plan p (move.FollowBell q) = follow_bell plan p q
 
--- these are the move of an action by a pass with this body: there is one exactly where the action's condition holds, and it has the action's row
+-- these are the move of an action by a pass with this body: there is one exactly where the action's condition holds,
+-- and it has the action's row
 abbrev pub IsMoveOf : Plan → Body → Action → Option Move → Type 0
 IsMoveOf plan p a m = row plan p a ≡ option_map (row_of plan p) m
 
@@ -58,19 +61,25 @@ has_place shape p = nat_lt p.shard shape.shards && nat_lt p.page (pages_of shape
 
 -- the place that a key, a page's name or a slot's name names, where the shape has it
 abbrev pub place_named : Plan → ℕ → Option Name
-place_named plan k = elim (plan.keys.unpack k) [ Some x ↦ cond (nat_lt x.page (heap_pages plan) && nat_lt x.slot 48) (Some x) None | None ↦ None ]
+place_named plan k = elim (plan.keys.unpack k) [
+  | Some x ↦ cond (nat_lt x.page (heap_pages plan) && nat_lt x.slot 48)
+      (Some x) None
+  | None ↦ None
+]
 
 abbrev pub page_named : Plan → PageName → Option ℕ
 page_named plan x = cond (nat_lt x.shard plan.shards && nat_lt x.page plan.pages) (Some (page_of plan x)) None
 
 abbrev pub slot_named : Plan → SlotName → Option Spot
-slot_named plan x = cond (nat_lt x.shard plan.shards && nat_lt x.page plan.pages && nat_lt x.slot 48) (Some (slot_of plan x)) None
+slot_named plan x = cond (nat_lt x.shard plan.shards && nat_lt x.page plan.pages && nat_lt x.slot 48)
+    (Some (slot_of plan x)) None
 
 -- the place and the operation of a row
 abbrev pub step_of : Row → Step
 step_of r = record { place = r.place; operation = r.operation }
 
--- The step of a move, which looks at no part: it is that of its row by whatever part, here by that of a pass which did nothing yet
+-- The step of a move, which looks at no part: it is that of its row by whatever part, here by that of a pass which did
+-- nothing yet
 abbrev pub step_at : Plan → Move → Step
 step_at plan m = step_of (row_of plan newcomer m)
 
@@ -84,7 +93,8 @@ IsBlind r = (n m : ℕ) → (r.part n ≡ r.part m) × (r.reply n ≡ r.reply m)
 
 -- the row of each move that stores, and so answers no word, is such
 abbrev pub StoresAreBlind : Type 0
-StoresAreBlind = (plan : Plan) (p : Body) (m : Move) (new : ℕ) → (row_of plan p m).operation ≡ Store new → IsBlind (row_of plan p m)
+StoresAreBlind = (plan : Plan) (p : Body) (m : Move) (new : ℕ) → (row_of plan p m).operation ≡ Store new
+    → IsBlind (row_of plan p m)
 
 abbrev pub is_enabled : Plan → Body → Action → Bool
 is_enabled plan p a = is_some (row plan p a)

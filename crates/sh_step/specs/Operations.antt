@@ -1,7 +1,8 @@
 -- What an operation leaves of the word that it finds, and what it answers.
 use Rattle.std.specs.Prelude.{ℕ, ◌≡◌, ◌+◌, ◌-◌, ◌%◌, ◌^◌, ◌<◌, ◌≤◌, ◌==◌, cond, bit_or, Option, Some, None}
 use Rattle.sh_step.specs.declared.operation.Operation.{Operation}
-use Rattle.sh_step.specs.declared.operation.Operation.TheVariants.{FetchAdd, FetchSub, FetchOr, Swap, Store, CompareExchange, Load}
+use Rattle.sh_step.specs.declared.operation.Operation.TheVariants.{FetchAdd, FetchSub, FetchOr, Swap, Store}
+use Rattle.sh_step.specs.declared.operation.Operation.TheVariants.{CompareExchange, Load}
 
 -- the word after it
 abbrev pub operate : Operation → ℕ → ℕ

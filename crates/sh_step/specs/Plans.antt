@@ -25,11 +25,17 @@ pub record Plan : Type 0 where
 
 -- what the parts of a key name among so many shards and pages of a shard
 abbrev pub name_in : (shards pages : ℕ) → Parts → Option Name
-name_in shards pages p = cond (nat_lt p.shard shards && nat_lt p.page pages) (Some (record { page = p.shard * pages + p.page; slot = p.slot; generation = p.generation })) None
+name_in shards pages p = cond (nat_lt p.shard shards && nat_lt p.page pages)
+    (Some (record { page = p.shard * pages + p.page; slot = p.slot; generation = p.generation })) None
 
 -- the parts of the key of a name, where each shard has so many pages
 abbrev pub parts_of : (pages : ℕ) → Name → Parts
-parts_of pages n = record { generation = n.generation; shard = home_of pages n.page; page = local_of pages n.page; slot = n.slot }
+parts_of pages n = record {
+  generation = n.generation;
+  shard = home_of pages n.page;
+  page = local_of pages n.page;
+  slot = n.slot;
+}
 
 -- the keys of a layout, which name pages by their numbers over the whole heap
 unfoldable pub keys_of : Layout → (shards pages : ℕ) → Keys
@@ -42,7 +48,13 @@ keys_of layout shards pages = record {
 
 -- the plan of a heap of this shape and layout
 abbrev pub plan_of : Layout → Numbers → Plan
-plan_of layout n = record { shards = n.shards; pages = segment_pages * n.segments; passes = n.passes; keys = keys_of layout n.shards (segment_pages * n.segments) }
+plan_of layout n = record {
+  shards = n.shards;
+  pages = segment_pages * n.segments;
+  passes = n.passes;
+  keys = keys_of
+      layout n.shards (segment_pages * n.segments);
+}
 
 -- how many pages there are, and the shard of a page
 abbrev pub heap_pages : Plan → ℕ
@@ -59,7 +71,8 @@ page_number plan n p = n * plan.pages + p
 unfoldable pub local : Plan → ℕ → ℕ
 local plan q = local_of plan.pages q
 
--- Words name pages of a shard by their numbers there. A word that names page p of shard n as p + k, and none below k: the same with the page's number over the whole heap
+-- Words name pages of a shard by their numbers there. A word that names page p of shard n as p + k, and none below k:
+-- the same with the page's number over the whole heap
 unfoldable pub over_heap : Plan → (n k word : ℕ) → ℕ
 over_heap plan n k word = cond (nat_lt word k) word (page_number plan n (word - k) + k)
 
@@ -71,7 +84,8 @@ slot_of plan x = record { page = page_number plan x.shard x.page; slot = x.slot 
 
 -- the laws of a plan on which the core rests: a key names one place and generation, and counts have room
 pub record Lawful (plan : Plan) : Type 0 where
-  pub names : (n : Name) → 0 < n.generation → n.generation ≤ plan.keys.gen_max → n.page < heap_pages plan → n.slot < 48 → plan.keys.unpack (plan.keys.pack n) ≡ Some n
+  pub names : (n : Name) → 0 < n.generation → n.generation ≤ plan.keys.gen_max → n.page < heap_pages plan → n.slot < 48
+      → plan.keys.unpack (plan.keys.pack n) ≡ Some n
   pub keys : (k : ℕ) (n : Name) → plan.keys.unpack k ≡ Some n → k ≡ plan.keys.pack n
   pub begins : (k : ℕ) (n : Name) → plan.keys.unpack k ≡ Some n → 0 < n.generation
   pub passes : plan.passes ≤ 64

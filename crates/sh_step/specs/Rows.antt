@@ -1,8 +1,10 @@
 -- The table of actions: what each asks of the pass's own part, the operation on one word, and what it leaves.
-use Rattle.std.specs.Prelude.{ℕ, ◌+◌, ◌-◌, ◌*◌, ◌^◌, ◌==◌, nat_lt, nat_le, Bool, true, false, cond, not, ◌&&◌, ◌||◌, List, [], ◌∷◌, ◌++◌, Option, Some, None, slice_index, length}
+use Rattle.std.specs.Prelude.{ℕ, ◌+◌, ◌-◌, ◌*◌, ◌^◌, ◌==◌, nat_lt, nat_le, Bool, true, false, cond, not, ◌&&◌, ◌||◌}
+use Rattle.std.specs.Prelude.{List, [], ◌∷◌, ◌++◌, Option, Some, None, slice_index, length}
 use Rattle.sh_word.specs.Fields.{fields_of}
 use Rattle.sh_slots.specs.declared.hand.Hand.{Hand}
-use Rattle.sh_slots.specs.declared.hand.Hand.TheVariants.{Idle, Removing, Leaving, Finishing, ToPut, Tying, Ringing, RingTying, Filling}
+use Rattle.sh_slots.specs.declared.hand.Hand.TheVariants.{Idle, Removing, Leaving, Finishing, ToPut, Tying, Ringing}
+use Rattle.sh_slots.specs.declared.hand.Hand.TheVariants.{RingTying, Filling}
 use Rattle.sh_slots.specs.declared.hand.Spot.{Spot}
 use Rattle.sh_slots.specs.declared.hand.Name.{Name}
 use Rattle.sh_slots.specs.declared.reply.Reply.{Reply}
@@ -11,19 +13,26 @@ use Rattle.sh_step.specs.declared.body.Body.{Body}
 use Rattle.sh_step.specs.declared.action.PageName.{PageName}
 use Rattle.sh_step.specs.declared.action.SlotName.{SlotName}
 use Rattle.sh_step.specs.declared.action.Action.{Action}
-use Rattle.sh_step.specs.declared.action.Action.TheVariants.{EnterGet, EnterRemove, Mark, Drop, DropHold, Finish, FillSlot, Fill, Publish, ReadClass, ReadLength, ReadWord, ReadPage, SetClass, Take, Follow, Put, PutSlot, Tie, Adopt, Leave, Arm, Ring, RingTie, TakeBell, FollowBell}
+use Rattle.sh_step.specs.declared.action.Action.TheVariants.{EnterGet, EnterRemove, Mark, Drop, DropHold, Finish}
+use Rattle.sh_step.specs.declared.action.Action.TheVariants.{FillSlot, Fill, Publish, ReadClass, ReadLength, ReadWord}
+use Rattle.sh_step.specs.declared.action.Action.TheVariants.{ReadPage, SetClass, Take, Follow, Put, PutSlot, Tie, Adopt}
+use Rattle.sh_step.specs.declared.action.Action.TheVariants.{Leave, Arm, Ring, RingTie, TakeBell, FollowBell}
 use Rattle.sh_shape.specs.declared.places.Place.{Place}
-use Rattle.sh_shape.specs.declared.places.Place.TheVariants.{Class, Head, PageLink, State, Link, Length, Payload, Owner, Bell}
+use Rattle.sh_shape.specs.declared.places.Place.TheVariants.{Class, Head, PageLink, State, Link, Length, Payload, Owner}
+use Rattle.sh_shape.specs.declared.places.Place.TheVariants.{Bell}
 use Rattle.sh_step.specs.Plans.{Plan, heap_pages, home, local, over_heap, page_of, slot_of}
 use Rattle.sh_shape.specs.Classes.{width, slots}
-use Rattle.sh_slots.specs.Slots.{same_spot, spots, spot_of, live_at, has_room, after_enter_remove, after_drop, marked_word, finished_word, is_reusable_after, published_name}
+use Rattle.sh_slots.specs.Slots.{same_spot, spots, spot_of, live_at, has_room, after_enter_remove, after_drop}
+use Rattle.sh_slots.specs.Slots.{marked_word, finished_word, is_reusable_after, published_name}
 use Rattle.sh_stack.specs.Stack.{top_word, top_item, link_over, link_item}
 use Rattle.sh_bell.specs.Bell.{is_armed, top_of, head_word}
 use Rattle.sh_step.specs.Collections.{without, has, noted, off, every}
 use Rattle.sh_step.specs.declared.operation.Operation.{Operation}
-use Rattle.sh_step.specs.declared.operation.Operation.TheVariants.{FetchAdd, FetchSub, FetchOr, Swap, Store, CompareExchange, Load}
+use Rattle.sh_step.specs.declared.operation.Operation.TheVariants.{FetchAdd, FetchSub, FetchOr, Swap, Store}
+use Rattle.sh_step.specs.declared.operation.Operation.TheVariants.{CompareExchange, Load}
 
--- One row of the table, for one part: a word, the operation on it, and by the word found the part after and what is replied
+-- One row of the table, for one part: a word, the operation on it, and by the word found the part after and what is
+-- replied
 pub record Row : Type 0 where
   pub place : Place
   pub operation : Operation
@@ -66,8 +75,10 @@ abbrev pub enter_get : Plan → Body → ℕ → Name → Row
 enter_get plan p k x = record {
   place = State x.page x.slot;
   operation = FetchAdd 1;
-  part = λ n. cond (live_at x.generation n && has_room plan.keys.guard_max n) (record p { holds = k ∷ p.holds }) (hand p (Leaving (spot_of x)));
-  reply = λ n. Some (cond (live_at x.generation n) (cond (has_room plan.keys.guard_max n) (reply.Got k) (reply.Crowded k)) (reply.Gone k));
+  part = λ n. cond (live_at x.generation n && has_room plan.keys.guard_max n) (record p { holds = k ∷ p.holds })
+      (hand p (Leaving (spot_of x)));
+  reply = λ n. Some (cond (live_at x.generation n) (cond (has_room plan.keys.guard_max n) (reply.Got k)
+      (reply.Crowded k)) (reply.Gone k));
 }
 
 abbrev pub enter_remove : Plan → Body → ℕ → Name → Row
@@ -115,7 +126,8 @@ abbrev pub finish : Plan → Body → Spot → ℕ → Row
 finish plan p x g = record {
   place = State x.page x.slot;
   operation = CompareExchange (marked_word g) (finished_word g plan.keys.gen_max);
-  part = λ n. cond (is_reusable_after g plan.keys.gen_max n) (cond (own plan p x.page) (hand (record p { mine = x ∷ p.mine }) Idle) (hand p (ToPut x))) (hand p Idle);
+  part = λ n. cond (is_reusable_after g plan.keys.gen_max n)
+      (cond (own plan p x.page) (hand (record p { mine = x ∷ p.mine }) Idle) (hand p (ToPut x))) (hand p Idle);
   reply = silent;
 }
 
@@ -192,7 +204,11 @@ abbrev pub set_class : Body → ℕ → ℕ → Row
 set_class p q c = record {
   place = Class q;
   operation = Store (c + 1);
-  part = λ n. record p { classes = (q, c + 1) ∷ p.classes; mine = spots q 0 (slots c) ++ off (λ x. x.page == q) p.mine };
+  part = λ n. record p {
+    classes = (q, c + 1) ∷ p.classes;
+    mine = spots q 0 (slots c)
+        ++ off (λ x. x.page == q) p.mine;
+  };
   reply = silent;
 }
 
@@ -200,7 +216,11 @@ abbrev pub take_page : Body → ℕ → Row
 take_page p q = record {
   place = Head q;
   operation = Swap 0;
-  part = λ n. record p { cursors = point 1 q (top_of n) p.cursors; armed = cond (is_armed n) (without (λ x. x == q) p.armed) p.armed };
+  part = λ n. record p {
+    cursors = point 1 q (top_of n) p.cursors;
+    armed = cond (is_armed n)
+        (without (λ x. x == q) p.armed) p.armed;
+  };
   reply = silent;
 }
 
@@ -208,7 +228,11 @@ abbrev pub follow : Body → ℕ → ℕ → Row
 follow p q s = record {
   place = Link q s;
   operation = Swap 0;
-  part = λ n. cond (n == 0) p (record p { cursors = point 2 q n (unpoint q p.cursors); mine = record { page = q; slot = s } ∷ p.mine });
+  part = λ n. cond (n == 0) p (record p {
+    cursors = point 2 q n (unpoint q p.cursors);
+    mine = record
+        { page = q; slot = s } ∷ p.mine;
+  });
   reply = silent;
 }
 
@@ -232,7 +256,15 @@ abbrev pub adopt : Body → ℕ → Row
 adopt p n = record {
   place = Owner n;
   operation = Swap 1;
-  part = λ m. cond (m == 0) (record p { owned = Some n; classes = []; mine = []; cursors = []; armed = []; bell_cursor = None }) p;
+  part = λ m. cond (m == 0) (record p {
+    owned = Some n;
+    classes = [];
+    mine = [];
+    cursors = [];
+    armed = [];
+    bell_cursor =
+        None;
+  }) p;
   reply = silent;
 }
 
@@ -280,20 +312,29 @@ abbrev pub follow_bell : Plan → Body → ℕ → Row
 follow_bell plan p q = record {
   place = PageLink q;
   operation = Swap 0;
-  part = λ m. cond (m == 0) p (record p { bell_cursor = link_item (over_heap plan (home plan q) 2 m); armed = without (λ x. x == q) p.armed });
+  part = λ m. cond (m == 0) p (record p {
+    bell_cursor = link_item (over_heap plan (home plan q) 2 m);
+    armed = without
+        (λ x. x == q) p.armed;
+  });
   reply = silent;
 }
 
 -- what a key names, where it is a place of the shape
 abbrev pub named : Plan → ℕ → (Name → Option Row) → Option Row
-named plan k f = elim (plan.keys.unpack k) [ Some x ↦ cond (nat_lt x.page (heap_pages plan) && nat_lt x.slot 48) (f x) None | None ↦ None ]
+named plan k f = elim (plan.keys.unpack k) [
+  | Some x ↦ cond (nat_lt x.page (heap_pages plan) && nat_lt x.slot 48) (f x)
+      None
+  | None ↦ None
+]
 
 -- the page of this name, and the slot of this name, where the shape has it
 abbrev pub paged : Plan → PageName → (ℕ → Option Row) → Option Row
 paged plan x f = cond (nat_lt x.shard plan.shards && nat_lt x.page plan.pages) (f (page_of plan x)) None
 
 abbrev pub slotted : Plan → SlotName → (Spot → Option Row) → Option Row
-slotted plan x f = cond (nat_lt x.shard plan.shards && nat_lt x.page plan.pages && nat_lt x.slot 48) (f (slot_of plan x)) None
+slotted plan x f = cond (nat_lt x.shard plan.shards && nat_lt x.page plan.pages && nat_lt x.slot 48)
+    (f (slot_of plan x)) None
 
 -- the table: the row of an action, where the part meets its condition
 unfoldable pub row : Plan → Body → Action → Option Row
@@ -303,23 +344,47 @@ row plan p Mark = elim (p.hand) [ Removing k ↦ named plan k (λ x. Some (mark 
 row plan p Drop = elim (p.hand) [ Leaving x ↦ Some (drop_hand p x) | _ ↦ None ]
 row plan p (DropHold k) = named plan k (λ x. when (idle p && has (λ j. j == k) p.holds) (drop_key p k x))
 row plan p Finish = elim (p.hand) [ Finishing x g ↦ Some (finish plan p x g) | _ ↦ None ]
-row plan p (FillSlot y v) = slotted plan y (λ x. when (idle p && own plan p x.page && has (same_spot x) p.mine && nat_lt 0 (class_word_noted p x.page) && nat_le (length v) (width (class_word_noted p x.page - 1))) (fill_slot p x v))
+row plan p (FillSlot y v) = slotted plan y (λ x. when (idle p && own plan p x.page && has (same_spot x) p.mine && nat_lt
+    0 (class_word_noted p x.page) && nat_le (length v) (width (class_word_noted p x.page - 1))) (fill_slot p x v))
 row plan p Fill = elim (p.hand) [ Filling x v n ↦ when (nat_lt n (length v)) (fill p x v n) | _ ↦ None ]
 row plan p Publish = elim (p.hand) [ Filling x v n ↦ when (nat_le (length v) n) (publish plan p x v) | _ ↦ None ]
 row plan p (ReadClass k) = named plan k (λ x. when (idle p && has (λ j. j == k) p.holds) (read_class p k x))
 row plan p (ReadLength k) = named plan k (λ x. when (idle p && has (λ j. j == k) p.holds) (read_length p k x))
-row plan p (ReadWord k i) = named plan k (λ x. elim (noted k p.widths) [ Some c ↦ elim (noted k p.lengths) [ Some n ↦ when (idle p && has (λ j. j == k) p.holds && nat_lt i n) (read_word p k x c i) | None ↦ None ] | None ↦ None ])
+row plan p (ReadWord k i) = named plan k (λ x. elim (noted k p.widths) [
+  | Some c ↦ elim (noted k p.lengths) [
+    | Some n ↦ when (idle p && has (λ j. j == k) p.holds && nat_lt i n)
+        (read_word p k x c i)
+    | None ↦ None
+  ]
+  | None ↦ None
+])
 row plan p (ReadPage y) = paged plan y (λ q. when (idle p && own plan p q) (read_page p q))
-row plan p (SetClass y c) = paged plan y (λ q. elim (noted q p.classes) [ Some n ↦ when (idle p && own plan p q && ((n == 0) || all_mine p q n) && nat_lt c 8) (set_class p q c) | None ↦ None ])
-row plan p (Take y) = paged plan y (λ q. when (idle p && own plan p q && nat_lt 0 (class_word_noted p q) && no_cursor p q) (take_page p q))
-row plan p (Follow y) = paged plan y (λ q. elim (noted q p.cursors) [ Some s ↦ when (idle p && own plan p q) (follow p q s) | None ↦ None ])
+row plan p (SetClass y c) = paged plan y (λ q. elim (noted q p.classes) [
+  | Some n ↦ when (idle p && own plan p q && ((n == 0) || all_mine p q n) && nat_lt c 8) (set_class p q c)
+  | None
+      ↦ None
+])
+row plan p (Take y) = paged plan y (λ q. when (idle p && own plan p q && nat_lt 0 (class_word_noted p q) && no_cursor p
+    q) (take_page p q))
+row plan p (Follow y) = paged plan y (λ q. elim (noted q p.cursors)
+    [ Some s ↦ when (idle p && own plan p q) (follow p q s) | None ↦ None ])
 row plan p Put = elim (p.hand) [ ToPut x ↦ Some (put_at p x) | _ ↦ None ]
-row plan p (PutSlot y) = slotted plan y (λ x. when (idle p && own plan p x.page && has (same_spot x) p.mine) (put_at (record p { mine = without (same_spot x) p.mine }) x))
+row plan p (PutSlot y) = slotted plan y (λ x. when (idle p && own plan p x.page && has (same_spot x) p.mine)
+    (put_at (record p { mine = without (same_spot x) p.mine }) x))
 row plan p Tie = elim (p.hand) [ Tying x l r ↦ Some (tie p x l r) | _ ↦ None ]
 row plan p (Adopt n) = elim (p.owned) [ None ↦ when (idle p && nat_lt n plan.shards) (adopt p n) | _ ↦ None ]
-row plan p Leave = elim (p.owned) [ Some n ↦ when (idle p && (length p.mine == 0) && (length p.cursors == 0) && (length p.armed == 0) && (elim (p.bell_cursor) [ None ↦ true | _ ↦ false ])) (leave p n) | None ↦ None ]
-row plan p (Arm y) = paged plan y (λ q. when (idle p && own plan p q && nat_lt 0 (class_word_noted p q) && no_cursor p q && not (has (λ x. x == q) p.armed)) (arm p q))
+row plan p Leave = elim (p.owned) [
+  | Some n ↦ when (idle p && (length p.mine == 0) && (length p.cursors == 0) &&
+      (length p.armed == 0) && (elim (p.bell_cursor) [ None ↦ true | _ ↦ false ])) (leave p n)
+  | None ↦ None
+]
+row plan p (Arm y) = paged plan y (λ q. when (idle p && own plan p q && nat_lt 0 (class_word_noted p q) && no_cursor p q
+    && not (has (λ x. x == q) p.armed)) (arm p q))
 row plan p Ring = elim (p.hand) [ Ringing q ↦ Some (ring plan p q) | _ ↦ None ]
 row plan p RingTie = elim (p.hand) [ RingTying q l ↦ Some (ring_tie p q l) | _ ↦ None ]
-row plan p TakeBell = elim (p.owned) [ Some n ↦ when (idle p && (elim (p.bell_cursor) [ None ↦ true | _ ↦ false ])) (take_bell plan p n) | None ↦ None ]
+row plan p TakeBell = elim (p.owned) [
+  | Some n ↦ when (idle p && (elim (p.bell_cursor) [ None ↦ true | _ ↦ false ]))
+      (take_bell plan p n)
+  | None ↦ None
+]
 row plan p FollowBell = elim (p.bell_cursor) [ Some q ↦ when (idle p) (follow_bell plan p q) | None ↦ None ]

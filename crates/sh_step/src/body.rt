@@ -2,8 +2,8 @@
 use sh_slots::{Hand, Spot};
 use std::collections::LinkedList;
 
-/// The body of a pass's own part: all that the conditions and effects of its steps look at, beside the word that they step on. It is
-/// a word of contracts, and no value of it is made.
+/// The body of a pass's own part: all that the conditions and effects of its steps look at, beside the word that they
+/// step on. It is a word of contracts, and no value of it is made.
 ///
 /// What is known of a held key, its class, its length and its words, is noted by the key, and forgotten with the last
 /// hold on it. Pages are numbered over the whole heap.

@@ -10,8 +10,8 @@ pub fn conditions_have_rows()
     ensures each { WhoMeetsHasRow }
 {}
 
-/// What a step is done on, and what it does there, depends on the move alone. What a store leaves of the part, and what is
-/// replied, does not depend on the word found, which a store does not answer.
+/// What a step is done on, and what it does there, depends on the move alone. What a store leaves of the part, and what
+/// is replied, does not depend on the word found, which a store does not answer.
 pub fn steps_look_at_no_part()
     ensures steps { StepsLookAtNoPart }
     ensures stores { StoresAreBlind }

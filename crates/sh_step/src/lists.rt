@@ -1,5 +1,6 @@
 //! What stands in the lists of a pass's own part. Lists are newest first, and each call walks one.
-ghost use Rattle.std.specs.Prelude.{ℕ, ◌≡◌, get_or, false, ◌==◌, ◌||◌, ◌+◌, ◌<◌, ◌≤◌, ◌∷◌, ◌++◌, not, filter, IsOk, OnOk, OnErr, IfErr};
+ghost use Rattle.std.specs.Prelude.{ℕ, ◌≡◌, get_or, false, ◌==◌, ◌||◌, ◌+◌, ◌<◌, ◌≤◌, ◌∷◌, ◌++◌, not, filter, IsOk};
+ghost use Rattle.std.specs.Prelude.{OnOk, OnErr, IfErr};
 ghost use Rattle.std.specs.VecDeque.{deque_len, deque_capacity};
 ghost use Rattle.std.specs.List.{list_any, find, position};
 ghost use Rattle.sh_slots.specs.Slots.{same_spot, spots};
@@ -103,7 +104,8 @@ pub fn value_noted(notes: &VecDeque<(u64, u64)>, number: u64) -> Option<u64>
 
 // Notes a slot as seen, where it is one of the page.
 fn see(seen: &mut [bool; 48], page: u64, spot: Spot)
-    ensures { (slot : ℕ) → slot < 48 → get_or seen.new slot false ≡ (get_or seen.old slot false || same_spot (record { page = page; slot = slot }) spot) }
+    ensures { (slot : ℕ) → slot < 48 → get_or seen.new slot false ≡
+        (get_or seen.old slot false || same_spot (record { page = page; slot = slot }) spot) }
 {
     if spot.page == page && spot.slot < SLOT_PLACES {
         seen[spot.slot as usize] = true;
@@ -112,7 +114,8 @@ fn see(seen: &mut [bool; 48], page: u64, spot: Spot)
 
 // Which slots of the page are there, by one walk.
 fn slots_seen(mine: &VecDeque<Spot>, page: u64) -> [bool; 48]
-    ensures { (slot : ℕ) → slot < 48 → get_or result slot false ≡ has (same_spot (record { page = page; slot = slot })) mine.now.items }
+    ensures { (slot : ℕ) → slot < 48 → get_or result slot false ≡ has (same_spot (record { page = page; slot = slot }))
+        mine.now.items }
 {
     let mut seen = [false; 48];
     for i in 0..mine.len() {

@@ -9,8 +9,8 @@ use sh_shape::Shape;
 use sh_slots::{Name, Spot};
 use sh_value::Value;
 
-/// An action whose condition holds of the pass's own part, with what it names looked up. Pages are numbered over the whole
-/// heap.
+/// An action whose condition holds of the pass's own part, with what it names looked up. Pages are numbered over the
+/// whole heap.
 #[derive(Drop)]
 pub enum Move {
     /// Enters the slot of the key, to get it.
@@ -68,7 +68,8 @@ pub enum Move {
 }
 
 impl Move {
-    /// The move of an action by a pass with this part, if the action's condition holds: it has the action's row of the table.
+    /// The move of an action by a pass with this part, if the action's condition holds: it has the action's row of the
+    /// table.
     pub fn of<L: KeyLayout>(shape: &Shape, part: &Part, action: &Action) -> Option<Move>
         ensures { IsMoveOf (plan_of L.layout shape.now) part.now action.now result }
     {

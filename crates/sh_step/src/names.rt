@@ -85,7 +85,8 @@ pub fn slot_of_name<L: KeyLayout>(shape: &Shape, name: SlotName) -> Option<Spot>
 pub fn key_of_name<L: KeyLayout>(shape: &Shape, name: Name) -> u64
     requires page { name.page < all_pages shape.now }
     requires slot { name.slot < 48 }
-    requires names { (plan_of L.layout shape.now).keys.unpack ((plan_of L.layout shape.now).keys.pack name) ≡ Some name }
+    requires names { (plan_of L.layout shape.now).keys.unpack ((plan_of L.layout shape.now).keys.pack name)
+        ≡ Some name }
     ensures { result ≡ (plan_of L.layout shape.now).keys.pack name }
 {
     let pages = u64::from(shape.pages());

@@ -22,8 +22,8 @@ pub enum Operation {
 }
 
 impl Operation {
-    /// The word that it leaves, by the word that it found, which has room for it. It is what a machine leaves, whose words
-    /// wrap around.
+    /// The word that it leaves, by the word that it found, which has room for it. It is what a machine leaves, whose
+    /// words wrap around.
     pub fn after(&self, found: u64) -> u64
         requires { HasRoom self.now found }
         ensures is { result ≡ operate self.now found }

@@ -36,14 +36,16 @@ pub fn may_touch<L: KeyLayout>(shape: &Shape, part: &Part, page: u64) -> bool
 
 // Whether it may take the page's stack.
 fn may_take<L: KeyLayout>(shape: &Shape, part: &Part, page: u64) -> bool
-    ensures { result ≡ (idle part.now && own (plan_of L.layout shape.now) part.now page && nat_lt 0 (class_word_noted part.now page) && no_cursor part.now page) }
+    ensures { result ≡ (idle part.now && own (plan_of L.layout shape.now) part.now page && nat_lt 0
+        (class_word_noted part.now page) && no_cursor part.now page) }
 {
     may_touch::<L>(shape, part, page) && part.class_word(page) > 0 && part.has_no_cursor(page)
 }
 
 // Whether it may arm the page.
 fn may_arm<L: KeyLayout>(shape: &Shape, part: &Part, page: u64) -> bool
-    ensures { result ≡ (idle part.now && own (plan_of L.layout shape.now) part.now page && nat_lt 0 (class_word_noted part.now page) && no_cursor part.now page && not (has (λ x. x == page) part.now.armed)) }
+    ensures { result ≡ (idle part.now && own (plan_of L.layout shape.now) part.now page && nat_lt 0
+        (class_word_noted part.now page) && no_cursor part.now page && not (has (λ x. x == page) part.now.armed)) }
 {
     may_take::<L>(shape, part, page) && !part.has_armed(page)
 }
@@ -63,7 +65,8 @@ fn may_set_class<L: KeyLayout>(
     class_word: u64,
     class: u64,
 ) -> bool
-    ensures { result ≡ (idle part.now && own (plan_of L.layout shape.now) part.now page && ((class_word == 0) || all_mine part.now page class_word) && nat_lt class 8) }
+    ensures { result ≡ (idle part.now && own (plan_of L.layout shape.now) part.now page &&
+        ((class_word == 0) || all_mine part.now page class_word) && nat_lt class 8) }
 {
     may_touch::<L>(shape, part, page)
         && (class_word == 0 || has_whole_page(part, page, class_word))

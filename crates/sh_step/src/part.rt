@@ -44,13 +44,38 @@ impl Model for Part {
 
     ghost Value = { Body };
 
-    ghost view = { λ p. record { hand = p.hand; holds = p.holds.items; widths = p.widths.items; lengths = p.lengths.items; contents = p.contents.items; owned = p.owned; classes = p.classes.items; mine = p.mine.items; cursors = p.cursors.items; armed = p.armed.items; bell_cursor = p.bell_cursor } };
+    ghost view = { λ p. record {
+      hand = p.hand;
+      holds = p.holds.items;
+      widths = p.widths.items;
+      lengths =
+          p.lengths.items;
+      contents = p.contents.items;
+      owned = p.owned;
+      classes = p.classes.items;
+      mine = p.mine.items;
+      cursors = p.cursors.items;
+      armed = p.armed.items;
+      bell_cursor = p.bell_cursor;
+    } };
 }
 
 impl Part {
     /// The part of a pass that has done nothing yet.
     pub fn new(alloc: Global) -> Part
-        ensures { result ≡ record { hand = Idle; holds = []; widths = []; lengths = []; contents = []; owned = None; classes = []; mine = []; cursors = []; armed = []; bell_cursor = None } }
+        ensures { result ≡ record {
+          hand = Idle;
+          holds = [];
+          widths = [];
+          lengths = [];
+          contents = [];
+          owned = None;
+          classes = [];
+          mine = [];
+          cursors = [];
+          armed = [];
+          bell_cursor = None;
+        } }
     {
         Part {
             hand: Hand::Idle,
@@ -202,7 +227,8 @@ impl Part {
 
     /// Whether nothing of its shard is with it: no slot to fill, no link to follow and no page armed.
     pub fn has_nothing_of_shard(&self) -> bool
-        ensures { result ≡ ((length self.now.mine == 0) && (length self.now.cursors == 0) && (length self.now.armed == 0) && is_none self.now.bell_cursor) }
+        ensures { result ≡ ((length self.now.mine == 0) && (length self.now.cursors == 0) &&
+            (length self.now.armed == 0) && is_none self.now.bell_cursor) }
     {
         self.mine.is_empty()
             && self.cursors.is_empty()

@@ -25,7 +25,8 @@ fn value_length(value: &Value) -> u64
 
 // Whether the pass may put the slot, which is its own.
 fn may_put<L: KeyLayout>(shape: &Shape, part: &Part, spot: Spot) -> bool
-    ensures { result ≡ (idle part.now && own (plan_of L.layout shape.now) part.now spot.page && has (same_spot spot) part.now.mine) }
+    ensures { result ≡ (idle part.now && own (plan_of L.layout shape.now) part.now spot.page && has (same_spot spot)
+        part.now.mine) }
 {
     may_touch::<L>(shape, part, spot.page) && part.has_mine(spot)
 }
@@ -39,7 +40,9 @@ fn fits_class(length: u64, class_word: u64) -> bool
 
 // Whether it may fill the slot, which is its own, with a value of this length.
 fn may_fill<L: KeyLayout>(shape: &Shape, part: &Part, spot: Spot, length: u64) -> bool
-    ensures { result ≡ (idle part.now && own (plan_of L.layout shape.now) part.now spot.page && has (same_spot spot) part.now.mine && nat_lt 0 (class_word_noted part.now spot.page) && nat_le length (width (class_word_noted part.now spot.page - 1))) }
+    ensures { result ≡ (idle part.now && own (plan_of L.layout shape.now) part.now spot.page && has (same_spot spot)
+        part.now.mine && nat_lt 0 (class_word_noted part.now spot.page) && nat_le length
+        (width (class_word_noted part.now spot.page - 1))) }
 {
     may_put::<L>(shape, part, spot) && fits_class(length, part.class_word(spot.page))
 }

@@ -17,7 +17,8 @@ use sh_word::{MARK_BIT, PRESENT_BIT};
 // What ends the generation, where nobody is on the slot.
 fn end_of_generation<L: KeyLayout>(shape: &Shape, generation: u32) -> Operation
     requires { finished_word generation (plan_of L.layout shape.now).keys.gen_max < 2 ^ 64 }
-    ensures { result ≡ Operation.CompareExchange (marked_word generation) (finished_word generation (plan_of L.layout shape.now).keys.gen_max) }
+    ensures { result ≡ Operation.CompareExchange (marked_word generation)
+        (finished_word generation (plan_of L.layout shape.now).keys.gen_max) }
 {
     Operation::CompareExchange(
         marked_word(generation),
@@ -91,8 +92,8 @@ impl Move {
         }
     }
 
-    /// The place of the one word that it touches, and what it does there: those of its row of the table, whatever the part.
-    /// The place is one of the shape, and what a swap or an exchange stores fits a word.
+    /// The place of the one word that it touches, and what it does there: those of its row of the table, whatever the
+    /// part. The place is one of the shape, and what a swap or an exchange stores fits a word.
     pub fn step<L: KeyLayout>(&self, shape: &Shape) -> Step
         requires place { IsPlace shape.now (step_at (plan_of L.layout shape.now) self.now).place }
         requires stores { StoresWord (step_at (plan_of L.layout shape.now) self.now).operation }

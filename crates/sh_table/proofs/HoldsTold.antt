@@ -1,13 +1,16 @@
 -- The holds of a pass are those that its log leaves it.
-use Rattle.std.proofs.Common.{◌≡◌, ℕ, suc, ◌+◌, ◌-◌, ◌<◌, ◌==◌, ◌&&◌, ◌||◌, Bool, true, false, cond, List, [], ◌∷◌, ◌++◌, length, refl, ap, ◌∙◌, sym, arith, eq-eqb, length-append}
+use Rattle.std.proofs.Common.{◌≡◌, ℕ, suc, ◌+◌, ◌-◌, ◌<◌, ◌==◌, ◌&&◌, ◌||◌, Bool, true, false, cond, List, [], ◌∷◌}
+use Rattle.std.proofs.Common.{◌++◌, length, refl, ap, ◌∙◌, sym, arith, eq-eqb, length-append}
 use Rattle.std.specs.Prelude.{count_by, filter}
 use Rattle.std.specs.List.{AllZip}
 use Rattle.sh_history.specs.declared.entry.Entry.{Entry}
 use Rattle.sh_history.specs.declared.entry.Entry.TheVariants.{Insert, Got, Gone, Crowded, Removed, Released}
 use Rattle.sh_history.specs.declared.log.LogEntry.{LogEntry}
 use Rattle.sh_history.specs.declared.log.LogEntry.TheVariants.{Known, Unread}
-use Rattle.sh_history.specs.History.{is_got_by, is_release_by, is_got_from, is_release_from, got_count_by, released_count_by}
-use Rattle.sh_history.specs.Log.{Agrees, pass_of, is_logged_got_by, is_logged_release_by, logged_holds_by, is_logged_got_from, is_logged_release_from, logged_hold_count}
+use Rattle.sh_history.specs.History.{is_got_by, is_release_by, is_got_from, is_release_from, got_count_by}
+use Rattle.sh_history.specs.History.{released_count_by}
+use Rattle.sh_history.specs.Log.{Agrees, pass_of, is_logged_got_by, is_logged_release_by, logged_holds_by}
+use Rattle.sh_history.specs.Log.{is_logged_got_from, is_logged_release_from, logged_hold_count}
 use Rattle.sh_history.proofs.LogLaws.{count_by-cons}
 use Rattle.sh_step.specs.Collections.{total, if1, has, without}
 use Rattle.sh_core.specs.Lists.{times}
@@ -62,11 +65,13 @@ release_own a k (Crowded p j) e = cc
 release_own a k (Removed p j) e = cc
 release_own a k (Released p j) e = left_of (p == a) (j == k) e
 
-own_count : (g h : Entry → Bool) → ((e : Entry) → g e ≡ true → h e ≡ true) → (es : List Entry) → count_by g (filter h es) ≡ count_by g es
+own_count : (g h : Entry → Bool) → ((e : Entry) → g e ≡ true → h e ≡ true) → (es : List Entry)
+    → count_by g (filter h es) ≡ count_by g es
 own_count g h only [] = refl
 own_count g h only (e ∷ es) = go (own_count g h only es) (h e) refl
   where
-    go : count_by g (filter h es) ≡ count_by g es → (b : Bool) → h e ≡ b → count_by g (cond b (e ∷ filter h es) (filter h es)) ≡ count_by g (e ∷ es)
+    go : count_by g (filter h es) ≡ count_by g es → (b : Bool) → h e ≡ b
+        → count_by g (cond b (e ∷ filter h es) (filter h es)) ≡ count_by g (e ∷ es)
     go rest true is = rw (count_by-cons g e (filter h es), count_by-cons g e es, rest) refl
     go rest false is =
         let no : g e ≡ false = false_of (g e) (λ t. not_both (h e) (only e t) is) in
@@ -81,9 +86,11 @@ pub holds_told : (a k held : ℕ) (log : List LogEntry) (es : List Entry) → Al
     → got_count_by es a k ≡ released_count_by es a k + held → logged_holds_by log a k ≡ held
 holds_told a k held log es agrees counts =
     let got : count_by (is_logged_got_by a k) log ≡ got_count_by es a k =
-    same_count (is_logged_got_by a k) (is_got_by a k) (same_got a k) log (by a es) agrees ∙ own_count (is_got_by a k) (λ e. pass_of e == a) (got_own a k) es in
+    same_count (is_logged_got_by a k) (is_got_by a k) (same_got a k) log (by a es) agrees
+    ∙ own_count (is_got_by a k) (λ e. pass_of e == a) (got_own a k) es in
     let gone : count_by (is_logged_release_by a k) log ≡ released_count_by es a k =
-    same_count (is_logged_release_by a k) (is_release_by a k) (same_release a k) log (by a es) agrees ∙ own_count (is_release_by a k) (λ e. pass_of e == a) (release_own a k) es in
+    same_count (is_logged_release_by a k) (is_release_by a k) (same_release a k) log (by a es) agrees
+    ∙ own_count (is_release_by a k) (λ e. pass_of e == a) (release_own a k) es in
     (λ i. got i - gone i) ∙ more (got_count_by es a k) (released_count_by es a k) held counts
 
 -- ---- and so many there are in all
@@ -94,7 +101,8 @@ unfolding has without
 shorter k [] h = cc
 shorter k (x ∷ xs) h = go (x == k) (λ e. shorter k xs e) h
   where
-    go : (b : Bool) → (has (λ x. x == k) xs ≡ true → length (without (λ x. x == k) xs) + 1 ≡ length xs) → (b || has (λ x. x == k) xs) ≡ true
+    go : (b : Bool) → (has (λ x. x == k) xs ≡ true → length (without (λ x. x == k) xs) + 1 ≡ length xs)
+        → (b || has (λ x. x == k) xs) ≡ true
         → length (cond b xs (x ∷ without (λ x. x == k) xs)) + 1 ≡ suc (length xs)
     go true rest h = omega arith
     go false rest h = let e = rest h in omega (arith, e)
@@ -115,11 +123,13 @@ cancels b m n l e f = omega (arith, e, f)
 
 same_length : (xs ys : List ℕ) → ((k : ℕ) → times k xs ≡ times k ys) → length xs ≡ length ys
 same_length [] [] h = refl
-same_length [] (y ∷ ys) h = let n = h y in let z = times_none y in let c = times_cons y y ys in let o = one y in absurd (omega (arith, n, z, c, o))
+same_length [] (y ∷ ys) h = let n = h y in let z = times_none y in let c = times_cons y y ys in let o = one y
+    in absurd (omega (arith, n, z, c, o))
 same_length (x ∷ xs) ys h =
     let here : 0 < times x ys = let n = h x in let c = times_cons x x xs in let o = one x in omega (arith, n, c, o) in
     let rest : length xs ≡ length (without (λ y. y == x) ys) =
-    same_length xs (without (λ y. y == x) ys) (λ k. cancels (if1 (x == k)) (times k xs) (times k ys) (times k (without (λ y. y == x) ys)) (sym (times_cons k x xs) ∙ h k) (times_off x k ys here)) in
+    same_length xs (without (λ y. y == x) ys) (λ k. cancels (if1 (x == k)) (times k xs) (times k ys)
+    (times k (without (λ y. y == x) ys)) (sym (times_cons k x xs) ∙ h k) (times_off x k ys here)) in
     let more = shorter x ys (some_has x ys here) in
     omega (arith, rest, more)
 
@@ -145,7 +155,8 @@ released_keys a (Removed p k ∷ es) = released_keys a es
 zero_more : (n : ℕ) → 0 + n ≡ n
 zero_more n = omega arith
 
-times_if : (k j : ℕ) (b : Bool) (xs : List ℕ) (n : ℕ) → times k xs ≡ n → times k (cond b (j ∷ xs) xs) ≡ cond (b && (j == k)) 1 0 + n
+times_if : (k j : ℕ) (b : Bool) (xs : List ℕ) (n : ℕ) → times k xs ≡ n → times k (cond b (j ∷ xs) xs)
+    ≡ cond (b && (j == k)) 1 0 + n
 times_if k j true xs n e = times_cons k j xs ∙ ap (λ m. if1 (j == k) + m) e
 times_if k j false xs n e = omega (arith, e)
 
@@ -158,7 +169,8 @@ skips f e es h = count_by-cons f e es ∙ (ap (λ b. cond b 1 0 + count_by f es)
 
 got_times : (a k : ℕ) (es : List Entry) → times k (got_keys a es) ≡ got_count_by es a k
 got_times a k [] = times_none k
-got_times a k (Got p j v ∷ es) = times_if k j (p == a) (got_keys a es) (got_count_by es a k) (got_times a k es) ∙ sym (count_by-cons (is_got_by a k) (Got p j v) es)
+got_times a k (Got p j v ∷ es) = times_if k j (p == a) (got_keys a es) (got_count_by es a k) (got_times a k es)
+    ∙ sym (count_by-cons (is_got_by a k) (Got p j v) es)
 got_times a k (Insert p j v ∷ es) = got_times a k es ∙ sym (skips (is_got_by a k) (Insert p j v) es refl)
 got_times a k (Gone p j ∷ es) = got_times a k es ∙ sym (skips (is_got_by a k) (Gone p j) es refl)
 got_times a k (Crowded p j ∷ es) = got_times a k es ∙ sym (skips (is_got_by a k) (Crowded p j) es refl)
@@ -167,7 +179,8 @@ got_times a k (Released p j ∷ es) = got_times a k es ∙ sym (skips (is_got_by
 
 released_times : (a k : ℕ) (es : List Entry) → times k (released_keys a es) ≡ released_count_by es a k
 released_times a k [] = times_none k
-released_times a k (Released p j ∷ es) = times_if k j (p == a) (released_keys a es) (released_count_by es a k) (released_times a k es) ∙ sym (count_by-cons (is_release_by a k) (Released p j) es)
+released_times a k (Released p j ∷ es) = times_if k j (p == a) (released_keys a es) (released_count_by es a k)
+    (released_times a k es) ∙ sym (count_by-cons (is_release_by a k) (Released p j) es)
 released_times a k (Insert p j v ∷ es) = released_times a k es ∙ sym (skips (is_release_by a k) (Insert p j v) es refl)
 released_times a k (Got p j v ∷ es) = released_times a k es ∙ sym (skips (is_release_by a k) (Got p j v) es refl)
 released_times a k (Gone p j ∷ es) = released_times a k es ∙ sym (skips (is_release_by a k) (Gone p j) es refl)
@@ -176,7 +189,8 @@ released_times a k (Removed p j ∷ es) = released_times a k es ∙ sym (skips (
 
 got_length : (a : ℕ) (es : List Entry) → length (got_keys a es) ≡ count_by (is_got_from a) es
 got_length a [] = refl
-got_length a (Got p j v ∷ es) = length_if j (p == a) (got_keys a es) (count_by (is_got_from a) es) (got_length a es) ∙ sym (count_by-cons (is_got_from a) (Got p j v) es)
+got_length a (Got p j v ∷ es) = length_if j (p == a) (got_keys a es) (count_by (is_got_from a) es) (got_length a es)
+    ∙ sym (count_by-cons (is_got_from a) (Got p j v) es)
 got_length a (Insert p j v ∷ es) = got_length a es ∙ sym (skips (is_got_from a) (Insert p j v) es refl)
 got_length a (Gone p j ∷ es) = got_length a es ∙ sym (skips (is_got_from a) (Gone p j) es refl)
 got_length a (Crowded p j ∷ es) = got_length a es ∙ sym (skips (is_got_from a) (Crowded p j) es refl)
@@ -185,7 +199,8 @@ got_length a (Released p j ∷ es) = got_length a es ∙ sym (skips (is_got_from
 
 released_length : (a : ℕ) (es : List Entry) → length (released_keys a es) ≡ count_by (is_release_from a) es
 released_length a [] = refl
-released_length a (Released p j ∷ es) = length_if j (p == a) (released_keys a es) (count_by (is_release_from a) es) (released_length a es) ∙ sym (count_by-cons (is_release_from a) (Released p j) es)
+released_length a (Released p j ∷ es) = length_if j (p == a) (released_keys a es) (count_by (is_release_from a) es)
+    (released_length a es) ∙ sym (count_by-cons (is_release_from a) (Released p j) es)
 released_length a (Insert p j v ∷ es) = released_length a es ∙ sym (skips (is_release_from a) (Insert p j v) es refl)
 released_length a (Got p j v ∷ es) = released_length a es ∙ sym (skips (is_release_from a) (Got p j v) es refl)
 released_length a (Gone p j ∷ es) = released_length a es ∙ sym (skips (is_release_from a) (Gone p j) es refl)
@@ -217,14 +232,20 @@ release_from_own a (Removed p j) e = cc
 release_from_own a (Released p j) e = e
 
 pub hold_count_told : (a : ℕ) (holds : List ℕ) (log : List LogEntry) (es : List Entry) → AllZip Agrees log (by a es)
-    → ((k : ℕ) → got_count_by es a k ≡ released_count_by es a k + times k holds) → logged_hold_count log a ≡ length holds
+    → ((k : ℕ) → got_count_by es a k ≡ released_count_by es a k + times k holds) → logged_hold_count log a
+    ≡ length holds
 hold_count_told a holds log es agrees counts =
     let got : count_by (is_logged_got_from a) log ≡ count_by (is_got_from a) es =
-    same_count (is_logged_got_from a) (is_got_from a) (same_got_from a) log (by a es) agrees ∙ own_count (is_got_from a) (λ e. pass_of e == a) (got_from_own a) es in
+    same_count (is_logged_got_from a) (is_got_from a) (same_got_from a) log (by a es) agrees
+    ∙ own_count (is_got_from a) (λ e. pass_of e == a) (got_from_own a) es in
     let gone : count_by (is_logged_release_from a) log ≡ count_by (is_release_from a) es =
-    same_count (is_logged_release_from a) (is_release_from a) (same_release_from a) log (by a es) agrees ∙ own_count (is_release_from a) (λ e. pass_of e == a) (release_from_own a) es in
+    same_count (is_logged_release_from a) (is_release_from a) (same_release_from a) log (by a es) agrees
+    ∙ own_count (is_release_from a) (λ e. pass_of e == a) (release_from_own a) es in
     let lists : length (got_keys a es) ≡ length (released_keys a es ++ holds) =
-    same_length (got_keys a es) (released_keys a es ++ holds) (λ k. got_times a k es ∙ (counts k ∙ (ap (λ n. n + times k holds) (sym (released_times a k es)) ∙ sym (total_append (λ y. if1 (y == k)) (released_keys a es) holds)))) in
+    same_length (got_keys a es) (released_keys a es ++ holds)
+    (λ k. got_times a k es ∙ (counts k ∙ (ap (λ n. n + times k holds) (sym (released_times a k es))
+    ∙ sym (total_append (λ y. if1 (y == k)) (released_keys a es) holds)))) in
     let all : count_by (is_got_from a) es ≡ count_by (is_release_from a) es + length holds =
-    sym (got_length a es) ∙ (lists ∙ (length-append (released_keys a es) holds ∙ ap (λ n. n + length holds) (released_length a es))) in
+    sym (got_length a es) ∙ (lists ∙ (length-append (released_keys a es) holds
+    ∙ ap (λ n. n + length holds) (released_length a es))) in
     (λ i. got i - gone i) ∙ more (count_by (is_got_from a) es) (count_by (is_release_from a) es) (length holds) all

@@ -1,5 +1,6 @@
 -- What a get and its read leave, over any store.
-use Rattle.std.proofs.Common.{◌≡◌, ℕ, ◌<◌, Bool, true, false, cond, List, [], ◌∷◌, ◌++◌, refl, ◌∙◌, ap, subst, arith, rules, map, Ok, Err, eq-eqb}
+use Rattle.std.proofs.Common.{◌≡◌, ℕ, ◌<◌, Bool, true, false, cond, List, [], ◌∷◌, ◌++◌, refl, ◌∙◌, ap, subst, arith}
+use Rattle.std.proofs.Common.{rules, map, Ok, Err, eq-eqb}
 use Rattle.std.specs.Prelude.{◌==◌, ◌&&◌, count_by}
 use Rattle.std.proofs.lemmas.List.{map-append}
 use Rattle.sh_value.specs.declared.refusal.Refusal.{Refusal}
@@ -7,7 +8,8 @@ use Rattle.sh_value.specs.declared.refusal.Refusal.TheVariants.{NotHeld}
 use Rattle.sh_history.specs.declared.entry.Entry.TheVariants.{Insert, Got, Gone, Crowded, Removed, Released}
 use Rattle.sh_history.specs.declared.log.LogEntry.{LogEntry}
 use Rattle.sh_history.specs.declared.log.LogEntry.TheVariants.{Known, Unread}
-use Rattle.sh_history.specs.Log.{IsGotBy, filled, HasValue, AllHaveValue, logged_holds_by, is_logged_got_by, is_logged_release_by}
+use Rattle.sh_history.specs.Log.{IsGotBy, filled, HasValue, AllHaveValue, logged_holds_by, is_logged_got_by}
+use Rattle.sh_history.specs.Log.{is_logged_release_by}
 use Rattle.sh_history.proofs.LogLaws.{count_by-cons}
 use Rattle.sh_plain.specs.Store.{Setting, ReadLeaves}
 use Rattle.sh_typed.specs.Typed.{GotValue}
@@ -18,19 +20,23 @@ pub read_not_refused : (s : Setting) (key : ℕ) (book after : List LogEntry) (r
 read_not_refused s key book after NotHeld leaves held = let none = leaves.0 in omega arith
 read_not_refused s key book after _ leaves held = leaves
 
-fill_got : (b : Bool) (pass key p k : ℕ) (v : List ℕ) → is_logged_got_by pass key (cond b (Known (Got p k v)) (Unread p k)) ≡ ((p == pass) && (k == key))
+fill_got : (b : Bool) (pass key p k : ℕ) (v : List ℕ) → is_logged_got_by pass key
+    (cond b (Known (Got p k v)) (Unread p k)) ≡ ((p == pass) && (k == key))
 fill_got true pass key p k v = refl
 fill_got false pass key p k v = refl
 
-fill_release : (b : Bool) (pass key p k : ℕ) (v : List ℕ) → is_logged_release_by pass key (cond b (Known (Got p k v)) (Unread p k)) ≡ false
+fill_release : (b : Bool) (pass key p k : ℕ) (v : List ℕ) → is_logged_release_by pass key
+    (cond b (Known (Got p k v)) (Unread p k)) ≡ false
 fill_release true pass key p k v = refl
 fill_release false pass key p k v = refl
 
-got_same : (pass key k : ℕ) (v : List ℕ) (e : LogEntry) → is_logged_got_by pass key (filled k v e) ≡ is_logged_got_by pass key e
+got_same : (pass key k : ℕ) (v : List ℕ) (e : LogEntry) → is_logged_got_by pass key (filled k v e)
+    ≡ is_logged_got_by pass key e
 got_same pass key k v (Known e) = refl
 got_same pass key k v (Unread p q) = fill_got (q == k) pass key p q v
 
-release_same : (pass key k : ℕ) (v : List ℕ) (e : LogEntry) → is_logged_release_by pass key (filled k v e) ≡ is_logged_release_by pass key e
+release_same : (pass key k : ℕ) (v : List ℕ) (e : LogEntry) → is_logged_release_by pass key (filled k v e)
+    ≡ is_logged_release_by pass key e
 release_same pass key k v (Known e) = refl
 release_same pass key k v (Unread p q) = fill_release (q == k) pass key p q v
 
@@ -38,7 +44,13 @@ release_same pass key k v (Unread p q) = fill_release (q == k) pass key p q v
 count_same : (p : LogEntry → Bool) (f : LogEntry → LogEntry) → ((e : LogEntry) → p (f e) ≡ p e) → (xs : List LogEntry)
     → count_by p (map f xs) ≡ count_by p xs
 count_same p f same [] = refl
-count_same p f same (x ∷ xs) = rw (count_by-cons p (f x) (map f xs), count_by-cons p x xs, same x, count_same p f same xs) refl
+count_same p f same (x ∷ xs) = rw (
+  count_by-cons p (f x) (map f xs),
+  count_by-cons p x xs,
+  same x,
+  count_same p f same
+      xs,
+) refl
 
 -- a read changes no hold
 pub filled_holds : (k : ℕ) (v : List ℕ) (book : List LogEntry) (pass key : ℕ)
@@ -49,7 +61,8 @@ filled_holds k v book pass key =
       count_same (is_logged_release_by pass key) (filled k v) (release_same pass key k v) book,
     ) refl
 
-last_has : (key : ℕ) (value : List ℕ) (xs : List LogEntry) (e : LogEntry) → AllHaveValue key value (xs ++ e ∷ []) → HasValue key value e
+last_has : (key : ℕ) (value : List ℕ) (xs : List LogEntry) (e : LogEntry) → AllHaveValue key value (xs ++ e ∷ [])
+    → HasValue key value e
 last_has key value [] e h = h.0
 last_has key value (x ∷ xs) e h = last_has key value xs e h.1
 
@@ -74,7 +87,8 @@ fetched s s' key k book mid after value same same_key (got, is, mid_is) held (_,
     after_is ∙ rw (same_key, mid_is) (map-append (filled key value) book (got ∷ [])) in
     let P : List LogEntry → Type 0 = λ l. AllHaveValue key value l in
     let Q : ℕ → Type 0 = λ n. AllHaveValue n value after in
-    let last = last_has key value (map (filled key value) book) (filled key value got) (subst P after_is' (subst Q same_key has)) in
+    let last = last_has key value (map (filled key value) book) (filled key value got)
+    (subst P after_is' (subst Q same_key has)) in
     let filled_is = read_got s.pass key value got is last in
     record {
       got = after_is' ∙ ap (λ e. map (filled key value) book ++ e ∷ []) filled_is;

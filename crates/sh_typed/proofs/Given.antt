@@ -1,10 +1,12 @@
 -- A record whose insert stands in the book is given back.
-use Rattle.std.proofs.Common.{◌≡◌, ℕ, List, [], ◌∷◌, ◌++◌, Option, Some, None, refl, sym, ◌∙◌, ap, subst, arith, Ok, Err, Result, map, append_assoc, inr, suc, take, drop, drop-cons}
+use Rattle.std.proofs.Common.{◌≡◌, ℕ, List, [], ◌∷◌, ◌++◌, Option, Some, None, refl, sym, ◌∙◌, ap, subst, arith, Ok}
+use Rattle.std.proofs.Common.{Err, Result, map, append_assoc, inr, suc, take, drop, drop-cons}
 use Rattle.std.specs.List.{Contains}
 use Rattle.std.proofs.lemmas.List.{map-append, take-append-drop}
 use Rattle.sh_value.specs.declared.hold.Hold.{Hold}
 use Rattle.sh_value.specs.declared.refusal.Refusal.{Refusal}
-use Rattle.sh_value.specs.declared.refusal.Refusal.TheVariants.{BadKey, Gone, Crowded, HoldsFull, NotHeld, Memory, WrongKind}
+use Rattle.sh_value.specs.declared.refusal.Refusal.TheVariants.{BadKey, Gone, Crowded, HoldsFull, NotHeld, Memory}
+use Rattle.sh_value.specs.declared.refusal.Refusal.TheVariants.{WrongKind}
 use Rattle.sh_history.specs.declared.entry.Entry.{Entry}
 use Rattle.sh_history.specs.declared.entry.Entry.TheVariants.{Insert, Got, Released}
 use Rattle.sh_history.specs.declared.log.LogEntry.{LogEntry}
@@ -16,14 +18,17 @@ use Rattle.sh_plain.specs.Store.{Setting, IsBook, ReleaseLeaves}
 use Rattle.sh_typed.specs.Typed.{GotValue, GivesBack, RecordLeaves}
 
 -- an entry that is known stays where a value is read and entries come behind
-pub kept : (key : ℕ) (value : List ℕ) (book more front rest : List LogEntry) (e : Entry) → book ≡ front ++ Known e ∷ rest
-    → map (filled key value) book ++ more ≡ map (filled key value) front ++ Known e ∷ (map (filled key value) rest ++ more)
+pub kept : (key : ℕ) (value : List ℕ) (book more front rest : List LogEntry) (e : Entry) → book ≡ front
+    ++ Known e ∷ rest
+    → map (filled key value) book ++ more ≡ map (filled key value) front
+    ++ Known e ∷ (map (filled key value) rest ++ more)
 kept key value book more front rest e is =
     rw is (ap (λ l. l ++ more) (map-append (filled key value) front (Known e ∷ rest))
     ∙ append_assoc (map (filled key value) front) (Known e ∷ map (filled key value) rest) more)
 
 -- where a got value was read, a release of its hold is refused for memory alone
-pub refused_for_memory : (s t : Setting) (key k : ℕ) (value : List ℕ) (start book after : List LogEntry) (refusal : Refusal)
+pub refused_for_memory : (s t : Setting) (key k : ℕ) (value : List ℕ) (start book after : List LogEntry)
+    (refusal : Refusal)
     → t ≡ s → k ≡ key → GotValue s key value start book → ReleaseLeaves t k book (Err refusal) after → refusal ≡ Memory
 refused_for_memory s t key k value start book after Memory same same_key got leaves = refl
 refused_for_memory s t key k value start book after NotHeld same same_key got leaves =
@@ -33,7 +38,8 @@ refused_for_memory s t key k value start book after _ same same_key got leaves =
 
 -- what a get of a record leaves, whatever reads the value
 module _ {R : Type 0} (read : List ℕ → Option R) where
-  pub release_refused : (s t : Setting) (key k : ℕ) (value : List ℕ) (start book after : List LogEntry) (refusal : Refusal)
+  pub release_refused : (s t : Setting) (key k : ℕ) (value : List ℕ) (start book after : List LogEntry)
+      (refusal : Refusal)
       → t ≡ s → k ≡ key → GotValue s key value start book → read value ≡ None
       → ReleaseLeaves t k book (Err refusal) after
       → RecordLeaves read s key start (Err refusal) after
@@ -48,11 +54,13 @@ module _ {R : Type 0} (read : List ℕ → Option R) where
       → Contains book (Known (Insert pass key value)) → got ≡ value
   same_read s t key pass value got book after more is stands inserted =
       let (front, rest, at) = splits_at book (Known (Insert pass key value)) inserted in
-      same_value t.passes t.guard_max t.answers_for after (map (filled key got) front) (map (filled key got) rest ++ Known (Got s.pass key got) ∷ more)
+      same_value t.passes t.guard_max t.answers_for after (map (filled key got) front)
+      (map (filled key got) rest ++ Known (Got s.pass key got) ∷ more)
       (map (filled key got) book) more pass s.pass key value got stands
       (is ∙ kept key got book (Known (Got s.pass key got) ∷ more) front rest (Insert pass key value) at) is
 
-  pub given_back : (s t : Setting) (key pass : ℕ) (value : List ℕ) (given : R) (book after : List LogEntry) (result : Result (Hold × R) Refusal)
+  pub given_back : (s t : Setting) (key pass : ℕ) (value : List ℕ) (given : R) (book after : List LogEntry)
+      (result : Result (Hold × R) Refusal)
       → RecordLeaves read s key book result after → IsBook t after → Contains book (Known (Insert pass key value))
       → read value ≡ Some given → GivesBack given result
   given_back s t key pass value given book after (Ok (hold, found)) leaves stands inserted reads =
@@ -60,7 +68,8 @@ module _ {R : Type 0} (read : List ℕ → Option R) where
       let same = same_read s t key pass value got.0 book after [] got.1.got stands inserted in
       let found_is : Some found ≡ Some given = sym got.2 ∙ ap read same ∙ reads in cc
   given_back s t key pass value given book after (Err WrongKind) (got, is, unread) stands inserted reads =
-      let is' = is ∙ append_assoc (map (filled key got) book) (Known (Got s.pass key got) ∷ []) (Known (Released s.pass key) ∷ []) in
+      let is' = is ∙ append_assoc (map (filled key got) book) (Known (Got s.pass key got) ∷ [])
+      (Known (Released s.pass key) ∷ []) in
       let same = same_read s t key pass value got book after (Known (Released s.pass key) ∷ []) is' stands inserted in
       let none : None ≡ Some given = sym unread ∙ ap read same ∙ reads in absurd (let n : ⊥ = cc in n)
   given_back s t key pass value given book after (Err BadKey) leaves stands inserted reads = tt

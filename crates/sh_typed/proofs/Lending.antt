@@ -27,7 +27,8 @@ read_stands value = record {
 }
 
 -- and the hold was given back
-pub returned_stands : (value : List ℕ) → Stands 2 4 (λ pass. pass == 1) (Known (Got 1 4096 value) ∷ Known (Released 1 4096) ∷ [])
+pub returned_stands : (value : List ℕ) → Stands 2 4 (λ pass. pass == 1)
+    (Known (Got 1 4096 value) ∷ Known (Released 1 4096) ∷ [])
 returned_stands value = record {
   history = Insert 0 4096 value ∷ Got 1 4096 value ∷ Released 1 4096 ∷ [];
   legal = (refl, ((refl, refl), (omega arith, tt)));
@@ -36,5 +37,6 @@ returned_stands value = record {
 
 -- giving the key leaves its get, with a value that is open
 pub gives_lent : (key : ℕ) (book : List LogEntry) → key ≡ 4096 → book ≡ []
-    → (key ≡ key) × ((got : LogEntry) × IsGotBy 1 key got × (Unread 1 4096 ∷ [] ≡ book ++ got ∷ [])) × (0 < logged_holds_by (Unread 1 4096 ∷ []) 1 key)
+    → (key ≡ key) × ((got : LogEntry) × IsGotBy 1 key got × (Unread 1 4096 ∷ [] ≡ book ++ got ∷ []))
+    × (0 < logged_holds_by (Unread 1 4096 ∷ []) 1 key)
 gives_lent key book is none = (refl, (Unread 1 4096, (refl, sym is), rw none refl), rw is (omega arith))

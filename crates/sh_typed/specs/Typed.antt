@@ -1,5 +1,6 @@
 -- Records in a store.
-use Rattle.std.specs.Prelude.{◌≡◌, ◌⊎◌, ℕ, ◌<◌, ◌==◌, if◌then◌else◌, List, [], ◌∷◌, ◌++◌, map, Result, Ok, Err, Option, Some, None}
+use Rattle.std.specs.Prelude.{◌≡◌, ◌⊎◌, ℕ, ◌<◌, ◌==◌, if◌then◌else◌, List, [], ◌∷◌, ◌++◌, map, Result, Ok, Err, Option}
+use Rattle.std.specs.Prelude.{Some, None}
 use Rattle.sh_value.specs.declared.hold.Hold.{Hold}
 use Rattle.sh_value.specs.declared.refusal.Refusal.{Refusal}
 use Rattle.sh_value.specs.declared.refusal.Refusal.TheVariants.{BadKey, Gone, Crowded, HoldsFull, Memory, WrongKind}
@@ -30,7 +31,8 @@ FetchLeaves s key book (Err refusal) after = GetLeaves s key book (Err refusal) 
 
 -- a get of a record: the record is what the got value is read as. Where the value is read as none, the hold is released
 -- again; where memory for that is refused, it stays
-abbrev pub RecordLeaves : {R : Type 0} → (List ℕ → Option R) → Setting → ℕ → List LogEntry → Result (Hold × R) Refusal → List LogEntry → Type 0
+abbrev pub RecordLeaves : {R : Type 0} → (List ℕ → Option R) → Setting → ℕ → List LogEntry → Result (Hold × R) Refusal
+    → List LogEntry → Type 0
 RecordLeaves read s key book (Ok (hold, found)) after =
     (hold.key ≡ key) × ((value : List ℕ) × GotValue s key value book after × (read value ≡ Some found))
 RecordLeaves read s key book (Err WrongKind) after =
@@ -44,7 +46,8 @@ RecordLeaves read s key book (Err refusal) after = GetLeaves s key book (Err ref
 -- a get and its read, as the store answers them: both, or the get's refusal
 abbrev pub Fetches : {S : Type 0} → (gets : S → ℕ → Result Hold Refusal → S → Type 0)
     → (reads : S → ℕ → Result (List ℕ) Refusal → S → Type 0) → S → ℕ → Result (Hold × List ℕ) Refusal → S → Type 0
-Fetches gets reads old key (Ok (hold, value)) new = (got : _) × gets old key (Ok hold) got × reads got hold.key (Ok value) new
+Fetches gets reads old key (Ok (hold, value)) new = (got : _) × gets old key (Ok hold) got
+    × reads got hold.key (Ok value) new
 Fetches gets reads old key (Err refusal) new = gets old key (Err refusal) new
 
 -- the store gave a hold and a value that is read as none, and answers the release of that hold so
@@ -58,14 +61,16 @@ pub record Returns {S R : Type 0} (read : List ℕ → Option R) (gets : S → �
   pub none : read value ≡ None
   pub released : releases held hold.key answer new
 
--- a get of a record: the store's hold with the record that its value is read as; `WrongKind` where it is read as none and
--- the store took the hold back; else the store's refusal of the get, or of the release, which is for memory
+-- a get of a record: the store's hold with the record that its value is read as; `WrongKind` where it is read as none
+-- and the store took the hold back; else the store's refusal of the get, or of the release, which is for memory
 abbrev pub FetchesRecord : {S R : Type 0} → (List ℕ → Option R) → (gets : S → ℕ → Result Hold Refusal → S → Type 0)
-    → (reads : S → ℕ → Result (List ℕ) Refusal → S → Type 0) → (releases : S → ℕ → Result (Unit {0}) Refusal → S → Type 0)
+    → (reads : S → ℕ → Result (List ℕ) Refusal → S → Type 0) →
+    (releases : S → ℕ → Result (Unit {0}) Refusal → S → Type 0)
     → S → ℕ → Result (Hold × R) Refusal → S → Type 0
 FetchesRecord read gets reads releases old key (Ok (hold, found)) new =
     (value : List ℕ) × Fetches gets reads old key (Ok (hold, value)) new × (read value ≡ Some found)
-FetchesRecord read gets reads releases old key (Err WrongKind) new = Returns read gets reads releases old key (Ok tt) new
+FetchesRecord read gets reads releases old key (Err WrongKind) new = Returns read gets reads releases old key (Ok tt)
+    new
 FetchesRecord read gets reads releases old key (Err Memory) new =
     gets old key (Err Memory) new ⊎ Returns read gets reads releases old key (Err Memory) new
 FetchesRecord read gets reads releases old key (Err refusal) new = gets old key (Err refusal) new

@@ -26,10 +26,12 @@ pub(crate) fn fetch_record<S: Store, R: Record>(
     store: &mut S,
     key: u64,
 ) -> Result<(Hold, R), Refusal>
-    ensures leaves { RecordLeaves (record_in R.KIND R.record_of) (S.setting store.old) key (S.book store.old) result (S.book store.new) }
+    ensures leaves { RecordLeaves (record_in R.KIND R.record_of) (S.setting store.old) key (S.book store.old) result
+        (S.book store.new) }
     ensures stands { IsBook (S.setting store.new) (S.book store.new) }
     ensures same { S.setting store.new ≡ S.setting store.old }
-    ensures exact { FetchesRecord (record_in R.KIND R.record_of) S.gets S.reads S.releases store.old key result store.new }
+    ensures exact { FetchesRecord (record_in R.KIND R.record_of) S.gets S.reads S.releases store.old key result
+        store.new }
 {
     let (hold, value) = fetch(store, key)?;
     match stored_record(&value) {

@@ -48,7 +48,8 @@ impl<S: Store, R: Record> Typed<S, R> {
     ///
     /// What is stored is read as the record again.
     pub fn insert(&mut self, stored: &R) -> Result<u64, Refusal>
-        ensures leaves { InsertLeaves (S.setting self.old) (R.KIND ∷ R.words stored.now) (S.book self.old) result (S.book self.new) }
+        ensures leaves { InsertLeaves (S.setting self.old) (R.KIND ∷ R.words stored.now) (S.book self.old) result
+            (S.book self.new) }
         ensures decodes { record_in R.KIND R.record_of (R.KIND ∷ R.words stored.now) ≡ Some stored.now }
         ensures stands { IsBook (S.setting self.new) (S.book self.new) }
         ensures same { S.setting self.new ≡ S.setting self.old }
@@ -64,13 +65,15 @@ impl<S: Store, R: Record> Typed<S, R> {
     ///
     /// A record whose insert stands in the book is given back, or the get is refused as the store refuses a get.
     pub fn get(&mut self, key: u64) -> Result<(Hold, R), Refusal>
-        ensures leaves { RecordLeaves (record_in R.KIND R.record_of) (S.setting self.old) key (S.book self.old) result (S.book self.new) }
+        ensures leaves { RecordLeaves (record_in R.KIND R.record_of) (S.setting self.old) key (S.book self.old) result
+            (S.book self.new) }
         ensures given { (pass : ℕ) (value : List ℕ) (given : R)
             → Contains (S.book self.old) (Known (Insert pass key value))
             → record_in R.KIND R.record_of value ≡ Some given → GivesBack given result }
         ensures stands { IsBook (S.setting self.new) (S.book self.new) }
         ensures same { S.setting self.new ≡ S.setting self.old }
-        ensures exact { FetchesRecord (record_in R.KIND R.record_of) S.gets S.reads S.releases self.old key result self.new }
+        ensures exact { FetchesRecord (record_in R.KIND R.record_of) S.gets S.reads S.releases self.old key result
+            self.new }
     {
         fetch_record(&mut self.store, key)
     }
@@ -85,8 +88,8 @@ impl<S: Store, R: Record> Typed<S, R> {
         self.store.remove(key)
     }
 
-    /// Gives one hold on a key back, as the store does. Refused as `NotHeld`, exactly where the caller has no hold on the
-    /// key, or `Memory`.
+    /// Gives one hold on a key back, as the store does. Refused as `NotHeld`, exactly where the caller has no hold on
+    /// the key, or `Memory`.
     pub fn release(&mut self, hold: Hold) -> Result<(), Refusal>
         ensures leaves { ReleaseLeaves (S.setting self.old) hold.key (S.book self.old) result (S.book self.new) }
         ensures stands { IsBook (S.setting self.new) (S.book self.new) }

@@ -8,13 +8,16 @@ use Rattle.std.proofs.lemmas.Bool.Decides.{nat_tests}
 
 -- Four fields side by side make their sum, each at its place.
 pub or_four : (g m p c : ℕ) → g < 2 ^ 32 → m ≤ 1 → p ≤ 1 → c < 2 ^ 30 →
-    bit_or (bit_or (bit_or (g * 2 ^ 32 % 2 ^ 64) (m * 2 ^ 31 % 2 ^ 64)) (p * 2 ^ 30 % 2 ^ 64)) c ≡ g * 2 ^ 32 + m * 2 ^ 31 + p * 2 ^ 30 + c
+    bit_or (bit_or (bit_or (g * 2 ^ 32 % 2 ^ 64) (m * 2 ^ 31 % 2 ^ 64)) (p * 2 ^ 30 % 2 ^ 64)) c
+    ≡ g * 2 ^ 32 + m * 2 ^ 31 + p * 2 ^ 30 + c
 or_four g m p c g_fits m_fits p_fits c_fits =
     let g_kept : g * 2 ^ 32 % 2 ^ 64 ≡ g * 2 ^ 32 = omega arith in
     let m_kept : m * 2 ^ 31 % 2 ^ 64 ≡ m * 2 ^ 31 = omega arith in
     let p_kept : p * 2 ^ 30 % 2 ^ 64 ≡ p * 2 ^ 30 = omega arith in
-    let first : bit_or (g * 2 ^ 32) (m * 2 ^ 31) ≡ (g * 2 + m) * 2 ^ 31 = or_shifted g 32 (m * 2 ^ 31) (omega arith) ∙ omega arith in
-    let second : bit_or ((g * 2 + m) * 2 ^ 31) (p * 2 ^ 30) ≡ ((g * 2 + m) * 2 + p) * 2 ^ 30 = or_shifted (g * 2 + m) 31 (p * 2 ^ 30) (omega arith) ∙ omega arith in
+    let first : bit_or (g * 2 ^ 32) (m * 2 ^ 31) ≡ (g * 2 + m) * 2 ^ 31 = or_shifted g 32 (m * 2 ^ 31) (omega arith)
+    ∙ omega arith in
+    let second : bit_or ((g * 2 + m) * 2 ^ 31) (p * 2 ^ 30) ≡ ((g * 2 + m) * 2 + p) * 2 ^ 30 = or_shifted (g * 2 + m) 31
+    (p * 2 ^ 30) (omega arith) ∙ omega arith in
     rw (g_kept, m_kept, p_kept, first, second, or_shifted ((g * 2 + m) * 2 + p) 30 c c_fits) (omega arith)
 
 -- A bit that `&` finds is 1.

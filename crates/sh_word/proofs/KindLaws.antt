@@ -14,7 +14,8 @@ kind_of-fields_at Retired g n = refl
 
 pub fields_at-kind_of : (f : Fields) → fields_at (kind_of f) f.generation f.count ≡ f
 fields_at-kind_of f = go f.marked f.present where
-  go : (m p : Bool) → fields_at (kind_by m p) f.generation f.count ≡ record { generation = f.generation; marked = m; present = p; count = f.count }
+  go : (m p : Bool) → fields_at (kind_by m p) f.generation f.count
+      ≡ record { generation = f.generation; marked = m; present = p; count = f.count }
   go false false = refl
   go false true = refl
   go true true = refl

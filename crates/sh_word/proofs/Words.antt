@@ -1,5 +1,6 @@
 -- The laws of state words: fields and words are one to one, and each operation on a word changes one field.
-use Rattle.std.proofs.Common.{◌≡◌, ℕ, zero, suc, ◌+◌, ◌-◌, ◌/◌, ◌%◌, ◌^◌, ◌<◌, ◌≤◌, ◌==◌, ◌≢◌, max, Bool, true, false, sym, refl, ap, ◌∙◌, arith}
+use Rattle.std.proofs.Common.{◌≡◌, ℕ, zero, suc, ◌+◌, ◌-◌, ◌/◌, ◌%◌, ◌^◌, ◌<◌, ◌≤◌, ◌==◌, ◌≢◌, max, Bool, true, false}
+use Rattle.std.proofs.Common.{sym, refl, ap, ◌∙◌, arith}
 use Rattle.std.specs.Prelude.{bit_or}
 use Rattle.std.specs.Int.{bit_at, from_bool}
 use Rattle.std.specs.Int.Bits.{or_zero_r}
@@ -25,7 +26,8 @@ from_bool-one_test (suc (suc n)) h = absurd (omega arith)
 -- ---- both ways without loss
 
 -- Fields that are equal one by one are equal.
-pub same_fields : (f f' : Fields) → f.generation ≡ f'.generation → f.marked ≡ f'.marked → f.present ≡ f'.present → f.count ≡ f'.count → f ≡ f'
+pub same_fields : (f f' : Fields) → f.generation ≡ f'.generation → f.marked ≡ f'.marked → f.present ≡ f'.present
+    → f.count ≡ f'.count → f ≡ f'
 same_fields f f' g m p c = λ i. record { generation = g i; marked = m i; present = p i; count = c i }
 
 -- The fields of the word of some fields are those fields, where the count has room.
@@ -38,7 +40,8 @@ fields_of-word_of f room =
     let m : word_of f / 2 ^ 31 % 2 ≡ from_bool f.marked = omega arith in
     let p : word_of f / 2 ^ 30 % 2 ≡ from_bool f.present = omega arith in
     let c : word_of f % 2 ^ 30 ≡ f.count = omega arith in
-    same_fields _ f g (ap (λ (x : ℕ). x == 1) m ∙ one_test-from_bool f.marked) (ap (λ (x : ℕ). x == 1) p ∙ one_test-from_bool f.present) c
+    same_fields _ f g (ap (λ (x : ℕ). x == 1) m ∙ one_test-from_bool f.marked)
+    (ap (λ (x : ℕ). x == 1) p ∙ one_test-from_bool f.present) c
 
 -- The word of a word's fields is that word, for every number.
 pub word_of-fields_of : (w : ℕ) → word_of (fields_of w) ≡ w
@@ -79,7 +82,8 @@ word_of-lt f h =
 -- ---- adding and subtracting 1
 
 -- Adding 1 makes the count one more, where it has room.
-pub fields_of-add : (w : ℕ) → (fields_of w).count < 2 ^ 30 - 1 → fields_of (w + 1) ≡ record (fields_of w) { count = (fields_of w).count + 1 }
+pub fields_of-add : (w : ℕ) → (fields_of w).count < 2 ^ 30 - 1 → fields_of (w + 1)
+    ≡ record (fields_of w) { count = (fields_of w).count + 1 }
 unfolding fields_of
 fields_of-add w room =
     let g : (w + 1) / 2 ^ 32 ≡ w / 2 ^ 32 = omega arith in
@@ -89,7 +93,8 @@ fields_of-add w room =
     same_fields _ _ g (ap (λ (x : ℕ). x == 1) m) (ap (λ (x : ℕ). x == 1) p) c
 
 -- Subtracting 1 makes the count one less, where it is above 0.
-pub fields_of-sub : (w : ℕ) → 0 < (fields_of w).count → fields_of (w - 1) ≡ record (fields_of w) { count = (fields_of w).count - 1 }
+pub fields_of-sub : (w : ℕ) → 0 < (fields_of w).count → fields_of (w - 1)
+    ≡ record (fields_of w) { count = (fields_of w).count - 1 }
 unfolding fields_of
 fields_of-sub w above =
     let g : (w - 1) / 2 ^ 32 ≡ w / 2 ^ 32 = omega arith in
@@ -121,11 +126,13 @@ wrapping_sub_one w h above =
     omega arith
 
 -- The fields of what `fetch_add(1)` stores, where the count has room.
-pub fields_of-wrapping_add : (w : ℕ) → w < 2 ^ 64 → (fields_of w).count < 2 ^ 30 - 1 → fields_of ((w + 1) % 2 ^ 64) ≡ record (fields_of w) { count = (fields_of w).count + 1 }
+pub fields_of-wrapping_add : (w : ℕ) → w < 2 ^ 64 → (fields_of w).count < 2 ^ 30 - 1 → fields_of ((w + 1) % 2 ^ 64)
+    ≡ record (fields_of w) { count = (fields_of w).count + 1 }
 fields_of-wrapping_add w h room = ap fields_of (wrapping_add_one w h room) ∙ fields_of-add w room
 
 -- The fields of what `fetch_sub(1)` stores, where the count is above 0.
-pub fields_of-wrapping_sub : (w : ℕ) → w < 2 ^ 64 → 0 < (fields_of w).count → fields_of ((w + (2 ^ 64 - 1)) % 2 ^ 64) ≡ record (fields_of w) { count = (fields_of w).count - 1 }
+pub fields_of-wrapping_sub : (w : ℕ) → w < 2 ^ 64 → 0 < (fields_of w).count → fields_of ((w + (2 ^ 64 - 1)) % 2 ^ 64)
+    ≡ record (fields_of w) { count = (fields_of w).count - 1 }
 fields_of-wrapping_sub w h above = ap fields_of (wrapping_sub_one w h above) ∙ fields_of-sub w above
 
 -- ---- setting a flag
@@ -134,7 +141,8 @@ max_one : (n : ℕ) → n < 2 → max n 1 ≡ 1
 max_one n h = omega arith
 
 bit_set_same : (w k : ℕ) → bit_at (bit_or w (2 ^ k)) k ≡ 1
-bit_set_same w k = bit_at_or w (2 ^ k) k ∙ (ap (λ (x : ℕ). max (bit_at w k) x) (bit_at-pow_same k) ∙ max_one (bit_at w k) (bit_at-lt w k))
+bit_set_same w k = bit_at_or w (2 ^ k) k ∙ (ap (λ (x : ℕ). max (bit_at w k) x) (bit_at-pow_same k)
+    ∙ max_one (bit_at w k) (bit_at-lt w k))
 
 bit_set_other : (w k i : ℕ) → i ≢ k → bit_at (bit_or w (2 ^ k)) i ≡ bit_at w i
 bit_set_other w k i other =

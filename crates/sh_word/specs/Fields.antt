@@ -19,4 +19,10 @@ word_of f = f.generation * 2 ^ 32 + from_bool f.marked * 2 ^ 31 + from_bool f.pr
 
 -- The fields that are packed in a word.
 unfoldable pub fields_of : ℕ → Fields
-fields_of w = record { generation = w / 2 ^ 32; marked = bit_at w 31 == 1; present = bit_at w 30 == 1; count = w % 2 ^ 30 }
+fields_of w = record {
+  generation = w / 2 ^ 32;
+  marked = bit_at w 31 == 1;
+  present = bit_at w 30
+      == 1;
+  count = w % 2 ^ 30;
+}

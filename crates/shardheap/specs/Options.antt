@@ -2,7 +2,8 @@
 -- name. clap is told the modes by reference, so they are words that stand somewhere (`Bor`).
 use Rattle.std.specs.Prelude.{◌≡◌, ◌≢◌, ◌⊎◌, Bool, true, false, List, [], ◌∷◌, map, Option, Some, None, codes}
 use Rattle.std.specs.Borrow.{Bor}
-use Rattle.clap.specs.Words.{App, Rule, Text, IsAmong, fault_of, first_of, matches_of, new_app, new_rule, one_of, takes, with_rule}
+use Rattle.clap.specs.Words.{App, Rule, Text, IsAmong, fault_of, first_of, matches_of, new_app, new_rule, one_of, takes}
+use Rattle.clap.specs.Words.{with_rule}
 use Rattle.clap.specs.declared.builder.action.ArgAction.TheVariants.{Set, SetTrue}
 use Rattle.clap.specs.declared.error.kind.ErrorKind.{ErrorKind}
 use Rattle.clap.specs.declared.error.kind.ErrorKind.TheVariants.{OutOfMemory}
@@ -61,8 +62,8 @@ pub record CommandSays (words : List Text) (mode : Mode) (accounts : Bool) : Typ
   pub mode_is : mode_word modes words ≡ Some (mode_name mode)
   pub accounts_is : Shows (flag_text modes words) accounts
 
--- the words are refused with an error of this kind: memory ran out, or clap's rules find this fault; words that the rules
--- take are refused for want of memory alone
+-- the words are refused with an error of this kind: memory ran out, or clap's rules find this fault; words that the
+-- rules take are refused for want of memory alone
 pub record IsRefused (words : List Text) (kind : ErrorKind) : Type 0 where
   pub modes : Bor (List (Bor Text))
   pub named : NameModes modes

@@ -20,7 +20,8 @@ EndsBy _ status = status ≡ 2
 
 -- the words are refused for a reason, the exit status is that reason's, nothing of the input is read, and only help is
 -- output
-pub record EndsRefused (words : List Text) (before after : Option (List ℕ)) (old new : Option (List ℕ)) (status : ℕ) : Type 0 where
+pub record EndsRefused (words : List Text) (before after : Option (List ℕ)) (old new : Option (List ℕ)) (status : ℕ) :
+    Type 0 where
   pub kind : ErrorKind
   pub refused : IsRefused words kind
   pub ends : EndsBy kind status
@@ -28,12 +29,13 @@ pub record EndsRefused (words : List Text) (before after : Option (List ℕ)) (o
   pub quiet : kind ≢ DisplayHelp → kind ≢ DisplayVersion → new ≡ old
 
 -- the run ended with a fault, and the exit status is that fault's
-pub record EndsFaulty (mode : Mode) (accounts : Bool) (text : List ℕ) (old new : Option (List ℕ)) (status : ℕ) : Type 0 where
-  pub fault : Fault
-  pub is : status ≡ status_of fault
-  pub may : IsFaultOf mode text fault
-  pub answers : IsScriptOf mode text → IsEndFault fault
-  pub stops : Stops mode accounts text old new
+pub record EndsFaulty (mode : Mode) (accounts : Bool) (text : List ℕ) (old new : Option (List ℕ)) (status : ℕ) : Type 0
+  where
+    pub fault : Fault
+    pub is : status ≡ status_of fault
+    pub may : IsFaultOf mode text fault
+    pub answers : IsScriptOf mode text → IsEndFault fault
+    pub stops : Stops mode accounts text old new
 
 -- the words say a mode, and the script was run in it: to its end, with status 0, or up to a fault
 pub record EndsRun (words : List Text) (text : List ℕ) (old new : Option (List ℕ)) (status : ℕ) : Type 0 where

@@ -7,8 +7,8 @@ use sh_script::Fault;
 use std::fmt;
 use std::fmt::Write;
 
-// As many bytes as the longest fault line has, and a newline: `shardheap: fault 14 Script line`, a number of 20 digits, and
-// `Command` or `Unbound`.
+// As many bytes as the longest fault line has, and a newline: `shardheap: fault 14 Script line`, a number of 20 digits,
+// and `Command` or `Unbound`.
 const LINE_MAX: usize = 64;
 
 /// The exit status of a run that ended with this fault: 2 where the script is at fault, and 3 where memory, an owner or

@@ -1,6 +1,6 @@
-//! The program `shardheap MODE [--accounts]`: it runs the script on the standard input in a mode, and writes the replies
-//! to the standard output. This file joins the process to `program`, which runs over any words, reader and writers;
-//! `options` reads the command line, and `faults` says what is said of a fault and what the program ends with.
+//! The program `shardheap MODE [--accounts]`: it runs the script on the standard input in a mode, and writes the
+//! replies to the standard output. This file joins the process to `program`, which runs over any words, reader and
+//! writers; `options` reads the command line, and `faults` says what is said of a fault and what the program ends with.
 #![tactic(auto)]
 
 ghost use Rattle.std.specs.Prelude.{◌≡◌, ◌≢◌, IfOk, map, string_bytes};

@@ -57,8 +57,8 @@ fn command<'a>(alloc: Global, modes: &'a [&'a str]) -> Result<Command<'a>, Alloc
         .arg(accounts)
 }
 
-/// The mode and the flag `--accounts` of a command line, whose first word is the program's name. An error is clap's: its
-/// own for words that its rules refuse, for `--help` and for `--version`, and `OutOfMemory`.
+/// The mode and the flag `--accounts` of a command line, whose first word is the program's name. An error is clap's:
+/// its own for words that its rules refuse, for `--help` and for `--version`, and `OutOfMemory`.
 pub fn options<'a>(alloc: Global, words: &'a [&'a str]) -> Result<(Mode, bool), Error>
     ensures ok { IfOk result (λ r. CommandSays (map (λ w. w.now) words.entry.now) r.0 r.1) }
     ensures err { IfErr result (λ e. IsRefused (map (λ w. w.now) words.entry.now) (kind_of e)) }

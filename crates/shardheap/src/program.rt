@@ -14,8 +14,8 @@ use sh_script::Fault;
 use std::alloc::Global;
 use std::io::{Read, Write};
 
-/// Names a fault on one line of `errors`, in one write where the line is taken whole, and gives the exit status. The status
-/// tells it also where `errors` takes nothing.
+/// Names a fault on one line of `errors`, in one write where the line is taken whole, and gives the exit status. The
+/// status tells it also where `errors` takes nothing.
 pub fn report<E: Write>(fault: Fault, errors: &mut E) -> u8
     ensures { result ≡ status_of fault }
 {
@@ -23,7 +23,8 @@ pub fn report<E: Write>(fault: Fault, errors: &mut E) -> u8
     status(fault)
 }
 
-/// Shows why clap gave no options, and gives the exit status: help goes to `output`, a mistake in the words to `errors`.
+/// Shows why clap gave no options, and gives the exit status: help goes to `output`, a mistake in the words to
+/// `errors`.
 fn show<W: Write, E: Write>(error: &Error, output: &mut W, errors: &mut E) -> u8
     ensures ends { EndsBy (kind_of error.now) result }
     ensures quiet { kind_of error.now ≢ ErrorKind.DisplayHelp → kind_of error.now ≢ ErrorKind.DisplayVersion
@@ -43,11 +44,11 @@ fn show<W: Write, E: Write>(error: &Error, output: &mut W, errors: &mut E) -> u8
 }
 
 /// Runs the program: the script that `input` gives, in the mode that `words` say, with the replies to `output` and what
-/// is wrong to `errors`. The first word is the program's name. Gives the exit status: 0, also for help and the version; 2
-/// for a mistake in the words or in the script; and 3 where memory, an owner, a read or a write failed.
+/// is wrong to `errors`. The first word is the program's name. Gives the exit status: 0, also for help and the version;
+/// 2 for a mistake in the words or in the script; and 3 where memory, an owner, a read or a write failed.
 ///
-/// Nothing of `input` is read for help, for the version and for a mistake in the words, and never more than one byte more
-/// than a script may have.
+/// Nothing of `input` is read for help, for the version and for a mistake in the words, and never more than one byte
+/// more than a script may have.
 pub fn run<R: Read, W: Write, E: Write>(
     alloc: Global,
     words: &[&str],
@@ -58,7 +59,8 @@ pub fn run<R: Read, W: Write, E: Write>(
     ensures ends { (text : List ℕ) → R.remaining input.old ≡ Some text
         → EndsRefused (map (λ w. w.now) words.now) (R.remaining input.old) (R.remaining input.new)
         (W.contents output.old) (W.contents output.new) result
-        ⊎ EndsRun (map (λ w. w.now) words.now) (take 1048577 text) (W.contents output.old) (W.contents output.new) result }
+        ⊎ EndsRun (map (λ w. w.now) words.now) (take 1048577 text) (W.contents output.old) (W.contents output.new)
+        result }
     ensures reads { ReadsAtMostBytes (R.remaining input.old) (R.remaining input.new) 1048577 }
     ensures status { IsStatus result }
 {

@@ -1,5 +1,5 @@
-//! Refused memory. With `rt try --test --fail-alloc N` the N-th allocation of a test is refused; each of these survives that
-//! anywhere.
+//! Refused memory. With `rt try --test --fail-alloc N` the N-th allocation of a test is refused; each of these survives
+//! that anywhere.
 use super::{PAGE, event, slot, value};
 use crate::tests::same::assert_same;
 use crate::{Outcome, World, run};
@@ -176,7 +176,8 @@ fn an_arm_refused_for_memory_changes_nothing(rt: HostRuntime) -> Result<(), Fail
     Ok(())
 }
 
-// Each owner after the first has no room yet for slots of its own: one gets its first by the end of a removal, one by a link.
+// Each owner after the first has no room yet for slots of its own: one gets its first by the end of a removal, one by a
+// link.
 #[test]
 fn a_slot_refused_for_memory_changes_nothing(rt: HostRuntime) -> Result<(), Fail> {
     let pair = &mut new_pair(rt.alloc(), &rt);

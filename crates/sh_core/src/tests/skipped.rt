@@ -6,7 +6,8 @@ use sh_step::{Action, Event, PageName, SlotName};
 use std::process::Abort;
 use std::test::Fail;
 
-// The passes may do none of these, and nothing changes: the world stays as its twin, which did the same events but these.
+// The passes may do none of these, and nothing changes: the world stays as its twin, which did the same events but
+// these.
 fn skips_all(world: &mut World<Tiny>, twin: &World<Tiny>, events: &[Event], rt: &impl Abort) {
     for event in events {
         assert_eq!(rt; step(world, event, rt), Outcome::Skipped);

@@ -1,4 +1,5 @@
-//! Steps by hand on keys that were never issued: what each answers, and that a pass comes back just where it has begun nothing.
+//! Steps by hand on keys that were never issued: what each answers, and that a pass comes back just where it has begun
+//! nothing.
 use crate::Heap;
 use sh_key::Tiny;
 use sh_shape::Shape;

@@ -171,8 +171,8 @@ fn release_with_memory(
     }
 }
 
-// Each key's four calls add an entry each, so the entries grow in the same call for each key; the entries before them say in
-// which one. A list's room is 4, 8, 16, 32 and 64, so with 17 keys each of these is outgrown.
+// Each key's four calls add an entry each, so the entries grow in the same call for each key; the entries before them
+// say in which one. A list's room is 4, 8, 16, 32 and 64, so with 17 keys each of these is outgrown.
 #[test]
 fn a_call_refused_for_memory_changes_nothing(rt: HostRuntime) -> Result<(), Fail> {
     let words = value(&[7, 8], &rt);

@@ -38,8 +38,8 @@ enum Failure {
     TakesNone,
 }
 
-/// A writer that takes so many bytes in its first write, and in each one `grows` more than in the one before. After so many
-/// writes one fails, and those behind it go on.
+/// A writer that takes so many bytes in its first write, and in each one `grows` more than in the one before. After so
+/// many writes one fails, and those behind it go on.
 #[derive(Drop)]
 struct Writing {
     taken: Vec<u8>,

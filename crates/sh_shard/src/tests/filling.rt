@@ -3,7 +3,8 @@ use super::*;
 use sh_key::Tiny;
 use std::test::Fail;
 
-// Puts values of 16 words in each of these pages of the shard, three in a page: the first keys of two pages are 64 apart.
+// Puts values of 16 words in each of these pages of the shard, three in a page: the first keys of two pages are 64
+// apart.
 fn put_in_pages(rt: &impl Abort, shard: &mut Shard<'_, Tiny>, first: u64, pages: u8) {
     let mut key = first;
     for _ in 0..pages {
@@ -135,7 +136,8 @@ fn all_that_another_removes_is_used_again(rt: HostRuntime) -> Result<(), Fail> {
     Ok(())
 }
 
-// A page all of whose slots came back takes another class: its first keys go on from their generations, and the others begin.
+// A page all of whose slots came back takes another class: its first keys go on from their generations, and the others
+// begin.
 #[test]
 fn a_wholly_empty_page_changes_its_class(rt: HostRuntime) -> Result<(), Fail> {
     let (heap, seats) = opened::<Tiny>(&rt, rt.alloc(), 1, 1, 1);

@@ -3,7 +3,8 @@ use super::*;
 use sh_key::Tiny;
 use std::test::Fail;
 
-// The shard, and how often memory was refused before it. After a refusal the shard is nobody's and the pass has come back.
+// The shard, and how often memory was refused before it. After a refusal the shard is nobody's and the pass has come
+// back.
 fn adopted_at_last<'a>(
     rt: &impl Abort,
     alloc: Global,
@@ -33,8 +34,8 @@ fn an_adoption_refused_for_memory_leaves_the_shard(rt: HostRuntime) -> Result<()
     Ok(())
 }
 
-// Where a segment is refused, an insert changes nothing, and the same insert with memory answers the first key of the segment.
-// Another adopts both segments then.
+// Where a segment is refused, an insert changes nothing, and the same insert with memory answers the first key of the
+// segment. Another adopts both segments then.
 #[test]
 fn an_insert_refused_for_memory_changes_nothing(rt: HostRuntime) -> Result<(), Fail> {
     let (heap, seats) = opened::<Tiny>(&rt, rt.alloc(), 1, 2, 2);

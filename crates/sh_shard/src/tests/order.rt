@@ -20,7 +20,8 @@ fn what_the_owner_freed_last_is_used_first(rt: HostRuntime) -> Result<(), Fail> 
     Ok(())
 }
 
-// Of two full pages of which another freed slots the one that rang last comes back first, with the slot that was put last.
+// Of two full pages of which another freed slots the one that rang last comes back first, with the slot that was put
+// last.
 #[test]
 fn what_another_freed_last_is_used_first(rt: HostRuntime) -> Result<(), Fail> {
     let (heap, seats) = opened::<Tiny>(&rt, rt.alloc(), 1, 1, 2);

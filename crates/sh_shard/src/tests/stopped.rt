@@ -52,8 +52,8 @@ fn a_caller_stops_at_a_page_that_is_not_armed(rt: HostRuntime) -> Result<(), Fai
     Ok(())
 }
 
-// Another stops after so many steps of a removal from a shard that is full. Answers what an insert is answered then, and
-// what a second one is where leaving waits.
+// Another stops after so many steps of a removal from a shard that is full. Answers what an insert is answered then,
+// and what a second one is where leaving waits.
 fn stopped_armed(
     rt: &impl Abort,
     alloc: Global,
@@ -84,8 +84,8 @@ fn a_caller_stops_at_a_page_that_is_armed(rt: HostRuntime) -> Result<(), Fail> {
     Ok(())
 }
 
-// Two remove a key at the same time: both enter its slot, the owner marks it first, and the other, who marks it too, is the
-// one who finishes it.
+// Two remove a key at the same time: both enter its slot, the owner marks it first, and the other, who marks it too, is
+// the one who finishes it.
 #[test]
 fn of_two_removers_the_last_one_finishes(rt: HostRuntime) -> Result<(), Fail> {
     let (heap, seats) = opened::<Tiny>(&rt, rt.alloc(), 1, 1, 2);

@@ -56,8 +56,8 @@ fn put_and_remove(shard: &mut Shard<'_, Wide>, value: &Value) -> u32 {
     good
 }
 
-// In each round the other removes what the owner stored, while the owner stores and removes more. All that was removed can
-// be used in the next round, as the two batches are all that the shard has room for.
+// In each round the other removes what the owner stored, while the owner stores and removes more. All that was removed
+// can be used in the next round, as the two batches are all that the shard has room for.
 #[test]
 fn an_owner_and_another_step_at_the_same_time(rt: HostRuntime) -> Result<(), Fail> {
     let (heap, seats) = opened::<Wide>(&rt, rt.alloc(), 1, 1, 2);

@@ -13,20 +13,23 @@ use sh_slots::Reply;
 use sh_value::Refusal;
 
 impl Part {
-    /// Does what the move leaves in the pass's own part, by the word that its step found, and answers what is replied. A move
-    /// that makes a list of the part longer asks for memory first: where it is refused, as `Memory`, the part stays as it
-    /// is. No other move is refused.
+    /// Does what the move leaves in the pass's own part, by the word that its step found, and answers what is replied.
+    /// A move that makes a list of the part longer asks for memory first: where it is refused, as `Memory`, the part
+    /// stays as it is. No other move is refused.
     pub fn apply<L: KeyLayout>(
         &mut self,
         shape: &Shape,
         the_move: &Move,
         found: u64,
     ) -> Result<Option<Reply>, Refusal>
-        requires fits { RowFits shape.now (plan_of L.layout shape.now) (row_of (plan_of L.layout shape.now) self.old the_move.now) found }
-        ensures reply { IfOk result (λ reply. reply ≡ (row_of (plan_of L.layout shape.now) self.old the_move.now).reply found) }
+        requires fits { RowFits shape.now (plan_of L.layout shape.now)
+            (row_of (plan_of L.layout shape.now) self.old the_move.now) found }
+        ensures reply { IfOk result (λ reply. reply ≡ (row_of (plan_of L.layout shape.now) self.old the_move.now).reply
+            found) }
         ensures part { OnOk result (self.new ≡ (row_of (plan_of L.layout shape.now) self.old the_move.now).part found) }
         ensures err { OnErr result (self.new ≡ self.old) }
-        ensures grows { OnErr result (ListGrows self.old ((row_of (plan_of L.layout shape.now) self.old the_move.now).part found)) }
+        ensures grows { OnErr result (ListGrows self.old ((row_of (plan_of L.layout shape.now) self.old
+            the_move.now).part found)) }
         ensures room { AddsToNoList the_move.now → IsOk result }
         ensures memory { IfErr result (λ refusal. refusal ≡ Refusal.Memory) }
     {

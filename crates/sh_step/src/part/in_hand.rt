@@ -32,9 +32,11 @@ impl Part {
         generation: u32,
         found: u64,
     ) -> Result<(), Refusal>
-        ensures part { OnOk result (self.new ≡ (finish (plan_of L.layout shape.now) self.old spot generation).part found) }
+        ensures part { OnOk result (self.new ≡ (finish (plan_of L.layout shape.now) self.old spot generation).part
+            found) }
         ensures err { OnErr result (self.new ≡ self.old) }
-        ensures grows { OnErr result (ListGrows self.old ((finish (plan_of L.layout shape.now) self.old spot generation).part found)) }
+        ensures grows { OnErr result (ListGrows self.old ((finish (plan_of L.layout shape.now) self.old spot
+            generation).part found)) }
         ensures memory { IfErr result (λ refusal. refusal ≡ Refusal.Memory) }
     {
         if !is_reusable_after(generation, gen_max::<L>(), found) {

@@ -3,7 +3,8 @@ ghost use Rattle.std.specs.Prelude.{◌≡◌, ℕ, IfOk, IfErr, OnOk, OnErr};
 ghost use Rattle.sh_shape.specs.Shape.{Numbers};
 ghost use Rattle.sh_step.specs.Plans.{Plan, plan_of};
 ghost use Rattle.sh_step.specs.Parts.{ListGrows};
-ghost use Rattle.sh_step.specs.Rows.{enter_get, enter_remove, mark, freed, drop_key, read_class, read_length, read_word};
+ghost use Rattle.sh_step.specs.Rows.{enter_get, enter_remove, mark, freed, drop_key, read_class, read_length};
+ghost use Rattle.sh_step.specs.Rows.{read_word};
 
 use super::Part;
 use crate::lists::{forget_notes, forget_words, has_number, put_first, remove_number};
@@ -22,10 +23,13 @@ impl Part {
         name: Name,
         found: u64,
     ) -> Result<Option<Reply>, Refusal>
-        ensures reply { (n : Numbers) → IfOk result (λ reply. reply ≡ (enter_get (plan_of L.layout n) self.old key name).reply found) }
-        ensures part { (n : Numbers) → OnOk result (self.new ≡ (enter_get (plan_of L.layout n) self.old key name).part found) }
+        ensures reply { (n : Numbers) → IfOk result (λ reply. reply
+            ≡ (enter_get (plan_of L.layout n) self.old key name).reply found) }
+        ensures part { (n : Numbers) → OnOk result (self.new ≡ (enter_get (plan_of L.layout n) self.old key name).part
+            found) }
         ensures err { OnErr result (self.new ≡ self.old) }
-        ensures grows { (n : Numbers) → OnErr result (ListGrows self.old ((enter_get (plan_of L.layout n) self.old key name).part found)) }
+        ensures grows { (n : Numbers) → OnErr result (ListGrows self.old
+            ((enter_get (plan_of L.layout n) self.old key name).part found)) }
         ensures memory { IfErr result (λ refusal. refusal ≡ Refusal.Memory) }
     {
         match answer_to_get(name.generation, guard_max::<L>(), found) {
@@ -113,9 +117,11 @@ impl Part {
 
     // A read of a word, of this number, of a held key's value.
     pub(super) fn read_word(&mut self, key: u64, i: u64, found: u64) -> Result<(), Refusal>
-        ensures part { (name : Name) (class_word : ℕ) → OnOk result (self.new ≡ (read_word self.old key name class_word i).part found) }
+        ensures part { (name : Name) (class_word : ℕ) → OnOk result
+            (self.new ≡ (read_word self.old key name class_word i).part found) }
         ensures err { OnErr result (self.new ≡ self.old) }
-        ensures grows { (name : Name) (class_word : ℕ) → OnErr result (ListGrows self.old ((read_word self.old key name class_word i).part found)) }
+        ensures grows { (name : Name) (class_word : ℕ) → OnErr result
+            (ListGrows self.old ((read_word self.old key name class_word i).part found)) }
         ensures memory { IfErr result (λ refusal. refusal ≡ Refusal.Memory) }
     {
         put_first(&mut self.contents, (key, i, found))

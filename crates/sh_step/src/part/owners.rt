@@ -11,8 +11,8 @@ use sh_key::KeyLayout;
 use sh_shape::Shape;
 use sh_stack::{link_item, top_item};
 
-// A word of the shard that names its page p as p + `base`, and none below `base`: the same with the page's number over the
-// whole heap.
+// A word of the shard that names its page p as p + `base`, and none below `base`: the same with the page's number over
+// the whole heap.
 #[tactic(auto, unfolding(crate::specs::Plans::over_heap, crate::specs::Plans::page_number))]
 fn over_heap<L: KeyLayout>(shape: &Shape, shard: u64, base: u64, word: u64) -> u64
     requires shard { shard < shape.now.shards }

@@ -31,8 +31,8 @@ impl Part {
         self.hand = Hand::Filling(spot, value.copy(), i + 1);
     }
 
-    // The end of a filling that found this state word: the value is inserted under the slot's key in the generation found,
-    // which names it.
+    // The end of a filling that found this state word: the value is inserted under the slot's key in the generation
+    // found, which names it.
     pub(super) fn publish<L: KeyLayout>(
         &mut self,
         shape: &Shape,
@@ -42,7 +42,8 @@ impl Part {
     ) -> Option<Reply>
         requires page { spot.page < all_pages shape.now }
         requires slot { spot.slot < 48 }
-        requires names { (plan_of L.layout shape.now).keys.unpack ((plan_of L.layout shape.now).keys.pack (published_name spot found)) ≡ Some (published_name spot found) }
+        requires names { (plan_of L.layout shape.now).keys.unpack
+            ((plan_of L.layout shape.now).keys.pack (published_name spot found)) ≡ Some (published_name spot found) }
         ensures reply { result ≡ (publish (plan_of L.layout shape.now) self.old spot value.now).reply found }
         ensures part { self.new ≡ (publish (plan_of L.layout shape.now) self.old spot value.now).part found }
     {
@@ -53,7 +54,8 @@ impl Part {
 
     // A put of a slot of its own that found this head word.
     pub(super) fn put_slot(&mut self, spot: Spot, found: u64)
-        ensures { self.new ≡ (put_at (record self.old { mine = without (same_spot spot) self.old.mine }) spot).part found }
+        ensures { self.new ≡ (put_at (record self.old { mine = without (same_spot spot) self.old.mine }) spot).part
+            found }
     {
         remove_spot(&mut self.mine, spot);
         self.put(spot, found);

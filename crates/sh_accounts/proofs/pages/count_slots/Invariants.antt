@@ -4,4 +4,5 @@ use Rattle.sh_accounts.specs.Accounts.{all_slots, counted}
 use Rattle.sh_accounts.proofs.pages.count_slots.Given as goal
 
 abbrev pub invariant-loop-slot : goal.invariant-loop-slot
-invariant-loop-slot g l = (l.accounts ≡ counted l.world (page_number l.world.shape l.shard l.page) l.class l.slot) × (all_slots l.accounts ≡ l.slot)
+invariant-loop-slot g l = (l.accounts ≡ counted l.world (page_number l.world.shape l.shard l.page) l.class l.slot)
+    × (all_slots l.accounts ≡ l.slot)

@@ -33,17 +33,21 @@ loop-event-preserved g c =
       is_shape = v.is_shape;
       fits = v.fits;
       shape = steps.shape ∙ v.shape;
-      stands = goes_on (plan_of g.L.KeyLayout.layout) c.loop-event.world c.step.new.self es i c.event-item.result v.shape c.loop-event-test.true c.event-item.is steps.world v.stands;
+      stands = goes_on (plan_of g.L.KeyLayout.layout) c.loop-event.world c.step.new.self es i c.event-item.result
+          v.shape c.loop-event-test.true c.event-item.is steps.world v.stands;
     }
 
 pub returns-clause-refines : goal.returns-clause-refines
-returns-clause-refines g c = theorem g.L.KeyLayout.layout c.args.shape g.L.KeyLayout.numbers.lawful c.loop-event.invariant.is_shape c.loop-event.invariant.fits c.args.events.now
+returns-clause-refines g c = theorem g.L.KeyLayout.layout c.args.shape g.L.KeyLayout.numbers.lawful
+    c.loop-event.invariant.is_shape c.loop-event.invariant.fits c.args.events.now
 
 pub returns-clause-legal : goal.returns-clause-legal
 returns-clause-legal g c =
     let shape = c.args.shape in
     let v = c.loop-event.invariant in
     let past = c.loop-event-test.false in
-    let all : take c.loop-event.event-index c.args.events.now ≡ c.args.events.now = take_all c.loop-event.event-index c.args.events.now past in
+    let all : take c.loop-event.event-index c.args.events.now ≡ c.args.events.now = take_all c.loop-event.event-index
+    c.args.events.now past in
     let log = v.stands.log ∙ ap (λ (es : List Event). (run (plan_of g.L.KeyLayout.layout shape) es).log) all in
-    subst (Legal shape.passes g.L.KeyLayout.layout.guard_max) (sym log) (legal_of g.L.KeyLayout.layout shape g.L.KeyLayout.numbers.lawful v.is_shape v.fits c.args.events.now)
+    subst (Legal shape.passes g.L.KeyLayout.layout.guard_max) (sym log)
+    (legal_of g.L.KeyLayout.layout shape g.L.KeyLayout.numbers.lawful v.is_shape v.fits c.args.events.now)

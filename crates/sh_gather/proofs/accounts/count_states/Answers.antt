@@ -13,8 +13,14 @@ use Rattle.sh_gather.proofs.accounts.count_states.Goals as goal
 pub loop-slot-init : goal.loop-slot-init
 loop-slot-init g c =
     let e = c.no_slots-accounts.ensures in
-    let P : Accounts → Type 0 = λ a. Sure g.L.KeyLayout.layout c.args.pass.now.view (λ w l. CountedTo c.args.page 0 a w) × StatesAlone c.args.class a × (a.live + a.marked + a.retired ≤ 0) in
-    let p : P c.no_slots-accounts.result = subst P (sym e) (count_first g.L.KeyLayout.layout c.args.pass.now.view c.args.page c.args.class, record { class = refl; mine = refl; hand = refl; queued = refl }, omega arith) in
+    let P : Accounts → Type 0 = λ a. Sure g.L.KeyLayout.layout c.args.pass.now.view (λ w l. CountedTo c.args.page 0 a w)
+    × StatesAlone c.args.class a × (a.live + a.marked + a.retired ≤ 0) in
+    let p : P c.no_slots-accounts.result = subst P (sym e) (
+      count_first g.L.KeyLayout.layout c.args.pass.now.view
+          c.args.page c.args.class,
+      record { class = refl; mine = refl; hand = refl; queued = refl },
+      omega arith,
+    ) in
     (refl, c.requires.gathered, c.requires.known, later_same c.args.pass.now.view, p.0, p.1, p.2, omega arith)
 
 pub load-word-requires-clause-whole : goal.load-word-requires-clause-whole
@@ -35,7 +41,22 @@ loop-slot-preserved g c =
     let one = c.count_one.ensures.one in
     let few = i.6 in
     let looks = i.7 in
-    let seen : c.load-word.new.self.view ≡ noting c.loop-slot.pass.view (State c.args.page c.loop-slot.slot) c.load-word.result = subst (λ (n : ℕ). c.load-word.new.self.view ≡ noting c.loop-slot.pass.view (State c.args.page n) c.load-word.result) c.from.ensures e.view in
-    let look = note_length c.loop-slot.pass.view c.load-word.new.self.view (State c.args.page c.loop-slot.slot) c.load-word.result seen in
-    let n = next_count g.L.KeyLayout.layout c.args.pass.now.view c.loop-slot.pass.view c.load-word.new.self.view c.args.page c.loop-slot.slot c.loop-slot.accounts c.count_one.new.accounts c.load-word.result seen c.count_one.ensures.is i.3 i.4 in
-    (e.same ∙ i.0, note_gathered c.loop-slot.pass.view c.load-word.new.self.view (State c.args.page c.loop-slot.slot) c.load-word.result seen i.1, e.known, n.0, n.1, still_alone c.args.class c.loop-slot.accounts c.count_one.new.accounts (fields_of c.load-word.result) c.count_one.ensures.is i.5, omega arith, omega arith)
+    let seen : c.load-word.new.self.view ≡ noting c.loop-slot.pass.view (State c.args.page c.loop-slot.slot)
+    c.load-word.result = subst (λ (n : ℕ). c.load-word.new.self.view
+    ≡ noting c.loop-slot.pass.view (State c.args.page n) c.load-word.result) c.from.ensures e.view in
+    let look = note_length c.loop-slot.pass.view c.load-word.new.self.view (State c.args.page c.loop-slot.slot)
+    c.load-word.result seen in
+    let n = next_count g.L.KeyLayout.layout c.args.pass.now.view c.loop-slot.pass.view c.load-word.new.self.view
+    c.args.page c.loop-slot.slot c.loop-slot.accounts c.count_one.new.accounts c.load-word.result seen
+    c.count_one.ensures.is i.3 i.4 in (
+      e.same ∙ i.0,
+      note_gathered c.loop-slot.pass.view c.load-word.new.self.view (State c.args.page c.loop-slot.slot)
+          c.load-word.result seen i.1,
+      e.known,
+      n.0,
+      n.1,
+      still_alone c.args.class c.loop-slot.accounts
+          c.count_one.new.accounts (fields_of c.load-word.result) c.count_one.ensures.is i.5,
+      omega arith,
+      omega arith,
+    )

@@ -5,23 +5,33 @@ use Rattle.sh_pass.proofs.OwnCalls.{leaves}
 use Rattle.sh_pass.proofs.calls.read_key.Goals as goal
 
 pub returns-in_default-clause-does : goal.returns-in_default-clause-does
-returns-in_default-clause-does g c = (no_hold c.args.held.now.items _ c.args.seat.now.me.0.own.body.holds c.args.key _ c.requires.kept.holds c.as_slice.ensures.value c.find.ensures c.in_default.is, refl)
+returns-in_default-clause-does g c = (
+  no_hold c.args.held.now.items _ c.args.seat.now.me.0.own.body.holds c.args.key _
+      c.requires.kept.holds c.as_slice.ensures.value c.find.ensures c.in_default.is,
+  refl,
+)
 
 pub unreachable-requires : goal.unreachable-requires
 unreachable-requires g c =
-    let f = hold_found c.args.held.now.items _ c.args.seat.now.me.0.own.body.holds c.args.key c.in-Some._at _ c.requires.kept.holds c.as_slice.ensures.value c.find.ensures c.in-Some.is in
-    held_named c.args.key _ _ c.requires.seat f.1 (c.shape.ensures ∙ sym c.requires.seat.shape) c.place_of_key.ensures c.in_default-place_of_key.is
+    let f = hold_found c.args.held.now.items _ c.args.seat.now.me.0.own.body.holds c.args.key c.in-Some._at _
+    c.requires.kept.holds c.as_slice.ensures.value c.find.ensures c.in-Some.is in
+    held_named c.args.key _ _ c.requires.seat f.1 (c.shape.ensures ∙ sym c.requires.seat.shape) c.place_of_key.ensures
+    c.in_default-place_of_key.is
 
 pub read_at-requires-clause-held : goal.read_at-requires-clause-held
-read_at-requires-clause-held g c = (hold_found c.args.held.now.items _ c.args.seat.now.me.0.own.body.holds c.args.key c.in-Some._at _ c.requires.kept.holds c.as_slice.ensures.value c.find.ensures c.in-Some.is).1
+read_at-requires-clause-held g c = (hold_found c.args.held.now.items _ c.args.seat.now.me.0.own.body.holds c.args.key
+    c.in-Some._at _ c.requires.kept.holds c.as_slice.ensures.value c.find.ensures c.in-Some.is).1
 
 pub returns-clause-does : goal.returns-clause-does
 returns-clause-does g c =
-    let f = hold_found c.args.held.now.items _ c.args.seat.now.me.0.own.body.holds c.args.key c.in-Some._at _ c.requires.kept.holds c.as_slice.ensures.value c.find.ensures c.in-Some.is in
-    let same : heap_of c.read_at.new.seat ≡ heap_of c.args.seat.now = same_home c.requires.seat c.read_at.ensures.seat in
+    let f = hold_found c.args.held.now.items _ c.args.seat.now.me.0.own.body.holds c.args.key c.in-Some._at _
+    c.requires.kept.holds c.as_slice.ensures.value c.find.ensures c.in-Some.is in
+    let same : heap_of c.read_at.new.seat ≡ heap_of c.args.seat.now = same_home c.requires.seat c.read_at.ensures.seat
+    in
     (f.1, reads_of (heap_of c.args.seat.now) (heap_of c.read_at.new.seat) same c.read_at.ensures.read)
 
 pub returns-clause-leaves : goal.returns-clause-leaves
 returns-clause-leaves g c =
     let r = c.read_at.ensures.read in
-    leaves g.L.KeyLayout.layout (caller_of c.args.seat.now) (caller_of c.read_at.new.seat) r.same r.calls None r.own c.requires.idle r.idle tt c.read_at.ensures.seat.stands
+    leaves g.L.KeyLayout.layout (caller_of c.args.seat.now) (caller_of c.read_at.new.seat) r.same r.calls None r.own
+    c.requires.idle r.idle tt c.read_at.ensures.seat.stands

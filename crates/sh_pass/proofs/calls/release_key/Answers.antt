@@ -8,30 +8,46 @@ use Rattle.sh_pass.proofs.OwnCalls.{leaves_grown}
 use Rattle.sh_pass.proofs.calls.release_key.Goals as goal
 
 pub returns-in_default-clause-does : goal.returns-in_default-clause-does
-returns-in_default-clause-does g c = (no_hold c.args.held.now.items _ c.args.seat.now.me.0.own.body.holds c.args.key _ c.requires.kept.holds c.as_slice.ensures.value c.find.ensures c.in_default.is, refl)
+returns-in_default-clause-does g c = (
+  no_hold c.args.held.now.items _ c.args.seat.now.me.0.own.body.holds c.args.key _
+      c.requires.kept.holds c.as_slice.ensures.value c.find.ensures c.in_default.is,
+  refl,
+)
 
 pub unreachable-requires : goal.unreachable-requires
 unreachable-requires g c =
-    let f = hold_found c.args.held.now.items _ c.args.seat.now.me.0.own.body.holds c.args.key c.in-Some.at _ c.requires.kept.holds c.as_slice.ensures.value c.find.ensures c.in-Some.is in
-    held_named c.args.key _ _ c.requires.seat f.1 (c.shape.ensures ∙ sym c.requires.seat.shape) c.place_of_key.ensures c.in_default-place_of_key.is
+    let f = hold_found c.args.held.now.items _ c.args.seat.now.me.0.own.body.holds c.args.key c.in-Some.at _
+    c.requires.kept.holds c.as_slice.ensures.value c.find.ensures c.in-Some.is in
+    held_named c.args.key _ _ c.requires.seat f.1 (c.shape.ensures ∙ sym c.requires.seat.shape) c.place_of_key.ensures
+    c.in_default-place_of_key.is
 
 pub release_at-slot-requires-clause-held : goal.release_at-slot-requires-clause-held
-release_at-slot-requires-clause-held g c = (hold_found c.args.held.now.items _ c.args.seat.now.me.0.own.body.holds c.args.key c.in-Some.at _ c.requires.kept.holds c.as_slice.ensures.value c.find.ensures c.in-Some.is).1
+release_at-slot-requires-clause-held g c = (hold_found c.args.held.now.items _ c.args.seat.now.me.0.own.body.holds
+    c.args.key c.in-Some.at _ c.requires.kept.holds c.as_slice.ensures.value c.find.ensures c.in-Some.is).1
 
 pub returns-clause-kept : goal.returns-clause-kept
 returns-clause-kept g c =
     let held : List ℕ = c.args.held.now.items in
-    let f = hold_found held _ c.args.seat.now.me.0.own.body.holds c.args.key c.in-Some.at _ c.requires.kept.holds c.as_slice.ensures.value c.find.ensures c.in-Some.is in
+    let f = hold_found held _ c.args.seat.now.me.0.own.body.holds c.args.key c.in-Some.at _ c.requires.kept.holds
+    c.as_slice.ensures.value c.find.ensures c.in-Some.is in
     let P : List ℕ → Type 0 = λ xs. HoldsKept xs c.release_at-slot.new.seat.me.0.own.body.holds in
-    subst P (f.2 ∙ sym c.remove.ensures.items) (kept_less c.args.key held c.args.seat.now.me.0.own.body.holds _ c.requires.kept f.0 (ap (λ (p : Body). p.holds) c.release_at-slot.ensures.grows.body))
+    subst P (f.2 ∙ sym c.remove.ensures.items) (kept_less c.args.key held c.args.seat.now.me.0.own.body.holds _
+    c.requires.kept f.0 (ap (λ (p : Body). p.holds) c.release_at-slot.ensures.grows.body))
 
 pub returns-clause-does : goal.returns-clause-does
 returns-clause-does g c =
-    let f = hold_found c.args.held.now.items _ c.args.seat.now.me.0.own.body.holds c.args.key c.in-Some.at _ c.requires.kept.holds c.as_slice.ensures.value c.find.ensures c.in-Some.is in
-    let same : heap_of c.release_at-slot.new.seat ≡ heap_of c.args.seat.now = same_home c.requires.seat c.release_at-slot.ensures.seat in
-    (f.1, adds_of (heap_of c.args.seat.now) (heap_of c.release_at-slot.new.seat) _ same refl c.release_at-slot.ensures.grows)
+    let f = hold_found c.args.held.now.items _ c.args.seat.now.me.0.own.body.holds c.args.key c.in-Some.at _
+    c.requires.kept.holds c.as_slice.ensures.value c.find.ensures c.in-Some.is in
+    let same : heap_of c.release_at-slot.new.seat ≡ heap_of c.args.seat.now = same_home c.requires.seat
+    c.release_at-slot.ensures.seat in (
+      f.1,
+      adds_of (heap_of c.args.seat.now) (heap_of c.release_at-slot.new.seat) _ same refl
+          c.release_at-slot.ensures.grows,
+    )
 
 pub returns-clause-leaves : goal.returns-clause-leaves
 returns-clause-leaves g c =
     let e = c.release_at-slot.ensures in
-    leaves_grown g.L.KeyLayout.layout (caller_of c.args.seat.now) (caller_of c.release_at-slot.new.seat) _ e.grows (record { owned = refl; classes = refl; mine = refl; cursors = refl; armed = refl; bell = refl }) refl c.requires.idle e.shard e.seat.stands
+    leaves_grown g.L.KeyLayout.layout (caller_of c.args.seat.now) (caller_of c.release_at-slot.new.seat) _ e.grows
+    (record { owned = refl; classes = refl; mine = refl; cursors = refl; armed = refl; bell = refl }) refl
+    c.requires.idle e.shard e.seat.stands

@@ -10,4 +10,5 @@ loop-shard-preserved g c = λ es stands.
     let shape = c.args.world.now.shape in
     let plan = plan_of g.L.KeyLayout.layout shape in
     texts_more (shard_text shape (accounts (run plan es) (lists_of plan es))) c.loop-shard.shard
-    c.args.out.now.items c.loop-shard.out.items c.push_shard.new.out.items (c.loop-shard.invariant es stands) (c.in_ok-push_shard.ensures es stands)
+    c.args.out.now.items c.loop-shard.out.items c.push_shard.new.out.items (c.loop-shard.invariant es stands)
+    (c.in_ok-push_shard.ensures es stands)

@@ -10,5 +10,7 @@ pub loop-number-preserved : goal.loop-number-preserved
 loop-number-preserved g c = λ es stands.
     let shape = c.args.world.now.shape in
     let plan = plan_of g.L.KeyLayout.layout shape in
-    texts_more (λ page. page_text c.args.shard page (accounts (run plan es) (lists_of plan es) (page_number shape c.args.shard page))) c.loop-number.number
-    c.args.out.now.items c.loop-number.out.items c.push_page.new.out.items (c.loop-number.invariant es stands) (c.in_ok-push_page.ensures es stands)
+    texts_more (λ page. page_text c.args.shard page (accounts (run plan es) (lists_of plan es)
+    (page_number shape c.args.shard page))) c.loop-number.number
+    c.args.out.now.items c.loop-number.out.items c.push_page.new.out.items (c.loop-number.invariant es stands)
+    (c.in_ok-push_page.ensures es stands)

@@ -10,5 +10,8 @@ use Rattle.sh_replay.specs.StepsOutput.{page_text}
 use Rattle.sh_replay.proofs.account_line.push_shard.Given as goal
 
 abbrev pub invariant-loop-number : goal.invariant-loop-number
-invariant-loop-number g l = (es : List Event) → let plan = plan_of g.L.KeyLayout.layout l.world.shape in StandsFor l.world (run plan es)
-    → l.out.items ≡ l.fn.out.items ++ flat_map (λ page. page_text l.fn.shard page (accounts (run plan es) (lists_of plan es) (page_number l.world.shape l.fn.shard page))) (range_with_len 0 l.number)
+invariant-loop-number g l = (es : List Event) → let plan = plan_of g.L.KeyLayout.layout l.world.shape
+    in StandsFor l.world (run plan es)
+    → l.out.items ≡ l.fn.out.items ++ flat_map (λ page. page_text l.fn.shard page
+    (accounts (run plan es) (lists_of plan es) (page_number l.world.shape l.fn.shard page)))
+    (range_with_len 0 l.number)

@@ -10,7 +10,9 @@ loop-side-preserved g c =
     let seen = g.S.Side.seen in
     let step = c.in-Some.ensures.steps.0 in
     record {
-      carries = carries_more seen g.at.0 g.at.1 y c.in-Some.side _ _ (seen c.retire.new.self) (seen c.meet.result) (option_map seen c.loop-side.carrier) was.carries was.of step c.retire.ensures.same c.retire.ensures.log c.meet.ensures.meets;
+      carries = carries_more seen g.at.0 g.at.1 y c.in-Some.side _ _ (seen c.retire.new.self) (seen c.meet.result)
+          (option_map seen c.loop-side.carrier) was.carries was.of step c.retire.ensures.same c.retire.ensures.log
+          c.meet.ensures.meets;
       none = c.meet.ensures.none;
       of = rest_of seen g.at.0 g.at.1 c.in-Some.side _ _ was.of step;
       rest = was.rest ∙ (ap (λ z. y ++ z) step ∙ sym (append_assoc y (c.in-Some.side ∷ []) _));

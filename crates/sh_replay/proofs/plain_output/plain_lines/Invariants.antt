@@ -6,7 +6,8 @@ use Rattle.sh_replay.proofs.plain_output.plain_lines.Given as goal
 
 abbrev pub invariant-loop-line : goal.invariant-loop-line
 invariant-loop-line g l = record {
-  written : Writes g.L.KeyLayout.layout (opening_run l.fn.shape.shards l.fn.shape.passes l.fn.tag) (take l.line-index l.lines)
+  written : Writes g.L.KeyLayout.layout (opening_run l.fn.shape.shards l.fn.shape.passes l.fn.tag)
+      (take l.line-index l.lines)
       (run_of l.run.shards l.run.tag l.run.store l.run.owners l.run.keys.items) l.output.items;
   passes : l.run.store.passes ≡ l.fn.shape.passes;
   tag : l.run.tag ≡ l.fn.tag;

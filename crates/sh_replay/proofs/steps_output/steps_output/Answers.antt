@@ -10,10 +10,13 @@ returns-in_err-header-clause-answers c = λ h.
     rw (p.1, p.2) (only_memory c.in_err-header.field-0.0 h.0 h.1 (c.in_err-header.ensures.only_events h.0 h.1 h.2))
 
 pub steps_lines-requires-clause-fits : goal.steps_lines-requires-clause-fits
-steps_lines-requires-clause-fits c = fits_named c.args.text.now c.in_ok-header.field-0.header c.in_ok-header.field-0.lines.items layout.Tiny c.in_ok-header.ensures.events c.in-Tiny.is
+steps_lines-requires-clause-fits c = fits_named c.args.text.now c.in_ok-header.field-0.header
+    c.in_ok-header.field-0.lines.items layout.Tiny c.in_ok-header.ensures.events c.in-Tiny.is
 
 pub steps_lines-requires-in-Wide-clause-fits : goal.steps_lines-requires-in-Wide-clause-fits
-steps_lines-requires-in-Wide-clause-fits c = fits_named c.args.text.now c.in_ok-header.field-0.header c.in_ok-header.field-0.lines.items layout.Wide c.in_ok-header.ensures.events c.in-Wide.is
+steps_lines-requires-in-Wide-clause-fits c = fits_named c.args.text.now c.in_ok-header.field-0.header
+    c.in_ok-header.field-0.lines.items layout.Wide c.in_ok-header.ensures.events c.in-Wide.is
 
 pub steps_lines-requires-in-Tagged-clause-fits : goal.steps_lines-requires-in-Tagged-clause-fits
-steps_lines-requires-in-Tagged-clause-fits c = fits_named c.args.text.now c.in_ok-header.field-0.header c.in_ok-header.field-0.lines.items layout.Tagged c.in_ok-header.ensures.events c.in-Tagged.is
+steps_lines-requires-in-Tagged-clause-fits c = fits_named c.args.text.now c.in_ok-header.field-0.header
+    c.in_ok-header.field-0.lines.items layout.Tagged c.in_ok-header.ensures.events c.in-Tagged.is

@@ -4,7 +4,8 @@ use Rattle.sh_script.proofs.reader.parse.Given as goal
 
 abbrev pub invariant-loop-line : goal.invariant-loop-line
 invariant-loop-line g l = record {
-  told : read_from g.B.ScriptBody.adds l.read l.number (pieces_of l.rest) ≡ read_from g.B.ScriptBody.adds (begin l.fn.start) 1 (pieces_of l.fn.text);
+  told : read_from g.B.ScriptBody.adds l.read l.number (pieces_of l.rest)
+      ≡ read_from g.B.ScriptBody.adds (begin l.fn.start) 1 (pieces_of l.fn.text);
   few : l.number + length l.rest ≤ length l.fn.text + 1;
 }
 

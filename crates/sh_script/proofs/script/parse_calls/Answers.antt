@@ -1,4 +1,5 @@
-use Rattle.sh_script.proofs.ScriptLemmas.{calls_of_result, passes_of_calls, tag_of_calls, calls_fault_of_result, calls_only, calls_fault_only}
+use Rattle.sh_script.proofs.ScriptLemmas.{calls_of_result, passes_of_calls, tag_of_calls, calls_fault_of_result}
+use Rattle.sh_script.proofs.ScriptLemmas.{calls_only, calls_fault_only}
 use Rattle.sh_script.proofs.script.parse_calls.Goals as goal
 
 pub returns-clause-calls : goal.returns-clause-calls

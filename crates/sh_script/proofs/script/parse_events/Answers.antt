@@ -1,4 +1,5 @@
-use Rattle.sh_script.proofs.ScriptLemmas.{events_of_result, passes_of_events, tag_of_events, events_fault_of_result, events_only, events_fault_only}
+use Rattle.sh_script.proofs.ScriptLemmas.{events_of_result, passes_of_events, tag_of_events, events_fault_of_result}
+use Rattle.sh_script.proofs.ScriptLemmas.{events_only, events_fault_only}
 use Rattle.sh_script.proofs.script.parse_events.Goals as goal
 
 pub returns-clause-events : goal.returns-clause-events

@@ -1,4 +1,5 @@
-use Rattle.sh_shape.proofs.PlaceLaws.{pages_differ, pages_have_shards, places_differ, places_are_words, words_have_places}
+use Rattle.sh_shape.proofs.PlaceLaws.{pages_differ, pages_have_shards, places_differ, places_are_words}
+use Rattle.sh_shape.proofs.PlaceLaws.{words_have_places}
 use Rattle.sh_shape.proofs.laws.place_laws.Goals as goal
 
 pub returns-clause-pages_differ : goal.returns-clause-pages_differ

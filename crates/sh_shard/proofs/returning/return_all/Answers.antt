@@ -5,24 +5,34 @@ use Rattle.sh_shard.proofs.FullPages.{but_none, but_fewer, but_returned, full_cl
 use Rattle.sh_shard.proofs.returning.return_all.Goals as goal
 
 pub loop-page-init : goal.loop-page-init
-loop-page-init g c = record { sorted = but_fewer c.args.pages.now c.args.queues.now _ _ c.requires (λ p _. omega arith); opened = sym c.opened-opened.ensures.opened }
+loop-page-init g c = record {
+  sorted = but_fewer c.args.pages.now c.args.queues.now _ _ c.requires (λ p _. omega arith);
+  opened = sym c.opened-opened.ensures.opened;
+}
 
 pub return_page-requires-clause-inside : goal.return_page-requires-clause-inside
-return_page-requires-clause-inside g c = let a = c.loop-page.invariant.sorted.all in let b = c.loop-page.invariant.opened in let l = c.loop-page-test.true in omega arith
+return_page-requires-clause-inside g c = let a = c.loop-page.invariant.sorted.all
+    in let b = c.loop-page.invariant.opened in let l = c.loop-page-test.true in omega arith
 
 pub return_page-requires-clause-classed : goal.return_page-requires-clause-classed
 return_page-requires-clause-classed g c = λ here. (c.loop-page.invariant.sorted.word c.loop-page.page here).0
 
 later : (k r : ℕ) → ((k + 1 ≤ r) → ⊥) → r ≢ k → (k ≤ r) → ⊥
-later k r none other from = ⊎_elim (λ (h : k < r). none (omega arith)) (λ (h : r ≤ k). other (omega arith)) (cases_lt k r)
+later k r none other from = ⊎_elim (λ (h : k < r). none (omega arith)) (λ (h : r ≤ k). other (omega arith))
+    (cases_lt k r)
 
 pub loop-page-preserved : goal.loop-page-preserved
 loop-page-preserved g c =
     let i = c.loop-page.invariant in record {
-      sorted = but_returned c.args.pages.now c.loop-page.queues c.return_page.new.queues c.loop-page.page (λ p. c.loop-page.page ≤ p) (λ p. c.loop-page.page + 1 ≤ p) i.sorted c.opened-opened-in-loop-page.ensures.once (λ r none other. later c.loop-page.page r none other) (full_classed c.args.pages.now c.loop-page.queues c.loop-page.page _ i.sorted) c.return_page.ensures;
-      opened = returns_opened c.loop-page.page c.args.pages.now c.loop-page.queues c.return_page.new.queues c.return_page.ensures ∙ i.opened;
+      sorted = but_returned c.args.pages.now c.loop-page.queues c.return_page.new.queues c.loop-page.page
+          (λ p. c.loop-page.page ≤ p) (λ p. c.loop-page.page + 1 ≤ p) i.sorted c.opened-opened-in-loop-page.ensures.once
+          (λ r none other. later c.loop-page.page r none other)
+          (full_classed c.args.pages.now c.loop-page.queues c.loop-page.page _ i.sorted) c.return_page.ensures;
+      opened = returns_opened c.loop-page.page c.args.pages.now c.loop-page.queues c.return_page.new.queues
+          c.return_page.ensures ∙ i.opened;
     }
 
 pub returns : goal.returns
 returns g c = but_none c.args.pages.now c.loop-page.queues (λ p. c.loop-page.page ≤ p) c.loop-page.invariant.sorted
-    (λ p here from. let inside = full_opened p c.loop-page.queues c.opened-returned.ensures.once here in let o = c.loop-page.invariant.opened in let l = c.loop-page-test.false in omega arith)
+    (λ p here from. let inside = full_opened p c.loop-page.queues c.opened-returned.ensures.once here
+    in let o = c.loop-page.invariant.opened in let l = c.loop-page-test.false in omega arith)

@@ -3,4 +3,8 @@ use Rattle.sh_shard.specs.Returning.{SortedBut}
 use Rattle.sh_shard.proofs.returning.return_all.Given as goal
 
 abbrev pub invariant-loop-page : goal.invariant-loop-page
-invariant-loop-page g l = record { sorted : SortedBut (λ p. l.page ≤ p) l.pages l.queues; opened : l.queues.opened ≡ l.opened }
+invariant-loop-page g l = record {
+  sorted : SortedBut (λ p. l.page ≤ p) l.pages l.queues;
+  opened : l.queues.opened
+      ≡ l.opened;
+}

@@ -8,7 +8,8 @@ use Rattle.sh_step.proofs.MoveLaws.{made_when, ReadLength_none, ReadLength_some}
 use Rattle.sh_step.proofs.keyed.read_length.Goals as goal
 
 pub returns-in-None : goal.returns-in-None
-returns-in-None g c = ReadLength_none (plan_of g.L.KeyLayout.layout c.args.shape.now) c.args.part.now c.args.key (sym c.place_of_key.ensures ∙ c.in-None.is)
+returns-in-None g c = ReadLength_none (plan_of g.L.KeyLayout.layout c.args.shape.now) c.args.part.now c.args.key
+    (sym c.place_of_key.ensures ∙ c.in-None.is)
 
 pub returns-in-Some : goal.returns-in-Some
 returns-in-Some g c =

@@ -17,13 +17,16 @@ pub returns-in_default-width_of : goal.returns-in_default-width_of
 returns-in_default-width_of g c =
     let plan = plan_of g.L.KeyLayout.layout c.args.shape.now in
     let p = c.args.part.now in
-    ReadWord_no_class plan p c.args.key c.args.i c.in-Some.name (sym c.place_of_key.ensures ∙ c.in-Some.is) (sym c.width_of.ensures ∙ c.in_default-width_of.is)
+    ReadWord_no_class plan p c.args.key c.args.i c.in-Some.name (sym c.place_of_key.ensures ∙ c.in-Some.is)
+    (sym c.width_of.ensures ∙ c.in_default-width_of.is)
 
 pub returns-in_default-length_of : goal.returns-in_default-length_of
 returns-in_default-length_of g c =
     let plan = plan_of g.L.KeyLayout.layout c.args.shape.now in
     let p = c.args.part.now in
-    ReadWord_no_length plan p c.args.key c.args.i c.in-Some-width_of.class c.in-Some.name (sym c.place_of_key.ensures ∙ c.in-Some.is) (sym c.width_of.ensures ∙ c.in-Some-width_of.is) (sym c.length_of.ensures ∙ c.in_default-length_of.is)
+    ReadWord_no_length plan p c.args.key c.args.i c.in-Some-width_of.class c.in-Some.name
+    (sym c.place_of_key.ensures ∙ c.in-Some.is) (sym c.width_of.ensures ∙ c.in-Some-width_of.is)
+    (sym c.length_of.ensures ∙ c.in_default-length_of.is)
 
 pub returns : goal.returns
 returns g c =
@@ -31,5 +34,7 @@ returns g c =
     let p = c.args.part.now in
     let m = move.ReadWord c.args.key c.in-Some.name c.in-Some-width_of.class c.args.i in
     let made = c.then_some.ensures ∙ ap (λ b. then_some b m) c.may_read.ensures in
-    ReadWord_some plan p c.args.key c.args.i c.in-Some-width_of.class c.in-Some-length_of.length c.in-Some.name (sym c.place_of_key.ensures ∙ c.in-Some.is) (sym c.width_of.ensures ∙ c.in-Some-width_of.is) (sym c.length_of.ensures ∙ c.in-Some-length_of.is)
+    ReadWord_some plan p c.args.key c.args.i c.in-Some-width_of.class c.in-Some-length_of.length c.in-Some.name
+    (sym c.place_of_key.ensures ∙ c.in-Some.is) (sym c.width_of.ensures ∙ c.in-Some-width_of.is)
+    (sym c.length_of.ensures ∙ c.in-Some-length_of.is)
     ∙ sym (ap (option_map (row_of plan p)) made ∙ made_when plan p m _)

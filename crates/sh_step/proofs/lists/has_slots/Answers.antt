@@ -12,7 +12,8 @@ returns-then-not-seen-slot c =
     let test : Spot → Bool = λ x. has (same_spot x) c.args.mine.now.items in
     let rest = every test (spots c.args.page (c.loop-slot.slot + 1) (c.args.count - (c.loop-slot.slot + 1))) in
     let seen = sym (c.slots_seen-seen.ensures c.loop-slot.slot (omega arith)) in
-    sym (c.loop-slot.invariant ∙ (every_more test c.args.page c.loop-slot.slot c.args.count less ∙ ap (λ b. b && rest) (seen ∙ c.if-not-seen-slot.true)))
+    sym (c.loop-slot.invariant ∙ (every_more test c.args.page c.loop-slot.slot c.args.count less
+    ∙ ap (λ b. b && rest) (seen ∙ c.if-not-seen-slot.true)))
 
 pub loop-slot-preserved : goal.loop-slot-preserved
 loop-slot-preserved c =
@@ -21,7 +22,9 @@ loop-slot-preserved c =
     let test : Spot → Bool = λ x. has (same_spot x) c.args.mine.now.items in
     let rest = every test (spots c.args.page (c.loop-slot.slot + 1) (c.args.count - (c.loop-slot.slot + 1))) in
     let seen = sym (c.slots_seen-seen.ensures c.loop-slot.slot (omega arith)) in
-    c.loop-slot.invariant ∙ (every_more test c.args.page c.loop-slot.slot c.args.count less ∙ ap (λ b. b && rest) (seen ∙ c.if-not-seen-slot.false))
+    c.loop-slot.invariant ∙ (every_more test c.args.page c.loop-slot.slot c.args.count less
+    ∙ ap (λ b. b && rest) (seen ∙ c.if-not-seen-slot.false))
 
 pub returns : goal.returns
-returns c = sym (c.loop-slot.invariant ∙ every_none (λ x. has (same_spot x) c.args.mine.now.items) c.args.page c.loop-slot.slot c.args.count c.loop-slot-test.false)
+returns c = sym (c.loop-slot.invariant ∙ every_none (λ x. has (same_spot x) c.args.mine.now.items) c.args.page
+    c.loop-slot.slot c.args.count c.loop-slot-test.false)

@@ -7,7 +7,8 @@ pub loop-slot-init : goal.loop-slot-init
 loop-slot-init c = record {
   within = omega arith;
   room = c.requires;
-  items = sym (ap (λ xs. xs ++ c.args.slots.now.items) (spots_none c.args.page c.args.count c.args.count (omega arith)));
+  items = sym (ap (λ xs. xs ++ c.args.slots.now.items) (spots_none c.args.page c.args.count c.args.count
+      (omega arith)));
 }
 
 pub loop-slot-preserved : goal.loop-slot-preserved
@@ -17,6 +18,8 @@ loop-slot-preserved c =
     let before = spots_before c.args.page c.loop-slot.slot c.args.count c.loop-slot-test.true kept.within in
     record {
       within = omega arith;
-      room = let l = c.push_front_reserved.ensures.len in let k = c.push_front_reserved.ensures.capacity in let r = kept.room in omega arith;
-      items = c.push_front_reserved.ensures.items ∙ (ap (λ xs. first ∷ xs) kept.items ∙ sym (ap (λ xs. xs ++ c.args.slots.now.items) before));
+      room = let l = c.push_front_reserved.ensures.len in let k = c.push_front_reserved.ensures.capacity
+          in let r = kept.room in omega arith;
+      items = c.push_front_reserved.ensures.items ∙ (ap (λ xs. first ∷ xs) kept.items
+          ∙ sym (ap (λ xs. xs ++ c.args.slots.now.items) before));
     }

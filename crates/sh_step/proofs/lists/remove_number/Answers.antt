@@ -9,7 +9,8 @@ returns-in-Some c =
     let found : position (λ x. x == c.args.number) items ≡ Some c.in-Some.i = sym c.number_at.ensures ∙ c.in-Some.is in
     let few = position_within (λ x. x == c.args.number) items c.in-Some.i found in
     let len = c.args.numbers.now.ok in
-    on_some c.remove.result _ (c.remove.ensures.succeeds 0 (omega arith)) c.remove.ensures.items ∙ sym (without_at (λ x. x == c.args.number) items c.in-Some.i found)
+    on_some c.remove.result _ (c.remove.ensures.succeeds 0 (omega arith)) c.remove.ensures.items
+    ∙ sym (without_at (λ x. x == c.args.number) items c.in-Some.i found)
 
 pub returns-in_default : goal.returns-in_default
 returns-in_default c =

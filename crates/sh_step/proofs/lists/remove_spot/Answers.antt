@@ -10,7 +10,8 @@ returns-in-Some c =
     let found : position (same_spot c.args.spot) items ≡ Some c.in-Some.i = sym c.spot_at.ensures ∙ c.in-Some.is in
     let few = position_within (same_spot c.args.spot) items c.in-Some.i found in
     let len = c.args.slots.now.ok in
-    on_some c.remove.result _ (c.remove.ensures.succeeds c.args.spot (omega arith)) c.remove.ensures.items ∙ sym (without_at (same_spot c.args.spot) items c.in-Some.i found)
+    on_some c.remove.result _ (c.remove.ensures.succeeds c.args.spot (omega arith)) c.remove.ensures.items
+    ∙ sym (without_at (same_spot c.args.spot) items c.in-Some.i found)
 
 pub returns-in_default : goal.returns-in_default
 returns-in_default c =

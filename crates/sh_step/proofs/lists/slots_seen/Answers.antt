@@ -17,8 +17,11 @@ loop-i-preserved c = λ slot low.
     let many = c.len-i-end.ensures in
     let ok = c.args.mine.now.ok in
     let less = c.loop-i-test.true in
-    let more : take (c.loop-i.i + 1) items ≡ take c.loop-i.i items ++ spot ∷ [] = take_more items c.loop-i.i spot (omega arith) ∙ ap (λ (x : Spot). take c.loop-i.i items ++ x ∷ []) (sym c.index.ensures) in
-    c.see.ensures slot low ∙ (ap (λ b. b || test spot) (c.loop-i.invariant slot low) ∙ (sym (has_more test (take c.loop-i.i items) spot) ∙ sym (ap (has test) more)))
+    let more : take (c.loop-i.i + 1) items ≡ take c.loop-i.i items
+    ++ spot ∷ [] = take_more items c.loop-i.i spot (omega arith)
+    ∙ ap (λ (x : Spot). take c.loop-i.i items ++ x ∷ []) (sym c.index.ensures) in
+    c.see.ensures slot low ∙ (ap (λ b. b || test spot) (c.loop-i.invariant slot low)
+    ∙ (sym (has_more test (take c.loop-i.i items) spot) ∙ sym (ap (has test) more)))
 
 pub returns : goal.returns
 returns c = λ slot low.

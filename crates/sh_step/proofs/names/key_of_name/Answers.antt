@@ -11,6 +11,11 @@ pack-requires g c =
     let shape = c.args.shape.now in
     let name = c.args.name in
     let layout = g.L.KeyLayout.layout in
-    let parts : Parts = record { generation = name.generation; shard = c.home_of.result; page = c.local_of.result; slot = name.slot } in
+    let parts : Parts = record {
+      generation = name.generation;
+      shard = c.home_of.result;
+      page = c.local_of.result;
+      slot = name.slot;
+    } in
     let same : parts ≡ parts_of (pages_of shape) name = search rules in
     subst (IsInRange layout) (sym same) (parts_in_range layout shape.shards (pages_of shape) _ name c.requires.names)

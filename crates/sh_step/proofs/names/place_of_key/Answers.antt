@@ -12,13 +12,17 @@ returns-in_err-parts g c =
 
 pub returns-then-has_place : goal.returns-then-has_place
 returns-then-has_place g c =
-    let some : unpacked g.L.KeyLayout.layout c.args.key ≡ Some c.in_ok-parts.parts = sym c.unpack.ensures.parts ∙ c.in_ok-parts.was in
-    let inside : has_place c.args.shape.now c.in_ok-parts.parts ≡ true = sym c.has_place.ensures ∙ c.if-has_place.true in
+    let some : unpacked g.L.KeyLayout.layout c.args.key ≡ Some c.in_ok-parts.parts = sym c.unpack.ensures.parts
+    ∙ c.in_ok-parts.was in
+    let inside : has_place c.args.shape.now c.in_ok-parts.parts ≡ true = sym c.has_place.ensures
+    ∙ c.if-has_place.true in
     let law = a_place g.L.KeyLayout.layout c.args.shape.now c.args.key c.in_ok-parts.parts some inside in
     rw (c.from.ensures, c.from-then-has_place.ensures, c.page_number.ensures.is) (sym law)
 
 pub returns-else-has_place : goal.returns-else-has_place
 returns-else-has_place g c =
-    let some : unpacked g.L.KeyLayout.layout c.args.key ≡ Some c.in_ok-parts.parts = sym c.unpack.ensures.parts ∙ c.in_ok-parts.was in
-    let outside : has_place c.args.shape.now c.in_ok-parts.parts ≡ false = sym c.has_place.ensures ∙ c.if-has_place.false in
+    let some : unpacked g.L.KeyLayout.layout c.args.key ≡ Some c.in_ok-parts.parts = sym c.unpack.ensures.parts
+    ∙ c.in_ok-parts.was in
+    let outside : has_place c.args.shape.now c.in_ok-parts.parts ≡ false = sym c.has_place.ensures
+    ∙ c.if-has_place.false in
     sym (no_place g.L.KeyLayout.layout c.args.shape.now c.args.key c.in_ok-parts.parts some outside)

@@ -19,11 +19,13 @@ returns-in-Some-cursor g c =
     let p = c.args.part.now in
     let m = move.Follow c.in-Some.page c.in-Some-cursor.slot in
     let made = c.then_some.ensures ∙ ap (λ b. then_some b m) c.may_touch.ensures in
-    Follow_some plan p c.args.name c.in-Some.page c.in-Some-cursor.slot (sym c.page_of_name.ensures ∙ c.in-Some.is) (sym c.cursor.ensures ∙ c.in-Some-cursor.is)
+    Follow_some plan p c.args.name c.in-Some.page c.in-Some-cursor.slot (sym c.page_of_name.ensures ∙ c.in-Some.is)
+    (sym c.cursor.ensures ∙ c.in-Some-cursor.is)
     ∙ sym (ap (option_map (row_of plan p)) made ∙ made_when plan p m _)
 
 pub returns-in-None : goal.returns-in-None
 returns-in-None g c =
     let plan = plan_of g.L.KeyLayout.layout c.args.shape.now in
     let p = c.args.part.now in
-    Follow_no_cursor plan p c.args.name c.in-Some.page (sym c.page_of_name.ensures ∙ c.in-Some.is) (sym c.cursor.ensures ∙ c.in-None.is)
+    Follow_no_cursor plan p c.args.name c.in-Some.page (sym c.page_of_name.ensures ∙ c.in-Some.is)
+    (sym c.cursor.ensures ∙ c.in-None.is)

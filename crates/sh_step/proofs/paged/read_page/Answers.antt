@@ -8,7 +8,8 @@ use Rattle.sh_step.proofs.MoveLaws.{made_when, ReadPage_none, ReadPage_some}
 use Rattle.sh_step.proofs.paged.read_page.Goals as goal
 
 pub returns-in-None : goal.returns-in-None
-returns-in-None g c = ReadPage_none (plan_of g.L.KeyLayout.layout c.args.shape.now) c.args.part.now c.args.name (sym c.page_of_name.ensures ∙ c.in-None.is)
+returns-in-None g c = ReadPage_none (plan_of g.L.KeyLayout.layout c.args.shape.now) c.args.part.now c.args.name
+    (sym c.page_of_name.ensures ∙ c.in-None.is)
 
 pub returns-in-Some : goal.returns-in-Some
 returns-in-Some g c =

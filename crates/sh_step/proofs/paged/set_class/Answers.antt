@@ -12,18 +12,23 @@ returns-in_default g c =
 pub returns-in_default-class_noted : goal.returns-in_default-class_noted
 returns-in_default-class_noted g c =
     let plan = plan_of g.L.KeyLayout.layout c.args.shape.now in
-    SetClass_unread plan c.args.part.now c.args.name c.args.class c.in-Some.page (sym c.page_of_name.ensures ∙ c.in-Some.is) (sym c.class_noted.ensures ∙ c.in_default-class_noted.is)
+    SetClass_unread plan c.args.part.now c.args.name c.args.class c.in-Some.page
+    (sym c.page_of_name.ensures ∙ c.in-Some.is) (sym c.class_noted.ensures ∙ c.in_default-class_noted.is)
 
 pub returns-then-not-may_set_class : goal.returns-then-not-may_set_class
 returns-then-not-may_set_class g c =
     let plan = plan_of g.L.KeyLayout.layout c.args.shape.now in
     let p = c.args.part.now in
-    SetClass_some plan p c.args.name c.args.class c.in-Some.page c.in-Some-class_noted.word (sym c.page_of_name.ensures ∙ c.in-Some.is) (sym c.class_noted.ensures ∙ c.in-Some-class_noted.is)
-    ∙ ap (λ b. when b (set_class p c.in-Some.page c.args.class)) (sym c.may_set_class.ensures ∙ c.if-not-may_set_class.true)
+    SetClass_some plan p c.args.name c.args.class c.in-Some.page c.in-Some-class_noted.word
+    (sym c.page_of_name.ensures ∙ c.in-Some.is) (sym c.class_noted.ensures ∙ c.in-Some-class_noted.is)
+    ∙ ap (λ b. when b (set_class p c.in-Some.page c.args.class))
+    (sym c.may_set_class.ensures ∙ c.if-not-may_set_class.true)
 
 pub returns : goal.returns
 returns g c =
     let plan = plan_of g.L.KeyLayout.layout c.args.shape.now in
     let p = c.args.part.now in
-    SetClass_some plan p c.args.name c.args.class c.in-Some.page c.in-Some-class_noted.word (sym c.page_of_name.ensures ∙ c.in-Some.is) (sym c.class_noted.ensures ∙ c.in-Some-class_noted.is)
-    ∙ ap (λ b. when b (set_class p c.in-Some.page c.args.class)) (sym c.may_set_class.ensures ∙ c.if-not-may_set_class.false)
+    SetClass_some plan p c.args.name c.args.class c.in-Some.page c.in-Some-class_noted.word
+    (sym c.page_of_name.ensures ∙ c.in-Some.is) (sym c.class_noted.ensures ∙ c.in-Some-class_noted.is)
+    ∙ ap (λ b. when b (set_class p c.in-Some.page c.args.class))
+    (sym c.may_set_class.ensures ∙ c.if-not-may_set_class.false)

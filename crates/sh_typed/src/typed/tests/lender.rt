@@ -21,9 +21,9 @@ pub enum Stage {
 // The one key of a lender.
 pub const LENT_KEY: u64 = 4096;
 
-// A store whose callers are pass 1 of 2. Pass 0 stored this value under its one key, which is not in its book. It gives one
-// hold, and takes it back once the value was read. What it cannot give it refuses for memory, or where there is memory
-// because it has no more.
+// A store whose callers are pass 1 of 2. Pass 0 stored this value under its one key, which is not in its book. It gives
+// one hold, and takes it back once the value was read. What it cannot give it refuses for memory, or where there is
+// memory because it has no more.
 #[derive(Drop)]
 pub struct Lender {
     pub value: Value,
@@ -32,19 +32,39 @@ pub struct Lender {
 }
 
 impl Store for Lender {
-    ghost book = { λ s. elim s.stage [ Idle ↦ [] | Lent ↦ Unread 1 4096 ∷ [] | Read ↦ Known (Got 1 4096 s.value) ∷ [] | Returned ↦ Known (Got 1 4096 s.value) ∷ Known (Released 1 4096) ∷ [] ] };
+    ghost book = { λ s. elim s.stage [
+      | Idle ↦ []
+      | Lent ↦ Unread 1 4096 ∷ []
+      | Read
+          ↦ Known (Got 1 4096 s.value) ∷ []
+      | Returned ↦ Known (Got 1 4096 s.value) ∷ Known (Released 1 4096) ∷ []
+    ] };
 
     ghost setting = { λ _. record { passes = 2; guard_max = 4; pass = 1; answers_for = λ pass. pass == 1 } };
 
     ghost inserts = { λ old _ result new. (result ≡ Err (if old.has_memory then Full else Memory)) × (new ≡ old) };
 
-    ghost gets = { λ old key result _. result ≡ (if key == 4096 then elim old.stage [ Idle ↦ Ok (record { key = 4096 }) | Lent ↦ Err (if old.has_memory then HoldsFull else Memory) | Read ↦ Err (if old.has_memory then HoldsFull else Memory) | Returned ↦ Err (if old.has_memory then HoldsFull else Memory) ] else Err BadKey) };
+    ghost gets = { λ old key result _. result ≡ (if key == 4096 then elim old.stage [
+      | Idle ↦ Ok (record { key = 4096 })
+      | Lent ↦ Err (if old.has_memory then HoldsFull else Memory)
+      | Read
+          ↦ Err (if old.has_memory then HoldsFull else Memory)
+      | Returned
+          ↦ Err (if old.has_memory then HoldsFull else Memory)
+    ] else Err BadKey) };
 
-    ghost reads = { λ old key result _. result ≡ (if key == 4096 then elim old.stage [ Idle ↦ Err NotHeld | Lent ↦ Ok old.value | Read ↦ Ok old.value | Returned ↦ Err NotHeld ] else Err NotHeld) };
+    ghost reads = { λ old key result _. result ≡ (if key == 4096 then elim old.stage
+        [ Idle ↦ Err NotHeld | Lent ↦ Ok old.value | Read ↦ Ok old.value | Returned ↦ Err NotHeld ] else Err NotHeld) };
 
     ghost removes = { λ old key result new. (result ≡ Err (if key == 4096 then Memory else BadKey)) × (new ≡ old) };
 
-    ghost releases = { λ old key result _. result ≡ (if key == 4096 then elim old.stage [ Idle ↦ Err NotHeld | Lent ↦ Err Memory | Read ↦ (if old.has_memory then Ok tt else Err Memory) | Returned ↦ Err NotHeld ] else Err NotHeld) };
+    ghost releases = { λ old key result _. result ≡ (if key == 4096 then elim old.stage [
+      | Idle ↦ Err NotHeld
+      | Lent ↦ Err Memory
+      | Read ↦ (if old.has_memory then Ok tt else Err Memory)
+      | Returned
+          ↦ Err NotHeld
+    ] else Err NotHeld) };
 
     #[tactic(auto, using(crate::proofs::Lending::idle_stands, crate::proofs::Lending::lent_stands, crate::proofs::Lending::read_stands, crate::proofs::Lending::returned_stands))]
     fn insert(&mut self, _: &Value) -> Result<u64, Refusal> {

@@ -1,5 +1,6 @@
 -- Each clause is the law of that name.
-use Rattle.sh_word.proofs.Words.{fields_of-wrapping_add, fields_of-wrapping_sub, fields_of-or_mark, fields_of-or_present}
+use Rattle.sh_word.proofs.Words.{fields_of-wrapping_add, fields_of-wrapping_sub, fields_of-or_mark}
+use Rattle.sh_word.proofs.Words.{fields_of-or_present}
 use Rattle.sh_word.proofs.laws.operations_change_one_field.Goals as goal
 
 pub returns-clause-add : goal.returns-clause-add

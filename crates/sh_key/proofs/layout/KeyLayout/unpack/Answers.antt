@@ -10,7 +10,8 @@ pub returns-clause-parts : goal.returns-clause-parts
 returns-clause-parts g c = search rules
 
 pub returns-then-generation-eq0-clause-only : goal.returns-then-generation-eq0-clause-only
-returns-then-generation-eq0-clause-only g c = λ p h. returns-then-generation-eq0-clause-parts g c ∙ unpacked_only g.Self.KeyLayout.layout p c.args.key h
+returns-then-generation-eq0-clause-only g c = λ p h. returns-then-generation-eq0-clause-parts g c
+    ∙ unpacked_only g.Self.KeyLayout.layout p c.args.key h
 
 pub returns-clause-packs : goal.returns-clause-packs
 returns-clause-packs g c = unpacked_is g.Self.KeyLayout.layout c.args.key _ (sym (returns-clause-parts g c))

@@ -5,13 +5,18 @@ use Rattle.sh_lists.proofs.lists.PageLists.add_read.Goals as goal
 
 pub invariant_of-self : goal.invariant_of-self
 invariant_of-self c =
-    let p = c.self.inside in
-    ((adds_first p.next p.free.front p.free.count p.free.end p.local.front p.local.count p.local.end c.args.slot p.cursor c.args.self.now c.self.view_is c.if-self-eq0.true c.self.invariant.0 c.requires.small c.requires.apart).threaded, c.self.invariant.1)
+    let p = c.self.inside in (
+      (adds_first p.next p.free.front p.free.count p.free.end p.local.front p.local.count p.local.end c.args.slot
+          p.cursor c.args.self.now c.self.view_is c.if-self-eq0.true c.self.invariant.0 c.requires.small
+          c.requires.apart).threaded,
+      c.self.invariant.1,
+    )
 
 pub returns-then-self-eq0 : goal.returns-then-self-eq0
 returns-then-self-eq0 c =
     let p = c.self.inside in
-    (adds_first p.next p.free.front p.free.count p.free.end p.local.front p.local.count p.local.end c.args.slot p.cursor c.args.self.now c.self.view_is c.if-self-eq0.true c.self.invariant.0 c.requires.small c.requires.apart).shows
+    (adds_first p.next p.free.front p.free.count p.free.end p.local.front p.local.count p.local.end c.args.slot p.cursor
+    c.args.self.now c.self.view_is c.if-self-eq0.true c.self.invariant.0 c.requires.small c.requires.apart).shows
 
 pub bounds-self-inside-self-inside : goal.bounds-self-inside-self-inside
 bounds-self-inside-self-inside c =
@@ -22,14 +27,24 @@ bounds-self-inside-self-inside c =
 pub overflow_add-self : goal.overflow_add-self
 overflow_add-self c =
     let p = c.self.inside in
-    omega (arith, room p.next p.free.front p.free.count p.free.end p.local.front p.local.count p.local.end c.self.invariant.0)
+    omega (
+      arith,
+      room p.next p.free.front p.free.count p.free.end p.local.front p.local.count p.local.end
+          c.self.invariant.0,
+    )
 
 pub invariant_of-self-2 : goal.invariant_of-self-2
 invariant_of-self-2 c =
-    let p = c.self.inside in
-    ((adds p.next p.free.front p.free.count p.free.end p.local.front p.local.count p.local.end c.args.slot p.cursor c.args.self.now c.self.view_is c.self.told (omega arith) c.self.invariant.0 c.requires.small c.requires.apart).threaded, c.self.invariant.1)
+    let p = c.self.inside in (
+      (adds p.next p.free.front p.free.count p.free.end p.local.front p.local.count p.local.end c.args.slot p.cursor
+          c.args.self.now c.self.view_is c.self.told (omega arith) c.self.invariant.0 c.requires.small
+          c.requires.apart).threaded,
+      c.self.invariant.1,
+    )
 
 pub returns : goal.returns
 returns c =
     let p = c.self.inside in
-    (adds p.next p.free.front p.free.count p.free.end p.local.front p.local.count p.local.end c.args.slot p.cursor c.args.self.now c.self.view_is c.self.told (omega arith) c.self.invariant.0 c.requires.small c.requires.apart).shows
+    (adds p.next p.free.front p.free.count p.free.end p.local.front p.local.count p.local.end c.args.slot p.cursor
+    c.args.self.now c.self.view_is c.self.told (omega arith) c.self.invariant.0 c.requires.small
+    c.requires.apart).shows

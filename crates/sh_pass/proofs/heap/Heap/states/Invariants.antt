@@ -4,4 +4,5 @@ use Rattle.sh_pass.specs.Passes.{newcomers}
 use Rattle.sh_pass.proofs.heap.Heap.states.Given as goal
 
 abbrev pub invariant-loop-n : goal.invariant-loop-n
-invariant-loop-n g l = IsDealer l.self l.n l.dealer × (l.states.items ≡ newcomers l.self l.n) × (vec_len l.states ≡ l.n) × (l.count ≤ vec_capacity l.states)
+invariant-loop-n g l = IsDealer l.self l.n l.dealer × (l.states.items ≡ newcomers l.self l.n) × (vec_len l.states ≡ l.n)
+    × (l.count ≤ vec_capacity l.states)

@@ -14,8 +14,11 @@ arm-requires g c =
     let touch = c.requires.touch in
     let seat = seat_at c.heap.view_is c.self.invariant.seat in
     let s = stood v c.self.view_is seat in
-    let P : ℕ → Type 0 = λ q. CanDo layout c.heap.inside.table (action.Arm c.args.name) (move.Arm q) c.self.inside.seat in
-    subst P (sym c.number-page.ensures) (can v _ _ c.self.view_is seat (may_arm layout v c.args.name touch (s.owner.owned c.args.name.shard touch.owned) c.requires.classed c.requires.none c.requires.calm))
+    let P : ℕ → Type 0 = λ q. CanDo layout c.heap.inside.table (action.Arm c.args.name) (move.Arm q) c.self.inside.seat
+    in
+    subst P (sym c.number-page.ensures) (can v _ _ c.self.view_is seat
+    (may_arm layout v c.args.name touch (s.owner.owned c.args.name.shard touch.owned) c.requires.classed
+    c.requires.none c.requires.calm))
 
 pub returns : goal.returns
 returns g c =
@@ -24,7 +27,8 @@ returns g c =
     let touch = c.requires.touch in
     let seat = seat_at c.heap.view_is c.self.invariant.seat in
     let s = stood v c.self.view_is seat in
-    let P : ℕ → Type 0 = λ q. Did layout c.heap.inside.table (action.Arm c.args.name) (move.Arm q) c.arm.result c.self.inside.seat c.arm.new.seat in
+    let P : ℕ → Type 0 = λ q. Did layout c.heap.inside.table (action.Arm c.args.name) (move.Arm q) c.arm.result
+    c.self.inside.seat c.arm.new.seat in
     let d = does v c.self.view_is seat (subst P c.number-page.ensures c.arm.ensures) in
     let k = arm_does layout v _ c.args.name s.owner c.arm.result c.requires.none touch.idle d in
     record { does = d; acts = k.0; bells = k.1; page = k.2; put = k.3 }

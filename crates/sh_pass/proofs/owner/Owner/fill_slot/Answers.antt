@@ -15,8 +15,13 @@ fill_slot-requires g c =
     let touch = c.requires.touch in
     let seat = seat_at c.heap.view_is c.self.invariant.seat in
     let s = stood v c.self.view_is seat in
-    let P : ℕ → Type 0 = λ q. CanDo layout c.heap.inside.table (action.FillSlot (slot_in c.args.name c.args.slot) c.args.value.now) (move.FillSlot (record { page = q; slot = c.args.slot }) c.args.value.now) c.self.inside.seat in
-    subst P (sym c.number.ensures) (can v _ _ c.self.view_is seat (may_fill_slot layout v c.args.name touch (s.owner.owned c.args.name.shard touch.owned) c.args.slot c.args.value.now (s.owner.mine (heap_spot v c.args.name c.args.slot) c.requires.mine).2 c.requires.mine c.requires.classed c.requires.fits))
+    let P : ℕ → Type 0 = λ q. CanDo layout c.heap.inside.table
+    (action.FillSlot (slot_in c.args.name c.args.slot) c.args.value.now)
+    (move.FillSlot (record { page = q; slot = c.args.slot }) c.args.value.now) c.self.inside.seat in
+    subst P (sym c.number.ensures) (can v _ _ c.self.view_is seat
+    (may_fill_slot layout v c.args.name touch (s.owner.owned c.args.name.shard touch.owned) c.args.slot
+    c.args.value.now (s.owner.mine (heap_spot v c.args.name c.args.slot) c.requires.mine).2 c.requires.mine
+    c.requires.classed c.requires.fits))
 
 pub returns : goal.returns
 returns g c =
@@ -25,7 +30,18 @@ returns g c =
     let touch = c.requires.touch in
     let seat = seat_at c.heap.view_is c.self.invariant.seat in
     let s = stood v c.self.view_is seat in
-    let P : ℕ → Type 0 = λ q. Did layout c.heap.inside.table (action.FillSlot (slot_in c.args.name c.args.slot) c.args.value.now) (move.FillSlot (record { page = q; slot = c.args.slot }) c.args.value.now) 0 c.self.inside.seat c.fill_slot.new.seat in
+    let P : ℕ → Type 0 = λ q. Did layout c.heap.inside.table
+    (action.FillSlot (slot_in c.args.name c.args.slot) c.args.value.now)
+    (move.FillSlot (record { page = q; slot = c.args.slot }) c.args.value.now) 0 c.self.inside.seat
+    c.fill_slot.new.seat in
     let d = does v c.self.view_is seat (subst P c.number.ensures c.fill_slot.ensures) in
     let k = fill_slot_does layout v _ c.args.name s.owner c.args.slot c.args.value.now d in
-    record { spot = ap (λ q. record { page = q; slot = c.args.slot }) c.number.ensures; does = d; acts = k.0; bells = k.1; page = k.2; put = k.3 }
+    record {
+      spot = ap (λ q. record { page = q; slot = c.args.slot }) c.number.ensures;
+      does = d;
+      acts = k.0;
+      bells =
+          k.1;
+      page = k.2;
+      put = k.3;
+    }

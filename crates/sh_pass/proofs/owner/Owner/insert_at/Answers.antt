@@ -14,7 +14,8 @@ pub loop-i-preserved : goal.loop-i-preserved
 loop-i-preserved g c =
     let f = c.fill.ensures in
     let h = c.loop-i.invariant in
-    let P : Spot → Type 0 = λ z. OwnerActs (Filling z c.args.value.now (c.loop-i.i + 1)) [] 1 c.loop-i.self c.fill.new.self in (
+    let P : Spot → Type 0 = λ z. OwnerActs (Filling z c.args.value.now (c.loop-i.i + 1)) [] 1 c.loop-i.self
+    c.fill.new.self in (
       acts_on (1 + (c.loop-i.i + 1)) h.0 (subst P c.fill_slot-spot.ensures.spot f.acts) (omega arith),
       λ n. f.bells n ∙ h.1 n,
       page_on h.2 f.pages,
@@ -25,8 +26,12 @@ loop-i-preserved g c =
 pub key_of_name-requires-clause-names : goal.key_of_name-requires-clause-names
 key_of_name-requires-clause-names g c =
     let p = c.publish-found.ensures in
-    let now : c.shape.result.now ≡ c.publish-found.new.self.view.shape = c.shape.ensures ∙ (ap (λ (h : Heap). h.shape) c.heap.view_is ∙ (sym c.self.invariant.seat.shape ∙ ap (λ (v : Caller). v.view.shape) c.self.view_is)) in
-    issued g.L.KeyLayout.layout c.shape.result.now c.loop-i.self c.publish-found.new.self c.fill_slot-spot.result c.args.value.now c.publish-found.result c.published_name-stored.result p.does (now ∙ p.acts.aside.same.shape) c.published_name-stored.ensures
+    let now : c.shape.result.now ≡ c.publish-found.new.self.view.shape = c.shape.ensures
+    ∙ (ap (λ (h : Heap). h.shape) c.heap.view_is ∙ (sym c.self.invariant.seat.shape
+    ∙ ap (λ (v : Caller). v.view.shape) c.self.view_is)) in
+    issued g.L.KeyLayout.layout c.shape.result.now c.loop-i.self c.publish-found.new.self c.fill_slot-spot.result
+    c.args.value.now c.publish-found.result c.published_name-stored.result p.does (now ∙ p.acts.aside.same.shape)
+    c.published_name-stored.ensures
 
 pub returns-clause-key : goal.returns-clause-key
 returns-clause-key g c =
@@ -34,11 +39,17 @@ returns-clause-key g c =
     let v = c.args.self.now in
     let p = c.publish-found.ensures in
     let before : c.loop-i.self.view.shape ≡ v.view.shape = c.loop-i.invariant.0.aside.same.shape in
-    let now : c.shape.result.now ≡ c.publish-found.new.self.view.shape = c.shape.ensures ∙ (ap (λ (h : Heap). h.shape) c.heap.view_is ∙ (sym c.self.invariant.seat.shape ∙ ap (λ (v : Caller). v.view.shape) c.self.view_is)) in
+    let now : c.shape.result.now ≡ c.publish-found.new.self.view.shape = c.shape.ensures
+    ∙ (ap (λ (h : Heap). h.shape) c.heap.view_is ∙ (sym c.self.invariant.seat.shape
+    ∙ ap (λ (v : Caller). v.view.shape) c.self.view_is)) in
     let at : c.shape.result.now ≡ c.loop-i.self.view.shape = now ∙ p.acts.aside.same.shape in
     let x = c.fill_slot-spot.ensures.spot in
-    let P : Spot → Type 0 = λ z. OwnerDid layout action.Publish (move.Publish z c.args.value.now) c.publish-found.result c.loop-i.self c.publish-found.new.self in
-    key_in layout v c.loop-i.self c.publish-found.new.self c.args.name c.args.slot c.args.value.now c.publish-found.result c.shape.result.now c.key_of_name.result c.published_name-stored.result c.requires.touch (subst P x p.does) before at (c.published_name-stored.ensures ∙ ap (λ (z : Spot). published_name z c.publish-found.result) x) c.key_of_name.ensures
+    let P : Spot → Type 0 = λ z. OwnerDid layout action.Publish (move.Publish z c.args.value.now) c.publish-found.result
+    c.loop-i.self c.publish-found.new.self in
+    key_in layout v c.loop-i.self c.publish-found.new.self c.args.name c.args.slot c.args.value.now
+    c.publish-found.result c.shape.result.now c.key_of_name.result c.published_name-stored.result c.requires.touch
+    (subst P x p.does) before at (c.published_name-stored.ensures
+    ∙ ap (λ (z : Spot). published_name z c.publish-found.result) x) c.key_of_name.ensures
 
 pub returns-clause-bells : goal.returns-clause-bells
 returns-clause-bells g c = λ n. c.publish-found.ensures.bells n ∙ c.loop-i.invariant.1 n

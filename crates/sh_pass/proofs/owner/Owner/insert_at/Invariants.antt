@@ -7,5 +7,6 @@ abbrev pub invariant-loop-i : goal.invariant-loop-i
 invariant-loop-i g l =
     OwnerActs (Filling (heap_spot l.fn.self l.fn.name l.slot) l.value l.i) [] (1 + l.i) l.fn.self l.self
     × SameBells g.L.KeyLayout.layout l.fn.self l.self
-    × OnPage (heap_page l.fn.self l.fn.name) (page_without (seen_page l.fn.self (heap_page l.fn.self l.fn.name)) l.slot) l.fn.self l.self
+    × OnPage (heap_page l.fn.self l.fn.name) (page_without (seen_page l.fn.self (heap_page l.fn.self l.fn.name)) l.slot)
+    l.fn.self l.self
     × NonePut l.fn.self l.self

@@ -12,7 +12,11 @@ pub leave-requires : goal.leave-requires
 leave-requires g c =
     let v = c.args.self.now in
     let none = c.requires.pages in
-    can v action.Leave (move.Leave c.args.shard) c.self.view_is (seat_at c.heap.view_is c.self.invariant.seat) (may_leave g.L.KeyLayout.layout v c.args.shard c.requires.idle c.requires.owned (none_mine (own_body v).mine (λ x. (none x.page).mine x.slot)) (none_noted_at (own_body v).cursors (λ q. (none q).cursor)) (none_armed (own_body v).armed (λ q. (none q).armed)) c.requires.bell)
+    can v action.Leave (move.Leave c.args.shard) c.self.view_is (seat_at c.heap.view_is c.self.invariant.seat)
+    (may_leave g.L.KeyLayout.layout v c.args.shard c.requires.idle c.requires.owned
+    (none_mine (own_body v).mine (λ x. (none x.page).mine x.slot))
+    (none_noted_at (own_body v).cursors (λ q. (none q).cursor))
+    (none_armed (own_body v).armed (λ q. (none q).armed)) c.requires.bell)
 
 pub returns : goal.returns
 returns g c =

@@ -6,7 +6,9 @@ use Rattle.sh_pass.proofs.OwnSteps.{publish_does}
 use Rattle.sh_pass.proofs.owner.Owner.publish.Goals as goal
 
 pub publish-requires : goal.publish-requires
-publish-requires g c = can c.args.self.now action.Publish (move.Publish c.args.spot c.args.value.now) c.self.view_is (seat_at c.heap.view_is c.self.invariant.seat) (may_publish g.L.KeyLayout.layout c.args.self.now c.args.spot c.args.value.now c.requires.hand)
+publish-requires g c = can c.args.self.now action.Publish (move.Publish c.args.spot c.args.value.now) c.self.view_is
+    (seat_at c.heap.view_is c.self.invariant.seat) (may_publish g.L.KeyLayout.layout c.args.self.now c.args.spot
+    c.args.value.now c.requires.hand)
 
 pub returns : goal.returns
 returns g c =

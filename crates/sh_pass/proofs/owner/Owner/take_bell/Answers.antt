@@ -6,7 +6,9 @@ use Rattle.sh_pass.proofs.OwnSteps.{take_bell_does}
 use Rattle.sh_pass.proofs.owner.Owner.take_bell.Goals as goal
 
 pub take_bell-requires : goal.take_bell-requires
-take_bell-requires g c = can c.args.self.now action.TakeBell (move.TakeBell c.args.shard) c.self.view_is (seat_at c.heap.view_is c.self.invariant.seat) (may_take_bell g.L.KeyLayout.layout c.args.self.now c.args.shard c.requires.idle c.requires.owned c.requires.none)
+take_bell-requires g c = can c.args.self.now action.TakeBell (move.TakeBell c.args.shard) c.self.view_is
+    (seat_at c.heap.view_is c.self.invariant.seat) (may_take_bell g.L.KeyLayout.layout c.args.self.now c.args.shard
+    c.requires.idle c.requires.owned c.requires.none)
 
 pub returns : goal.returns
 returns g c =

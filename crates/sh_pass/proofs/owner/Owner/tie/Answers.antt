@@ -6,7 +6,9 @@ use Rattle.sh_pass.proofs.OwnSteps.{tie_does}
 use Rattle.sh_pass.proofs.owner.Owner.tie.Goals as goal
 
 pub tie-requires : goal.tie-requires
-tie-requires g c = can c.args.self.now action.Tie (move.Tie c.args.spot c.args.link c.args.ring) c.self.view_is (seat_at c.heap.view_is c.self.invariant.seat) (may_tie_owned g.L.KeyLayout.layout c.args.self.now c.args.spot c.args.link c.args.ring c.requires)
+tie-requires g c = can c.args.self.now action.Tie (move.Tie c.args.spot c.args.link c.args.ring) c.self.view_is
+    (seat_at c.heap.view_is c.self.invariant.seat) (may_tie_owned g.L.KeyLayout.layout c.args.self.now c.args.spot
+    c.args.link c.args.ring c.requires)
 
 pub returns : goal.returns
 returns g c =

@@ -7,6 +7,7 @@ pub returns-clause-full : goal.returns-clause-full
 returns-clause-full g c =
     rw (
       ← c.self.view_is,
-      holds_on_is (first_key g.L.KeyLayout.layout) c.self.inside.entries.items c.self.inside.issued.items c.self.inside.holds.items c.self.invariant.index c.args.key,
+      holds_on_is (first_key g.L.KeyLayout.layout) c.self.inside.entries.items c.self.inside.issued.items
+          c.self.inside.holds.items c.self.invariant.index c.args.key,
       ← (rw c.deref.ensures.value at c.holds_on.ensures),
     ) (search rules)

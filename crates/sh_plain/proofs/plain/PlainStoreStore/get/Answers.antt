@@ -11,4 +11,5 @@ returns-clause-stands g c = book_stands g.L.KeyLayout.layout _ _ _ _ _ _ c.self-
 pub returns-clause-leaves : goal.returns-clause-leaves
 returns-clause-leaves g c =
     let P : Plain → Type 0 = λ s. Legal s.passes g.L.KeyLayout.layout.guard_max s.entries in
-    get_leaves g.L.KeyLayout.layout c.args.self.now c.args.key (subst P c.self.view_is c.self.invariant.legal) c.plain_get-result.result c.plain_get-result.new.self c.plain_get-result.ensures
+    get_leaves g.L.KeyLayout.layout c.args.self.now c.args.key (subst P c.self.view_is c.self.invariant.legal)
+    c.plain_get-result.result c.plain_get-result.new.self c.plain_get-result.ensures

@@ -11,4 +11,5 @@ returns-clause-stands g c = book_stands g.L.KeyLayout.layout _ _ _ _ _ _ c.self.
 pub returns-clause-leaves : goal.returns-clause-leaves
 returns-clause-leaves g c =
     let P : Plain → Type 0 = λ s. Legal s.passes g.L.KeyLayout.layout.guard_max s.entries in
-    read_leaves g.L.KeyLayout.layout c.args.self.now c.args.hold.key (subst P c.self.view_is c.self.invariant.legal) c.plain_read-result.result c.args.self.now c.plain_read-result.ensures refl
+    read_leaves g.L.KeyLayout.layout c.args.self.now c.args.hold.key (subst P c.self.view_is c.self.invariant.legal)
+    c.plain_read-result.result c.args.self.now c.plain_read-result.ensures refl

@@ -8,9 +8,11 @@ returns-clause-stands g c = book_stands g.L.KeyLayout.layout _ _ _ _ _ _ c.self.
 
 pub returns-clause-same : goal.returns-clause-same
 returns-clause-same g c =
-    setting_stays g.L.KeyLayout.layout (remove_reply g.L.KeyLayout.layout c.args.self.now c.args.key) c.args.self.now c.plain_remove-result.new.self
+    setting_stays g.L.KeyLayout.layout (remove_reply g.L.KeyLayout.layout c.args.self.now c.args.key) c.args.self.now
+    c.plain_remove-result.new.self
     c.plain_remove-result.result c.plain_remove-result.ensures
 
 pub returns-clause-leaves : goal.returns-clause-leaves
 returns-clause-leaves g c =
-    remove_leaves g.L.KeyLayout.layout c.args.self.now c.args.key c.plain_remove-result.result c.plain_remove-result.new.self c.plain_remove-result.ensures
+    remove_leaves g.L.KeyLayout.layout c.args.self.now c.args.key c.plain_remove-result.result
+    c.plain_remove-result.new.self c.plain_remove-result.ensures

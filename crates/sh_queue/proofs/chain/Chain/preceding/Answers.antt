@@ -17,4 +17,5 @@ returns c =
     let p = c.self.inside.prev.items in
     let count = c.self.inside.count in
     let small = inside n p count c.args.m c.args.self.now c.self.view_is c.self.invariant c.requires.here in
-    get_or_read p c.args.m _ small.1 c.index.ensures 0 ∙ (ahead n p count c.args.m 0 c.args.self.now c.self.view_is c.self.invariant c.requires.here c.requires.inner).is
+    get_or_read p c.args.m _ small.1 c.index.ensures 0 ∙ (ahead n p count c.args.m 0 c.args.self.now c.self.view_is
+    c.self.invariant c.requires.here c.requires.inner).is

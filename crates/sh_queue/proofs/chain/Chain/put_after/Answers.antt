@@ -25,7 +25,8 @@ index_mut-requires-2 c =
     let p = c.self.inside.prev.items in
     let count = c.self.inside.count in
     let small = inside n p count c.args.s c.args.self.now c.self.view_is c.self.invariant c.requires.here in
-    let u = puts n p count c.args.s c.args.x c.index-behind.result.now c.args.self.now c.self.view_is c.self.invariant c.requires.here c.requires.inner c.requires.apart c.requires.inside
+    let u = puts n p count c.args.s c.args.x c.index-behind.result.now c.args.self.now c.self.view_is c.self.invariant
+    c.requires.here c.requires.inner c.requires.apart c.requires.inside
     (get_or_read n c.args.s _ small.0 c.index-behind.ensures 0) in
     omega (arith, u.behind_in, c.self.inside.prev.ok.0)
 
@@ -35,7 +36,8 @@ overflow_add-self c =
     let p = c.self.inside.prev.items in
     let count = c.self.inside.count in
     let small = inside n p count c.args.s c.args.self.now c.self.view_is c.self.invariant c.requires.here in
-    let u = puts n p count c.args.s c.args.x c.index-behind.result.now c.args.self.now c.self.view_is c.self.invariant c.requires.here c.requires.inner c.requires.apart c.requires.inside
+    let u = puts n p count c.args.s c.args.x c.index-behind.result.now c.args.self.now c.self.view_is c.self.invariant
+    c.requires.here c.requires.inner c.requires.apart c.requires.inside
     (get_or_read n c.args.s _ small.0 c.index-behind.ensures 0) in
     omega (arith, u.room, c.self.inside.next.ok.0)
 
@@ -45,7 +47,8 @@ invariant_of-self c =
     let p = c.self.inside.prev.items in
     let count = c.self.inside.count in
     let small = inside n p count c.args.s c.args.self.now c.self.view_is c.self.invariant c.requires.here in
-    let u = puts n p count c.args.s c.args.x c.index-behind.result.now c.args.self.now c.self.view_is c.self.invariant c.requires.here c.requires.inner c.requires.apart c.requires.inside
+    let u = puts n p count c.args.s c.args.x c.index-behind.result.now c.args.self.now c.self.view_is c.self.invariant
+    c.requires.here c.requires.inner c.requires.apart c.requires.inside
     (get_or_read n c.args.s _ small.0 c.index-behind.ensures 0) in
     u.holds.links
 
@@ -55,7 +58,8 @@ returns-clause-put c =
     let p = c.self.inside.prev.items in
     let count = c.self.inside.count in
     let small = inside n p count c.args.s c.args.self.now c.self.view_is c.self.invariant c.requires.here in
-    let u = puts n p count c.args.s c.args.x c.index-behind.result.now c.args.self.now c.self.view_is c.self.invariant c.requires.here c.requires.inner c.requires.apart c.requires.inside
+    let u = puts n p count c.args.s c.args.x c.index-behind.result.now c.args.self.now c.self.view_is c.self.invariant
+    c.requires.here c.requires.inner c.requires.apart c.requires.inside
     (get_or_read n c.args.s _ small.0 c.index-behind.ensures 0) in
     u.holds.shows
 
@@ -65,6 +69,7 @@ returns-clause-distinct c =
     let p = c.self.inside.prev.items in
     let count = c.self.inside.count in
     let small = inside n p count c.args.s c.args.self.now c.self.view_is c.self.invariant c.requires.here in
-    let u = puts n p count c.args.s c.args.x c.index-behind.result.now c.args.self.now c.self.view_is c.self.invariant c.requires.here c.requires.inner c.requires.apart c.requires.inside
+    let u = puts n p count c.args.s c.args.x c.index-behind.result.now c.args.self.now c.self.view_is c.self.invariant
+    c.requires.here c.requires.inner c.requires.apart c.requires.inside
     (get_or_read n c.args.s _ small.0 c.index-behind.ensures 0) in
     u.holds.links.distinct

@@ -26,7 +26,8 @@ index_mut-requires c =
     let p = c.self.inside.prev.items in
     let count = c.self.inside.count in
     let small = inside n p count c.args.x c.args.self.now c.self.view_is c.self.invariant c.requires.here in
-    let u = unlinks n p count c.args.x c.index-before.result.now c.index-behind.result.now c.args.self.now c.self.view_is c.self.invariant c.requires.here c.requires.inner
+    let u = unlinks n p count c.args.x c.index-before.result.now c.index-behind.result.now c.args.self.now
+    c.self.view_is c.self.invariant c.requires.here c.requires.inner
     (get_or_read p c.args.x _ small.1 c.index-before.ensures 0)
     (get_or_read n c.args.x _ small.0 c.index-behind.ensures 0) in
     omega (arith, u.before_in, c.self.inside.next.ok.0)
@@ -37,7 +38,8 @@ index_mut-requires-2 c =
     let p = c.self.inside.prev.items in
     let count = c.self.inside.count in
     let small = inside n p count c.args.x c.args.self.now c.self.view_is c.self.invariant c.requires.here in
-    let u = unlinks n p count c.args.x c.index-before.result.now c.index-behind.result.now c.args.self.now c.self.view_is c.self.invariant c.requires.here c.requires.inner
+    let u = unlinks n p count c.args.x c.index-before.result.now c.index-behind.result.now c.args.self.now
+    c.self.view_is c.self.invariant c.requires.here c.requires.inner
     (get_or_read p c.args.x _ small.1 c.index-before.ensures 0)
     (get_or_read n c.args.x _ small.0 c.index-behind.ensures 0) in
     omega (arith, u.behind_in, c.self.inside.prev.ok.0)
@@ -48,7 +50,8 @@ invariant_of-self c =
     let p = c.self.inside.prev.items in
     let count = c.self.inside.count in
     let small = inside n p count c.args.x c.args.self.now c.self.view_is c.self.invariant c.requires.here in
-    let u = unlinks n p count c.args.x c.index-before.result.now c.index-behind.result.now c.args.self.now c.self.view_is c.self.invariant c.requires.here c.requires.inner
+    let u = unlinks n p count c.args.x c.index-before.result.now c.index-behind.result.now c.args.self.now
+    c.self.view_is c.self.invariant c.requires.here c.requires.inner
     (get_or_read p c.args.x _ small.1 c.index-before.ensures 0)
     (get_or_read n c.args.x _ small.0 c.index-behind.ensures 0) in
     u.holds.links
@@ -59,7 +62,8 @@ returns-clause-out c =
     let p = c.self.inside.prev.items in
     let count = c.self.inside.count in
     let small = inside n p count c.args.x c.args.self.now c.self.view_is c.self.invariant c.requires.here in
-    let u = unlinks n p count c.args.x c.index-before.result.now c.index-behind.result.now c.args.self.now c.self.view_is c.self.invariant c.requires.here c.requires.inner
+    let u = unlinks n p count c.args.x c.index-before.result.now c.index-behind.result.now c.args.self.now
+    c.self.view_is c.self.invariant c.requires.here c.requires.inner
     (get_or_read p c.args.x _ small.1 c.index-before.ensures 0)
     (get_or_read n c.args.x _ small.0 c.index-behind.ensures 0) in
     u.holds.shows
@@ -70,7 +74,8 @@ returns-clause-gone c =
     let p = c.self.inside.prev.items in
     let count = c.self.inside.count in
     let small = inside n p count c.args.x c.args.self.now c.self.view_is c.self.invariant c.requires.here in
-    let u = unlinks n p count c.args.x c.index-before.result.now c.index-behind.result.now c.args.self.now c.self.view_is c.self.invariant c.requires.here c.requires.inner
+    let u = unlinks n p count c.args.x c.index-before.result.now c.index-behind.result.now c.args.self.now
+    c.self.view_is c.self.invariant c.requires.here c.requires.inner
     (get_or_read p c.args.x _ small.1 c.index-before.ensures 0)
     (get_or_read n c.args.x _ small.0 c.index-behind.ensures 0) in
     ap (λ v. has_number c.args.x v.numbers) u.holds.shows ∙ u.gone

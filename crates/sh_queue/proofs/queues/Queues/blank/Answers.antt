@@ -13,15 +13,18 @@ pub returns-clause-front : goal.returns-clause-front
 returns-clause-front c =
     let q = c.self.inside in
     let w = q.chain.numbers in
-    (front_of w 9 c.following.result q.chain.size q.opened q.unopened q.full.items c.page_of.result c.self.invariant c.following.ensures c.page_of.ensures).is
+    (front_of w 9 c.following.result q.chain.size q.opened q.unopened q.full.items c.page_of.result c.self.invariant
+    c.following.ensures c.page_of.ensures).is
     ∙ ap (λ (v : PageQueues). slice_get v.blank 0) c.self.view_is
 
 pub returns-clause-lowest : goal.returns-clause-lowest
 returns-clause-lowest c =
     let q = c.self.inside in
     let w = q.chain.numbers in
-    let P : PageQueues → Type 0 = λ v. IfSome c.page_of.result (λ page. (other : ℕ) → has_number other v.blank ≡ true → page ≤ other) in
-    let front = front_of w 9 c.following.result q.chain.size q.opened q.unopened q.full.items c.page_of.result c.self.invariant c.following.ensures c.page_of.ensures in
+    let P : PageQueues → Type 0 = λ v. IfSome c.page_of.result
+    (λ page. (other : ℕ) → has_number other v.blank ≡ true → page ≤ other) in
+    let front = front_of w 9 c.following.result q.chain.size q.opened q.unopened q.full.items c.page_of.result
+    c.self.invariant c.following.ensures c.page_of.ensures in
     subst P c.self.view_is (lowest_blank (pages_behind 9 w) c.page_of.result c.self.invariant.rising front.is)
 
 pub returns-clause-opened : goal.returns-clause-opened
@@ -29,5 +32,6 @@ returns-clause-opened c =
     let q = c.self.inside in
     let w = q.chain.numbers in
     let P : PageQueues → Type 0 = λ v. IfSome c.page_of.result (λ page. page < v.opened) in
-    let front = front_of w 9 c.following.result q.chain.size q.opened q.unopened q.full.items c.page_of.result c.self.invariant c.following.ensures c.page_of.ensures in
+    let front = front_of w 9 c.following.result q.chain.size q.opened q.unopened q.full.items c.page_of.result
+    c.self.invariant c.following.ensures c.page_of.ensures in
     subst P c.self.view_is front.is_opened

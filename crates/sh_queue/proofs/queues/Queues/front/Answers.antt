@@ -13,7 +13,8 @@ pub returns-clause-front : goal.returns-clause-front
 returns-clause-front c =
     let q = c.self.inside in
     let w = q.chain.numbers in
-    (front_of w c.args.c c.following.result q.chain.size q.opened q.unopened q.full.items c.page_of.result c.self.invariant c.following.ensures c.page_of.ensures).is
+    (front_of w c.args.c c.following.result q.chain.size q.opened q.unopened q.full.items c.page_of.result
+    c.self.invariant c.following.ensures c.page_of.ensures).is
     ∙ ap (λ xs. slice_get xs 0) (sym (class_is c.args.c w c.requires))
     ∙ ap (λ (v : PageQueues). slice_get (class_queue v c.args.c) 0) c.self.view_is
 
@@ -22,5 +23,6 @@ returns-clause-opened c =
     let q = c.self.inside in
     let w = q.chain.numbers in
     let P : PageQueues → Type 0 = λ v. IfSome c.page_of.result (λ page. page < v.opened) in
-    let front = front_of w c.args.c c.following.result q.chain.size q.opened q.unopened q.full.items c.page_of.result c.self.invariant c.following.ensures c.page_of.ensures in
+    let front = front_of w c.args.c c.following.result q.chain.size q.opened q.unopened q.full.items c.page_of.result
+    c.self.invariant c.following.ensures c.page_of.ensures in
     subst P c.self.view_is front.is_opened

@@ -14,7 +14,8 @@ pub returns-clause-last : goal.returns-clause-last
 returns-clause-last c =
     let q = c.self.inside in
     let w = q.chain.numbers in
-    (last_of w c.args.c c.preceding.result q.chain.size q.opened q.unopened q.full.items c.page_of.result c.self.invariant c.requires c.preceding.ensures c.page_of.ensures).is
+    (last_of w c.args.c c.preceding.result q.chain.size q.opened q.unopened q.full.items c.page_of.result
+    c.self.invariant c.requires c.preceding.ensures c.page_of.ensures).is
     ∙ ap (last_or None) (sym (class_is c.args.c w c.requires))
     ∙ ap (λ (v : PageQueues). last_or None (class_queue v c.args.c)) c.self.view_is
 
@@ -23,5 +24,6 @@ returns-clause-opened c =
     let q = c.self.inside in
     let w = q.chain.numbers in
     let P : PageQueues → Type 0 = λ v. IfSome c.page_of.result (λ page. page < v.opened) in
-    let last = last_of w c.args.c c.preceding.result q.chain.size q.opened q.unopened q.full.items c.page_of.result c.self.invariant c.requires c.preceding.ensures c.page_of.ensures in
+    let last = last_of w c.args.c c.preceding.result q.chain.size q.opened q.unopened q.full.items c.page_of.result
+    c.self.invariant c.requires c.preceding.ensures c.page_of.ensures in
     subst P c.self.view_is last.is_opened

@@ -15,16 +15,22 @@ pub invariant_of-self : goal.invariant_of-self
 invariant_of-self c =
     let q = c.self.inside in
     let w = q.chain.numbers in
-    (leaves_full w c.put_before.new.self.numbers c.args.page q.chain.size c.put_before.new.self.size q.opened q.unopened q.full.items c.args.self.now c.self.view_is c.self.invariant c.requires
-    (ap (λ (v : ChainNumbers). v.numbers) c.put_before.ensures.put ∙ ap (λ (v : ChainNumbers). put_before 9 ((11 + c.args.page) ∷ []) v.numbers) c.unlink.ensures.out)
+    (leaves_full w c.put_before.new.self.numbers c.args.page q.chain.size c.put_before.new.self.size q.opened q.unopened
+    q.full.items c.args.self.now c.self.view_is c.self.invariant c.requires
+    (ap (λ (v : ChainNumbers). v.numbers) c.put_before.ensures.put
+    ∙ ap (λ (v : ChainNumbers). put_before 9 ((11 + c.args.page) ∷ []) v.numbers) c.unlink.ensures.out)
     c.put_before.ensures.distinct
-    (ap (λ (v : ChainNumbers). v.size) c.put_before.ensures.put ∙ ap (λ (v : ChainNumbers). v.size) c.unlink.ensures.out)).kept
+    (ap (λ (v : ChainNumbers). v.size) c.put_before.ensures.put ∙ ap (λ (v : ChainNumbers). v.size)
+    c.unlink.ensures.out)).kept
 
 pub returns : goal.returns
 returns c =
     let q = c.self.inside in
     let w = q.chain.numbers in
-    (leaves_full w c.put_before.new.self.numbers c.args.page q.chain.size c.put_before.new.self.size q.opened q.unopened q.full.items c.args.self.now c.self.view_is c.self.invariant c.requires
-    (ap (λ (v : ChainNumbers). v.numbers) c.put_before.ensures.put ∙ ap (λ (v : ChainNumbers). put_before 9 ((11 + c.args.page) ∷ []) v.numbers) c.unlink.ensures.out)
+    (leaves_full w c.put_before.new.self.numbers c.args.page q.chain.size c.put_before.new.self.size q.opened q.unopened
+    q.full.items c.args.self.now c.self.view_is c.self.invariant c.requires
+    (ap (λ (v : ChainNumbers). v.numbers) c.put_before.ensures.put
+    ∙ ap (λ (v : ChainNumbers). put_before 9 ((11 + c.args.page) ∷ []) v.numbers) c.unlink.ensures.out)
     c.put_before.ensures.distinct
-    (ap (λ (v : ChainNumbers). v.size) c.put_before.ensures.put ∙ ap (λ (v : ChainNumbers). v.size) c.unlink.ensures.out)).shows
+    (ap (λ (v : ChainNumbers). v.size) c.put_before.ensures.put ∙ ap (λ (v : ChainNumbers). v.size)
+    c.unlink.ensures.out)).shows

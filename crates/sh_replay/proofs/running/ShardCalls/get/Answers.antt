@@ -5,5 +5,7 @@ use Rattle.sh_replay.proofs.running.ShardCalls.get.Goals as goal
 pub returns-clause-does : goal.returns-clause-does
 returns-clause-does g c =
     let stays = c.get.ensures.stays in
-    (get_answers g.L.KeyLayout.layout c.args.self.now.pages.owner c.get.new.self.pages.owner c.shape.ensures.holds.stands c.shape.ensures.same
-    (stays.holds.owned ∙ (ap (λ n. Some n) stays.shard ∙ sym c.shape.ensures.holds.owned)) c.args.key c.get.result c.get.ensures.does).0
+    (get_answers g.L.KeyLayout.layout c.args.self.now.pages.owner c.get.new.self.pages.owner
+    c.shape.ensures.holds.stands c.shape.ensures.same
+    (stays.holds.owned ∙ (ap (λ n. Some n) stays.shard ∙ sym c.shape.ensures.holds.owned)) c.args.key c.get.result
+    c.get.ensures.does).0

@@ -5,5 +5,7 @@ use Rattle.sh_replay.proofs.running.ShardCalls.remove.Goals as goal
 pub returns-clause-does : goal.returns-clause-does
 returns-clause-does g c =
     let stays = c.remove.ensures.stays in
-    (remove_answers g.L.KeyLayout.layout c.args.self.now.pages.owner c.remove.new.self.pages.owner c.shape.ensures.holds.stands c.shape.ensures.same
-    (stays.holds.owned ∙ (ap (λ n. Some n) stays.shard ∙ sym c.shape.ensures.holds.owned)) c.args.key c.remove.result c.remove.ensures.does).0
+    (remove_answers g.L.KeyLayout.layout c.args.self.now.pages.owner c.remove.new.self.pages.owner
+    c.shape.ensures.holds.stands c.shape.ensures.same
+    (stays.holds.owned ∙ (ap (λ n. Some n) stays.shard ∙ sym c.shape.ensures.holds.owned)) c.args.key c.remove.result
+    c.remove.ensures.does).0

@@ -10,6 +10,9 @@ invariant_of-self-in-Ok c = λ q.
     let old = c.self.inside.bound.items in
     let b : Bound = record { name = c.args.name; by = c.args.by } in
     let place : c.len-place.result ≡ length old = search rules in
-    let fresh : find_from 0 (map binding_of old) c.args.name.now ≡ None = ap (λ ns. find_from 0 ns c.args.name.now) c.self.view_is ∙ c.requires in
-    grown_finds old c.push.new.self.items b c.len-place.result q _ _ c.in_ok-push.ensures.items place fresh (c.self.invariant q)
-    (btree_map_updates_str c.args.name.now c.self.inside.found c.insert.new.self (Some (found_at c.len-place.result c.args.by)) c.in-Ok.ensures.updates q)
+    let fresh : find_from 0 (map binding_of old) c.args.name.now ≡ None = ap (λ ns. find_from 0 ns c.args.name.now)
+    c.self.view_is ∙ c.requires in
+    grown_finds old c.push.new.self.items b c.len-place.result q _ _ c.in_ok-push.ensures.items place fresh
+    (c.self.invariant q)
+    (btree_map_updates_str c.args.name.now c.self.inside.found c.insert.new.self
+    (Some (found_at c.len-place.result c.args.by)) c.in-Ok.ensures.updates q)

@@ -6,6 +6,10 @@ use Rattle.sh_shard.proofs.pages.Pages.collect.Goals.{then-not-has_cursor, else-
 
 pub returns : goal.returns
 returns g c = elim c.if-not-has_cursor.branch [
-  | then-not-has_cursor w ↦ collects_taken c.args.page c.args.self.now w.take.new.self c.follow_all.new.self w.take.ensures (subst (λ (z : Paged). CursorStops c.args.page z c.follow_all.new.self) w.self-is c.follow_all.ensures)
-  | else-not-has_cursor w ↦ collects c.args.page c.args.self.now c.args.self.now c.follow_all.new.self (works_none c.args.page c.args.self.now) (subst (λ (z : Paged). CursorStops c.args.page z c.follow_all.new.self) w.self-is c.follow_all.ensures)
+  | then-not-has_cursor w ↦ collects_taken c.args.page c.args.self.now w.take.new.self c.follow_all.new.self
+      w.take.ensures (subst (λ (z : Paged). CursorStops c.args.page z c.follow_all.new.self) w.self-is
+      c.follow_all.ensures)
+  | else-not-has_cursor w ↦ collects c.args.page c.args.self.now c.args.self.now c.follow_all.new.self
+      (works_none c.args.page c.args.self.now) (subst (λ (z : Paged). CursorStops c.args.page z c.follow_all.new.self)
+      w.self-is c.follow_all.ensures)
 ]

@@ -6,10 +6,13 @@ pub loop-page-init : goal.loop-page-init
 loop-page-init g c = emptying_none c.args.self.now
 
 pub empty_page-requires : goal.empty_page-requires
-empty_page-requires g c = let e = c.count-page-end.ensures.count in let z = c.loop-page-test.true in let s = c.loop-page.invariant.through.count in omega arith
+empty_page-requires g c = let e = c.count-page-end.ensures.count in let z = c.loop-page-test.true
+    in let s = c.loop-page.invariant.through.count in omega arith
 
 pub loop-page-preserved : goal.loop-page-preserved
-loop-page-preserved g c = emptying_more c.loop-page.page c.args.self.now c.loop-page.self c.empty_page.new.self c.loop-page.invariant c.empty_page.ensures
+loop-page-preserved g c = emptying_more c.loop-page.page c.args.self.now c.loop-page.self c.empty_page.new.self
+    c.loop-page.invariant c.empty_page.ensures
 
 pub returns : goal.returns
-returns g c = pages_emptied c.loop-page.page c.args.self.now c.loop-page.self c.loop-page.invariant (let e = c.count-page-end.ensures.count in let z = c.loop-page-test.false in omega arith)
+returns g c = pages_emptied c.loop-page.page c.args.self.now c.loop-page.self c.loop-page.invariant
+    (let e = c.count-page-end.ensures.count in let z = c.loop-page-test.false in omega arith)

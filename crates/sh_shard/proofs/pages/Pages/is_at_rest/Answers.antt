@@ -12,4 +12,8 @@ pub loop-page-preserved : goal.loop-page-preserved
 loop-page-preserved g c = rests_more c.args.self.now c.loop-page.page c.loop-page.invariant c.if-not-rests.ensures
 
 pub returns : goal.returns
-returns g c = record { bell = c.if-has_rings.ensures; pages = λ p l. c.loop-page.invariant p (let e = c.count-page-end.ensures.count in let z = c.loop-page-test.false in omega arith) }
+returns g c = record {
+  bell = c.if-has_rings.ensures;
+  pages = λ p l. c.loop-page.invariant p
+      (let e = c.count-page-end.ensures.count in let z = c.loop-page-test.false in omega arith);
+}

@@ -5,9 +5,12 @@ use Rattle.sh_shard.proofs.Working.{paged_of}
 use Rattle.sh_shard.proofs.pages.Pages.read.Goals as goal
 
 pub invariant_of-self : goal.invariant_of-self
-invariant_of-self g c = (kept_after None None c.read.new.self c.self.inside.states.items c.self.invariant c.read.ensures.leaves c.read.ensures.stands (refl, refl)).keeps
+invariant_of-self g c = (kept_after None None c.read.new.self c.self.inside.states.items c.self.invariant
+    c.read.ensures.leaves c.read.ensures.stands (refl, refl)).keeps
 
 pub returns-clause-came : goal.returns-clause-came
 returns-clause-came g c =
-    let P : Paged → Type 0 = λ z. SlotComes None z (paged_of g.L.KeyLayout.layout c.read.new.self c.self.inside.shard (length c.self.inside.states.items)) in
-    subst P c.self.view_is (kept_after None None c.read.new.self c.self.inside.states.items c.self.invariant c.read.ensures.leaves c.read.ensures.stands (refl, refl)).comes
+    let P : Paged → Type 0 = λ z. SlotComes None z (paged_of g.L.KeyLayout.layout c.read.new.self c.self.inside.shard
+    (length c.self.inside.states.items)) in
+    subst P c.self.view_is (kept_after None None c.read.new.self c.self.inside.states.items c.self.invariant
+    c.read.ensures.leaves c.read.ensures.stands (refl, refl)).comes

@@ -7,13 +7,20 @@ use Rattle.sh_shard.proofs.Preparing.{prepared}
 use Rattle.sh_shard.proofs.shard.Shard.give_blank.Goals as goal
 
 pub give_class-requires-clause-may : goal.give_class-requires-clause-may
-give_class-requires-clause-may g c = inl (c.self.invariant.blank c.in-Some.page (front_blank c.in-Some.page c.self.inside.queues (sym c.blank.ensures.front ∙ c.in-Some.is)))
+give_class-requires-clause-may g c = inl (c.self.invariant.blank c.in-Some.page
+    (front_blank c.in-Some.page c.self.inside.queues (sym c.blank.ensures.front ∙ c.in-Some.is)))
 
 pub invariant_of-self : goal.invariant_of-self
-invariant_of-self g c = sorted_given c.self.inside.pages c.self.inside.queues c.self.invariant c.opened-opened.ensures.once c.give_class.new.self c.to_front.new.self c.args.class c.in-Some.page c.requires c.in-Some.ensures.opened c.give_class.ensures c.to_front.ensures
+invariant_of-self g c = sorted_given c.self.inside.pages c.self.inside.queues c.self.invariant
+    c.opened-opened.ensures.once c.give_class.new.self c.to_front.new.self c.args.class c.in-Some.page c.requires
+    c.in-Some.ensures.opened c.give_class.ensures c.to_front.ensures
 
 pub returns : goal.returns
 returns g c =
-    let P : Sharded → Type 0 = λ z. PreparesPage c.args.class c.in-Some.page z (record { pages = c.give_class.new.self; queues = c.to_front.new.self }) in
-    let was : (page_at c.self.inside.pages c.in-Some.page).class ≡ Some 0 = c.self.invariant.blank c.in-Some.page (front_blank c.in-Some.page c.self.inside.queues (sym c.blank.ensures.front ∙ c.in-Some.is)) in
-    subst P c.self.view_is (prepared c.self.inside.pages c.give_class.new.self c.self.inside.queues c.to_front.new.self c.args.class c.in-Some.page c.self.invariant c.opened-opened.ensures.once c.requires c.in-Some.ensures.opened (inl was) c.give_class.ensures c.to_front.ensures)
+    let P : Sharded → Type 0 = λ z. PreparesPage c.args.class c.in-Some.page z
+    (record { pages = c.give_class.new.self; queues = c.to_front.new.self }) in
+    let was : (page_at c.self.inside.pages c.in-Some.page).class ≡ Some 0 = c.self.invariant.blank c.in-Some.page
+    (front_blank c.in-Some.page c.self.inside.queues (sym c.blank.ensures.front ∙ c.in-Some.is)) in
+    subst P c.self.view_is (prepared c.self.inside.pages c.give_class.new.self c.self.inside.queues c.to_front.new.self
+    c.args.class c.in-Some.page c.self.invariant c.opened-opened.ensures.once c.requires c.in-Some.ensures.opened
+    (inl was) c.give_class.ensures c.to_front.ensures)

@@ -7,17 +7,28 @@ use Rattle.sh_shard.proofs.shard.Shard.give_spare.Goals as goal
 
 pub give_class-requires-clause-may : goal.give_class-requires-clause-may
 give_class-requires-clause-may g c =
-    let spare : IsSpare c.args.class (page_at c.self.inside.pages c.in-Some.page) = subst (λ (z : Sharded). IsSpare c.args.class (page_at z.pages c.in-Some.page)) (sym c.self.view_is) c.in-Some.ensures.1 in
+    let spare : IsSpare c.args.class (page_at c.self.inside.pages c.in-Some.page) = subst
+    (λ (z : Sharded). IsSpare c.args.class (page_at z.pages c.in-Some.page)) (sym c.self.view_is)
+    c.in-Some.ensures.1 in
     inr spare.whole
 
 pub invariant_of-self : goal.invariant_of-self
 invariant_of-self g c =
-    let inside : c.in-Some.page < c.self.inside.queues.opened = subst (λ (z : Sharded). c.in-Some.page < z.queues.opened) (sym c.self.view_is) c.in-Some.ensures.0 in
-    sorted_given c.self.inside.pages c.self.inside.queues c.self.invariant c.opened-opened.ensures.once c.give_class.new.self c.to_front.new.self c.args.class c.in-Some.page c.requires inside c.give_class.ensures c.to_front.ensures
+    let inside : c.in-Some.page < c.self.inside.queues.opened = subst
+    (λ (z : Sharded). c.in-Some.page < z.queues.opened) (sym c.self.view_is) c.in-Some.ensures.0 in
+    sorted_given c.self.inside.pages c.self.inside.queues c.self.invariant c.opened-opened.ensures.once
+    c.give_class.new.self c.to_front.new.self c.args.class c.in-Some.page c.requires inside c.give_class.ensures
+    c.to_front.ensures
 
 pub returns : goal.returns
 returns g c =
-    let inside : c.in-Some.page < c.self.inside.queues.opened = subst (λ (z : Sharded). c.in-Some.page < z.queues.opened) (sym c.self.view_is) c.in-Some.ensures.0 in
-    let spare : IsSpare c.args.class (page_at c.self.inside.pages c.in-Some.page) = subst (λ (z : Sharded). IsSpare c.args.class (page_at z.pages c.in-Some.page)) (sym c.self.view_is) c.in-Some.ensures.1 in
-    let P : Sharded → Type 0 = λ z. PreparesPage c.args.class c.in-Some.page z (record { pages = c.give_class.new.self; queues = c.to_front.new.self }) in
-    subst P c.self.view_is (prepared c.self.inside.pages c.give_class.new.self c.self.inside.queues c.to_front.new.self c.args.class c.in-Some.page c.self.invariant c.opened-opened.ensures.once c.requires inside (inr spare) c.give_class.ensures c.to_front.ensures)
+    let inside : c.in-Some.page < c.self.inside.queues.opened = subst
+    (λ (z : Sharded). c.in-Some.page < z.queues.opened) (sym c.self.view_is) c.in-Some.ensures.0 in
+    let spare : IsSpare c.args.class (page_at c.self.inside.pages c.in-Some.page) = subst
+    (λ (z : Sharded). IsSpare c.args.class (page_at z.pages c.in-Some.page)) (sym c.self.view_is)
+    c.in-Some.ensures.1 in
+    let P : Sharded → Type 0 = λ z. PreparesPage c.args.class c.in-Some.page z
+    (record { pages = c.give_class.new.self; queues = c.to_front.new.self }) in
+    subst P c.self.view_is (prepared c.self.inside.pages c.give_class.new.self c.self.inside.queues c.to_front.new.self
+    c.args.class c.in-Some.page c.self.invariant c.opened-opened.ensures.once c.requires inside (inr spare)
+    c.give_class.ensures c.to_front.ensures)

@@ -5,16 +5,27 @@ use Rattle.sh_shard.proofs.Hearing.{hears_none, hears_more, hears_stops, armed_l
 use Rattle.sh_shard.proofs.shard.Shard.hear.Goals as goal
 
 pub loop-turn-init : goal.loop-turn-init
-loop-turn-init g c = record { hears = hears_none c.args.c c.args.self.now; met = refl; armed = let f = armed_few c.args.self.now.pages in let e = c.count-count.ensures.count in let k : c.self.inside.pages.count ≡ c.args.self.now.pages.count = ap (λ (z : Sharded). z.pages.count) c.self.view_is in omega arith }
+loop-turn-init g c = record {
+  hears = hears_none c.args.c c.args.self.now;
+  met = refl;
+  armed = let f = armed_few
+      c.args.self.now.pages in let e = c.count-count.ensures.count in let k : c.self.inside.pages.count
+      ≡ c.args.self.now.pages.count = ap (λ (z : Sharded). z.pages.count) c.self.view_is in omega arith;
+}
 
 pub loop-turn-preserved : goal.loop-turn-preserved
 loop-turn-preserved g c =
     let i = c.loop-turn.invariant in
-    let once : EachOnce c.loop-turn.self.queues = subst (λ (z : Sharded). EachOnce z.queues) c.self-in-loop-turn.view_is c.opened-opened-in-loop-turn.ensures.once in record {
-      hears = hears_more c.args.c c.in-Some.word c.loop-turn.read c.is_heard-read.result c.args.self.now c.loop-turn.self c.read_bell.new.self c.requires.class i.hears once c.in-Some.ensures (not_either c.loop-turn.read c.is_heard-read.result c.in-Some.word c.args.c c.is_heard-read.ensures);
+    let once : EachOnce c.loop-turn.self.queues = subst (λ (z : Sharded). EachOnce z.queues) c.self-in-loop-turn.view_is
+    c.opened-opened-in-loop-turn.ensures.once in record {
+      hears = hears_more c.args.c c.in-Some.word c.loop-turn.read c.is_heard-read.result c.args.self.now
+          c.loop-turn.self c.read_bell.new.self c.requires.class i.hears once c.in-Some.ensures
+          (not_either c.loop-turn.read c.is_heard-read.result c.in-Some.word c.args.c c.is_heard-read.ensures);
       met = c.in-Some.ensures.reads.met ∙ i.met;
-      armed = let a = armed_less c.in-Some.word c.loop-turn.self c.read_bell.new.self c.in-Some.ensures in let b = i.armed in omega arith;
+      armed = let a = armed_less c.in-Some.word c.loop-turn.self c.read_bell.new.self c.in-Some.ensures
+          in let b = i.armed in omega arith;
     }
 
 pub returns-in_default-clause-hears : goal.returns-in_default-clause-hears
-returns-in_default-clause-hears g c = hears_stops c.args.c c.loop-turn.read c.args.self.now c.loop-turn.self c.read_bell.new.self c.loop-turn.invariant.hears c.in_default.ensures.0 c.in_default.ensures.1
+returns-in_default-clause-hears g c = hears_stops c.args.c c.loop-turn.read c.args.self.now c.loop-turn.self
+    c.read_bell.new.self c.loop-turn.invariant.hears c.in_default.ensures.0 c.in_default.ensures.1

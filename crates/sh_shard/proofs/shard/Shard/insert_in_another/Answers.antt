@@ -2,7 +2,9 @@ use Rattle.sh_shard.proofs.Preparing.{elsewhere_refused, elsewhere_added, prepar
 use Rattle.sh_shard.proofs.shard.Shard.insert_in_another.Goals as goal
 
 pub returns-in-Err : goal.returns-in-Err
-returns-in-Err g c = elsewhere_refused g.L.KeyLayout.layout c.args.c c.args.value.now c.args.self.now c.give_page.new.self c.in-Err.refusal c.in-Err.ensures
+returns-in-Err g c = elsewhere_refused g.L.KeyLayout.layout c.args.c c.args.value.now c.args.self.now
+    c.give_page.new.self c.in-Err.refusal c.in-Err.ensures
 
 pub unreachable-requires : goal.unreachable-requires
-unreachable-requires g c = prepared_has_slot c.args.c c.in-Ok._page c.args.self.now c.give_page.new.self c.requires.class c.in-Ok.ensures c.in-None.ensures.used.1
+unreachable-requires g c = prepared_has_slot c.args.c c.in-Ok._page c.args.self.now c.give_page.new.self
+    c.requires.class c.in-Ok.ensures c.in-None.ensures.used.1

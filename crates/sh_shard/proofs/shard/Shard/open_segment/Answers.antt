@@ -6,8 +6,10 @@ use Rattle.sh_shard.proofs.shard.Shard.open_segment.Goals as goal
 
 pub invariant_of-self-2 : goal.invariant_of-self-2
 invariant_of-self-2 g c =
-    let some : c.self.inside.queues.unopened ≢ 0 = subst (λ (z : Sharded). z.queues.unopened ≢ 0) (sym c.self.view_is) c.requires in
-    sorted_opened c.self.inside.pages c.self.inside.queues c.self.invariant c.open_segment.new.self some c.in_ok-_first.ensures.ok
+    let some : c.self.inside.queues.unopened ≢ 0 = subst (λ (z : Sharded). z.queues.unopened ≢ 0) (sym c.self.view_is)
+    c.requires in
+    sorted_opened c.self.inside.pages c.self.inside.queues c.self.invariant c.open_segment.new.self some
+    c.in_ok-_first.ensures.ok
 
 pub returns-clause-blank : goal.returns-clause-blank
 returns-clause-blank g c = some_blank c.self.inside.queues c.open_segment.new.self c.in_ok-_first.ensures.ok

@@ -8,16 +8,26 @@ pub invariant_of-self-then-page-opened : goal.invariant_of-self-then-page-opened
 invariant_of-self-then-page-opened g c =
     let o = c.opened-opened.ensures.opened in
     let t = c.if-page-opened.true in
-    sorted_altered c.self.inside.pages c.follow_bell.new.self c.self.inside.queues c.in-Some.page c.self.invariant (alters_reads c.in-Some.page _ _ c.in-Some.ensures) (not_full c.in-Some.page c.self.inside.queues c.opened-opened.ensures.once (omega arith))
+    sorted_altered c.self.inside.pages c.follow_bell.new.self c.self.inside.queues c.in-Some.page c.self.invariant
+    (alters_reads c.in-Some.page _ _ c.in-Some.ensures) (not_full c.in-Some.page c.self.inside.queues
+    c.opened-opened.ensures.once (omega arith))
 
 pub invariant_of-self-then-not-in_full : goal.invariant_of-self-then-not-in_full
 invariant_of-self-then-not-in_full g c =
-    sorted_altered c.self.inside.pages c.follow_bell.new.self c.self.inside.queues c.in-Some.page c.self.invariant (alters_reads c.in-Some.page _ _ c.in-Some.ensures) (sym c.in_full.ensures ∙ c.if-not-in_full.true)
+    sorted_altered c.self.inside.pages c.follow_bell.new.self c.self.inside.queues c.in-Some.page c.self.invariant
+    (alters_reads c.in-Some.page _ _ c.in-Some.ensures) (sym c.in_full.ensures ∙ c.if-not-in_full.true)
 
 pub invariant_of-self-2 : goal.invariant_of-self-2
 invariant_of-self-2 g c =
-    let here : has_number c.in-Some.page c.self.inside.queues.full ≡ true = sym c.in_full.ensures ∙ c.if-not-in_full.false in
-    let h = full_word c.self.inside.pages c.follow_bell.new.self c.self.inside.queues c.in-Some.page c.self.invariant (alters_reads c.in-Some.page _ _ c.in-Some.ensures) c.class_word-word.result here c.class_word-word.ensures.word in
+    let here : has_number c.in-Some.page c.self.inside.queues.full ≡ true = sym c.in_full.ensures
+    ∙ c.if-not-in_full.false in
+    let h = full_word c.self.inside.pages c.follow_bell.new.self c.self.inside.queues c.in-Some.page c.self.invariant
+    (alters_reads c.in-Some.page _ _ c.in-Some.ensures) c.class_word-word.result here c.class_word-word.ensures.word
+    in
     let h0 = h.0 in
     let h1 = h.1 in
-    sorted_returned c.self.inside.pages c.follow_bell.new.self c.self.inside.queues c.in-Some.page c.self.invariant (alters_reads c.in-Some.page _ _ c.in-Some.ensures) c.to_back.new.self c.class_word-word.result (c.class_word-word.result - 1) c.opened-opened.ensures.once (full_opened c.in-Some.page c.self.inside.queues c.opened-opened.ensures.once here) c.class_word-word.ensures.word (omega arith) (omega arith) c.to_back.ensures
+    sorted_returned c.self.inside.pages c.follow_bell.new.self c.self.inside.queues c.in-Some.page c.self.invariant
+    (alters_reads c.in-Some.page _ _ c.in-Some.ensures) c.to_back.new.self c.class_word-word.result
+    (c.class_word-word.result - 1) c.opened-opened.ensures.once
+    (full_opened c.in-Some.page c.self.inside.queues c.opened-opened.ensures.once here)
+    c.class_word-word.ensures.word (omega arith) (omega arith) c.to_back.ensures

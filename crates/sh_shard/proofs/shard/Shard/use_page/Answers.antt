@@ -7,5 +7,8 @@ use Rattle.sh_shard.proofs.shard.Shard.use_page.Goals as goal
 
 pub invariant_of-self : goal.invariant_of-self
 invariant_of-self g c =
-    let here : has_number c.args.page (class_queue c.self.inside.queues c.args.c) ≡ true = subst (λ (z : Sharded). has_number c.args.page (class_queue z.queues c.args.c) ≡ true) (sym c.self.view_is) c.requires.here in
-    sorted_used c.self.inside.pages c.use_slot.new.self c.self.inside.queues c.args.c c.args.page _ c.self.invariant c.opened-opened.ensures.once here _ c.use_slot.result c.use_slot.ensures.used
+    let here : has_number c.args.page (class_queue c.self.inside.queues c.args.c)
+    ≡ true = subst (λ (z : Sharded). has_number c.args.page (class_queue z.queues c.args.c) ≡ true)
+    (sym c.self.view_is) c.requires.here in
+    sorted_used c.self.inside.pages c.use_slot.new.self c.self.inside.queues c.args.c c.args.page _ c.self.invariant
+    c.opened-opened.ensures.once here _ c.use_slot.result c.use_slot.ensures.used

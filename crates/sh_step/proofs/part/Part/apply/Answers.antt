@@ -19,7 +19,8 @@ same_left plan p n m k is = sym (ap (left plan p n) is)
 replied : Plan → Body → ℕ → Move → Option Reply
 replied plan p n m = (row_of plan p m).reply n
 
-same_replied : (plan : Plan) (p : Body) (n : ℕ) (m k : Move) → m ≡ k → (row_of plan p k).reply n ≡ (row_of plan p m).reply n
+same_replied : (plan : Plan) (p : Body) (n : ℕ) (m k : Move) → m ≡ k → (row_of plan p k).reply n
+    ≡ (row_of plan p m).reply n
 unfolding replied
 same_replied plan p n m k is = sym (ap (replied plan p n) is)
 
@@ -27,8 +28,10 @@ pub publish-requires-clause-names : goal.publish-requires-clause-names
 publish-requires-clause-names g c =
     let plan = plan_of g.L.KeyLayout.layout c.args.shape.now in
     let spot = c.in-Publish.spot in
-    let fits : RowFits c.args.shape.now plan (row_of plan c.args.self.now (move.Publish spot c.in-Publish.value)) c.args.found =
-    subst (λ m. RowFits c.args.shape.now plan (row_of plan c.args.self.now m) c.args.found) c.in-Publish.is c.requires.fits in
+    let fits : RowFits c.args.shape.now plan (row_of plan c.args.self.now (move.Publish spot c.in-Publish.value))
+    c.args.found =
+    subst (λ m. RowFits c.args.shape.now plan (row_of plan c.args.self.now m) c.args.found) c.in-Publish.is
+    c.requires.fits in
     fits.issues _ c.in-Publish.value spot.page spot.slot refl refl
 
 pub returns-in-EnterRemove-clause-reply : goal.returns-in-EnterRemove-clause-reply
@@ -54,12 +57,14 @@ returns-in-Fill-clause-part g c =
 pub returns-in_ok-read_word-in-ReadWord-clause-part : goal.returns-in_ok-read_word-in-ReadWord-clause-part
 returns-in_ok-read_word-in-ReadWord-clause-part g c =
     let plan = plan_of g.L.KeyLayout.layout c.args.shape.now in
-    c.in_ok-read_word-in-ReadWord.ensures.part c.in-ReadWord.field-1 c.in-ReadWord.field-2 ∙ same_left plan c.args.self.now c.args.found _ _ c.in-ReadWord.is
+    c.in_ok-read_word-in-ReadWord.ensures.part c.in-ReadWord.field-1 c.in-ReadWord.field-2
+    ∙ same_left plan c.args.self.now c.args.found _ _ c.in-ReadWord.is
 
 pub returns-in_ok-set_class-in-SetClass-clause-part : goal.returns-in_ok-set_class-in-SetClass-clause-part
 returns-in_ok-set_class-in-SetClass-clause-part g c =
     let plan = plan_of g.L.KeyLayout.layout c.args.shape.now in
-    c.in_ok-set_class-in-SetClass.ensures.part c.args.found ∙ same_left plan c.args.self.now c.args.found _ _ c.in-SetClass.is
+    c.in_ok-set_class-in-SetClass.ensures.part c.args.found ∙ same_left plan c.args.self.now c.args.found _ _
+    c.in-SetClass.is
 
 pub returns-in-Tie-clause-part : goal.returns-in-Tie-clause-part
 returns-in-Tie-clause-part g c =
@@ -79,4 +84,5 @@ returns-in-Ring-clause-part g c =
 pub returns-in-RingTie-clause-part : goal.returns-in-RingTie-clause-part
 returns-in-RingTie-clause-part g c =
     let plan = plan_of g.L.KeyLayout.layout c.args.shape.now in
-    c.ring_tie.ensures c.in-RingTie.field-0 c.in-RingTie.field-1 c.args.found ∙ same_left plan c.args.self.now c.args.found _ _ c.in-RingTie.is
+    c.ring_tie.ensures c.in-RingTie.field-0 c.in-RingTie.field-1 c.args.found
+    ∙ same_left plan c.args.self.now c.args.found _ _ c.in-RingTie.is

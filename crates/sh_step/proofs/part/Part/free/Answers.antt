@@ -11,6 +11,12 @@ returns-then-not-has_number c =
     let holds = c.remove_number.ensures ∙ ap (λ (b : Body). without (λ j. j == k) b.holds) c.self.view_is in
     let last : has (λ j. j == k) (without (λ j. j == k) p.holds) ≡ false =
     ap (λ xs. has (λ j. j == k) xs) (sym holds) ∙ (sym c.has_number.ensures ∙ c.if-not-has_number.true) in
-    let left = record p { holds = without (λ j. j == k) p.holds; widths = off (λ x. x.0 == k) p.widths; lengths = off (λ x. x.0 == k) p.lengths; contents = off (λ x. x.0 == k) p.contents } in
+    let left = record p {
+      holds = without (λ j. j == k) p.holds;
+      widths = off (λ x. x.0 == k) p.widths;
+      lengths = off
+          (λ x. x.0 == k) p.lengths;
+      contents = off (λ x. x.0 == k) p.contents;
+    } in
     let e : _ ≡ left = search rules in
     e ∙ sym (freed_last p k last)

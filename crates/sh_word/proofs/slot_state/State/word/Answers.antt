@@ -10,7 +10,10 @@ unfolding word_of
 returns-clause-value c =
     let marked_small : c.from-2.result ≤ 1 = rw c.from-2.ensures (from_bool-le_one c.self.inside.marked) in
     let present_small : c.from-3.result ≤ 1 = rw c.from-3.ensures (from_bool-le_one c.self.inside.present) in
-    or_four c.from.result c.from-2.result c.from-3.result c.from-4.result (omega arith) marked_small present_small (omega arith) ∙ rw (← c.self.view_is) (rw (c.from.ensures, c.from-2.ensures, c.from-3.ensures, c.from-4.ensures) refl)
+    or_four c.from.result c.from-2.result c.from-3.result c.from-4.result (omega arith) marked_small present_small
+    (omega arith) ∙ rw (← c.self.view_is) (rw (c.from.ensures, c.from-2.ensures, c.from-3.ensures, c.from-4.ensures)
+    refl)
 
 pub returns-clause-fields : goal.returns-clause-fields
-returns-clause-fields c = ap fields_of (returns-clause-value c) ∙ fields_of-word_of c.args.self.now (rw (← c.self.view_is) c.self.invariant)
+returns-clause-fields c = ap fields_of (returns-clause-value c) ∙ fields_of-word_of c.args.self.now
+    (rw (← c.self.view_is) c.self.invariant)
