@@ -1,14 +1,7 @@
 pub mod EndLemmas
 pub mod RunLemmas
-pub mod KeyLemmas
 pub mod StepKeys
 pub mod RangeLemmas
 pub mod HeaderShapes
 pub mod StepLemmas
-pub mod ListLemmas
-pub mod LineLemmas
-pub mod CallLemmas
-pub mod Newcomers
-pub mod InTurn
 pub mod PlainLines
-pub mod RunningLaws

@@ -10,8 +10,8 @@ use Rattle.sh_script.specs.declared.header.Header.{Header}
 use Rattle.sh_script.specs.declared.fault.Fault.{Fault}
 use Rattle.sh_script.specs.declared.fault.Fault.TheVariants as fault
 use Rattle.sh_replay.specs.Ends.{IsEndFault}
-use Rattle.sh_replay.specs.declared.answer.Answer.{Answer}
-use Rattle.sh_replay.specs.Replies.{reply_line, replies_text}
+use Rattle.sh_calls.specs.declared.answer.Answer.{Answer}
+use Rattle.sh_calls.specs.Replies.{reply_line, replies_text}
 use Rattle.sh_replay.specs.PlainRun.{Run, TakesLine, Ran}
 use Rattle.sh_replay.specs.Output.{Writes}
 

@@ -1,16 +1,4 @@
-pub mod Keys
-pub mod Numbers
-pub mod Replies
-pub mod Results
 pub mod PlainRun
-pub mod Parts
-pub mod Calls
-pub mod Runs
-pub mod Told
-pub mod Meeting
-pub mod Alone
-pub mod Holders
-pub mod Running
 pub mod PlainDoes
 pub mod StepsOutput
 pub mod StepsKeys

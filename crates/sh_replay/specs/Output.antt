@@ -10,10 +10,10 @@ use Rattle.sh_script.specs.declared.calls.CallLine.{CallLine}
 use Rattle.sh_script.specs.declared.header.Header.{Header}
 use Rattle.sh_script.specs.declared.fault.Fault.{Fault}
 use Rattle.sh_script.specs.declared.fault.Fault.TheVariants as fault
-use Rattle.sh_replay.specs.declared.answer.Answer.{Answer}
+use Rattle.sh_calls.specs.declared.answer.Answer.{Answer}
 use Rattle.sh_replay.specs.declared.mode.Mode.{Mode}
 use Rattle.sh_replay.specs.declared.mode.Mode.TheVariants as mode
-use Rattle.sh_replay.specs.Replies.{replies_text}
+use Rattle.sh_calls.specs.Replies.{replies_text}
 use Rattle.sh_replay.specs.PlainRun.{Run, Ran, opening_run}
 use Rattle.sh_replay.specs.StepsOutput.{steps_output}
 use Rattle.sh_replay.specs.Ends.{WroteBeginning}

@@ -8,10 +8,10 @@ use Rattle.sh_history.specs.declared.log.LogEntry.TheVariants.{Known}
 use Rattle.sh_script.specs.declared.calls.Call.{Call}
 use Rattle.sh_script.specs.declared.calls.Call.TheVariants as call
 use Rattle.sh_script.specs.declared.calls.Reference.{Reference}
-use Rattle.sh_replay.specs.declared.answer.Answer.{Answer}
+use Rattle.sh_calls.specs.declared.answer.Answer.{Answer}
 use Rattle.sh_replay.specs.PlainRun as plain
-use Rattle.sh_replay.specs.Parts.{PassPart, plain_terms}
-use Rattle.sh_replay.specs.Calls.{CallAnswers, key_meant}
+use Rattle.sh_calls.specs.Parts.{PassPart, plain_terms}
+use Rattle.sh_calls.specs.Calls.{CallAnswers, key_meant}
 
 -- the part of the pass whose turn it is: its entries, and a shard where it has one
 pub record IsPlainPart (run : plain.Run) (v : PassPart) : Type 0 where

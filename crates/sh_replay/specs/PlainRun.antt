@@ -13,10 +13,10 @@ use Rattle.sh_script.specs.declared.calls.Reference.TheVariants as reference
 use Rattle.sh_script.specs.declared.calls.Call.{Call}
 use Rattle.sh_script.specs.declared.calls.Call.TheVariants as call
 use Rattle.sh_script.specs.declared.calls.CallLine.{CallLine}
-use Rattle.sh_replay.specs.declared.answer.Answer.{Answer}
-use Rattle.sh_replay.specs.declared.answer.Answer.TheVariants as answer
-use Rattle.sh_replay.specs.Keys.{key_shown}
-pub use Rattle.sh_replay.specs.Results.{done_answer, value_answer, key_answer}
+use Rattle.sh_calls.specs.declared.answer.Answer.{Answer}
+use Rattle.sh_calls.specs.declared.answer.Answer.TheVariants as answer
+use Rattle.sh_calls.specs.Keys.{key_shown}
+pub use Rattle.sh_calls.specs.Results.{done_answer, value_answer, key_answer}
 
 -- the tag of the keys in the script, if they have one; the store; for each pass whether it has a shard; for each name
 -- that is bound its key, or none where the insert was refused or a post bound it

@@ -19,8 +19,8 @@ use Rattle.sh_core.specs.declared.outcome.Outcome.TheVariants.{Moved, Replied, S
 use Rattle.sh_core.specs.Lists.{accounts, lists_of}
 use Rattle.sh_core.specs.Outcomes.{outcomes}
 use Rattle.sh_core.specs.Worlds.{run}
-use Rattle.sh_replay.specs.Keys.{shown, key_shown}
-use Rattle.sh_replay.specs.Numbers.{value_text}
+use Rattle.sh_calls.specs.Keys.{shown, key_shown}
+use Rattle.sh_calls.specs.Numbers.{value_text}
 
 -- ---- the heap's events
 

@@ -10,7 +10,7 @@ ghost use Rattle.sh_core.specs.Worlds.{run};
 ghost use Rattle.sh_replay.specs.StepsOutput.{page_name, used_text, empty_text, account_line, page_text, shard_text};
 ghost use Rattle.sh_replay.specs.StepsOutput.{accounts_text};
 
-use crate::numbers::push_number;
+use sh_calls::numbers::push_number;
 use sh_accounts::page;
 use sh_core::{Accounts, World};
 use sh_key::KeyLayout;

@@ -3,8 +3,8 @@ ghost use Rattle.std.specs.Prelude.{◌≡◌, ◌++◌, ◌^◌, ◌<◌, OnOk,
 ghost use Rattle.sh_replay.specs.StepsOutput.{entry_name, entry_key, entry_value, outcome_text, event_line};
 ghost use Rattle.sh_replay.specs.StepsKeys.{KeysWithin};
 
-use crate::keys::shown;
-use crate::numbers::{push_number, push_value};
+use sh_calls::keys::shown;
+use sh_calls::numbers::{push_number, push_value};
 use sh_core::Outcome;
 use sh_history::Entry;
 use sh_step::ActionKind;

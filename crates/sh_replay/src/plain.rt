@@ -3,13 +3,13 @@ ghost use Rattle.std.specs.Prelude.{◌≡◌, ◌+◌, ◌<◌, ◌≤◌, ◌+
 ghost use Rattle.std.specs.Vec.{vec_capacity, vec_len};
 ghost use Rattle.sh_key.specs.Layout.{Layout, first_key, key_count};
 ghost use Rattle.sh_plain.specs.Plain.{Plain, PlainReply, Replied, with_added, get_reply, remove_reply, release_reply};
-ghost use Rattle.sh_replay.specs.Keys.{HasTagRoom};
+ghost use Rattle.sh_calls.specs.Keys.{HasTagRoom};
 ghost use Rattle.sh_replay.specs.PlainRun.{run_of, at_turn, has_shard, adopt_answer, adopts, opening_run, leave_answer};
 ghost use Rattle.sh_replay.specs.PlainRun.{leaves, insert_attempt, Inserts, key_of, done_answer, Tells, MayEnd, Reads};
 ghost use Rattle.sh_replay.specs.PlainRun.{EndsAt, TakesLine};
 
-use crate::Answer;
-use crate::keys::{key_shown, shown};
+use sh_calls::Answer;
+use sh_calls::keys::{key_shown, shown};
 use sh_key::KeyLayout;
 use sh_plain::{PlainStore, Store};
 use sh_script::{Call, CallLine, Fault, Reference};

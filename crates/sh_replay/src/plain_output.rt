@@ -3,11 +3,11 @@ ghost use Rattle.std.specs.Prelude.{◌≡◌, ◌<◌, IfOk, IfErr};
 ghost use Rattle.std.specs.List.{All};
 ghost use Rattle.sh_script.specs.declared.calls.CallLine.{CallLine};
 ghost use Rattle.sh_replay.specs.Ends.{IsEndFault};
-ghost use Rattle.sh_replay.specs.Keys.{HasTagRoom};
+ghost use Rattle.sh_calls.specs.Keys.{HasTagRoom};
 ghost use Rattle.sh_replay.specs.Output.{IsPlainOutput, IsPlain, IsScriptOf, IsFaultOf};
 
 use crate::Mode;
-use crate::answer::push_reply;
+use sh_calls::push_reply;
 use crate::plain::PlainRun;
 use sh_key::{KeyLayout, Tagged, Tiny, Wide};
 use sh_script::{CallLine, Calls, Fault, Layout, parse_calls};

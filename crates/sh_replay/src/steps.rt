@@ -9,7 +9,7 @@ ghost use Rattle.sh_core.specs.Worlds.{run};
 ghost use Rattle.sh_replay.specs.StepsOutput.{action_shown, event_shown};
 ghost use Rattle.sh_replay.specs.StepsKeys.{KeysWithin, DoesEvent};
 
-use crate::keys::key_shown;
+use sh_calls::keys::key_shown;
 use sh_core::{Outcome, World, refines_map};
 use sh_key::{KeyLayout, packing_laws};
 use sh_script::Fault;

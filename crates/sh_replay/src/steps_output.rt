@@ -2,7 +2,7 @@
 ghost use Rattle.std.specs.Prelude.{◌≡◌, IfOk, IfErr};
 ghost use Rattle.sh_shape.specs.Shape.{IsShape, Fits};
 ghost use Rattle.sh_replay.specs.Ends.{IsEndFault};
-ghost use Rattle.sh_replay.specs.Keys.{HasTagRoom};
+ghost use Rattle.sh_calls.specs.Keys.{HasTagRoom};
 ghost use Rattle.sh_replay.specs.Output.{IsSteps, IsScriptOf, IsFaultOf};
 ghost use Rattle.sh_replay.specs.StepsOutput.{steps_output};
 

@@ -1,0 +1,293 @@
+-- All passes in one thread: a line more, and the end.
+use Rattle.std.proofs.Common.{◌≡◌, ◌≢◌, ℕ, zero, suc, ◌+◌, ◌<◌, ◌≤◌, List, [], ◌∷◌, ◌++◌, length, take, set, map}
+use Rattle.std.proofs.Common.{slice_get, Option, Some, None, sym, refl, ap, ◌∙◌, subst, arith, append_assoc, append-nil}
+use Rattle.std.proofs.Common.{length-append, length-set}
+use Rattle.std.specs.Option.{option_map}
+use Rattle.std.proofs.lemmas.Option.{none-some, same_Some, slice_get-map}
+use mathlib.Core.Logic.{dite}
+use native.Mathlib.Decide.{ℕ_discrete}
+use Rattle.sh_script.specs.declared.calls.CallLine.{CallLine}
+use Rattle.sh_calls.specs.declared.answer.Answer.{Answer}
+use Rattle.sh_calls.specs.Parts.{RunTerms, PassPart, SeenPass, PassTold, SamePass, HasWholeTale, new_pass, new_passes}
+use Rattle.sh_calls.specs.Parts.{tale_told, told_pass, passes_below}
+use Rattle.sh_calls.specs.Calls.{CallAnswers}
+use Rattle.sh_calls.specs.Replies.{reply_line, replies_text}
+use Rattle.sh_calls.specs.Runs.{CallsRun, LineAnswered, LinesAnswered, opening_calls, next_run, with_part, with_number}
+use Rattle.sh_calls.specs.Runs.{number_meant}
+use Rattle.sh_calls.specs.Told.{AreReplies, IsTold, part_told}
+use Rattle.sh_calls.specs.Meeting.{CarriesTale, MeetsCarrier, OwnsNone, HasMet}
+use Rattle.sh_calls.specs.Alone.{seen_with_part, AnsweredSoFar, tales_told, AllOfHeap}
+use Rattle.sh_calls.proofs.ListLemmas.{get_set_same, get_set_other, take_at, take_past, next, map_more, up_length}
+use Rattle.sh_calls.proofs.LineLemmas.{one_more, part_here, part_there}
+use Rattle.sh_calls.proofs.Newcomers.{newcomers_length, newcomers_get, length_map}
+use Rattle.sh_table.specs.Seats.{Heap}
+
+-- ---- passes that meet
+
+tales_more : (ss : List SeenPass) (s : SeenPass) → tales_told (ss ++ s ∷ []) ≡ tales_told ss ++ tale_told s
+tales_more [] s = append-nil (tale_told s)
+tales_more (x ∷ xs) s = ap (λ z. tale_told x ++ z) (tales_more xs s)
+    ∙ sym (append_assoc (tale_told x) (tales_told xs) (tale_told s))
+
+-- leaving changes nothing of what it speaks for
+record Retired (heap : Option Heap) (terms : RunTerms) (was s : SeenPass) : Type 0 where
+  pub heap_is : s.heap ≡ heap
+  pub terms_is : s.terms ≡ terms
+  pub tale_is : tale_told s ≡ tale_told was
+
+retired : (heap : Option Heap) (terms : RunTerms) (was s : SeenPass) → was.heap ≡ heap → was.terms ≡ terms
+    → SamePass was s → s.part.log ≡ was.part.log → Retired heap terms was s
+retired heap terms was s h t same log = record {
+  heap_is = ap (λ (z : SeenPass). z.heap) same ∙ h;
+  terms_is = ap (λ (z : SeenPass). z.terms) same ∙ t;
+  tale_is = (let P : ℕ → Type 0 = λ z. tale_told s ≡ record { pass = z; log = s.part.log } ∷ s.told
+      in ap tale_told same) ∙ (λ i. record { pass = was.pass; log = log i } ∷ was.told);
+}
+
+pub carries_more : {S : Type 0} (seen : S → SeenPass) (heap : Option Heap) (terms : RunTerms) (ys : List S) (x : S)
+    (rest its : List S) (side r : SeenPass) (o : Option SeenPass) → CarriesTale heap terms o (tales_told (map seen ys))
+    → AllOfHeap heap terms (map seen its) → its ≡ x ∷ rest → SamePass (seen x) side → side.part.log ≡ (seen x).part.log
+    → MeetsCarrier o side r → CarriesTale heap terms (Some r) (tales_told (map seen (ys ++ x ∷ [])))
+carries_more seen heap terms ys x rest its side r o h all k same log meets = go o h meets
+  where
+    of : AllOfHeap heap terms (seen x ∷ map seen rest)
+    of = subst (λ (z : List _). AllOfHeap heap terms (map seen z)) k all
+
+    re : Retired heap terms (seen x) side
+    re = retired heap terms (seen x) side of.0 of.1 same log
+
+    more : tales_told (map seen (ys ++ x ∷ [])) ≡ tales_told (map seen ys) ++ tale_told (seen x)
+    more = ap tales_told (map_more seen ys x) ∙ tales_more (map seen ys) (seen x)
+
+    go : (o : Option SeenPass) → CarriesTale heap terms o (tales_told (map seen ys)) → MeetsCarrier o side r
+        → CarriesTale heap terms (Some r) (tales_told (map seen (ys ++ x ∷ [])))
+    go None h meets = (
+      ap (λ (z : SeenPass). z.heap) meets ∙ re.heap_is,
+      ap (λ (z : SeenPass). z.terms) meets
+          ∙ re.terms_is,
+      ap tale_told meets ∙ (re.tale_is ∙ (ap (λ (z : List PassTold). z ++ tale_told (seen x)) (sym h)
+          ∙ sym more)),
+    )
+    go (Some c) h meets = (meets.0 ∙ h.0, meets.1 ∙ h.1, meets.2 ∙ ((λ i. h.2 i ++ re.tale_is i) ∙ sym more))
+
+pub rest_of : {S : Type 0} (seen : S → SeenPass) (heap : Option Heap) (terms : RunTerms) (x : S) (rest its : List S)
+    → AllOfHeap heap terms (map seen its) → its ≡ x ∷ rest → AllOfHeap heap terms (map seen rest)
+rest_of seen heap terms x rest its all k = let of : AllOfHeap heap terms (seen x ∷ map seen rest) = subst
+    (λ (z : List _). AllOfHeap heap terms (map seen z)) k all in of.2
+
+pub all_met : {S : Type 0} (seen : S → SeenPass) (heap : Option Heap) (terms : RunTerms) (all ys its : List S) (n : ℕ)
+    (c : SeenPass) (o : Option SeenPass) → all ≡ ys ++ its → length ys + n ≡ length all → n ≡ 0
+    → CarriesTale heap terms o (tales_told (map seen ys)) → o ≡ Some c → HasWholeTale c.terms (tale_told c)
+    → HasWholeTale terms (tales_told (map seen all))
+all_met {S} seen heap terms all ys its n c o e l z h is stands =
+    let yielded : (qs : List S) → all ≡ ys ++ qs → ys ≡ all = elim [
+      | [] ↦ λ f. sym (f ∙ append-nil ys)
+      | x ∷ xs ↦ λ f. let k : length all
+          ≡ length ys + suc (length xs) = ap length f ∙ length-append ys (x ∷ xs) in absurd (omega (arith, k, l, z))
+    ] in
+    let h' = subst (λ (q : Option SeenPass). CarriesTale heap terms q (tales_told (map seen ys))) is h in
+    let Q : RunTerms × List PassTold → Type 0 = λ q. HasWholeTale q.0 q.1 in
+    subst Q (λ i. (h'.1 i, (h'.2 ∙ ap (λ q. tales_told (map seen q)) (yielded its e)) i)) stands
+
+-- ---- a line more
+
+pub begins_alone : (heap : Option Heap) (terms : RunTerms) (tag : Option ℕ) (lines : List CallLine)
+    (sides : List SeenPass) → sides ≡ new_passes heap terms terms.shape.passes
+    → AnsweredSoFar heap terms tag lines 0 [] sides []
+begins_alone heap terms tag lines sides e = record {
+  answers = [];
+  run = opening_calls;
+  ran = refl;
+  numbers_are = refl;
+  text = refl;
+  all = ap length e ∙ newcomers_length heap terms terms.shape.passes;
+  each = λ p s at. newcomers_get heap terms terms.shape.passes p s
+      (subst (λ (z : List SeenPass). slice_get z p ≡ Some s) e at);
+}
+
+module _ (heap : Option Heap) (terms : RunTerms) (tag : Option ℕ) (lines : List CallLine) (i : ℕ)
+    (numbers : List (Option ℕ)) (sides : List SeenPass) (output : List ℕ)
+    (was : AnsweredSoFar heap terms tag lines i numbers sides output) (l : CallLine) (at : slice_get lines i ≡ Some l)
+    (side now : SeenPass) (own : slice_get sides l.pass ≡ Some side) (same : SamePass side now) (a : Answer)
+    (does : CallAnswers side.terms tag side.pass side.part l.call (number_meant numbers l.call) a now.part) where
+  is : side ≡ seen_with_part heap terms was.run.parts l.pass
+  is = was.each l.pass side own
+
+  took : take (i + 1) lines ≡ take i lines ++ l ∷ []
+  took = ap (λ (k : ℕ). take k lines) (sym (next i)) ∙ take_at lines i l at
+
+  abbrev then : CallsRun
+  then = next_run was.run l a now.part
+
+  steps : LineAnswered terms tag was.run l a then
+  steps =
+      let D : SeenPass × List (Option ℕ) → Type 0 = λ z. CallAnswers z.0.terms tag z.0.pass z.0.part l.call
+      (number_meant z.1 l.call) a now.part in
+      record { part = now.part; does = subst D (λ j. (is j, was.numbers_are j)) does; next_is = refl }
+
+  now_is : now ≡ record (new_pass heap terms l.pass) { part = now.part }
+  now_is = same ∙ ap (λ (z : SeenPass). record z { part = now.part }) is
+
+  here : (p : ℕ) (s : SeenPass) → p ≡ l.pass → slice_get (set sides l.pass now) p ≡ Some s → s
+      ≡ seen_with_part heap terms (with_part was.run.parts l.pass now.part) p
+  here p s e at_p =
+      let eq : now ≡ s = same_Some now s (sym (get_set_same sides l.pass side now own)
+      ∙ (ap (slice_get (set sides l.pass now)) (sym e) ∙ at_p)) in
+      let Q : ℕ × PassPart → SeenPass = λ z. record (new_pass heap terms z.0) { part = z.1 } in
+      sym eq ∙ (now_is ∙ ap Q (λ j. (sym e j, sym (part_here was.run.parts l.pass p now.part e) j)))
+
+  there : (p : ℕ) (s : SeenPass) → p ≢ l.pass → slice_get (set sides l.pass now) p ≡ Some s → s
+      ≡ seen_with_part heap terms (with_part was.run.parts l.pass now.part) p
+  there p s ne at_p =
+      let Q : PassPart → SeenPass = λ z. record (new_pass heap terms p) { part = z } in
+      was.each p s (sym (get_set_other sides l.pass p now ne) ∙ at_p)
+      ∙ ap Q (sym (part_there was.run.parts l.pass p now.part ne))
+
+  pub answered_more : (after : List (Option ℕ)) (new : List SeenPass) (longer : List ℕ) → after
+      ≡ with_number numbers l.call a → new ≡ set sides l.pass now → longer ≡ output ++ reply_line l a
+      → AnsweredSoFar heap terms tag lines (i + 1) after new longer
+  answered_more after new longer named put printed =
+      let more = one_more terms tag opening_calls was.run then (take i lines) was.answers l a was.ran steps in
+      let R : List CallLine → Type 0 = λ ls. LinesAnswered terms tag opening_calls ls (was.answers ++ a ∷ []) then in
+      record {
+        answers = was.answers ++ a ∷ [];
+        run = then;
+        ran = subst R (sym took) more.ran;
+        numbers_are = named ∙ ap (λ (z : List (Option ℕ)). with_number z l.call a) was.numbers_are;
+        text = printed ∙ (ap (λ t. t ++ reply_line l a) was.text ∙
+            (sym more.text ∙ ap (λ ls. replies_text ls (was.answers ++ a ∷ [])) (sym took)));
+        all = ap length put ∙ (length-set sides l.pass now ∙ was.all);
+        each = λ p s e. let f : slice_get (set sides l.pass now) p
+            ≡ Some s = ap (λ (z : List SeenPass). slice_get z p) (sym put) ∙ e
+            in dite (ℕ_discrete p l.pass) (λ h. here p s h f) (λ ne. there p s ne f);
+      }
+
+-- ---- the end
+
+ext : {A : Type 0} (xs ys : List A) → length xs ≡ length ys →
+    ((k : ℕ) (x : A) → slice_get xs k ≡ Some x → slice_get ys k ≡ Some x) → xs ≡ ys
+ext [] [] e f = refl
+ext [] (y ∷ ys) e f = absurd (omega (arith, e))
+ext (x ∷ xs) [] e f = absurd (omega (arith, e))
+ext (x ∷ xs) (y ∷ ys) e f = (λ i. sym (same_Some y x (f 0 x refl)) i ∷ ext xs ys (omega (arith, e))
+    (λ k z h. f (suc k) z h) i)
+
+get_left : {A : Type 0} (xs ys : List A) (k : ℕ) (x : A) → slice_get xs k ≡ Some x → slice_get (xs ++ ys) k ≡ Some x
+get_left [] ys k x e = absurd (none-some x e)
+get_left (z ∷ zs) ys zero x e = e
+get_left (z ∷ zs) ys (suc k) x e = get_left zs ys k x e
+
+get_last : {A : Type 0} (xs : List A) (x : A) → slice_get (xs ++ x ∷ []) (length xs) ≡ Some x
+get_last [] x = refl
+get_last (z ∷ zs) x = get_last zs x
+
+up_get : (n p : ℕ) → p < n → slice_get (passes_below n) p ≡ Some p
+up_get zero p l = absurd (omega arith)
+up_get (suc n) p l = dite (ℕ_discrete p n)
+    (λ e. ap (slice_get (passes_below n ++ n ∷ [])) (e ∙ sym (up_length n))
+    ∙ (get_last (passes_below n) n ∙ ap (λ (z : ℕ). Some z) (sym e)))
+    (λ ne. get_left (passes_below n) (n ∷ []) p p (up_get n p (omega arith)))
+
+within : {A : Type 0} (xs : List A) (k : ℕ) (x : A) → slice_get xs k ≡ Some x → k < length xs
+within [] k x e = absurd (none-some x e)
+within (y ∷ ys) zero x e = omega arith
+within (y ∷ ys) (suc k) x e = let h = within ys k x e in omega (arith, h)
+
+sides_are : (heap : Option Heap) (terms : RunTerms) (parts : ℕ → PassPart) (sides : List SeenPass) → length sides
+    ≡ terms.shape.passes → ((p : ℕ) (s : SeenPass) → slice_get sides p ≡ Some s → s ≡ seen_with_part heap terms parts p)
+    → sides ≡ map (seen_with_part heap terms parts) (passes_below terms.shape.passes)
+sides_are heap terms parts sides long each =
+    let n : ℕ = terms.shape.passes in
+    ext sides (map (seen_with_part heap terms parts) (passes_below n))
+    (long ∙ sym (length_map (seen_with_part heap terms parts) (passes_below n) ∙ up_length n)) (λ k s e.
+    let few : k < n = let w = within sides k s e in omega (arith, w, long) in
+    slice_get-map (seen_with_part heap terms parts) (passes_below n) k
+    ∙ (ap (option_map (seen_with_part heap terms parts)) (up_get n k few)
+    ∙ ap (λ (z : SeenPass). Some z) (sym (each k s e))))
+
+all_of : (heap : Option Heap) (terms : RunTerms) (parts : ℕ → PassPart) (ns : List ℕ)
+    → AllOfHeap heap terms (map (seen_with_part heap terms parts) ns)
+all_of heap terms parts [] = tt
+all_of heap terms parts (n ∷ ns) = (refl, refl, all_of heap terms parts ns)
+
+tales_are : (heap : Option Heap) (terms : RunTerms) (parts : ℕ → PassPart) (ns : List ℕ)
+    → tales_told (map (seen_with_part heap terms parts) ns) ≡ map (part_told parts) ns
+tales_are heap terms parts [] = refl
+tales_are heap terms parts (n ∷ ns) = ap (λ (z : List PassTold). part_told parts n ∷ z) (tales_are heap terms parts ns)
+
+pub all_are : (heap : Option Heap) (terms : RunTerms) (tag : Option ℕ) (lines : List CallLine) (i : ℕ)
+    (numbers : List (Option ℕ)) (sides : List SeenPass) (output : List ℕ)
+    → AnsweredSoFar heap terms tag lines i numbers sides output → AllOfHeap heap terms sides
+all_are heap terms tag lines i numbers sides output h = subst (AllOfHeap heap terms)
+    (sym (sides_are heap terms h.run.parts sides h.all h.each))
+    (all_of heap terms h.run.parts (passes_below terms.shape.passes))
+
+abbrev pub ends_alone : (heap : Option Heap) (terms : RunTerms) (tag : Option ℕ) (lines : List CallLine) (i : ℕ)
+    (numbers : List (Option ℕ)) (sides : List SeenPass) (output : List ℕ) → length lines ≤ i
+    → AnsweredSoFar heap terms tag lines i numbers sides output → AreReplies terms tag lines output
+ends_alone heap terms tag lines i numbers sides output past h =
+    let whole : take i lines ≡ lines = take_past lines i past in
+    let R : List CallLine → Type 0 = λ ls. LinesAnswered terms tag opening_calls ls h.answers h.run in
+    record {
+      answers = h.answers;
+      after = h.run;
+      ran = subst R whole h.ran;
+      is = h.text ∙ ap (λ ls. replies_text ls h.answers) whole;
+    }
+
+pub told_alone : (heap : Option Heap) (terms : RunTerms) (tag : Option ℕ) (lines : List CallLine) (i : ℕ)
+    (numbers : List (Option ℕ)) (sides : List SeenPass) (output : List ℕ) (s : SeenPass) → length lines ≤ i
+    → AnsweredSoFar heap terms tag lines i numbers sides output
+    → HasMet heap terms s (tales_told sides) → IsTold terms tag lines output (tale_told s)
+    × CarriesTale heap terms (Some s) (tale_told s) × OwnsNone (Some s)
+told_alone heap terms tag lines i numbers sides output s past h m =
+    let tale : tales_told sides ≡ map (part_told h.run.parts) (passes_below terms.shape.passes) = ap tales_told
+    (sides_are heap terms h.run.parts sides h.all h.each) ∙ tales_are heap terms h.run.parts
+    (passes_below terms.shape.passes) in (
+      record {
+        replies = ends_alone heap terms tag lines i numbers sides output past h;
+        tale_is = m.carries.2 ∙ tale;
+        whole = subst (HasWholeTale terms) (sym m.carries.2) m.whole;
+      },
+      (m.carries.0, m.carries.1, refl),
+      m.none,
+    )
+
+pub map_set : {A B : Type 0} (f : A → B) (xs : List A) (k : ℕ) (y : A) → map f (set xs k y) ≡ set (map f xs) k (f y)
+map_set f [] k y = refl
+map_set f (x ∷ xs) zero y = refl
+map_set f (x ∷ xs) (suc k) y = ap (λ z. f x ∷ z) (map_set f xs k y)
+
+pub terms_at : (heap : Option Heap) (terms : RunTerms) (tag : Option ℕ) (lines : List CallLine) (i : ℕ)
+    (numbers : List (Option ℕ)) (sides : List SeenPass) (output : List ℕ)
+    → AnsweredSoFar heap terms tag lines i numbers sides output → (p : ℕ) (s : SeenPass) → slice_get sides p ≡ Some s
+    → s.terms ≡ terms
+terms_at heap terms tag lines i numbers sides output h p s e = ap (λ (z : SeenPass). z.terms) (h.each p s e)
+
+passes_are : (parts : ℕ → PassPart) (ns : List ℕ) → map told_pass (map (part_told parts) ns) ≡ ns
+passes_are parts [] = refl
+passes_are parts (n ∷ ns) = ap (λ (z : List ℕ). n ∷ z) (passes_are parts ns)
+
+-- they speak for all passes
+pub all_speak : (heap : Option Heap) (terms : RunTerms) (tag : Option ℕ) (lines : List CallLine) (i : ℕ)
+    (numbers : List (Option ℕ)) (sides : List SeenPass) (output : List ℕ)
+    → AnsweredSoFar heap terms tag lines i numbers sides output → map told_pass (tales_told sides)
+    ≡ passes_below terms.shape.passes
+all_speak heap terms tag lines i numbers sides output h =
+    ap (λ z. map told_pass (tales_told z)) (sides_are heap terms h.run.parts sides h.all h.each)
+    ∙ (ap (map told_pass) (tales_are heap terms h.run.parts (passes_below terms.shape.passes))
+    ∙ passes_are h.run.parts (passes_below terms.shape.passes))
+
+pub met_all : {S : Type 0} (seen : S → SeenPass) (heap : Option Heap) (terms : RunTerms) (all ys its : List S) (n : ℕ)
+    (c : SeenPass) (o : Option SeenPass) → all ≡ ys ++ its → length ys + n ≡ length all → n ≡ 0
+    → CarriesTale heap terms o (tales_told (map seen ys)) → o ≡ Some c → map told_pass (tales_told (map seen all))
+    ≡ passes_below terms.shape.passes → map told_pass (tale_told c) ≡ passes_below c.terms.shape.passes
+met_all seen heap terms all ys its n c o e l z h is up =
+    let yielded : (qs : List _) → all ≡ ys ++ qs → ys ≡ all = elim [
+      | [] ↦ λ f. sym (f ∙ append-nil ys)
+      | x ∷ xs ↦ λ f. let k : length all
+          ≡ length ys + suc (length xs) = ap length f ∙ length-append ys (x ∷ xs) in absurd (omega (arith, k, l, z))
+    ] in
+    let h' = subst (λ (q : Option SeenPass). CarriesTale heap terms q (tales_told (map seen ys))) is h in
+    ap (map told_pass) (h'.2 ∙ ap (λ q. tales_told (map seen q)) (yielded its e))
+    ∙ (up ∙ ap (λ (t : RunTerms). passes_below t.shape.passes) (sym h'.1))

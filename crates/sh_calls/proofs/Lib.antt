@@ -1,0 +1,7 @@
+pub mod KeyLemmas
+pub mod ListLemmas
+pub mod LineLemmas
+pub mod CallLemmas
+pub mod Newcomers
+pub mod InTurn
+pub mod RunningLaws

@@ -1,0 +1,49 @@
+-- Lists by their numbers, and the beginnings of lists.
+use Rattle.std.proofs.Common.{◌≡◌, ◌≢◌, ℕ, zero, suc, ◌+◌, ◌≤◌, ◌⊎◌, List, [], ◌∷◌, ◌++◌, length, map, take, set}
+use Rattle.std.proofs.Common.{slice_get, Some, refl, ap, inl, inr, ⊎_elim, arith, length-append}
+use Rattle.std.proofs.lemmas.Option.{none-some, same_Some}
+use Rattle.sh_calls.specs.Parts.{passes_below}
+
+pub get_set_same : {A : Type 0} (xs : List A) (k : ℕ) (x y : A) → slice_get xs k ≡ Some x → slice_get (set xs k y) k
+    ≡ Some y
+get_set_same [] k x y e = absurd (none-some x e)
+get_set_same (z ∷ zs) zero x y e = refl
+get_set_same (z ∷ zs) (suc k) x y e = get_set_same zs k x y e
+
+pub get_set_other : {A : Type 0} (xs : List A) (k j : ℕ) (y : A) → j ≢ k → slice_get (set xs k y) j ≡ slice_get xs j
+get_set_other [] k j y ne = refl
+get_set_other (z ∷ zs) zero zero y ne = absurd (ne refl)
+get_set_other (z ∷ zs) zero (suc j) y ne = refl
+get_set_other (z ∷ zs) (suc k) zero y ne = refl
+get_set_other (z ∷ zs) (suc k) (suc j) y ne = get_set_other zs k j y (λ e. ne (ap suc e))
+
+pub take_at : {A : Type 0} (xs : List A) (i : ℕ) (x : A) → slice_get xs i ≡ Some x → take (suc i) xs ≡ take i xs
+    ++ x ∷ []
+take_at [] i x e = absurd (none-some x e)
+take_at (y ∷ ys) zero x e = ap (λ z. z ∷ []) (same_Some y x e)
+take_at (y ∷ ys) (suc i) x e = ap (λ z. y ∷ z) (take_at ys i x e)
+
+pub next : (i : ℕ) → suc i ≡ i + 1
+next i = omega arith
+
+pub get_snoc : {A : Type 0} (l : List A) (a b : A) (j : ℕ) → slice_get (l ++ a ∷ []) j ≡ Some b
+    → (slice_get l j ≡ Some b) ⊎ ((j ≡ length l) × (a ≡ b))
+get_snoc [] a b zero e = inr (refl, same_Some a b e)
+get_snoc [] a b (suc j) e = absurd (none-some b e)
+get_snoc (x ∷ xs) a b zero e = inl e
+get_snoc (x ∷ xs) a b (suc j) e = ⊎_elim inl (λ (t : (j ≡ length xs) × (a ≡ b)). inr (ap suc t.0, t.1))
+    (get_snoc xs a b j e)
+
+pub up_length : (n : ℕ) → length (passes_below n) ≡ n
+up_length zero = refl
+up_length (suc n) = let h = up_length n in omega (arith, length-append (passes_below n) (n ∷ []))
+
+pub take_past : {A : Type 0} (xs : List A) (n : ℕ) → length xs ≤ n → take n xs ≡ xs
+take_past [] zero h = refl
+take_past [] (suc n) h = refl
+take_past (x ∷ xs) zero h = absurd (omega arith)
+take_past (x ∷ xs) (suc n) h = ap (λ z. x ∷ z) (take_past xs n (omega arith))
+
+pub map_more : {A B : Type 0} (f : A → B) (xs : List A) (x : A) → map f (xs ++ x ∷ []) ≡ map f xs ++ f x ∷ []
+map_more f [] x = refl
+map_more f (y ∷ ys) x = ap (λ l. f y ∷ l) (map_more f ys x)

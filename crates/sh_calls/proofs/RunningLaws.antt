@@ -1,0 +1,504 @@
+-- What calls of a pass of the running heap are in a run of calls.
+use Rattle.std.proofs.Common.{◌≡◌, ℕ, suc, ◌+◌, ◌<◌, ◌≤◌, ◌==◌, ◌&&◌, Bool, true, false, cond, List, [], ◌∷◌, ◌++◌, map}
+use Rattle.std.proofs.Common.{length, refl, sym, ap, subst, ◌∙◌, arith, Option, Some, None, Result, Ok, Err, ltb-true}
+use Rattle.std.proofs.Common.{eq-eqb}
+use Rattle.std.specs.Prelude.{nat_lt, nat_le, not, IsSome, IfOk, MatchResult}
+use Rattle.std.proofs.lemmas.Bool.Decides.{nat_tests}
+use Rattle.std.proofs.lemmas.Option.{same_Some}
+use Rattle.sh_value.specs.declared.hold.Hold.{Hold}
+use Rattle.sh_value.specs.declared.refusal.Refusal.{Refusal}
+use Rattle.sh_value.specs.declared.refusal.Refusal.TheVariants as refusal
+use Rattle.sh_key.specs.declared.parts.Parts.{Parts}
+use Rattle.sh_key.specs.Layout.{Layout, unpacked, first_key, key_count}
+use Rattle.sh_key.proofs.Packing.{keys_are_consecutive}
+use Rattle.sh_shape.specs.Shape.{Numbers}
+use Rattle.sh_shape.specs.Places.{pages_of, page_number}
+use Rattle.std.specs.List.{All}
+use Rattle.sh_history.specs.declared.entry.Entry.{Entry}
+use Rattle.sh_history.specs.declared.entry.Entry.TheVariants as entry
+use Rattle.sh_history.specs.declared.log.LogEntry.{LogEntry}
+use Rattle.sh_history.specs.declared.log.LogEntry.TheVariants.{Known, Unread}
+use Rattle.sh_history.specs.Log.{pass_of, entries_of, filled, logged_holds_by, logged_hold_count}
+use Rattle.sh_slots.specs.declared.hand.Name.{Name}
+use Rattle.sh_step.specs.Moves.{has_place, place_named}
+use Rattle.sh_step.specs.Collections.{has}
+use Rattle.sh_step.specs.Plans.{plan_of, home}
+use Rattle.sh_step.proofs.NameLaws.{no_key, no_place, a_place}
+use Rattle.sh_core.specs.Lists.{times}
+use Rattle.sh_core.proofs.BellKinds.{some_has}
+use Rattle.sh_core.proofs.ListCounts.{has_some}
+use Rattle.sh_table.specs.declared.view.View.{View}
+use Rattle.sh_table.specs.declared.view.Told.{Told}
+use Rattle.sh_table.specs.Tales.{ViewStands, IsLogOf}
+use Rattle.sh_table.specs.Views.{Each, told_of, joined_view}
+use Rattle.sh_pass.specs.Growing.{SameTale}
+use Rattle.sh_pass.specs.Owners.{IsKeyIn}
+use Rattle.sh_pass.proofs.OwnMay.{home_is}
+use Rattle.sh_shard.specs.Pages.{ShardLeft}
+use Rattle.sh_shard.specs.Shards.{Sharded, AdoptServes, LeaveServes, InsertServes}
+use Rattle.sh_pass.specs.Passes.{Caller, IsKeyOfHeap, GetDoes, ReadDoes, RemoveDoes, ReleaseDoes, holds}
+use Rattle.sh_calls.specs.Parts.{PassTold, SeenPass, SamePass, HasAllLogs, HasWholeTale, tale_told, is_placed_key}
+use Rattle.sh_calls.specs.Parts.{is_key_of_shard, heap_terms, with_entry}
+use Rattle.sh_calls.specs.Calls.{UnlessRefused, GetAnswers, HoldGot, get_refusal, ReadAnswers, ValueRead, hold_refusal}
+use Rattle.sh_calls.specs.Calls.{RemoveAnswers, KeyRemoved, remove_refusal, ReleaseAnswers, HoldReleased, AdoptAnswers}
+use Rattle.sh_calls.specs.Calls.{PartAdopted, adopt_refusal, LeaveAnswers, PartLeft, needs_shard, ValueInserted}
+use Rattle.sh_calls.specs.Calls.{IsOwnKey}
+use Rattle.sh_calls.specs.Running.{part_of_caller, seen_of_caller, log_told}
+
+-- ---- which numbers are keys
+
+placed_by : (layout : Layout) (shape : Numbers) (key : ℕ) (o : Option Parts) → unpacked layout key ≡ o
+    → is_placed_key layout shape key ≡ elim o as (λ _. Bool) [ Some p ↦ has_place shape p | None ↦ false ]
+placed_by layout shape key o e = ap (λ (z : Option Parts). elim z as (λ _. Bool)
+    [ Some p ↦ has_place shape p | None ↦ false ]) e
+
+none_is_some : {A : Type 0} (o : Option A) → o ≡ None → IsSome o → ⊥
+none_is_some {A} o e h = let z : IsSome {T = A} None = subst (λ z. IsSome z) e h in cc
+
+pub placed : (layout : Layout) (shape : Numbers) (key : ℕ) → IsSome (place_named (plan_of layout shape) key)
+    → is_placed_key layout shape key ≡ true
+placed layout shape key some = go (unpacked layout key) refl
+  where
+    inside : (p : Parts) → unpacked layout key ≡ Some p → (b : Bool) → has_place shape p ≡ b
+        → is_placed_key layout shape key ≡ true
+    inside p e true f = placed_by layout shape key (Some p) e ∙ f
+    inside p e false f = absurd (none_is_some (place_named (plan_of layout shape) key) (no_place layout shape key p e f)
+        some)
+
+    go : (o : Option Parts) → unpacked layout key ≡ o → is_placed_key layout shape key ≡ true
+    go None e = absurd (none_is_some (place_named (plan_of layout shape) key) (no_key layout shape key e) some)
+    go (Some p) e = inside p e (has_place shape p) refl
+
+none_some : {A : Type 0} (o : Option A) (x : A) → o ≡ None → o ≡ Some x → ⊥
+none_some o x e f = let z : None ≡ Some x = sym e ∙ f in cc
+
+pub not_placed : (layout : Layout) (shape : Numbers) (key : ℕ) → place_named (plan_of layout shape) key ≡ None
+    → is_placed_key layout shape key ≡ false
+not_placed layout shape key none = go (unpacked layout key) refl
+  where
+    inside : (p : Parts) → unpacked layout key ≡ Some p → (b : Bool) → has_place shape p ≡ b
+        → is_placed_key layout shape key ≡ false
+    inside p e true f = absurd (none_some (place_named (plan_of layout shape) key) _ none
+        (a_place layout shape key p e f))
+    inside p e false f = placed_by layout shape key (Some p) e ∙ f
+
+    go : (o : Option Parts) → unpacked layout key ≡ o → is_placed_key layout shape key ≡ false
+    go None e = placed_by layout shape key None e
+    go (Some p) e = inside p e (has_place shape p) refl
+
+-- ---- of which shard a key is
+
+unpacks : (layout : Layout) (shape : Numbers) (key : ℕ) (x : Name) → place_named (plan_of layout shape) key ≡ Some x
+    → IsSome (unpacked layout key)
+unpacks layout shape key x e = go (unpacked layout key) refl
+  where
+    go : (o : Option Parts) → unpacked layout key ≡ o → IsSome (unpacked layout key)
+    go None f = absurd (none_some (place_named (plan_of layout shape) key) x (no_key layout shape key f) e)
+    go (Some p) f = subst (λ (z : Option Parts). IsSome z) (sym f) refl
+
+both_of : (a b c : Bool) → (a && b && c) ≡ true → b ≡ true
+both_of true true c e = refl
+both_of true false c e = absurd (let z : false ≡ true = e in cc)
+both_of false b c e = absurd (let z : false ≡ true = e in cc)
+
+of_shard : (layout : Layout) (shape : Numbers) (key n : ℕ) (x : Name) → place_named (plan_of layout shape) key ≡ Some x
+    → home (plan_of layout shape) x.page ≡ n → is_key_of_shard layout (Some n) key ≡ true
+of_shard layout shape key n x e h = go (unpacked layout key) refl
+  where
+    here : (p : Parts) → unpacked layout key ≡ Some p → has_place shape p ≡ true → p.shard ≡ n
+    here p f inside =
+        let y : Name = record { page = page_number shape p.shard p.page; slot = p.slot; generation = p.generation } in
+        let same : y ≡ x = same_Some y x (sym (a_place layout shape key p f inside) ∙ e) in
+        let few : p.page < pages_of shape = ltb-true p.page (pages_of shape)
+        (both_of (nat_lt p.shard shape.shards) (nat_lt p.page (pages_of shape)) (nat_lt p.slot 48) inside) in
+        sym (home_is (plan_of layout shape) p.shard p.page few) ∙
+        (ap (λ (z : Name). home (plan_of layout shape) z.page) same ∙ h)
+
+    inside_or_not : (p : Parts) → unpacked layout key ≡ Some p → (b : Bool) → has_place shape p ≡ b
+        → is_key_of_shard layout (Some n) key ≡ true
+    inside_or_not p f true i = ap (λ (o : Option Parts). elim o as (λ _. Bool) [ Some p ↦ p.shard == n | None ↦ false ])
+        f ∙ eq-eqb p.shard n (here p f i)
+    inside_or_not p f false i = absurd (none_some (place_named (plan_of layout shape) key) x
+        (no_place layout shape key p f i) e)
+
+    go : (o : Option Parts) → unpacked layout key ≡ o → is_key_of_shard layout (Some n) key ≡ true
+    go None f = absurd (none_some (place_named (plan_of layout shape) key) x (no_key layout shape key f) e)
+    go (Some p) f = inside_or_not p f (has_place shape p) refl
+
+-- ---- a call of a pass, or of an owner
+
+module _ (layout : Layout) (v w : Caller) (stands : ViewStands layout v.view) (shape_is : v.view.shape ≡ v.heap.shape)
+    (owned : w.view.own.body.owned ≡ v.view.own.body.owned) where
+  abbrev seen_before : SeenPass
+  seen_before = seen_of_caller layout v
+
+  abbrev seen_after : SeenPass
+  seen_after = seen_of_caller layout w
+
+  same_seen : w.heap ≡ v.heap → SameTale v.view w.view → SamePass seen_before seen_after
+  same_seen heap same = λ i. record {
+    heap = Some (heap i);
+    terms = heap_terms layout (same.shape i);
+    pass = same.pass i;
+    part = part_of_caller w;
+    told = map log_told (same.told i);
+  }
+
+  adds : (e : LogEntry) → w.view.own.log ≡ v.view.own.log ++ e ∷ [] → part_of_caller w ≡ with_entry (part_of_caller v) e
+  adds e log = λ i. record { log = log i; shard = owned i }
+
+  nothing : w ≡ v → part_of_caller w ≡ part_of_caller v
+  nothing e = ap part_of_caller e
+
+  same_tale : w ≡ v → SameTale v.view w.view
+  same_tale e = record {
+    shape = ap (λ (c : Caller). c.view.shape) e;
+    pass = ap (λ (c : Caller). c.view.pass) e;
+    told = ap (λ (c : Caller). c.view.told) e;
+    orders = ap (λ (c : Caller). c.view.orders) e;
+  }
+
+  unseen : w ≡ v → SamePass seen_before seen_after
+  unseen e = same_seen (ap (λ (c : Caller). c.heap) e) (same_tale e)
+
+  a_key : (key : ℕ) → IsKeyOfHeap layout v key → is_placed_key layout v.view.shape key ≡ true
+  a_key key k = placed layout v.view.shape key (subst (λ (s : Numbers). IsSome (place_named (plan_of layout s) key))
+      (sym shape_is) k)
+
+  no_such_key : (key : ℕ) → place_named (plan_of layout v.heap.shape) key ≡ None → is_placed_key layout v.view.shape key
+      ≡ false
+  no_such_key key k = not_placed layout v.view.shape key (subst
+      (λ (s : Numbers). place_named (plan_of layout s) key ≡ None) (sym shape_is) k)
+
+  full : length (holds v) ≡ 16 → nat_le 16 (logged_hold_count v.view.own.log v.view.pass) ≡ true
+  full e = let c = stands.hold_count in grind (arith, nat_tests)
+
+  room : length (holds v) < 16 → nat_le 16 (logged_hold_count v.view.own.log v.view.pass) ≡ false
+  room e = let c = stands.hold_count in grind (arith, nat_tests)
+
+  bad : (key : ℕ) → place_named (plan_of layout v.heap.shape) key ≡ None
+      → get_refusal seen_before.terms seen_before.pass seen_before.part key ≡ Some refusal.BadKey
+  bad key k = rw (no_such_key key k) refl
+
+  holds_full : (key : ℕ) → IsKeyOfHeap layout v key → length (holds v) ≡ 16
+      → get_refusal seen_before.terms seen_before.pass seen_before.part key ≡ Some refusal.HoldsFull
+  holds_full key k f = rw (a_key key k, full f) refl
+
+  none_first : (key : ℕ) → IsKeyOfHeap layout v key → length (holds v) < 16
+      → get_refusal seen_before.terms seen_before.pass seen_before.part key ≡ None
+  none_first key k f = rw (a_key key k, room f) refl
+
+  abbrev GetIs : ℕ → Result Hold Refusal → Option Refusal → Type 0
+  GetIs key r first = UnlessRefused first seen_before.part r seen_after.part
+      (HoldGot seen_before.pass seen_before.part key r seen_after.part)
+
+  pub get_answers : (key : ℕ) (r : Result Hold Refusal) → GetDoes layout key v r w
+      → GetAnswers seen_before.terms seen_before.pass seen_before.part key r seen_after.part
+      × SamePass seen_before seen_after
+  get_answers key (Ok hold) h = (
+    subst (GetIs key (Ok hold)) (sym (none_first key h.1 h.2))
+        (h.0, (Unread v.view.pass key, (refl, refl), adds (Unread v.view.pass key) h.3.log)),
+    same_seen h.3.heap h.3.same,
+  )
+  get_answers key (Err refusal.BadKey) h = (
+    subst (GetIs key (Err refusal.BadKey)) (sym (bad key h.0))
+        (refl, nothing h.1),
+    unseen h.1,
+  )
+  get_answers key (Err refusal.HoldsFull) h = (
+    subst (GetIs key (Err refusal.HoldsFull)) (sym (holds_full key h.0 h.1))
+        (refl, nothing h.2),
+    unseen h.2,
+  )
+  get_answers key (Err refusal.Gone) h = (
+    subst (GetIs key (Err refusal.Gone)) (sym (none_first key h.0 h.1))
+        (adds (Known (entry.Gone v.view.pass key)) h.2.log),
+    same_seen h.2.heap h.2.same,
+  )
+  get_answers key (Err refusal.Crowded) h = (
+    subst (GetIs key (Err refusal.Crowded)) (sym (none_first key h.0 h.1))
+        (adds (Known (entry.Crowded v.view.pass key)) h.2.log),
+    same_seen h.2.heap h.2.same,
+  )
+  get_answers key (Err _) h = absurd h
+
+  -- ---- remove
+
+  abbrev RemoveIs : ℕ → Result (Unit {0}) Refusal → Option Refusal → Type 0
+  RemoveIs key r first = UnlessRefused first seen_before.part r seen_after.part
+      (KeyRemoved seen_before.pass seen_before.part key r seen_after.part)
+
+  removes_key : (key : ℕ) → IsKeyOfHeap layout v key → remove_refusal seen_before.terms key ≡ None
+  removes_key key k = rw (a_key key k) refl
+
+  removes_none : (key : ℕ) → place_named (plan_of layout v.heap.shape) key ≡ None → remove_refusal seen_before.terms key
+      ≡ Some refusal.BadKey
+  removes_none key k = rw (no_such_key key k) refl
+
+  pub remove_answers : (key : ℕ) (r : Result (Unit {0}) Refusal) → RemoveDoes layout key v r w
+      → RemoveAnswers seen_before.terms seen_before.pass seen_before.part key r seen_after.part
+      × SamePass seen_before seen_after
+  remove_answers key (Ok u) h = (
+    subst (RemoveIs key (Ok u)) (sym (removes_key key h.0))
+        (adds (Known (entry.Removed v.view.pass key)) h.1.log),
+    same_seen h.1.heap h.1.same,
+  )
+  remove_answers key (Err refusal.BadKey) h = (
+    subst (RemoveIs key (Err refusal.BadKey)) (sym (removes_none key h.0))
+        (refl, nothing h.1),
+    unseen h.1,
+  )
+  remove_answers key (Err refusal.Gone) h = (
+    subst (RemoveIs key (Err refusal.Gone)) (sym (removes_key key h.0))
+        (adds (Known (entry.Gone v.view.pass key)) h.1.log),
+    same_seen h.1.heap h.1.same,
+  )
+  remove_answers key (Err _) h = absurd h
+
+  -- ---- holds
+
+  held : (key : ℕ) → has (λ k. k == key) (holds v) ≡ true → nat_lt 0 (logged_holds_by v.view.own.log v.view.pass key)
+      ≡ true
+  held key e = let some : 0 < times key (holds v) = has_some (λ k. k == key) (holds v) e in let c = stands.holds key
+      in grind (arith, nat_tests)
+
+  none_held : (key : ℕ) → has (λ k. k == key) (holds v) ≡ false → nat_lt 0
+      (logged_holds_by v.view.own.log v.view.pass key) ≡ false
+  none_held key e = go (nat_lt 0 (times key (holds v))) refl
+    where
+      go : (b : Bool) → nat_lt 0 (times key (holds v)) ≡ b → nat_lt 0 (logged_holds_by v.view.own.log v.view.pass key)
+          ≡ false
+      go true f = let some : 0 < times key (holds v) = grind (arith, nat_tests)
+          in absurd (let z : true ≡ false = sym (some_has key (holds v) some) ∙ e in cc)
+      go false f = ap (λ n. nat_lt 0 n) (sym (stands.holds key)) ∙ f
+
+  holds_it : (key : ℕ) → has (λ k. k == key) (holds v) ≡ true → hold_refusal seen_before.pass seen_before.part key
+      ≡ None
+  holds_it key e = rw (held key e) refl
+
+  holds_not : (key : ℕ) → has (λ k. k == key) (holds v) ≡ false → hold_refusal seen_before.pass seen_before.part key
+      ≡ Some refusal.NotHeld
+  holds_not key e = rw (none_held key e) refl
+
+  abbrev ReleaseIs : ℕ → Result (Unit {0}) Refusal → Option Refusal → Type 0
+  ReleaseIs key r first = UnlessRefused first seen_before.part r seen_after.part
+      (HoldReleased seen_before.pass seen_before.part key r seen_after.part)
+
+  pub release_answers : (key : ℕ) (r : Result (Unit {0}) Refusal) → ReleaseDoes key v r w
+      → ReleaseAnswers seen_before.pass seen_before.part key r seen_after.part × SamePass seen_before seen_after
+  release_answers key (Ok u) h = (
+    subst (ReleaseIs key (Ok u)) (sym (holds_it key h.0))
+        (adds (Known (entry.Released v.view.pass key)) h.1.log),
+    same_seen h.1.heap h.1.same,
+  )
+  release_answers key (Err refusal.NotHeld) h = (
+    subst (ReleaseIs key (Err refusal.NotHeld)) (sym (holds_not key h.0))
+        (refl, nothing h.1),
+    unseen h.1,
+  )
+  release_answers key (Err _) h = absurd h
+
+  abbrev ReadIs : ℕ → Result (List ℕ) Refusal → Option Refusal → Type 0
+  ReadIs key r first = UnlessRefused first seen_before.part r seen_after.part
+      (ValueRead seen_before.part key r seen_after.part)
+
+  reads_log : (key : ℕ) (value : List ℕ) → w.view.own.log ≡ map (filled key value) v.view.own.log → part_of_caller w
+      ≡ record (part_of_caller v) { log = map (filled key value) v.view.own.log }
+  reads_log key value log = λ i. record { log = log i; shard = owned i }
+
+  pub read_answers : (key : ℕ) (r : Result (List ℕ) Refusal) → ReadDoes key v r w
+      → ReadAnswers seen_before.pass seen_before.part key r seen_after.part × SamePass seen_before seen_after
+  read_answers key (Ok value) h = (
+    subst (ReadIs key (Ok value)) (sym (holds_it key h.0))
+        (reads_log key value h.1.log, h.1.value_is),
+    same_seen h.1.heap h.1.same,
+  )
+  read_answers key (Err refusal.NotHeld) h = (
+    subst (ReadIs key (Err refusal.NotHeld)) (sym (holds_not key h.0))
+        (refl, nothing h.1),
+    unseen h.1,
+  )
+  read_answers key (Err _) h = absurd h
+
+-- ---- becoming the owner of a shard, and leaving it
+
+module _ (layout : Layout) (v : Caller) where
+  abbrev seen_caller : SeenPass
+  seen_caller = seen_of_caller layout v
+
+  same_of : (w : Caller) → w.heap ≡ v.heap → SameTale v.view w.view → SamePass seen_caller (seen_of_caller layout w)
+  same_of w heap same = λ i. record {
+    heap = Some (heap i);
+    terms = heap_terms layout (same.shape i);
+    pass = same.pass i;
+    part = part_of_caller w;
+    told = map log_told (same.told i);
+  }
+
+  kept : (w : Caller) → w ≡ v → SamePass seen_caller (seen_of_caller layout w)
+  kept w e = same_of w (ap (λ (c : Caller). c.heap) e) (record {
+    shape = ap (λ (c : Caller). c.view.shape) e;
+    pass = ap (λ (c : Caller). c.view.pass) e;
+    told = ap (λ (c : Caller). c.view.told) e;
+    orders = ap (λ (c : Caller). c.view.orders) e;
+  })
+
+  there_is : (k : ℕ) → v.view.own.body.owned ≡ None → k < v.view.shape.shards
+      → adopt_refusal seen_caller.terms seen_caller.part.shard k ≡ None
+  there_is k none l =
+      let few : nat_le v.view.shape.shards k ≡ false = grind (arith, nat_tests) in
+      ap (λ (o : Option ℕ). adopt_refusal seen_caller.terms o k) none ∙ rw few refl
+
+  there_is_not : (k : ℕ) → v.view.own.body.owned ≡ None → v.view.shape.shards ≤ k
+      → adopt_refusal seen_caller.terms seen_caller.part.shard k ≡ Some refusal.NoShard
+  there_is_not k none l =
+      let many : nat_le v.view.shape.shards k ≡ true = grind (arith, nat_tests) in
+      ap (λ (o : Option ℕ). adopt_refusal seen_caller.terms o k) none ∙ rw many refl
+
+  abbrev AdoptIs : ℕ → Result (Unit {0}) Refusal → Caller → Option Refusal → Type 0
+  AdoptIs k r w first = UnlessRefused first seen_caller.part r (part_of_caller w)
+      (PartAdopted seen_caller.part k r (part_of_caller w))
+
+  part_as_was : (w : Caller) → v.view.own.body.owned ≡ None → ShardLeft v w → part_of_caller w ≡ part_of_caller v
+  part_as_was w none l = λ i. record { log = l.log i; shard = (l.owned ∙ sym none) i }
+
+  pub adopt_answers : (k : ℕ) (r : Result Sharded (Caller × Refusal)) → v.view.own.body.owned ≡ None → AdoptServes k v r
+      → MatchResult r
+      (λ n. AdoptAnswers seen_caller.terms seen_caller.part k (Ok tt) (part_of_caller n.pages.owner)
+      × SamePass seen_caller (seen_of_caller layout n.pages.owner))
+      (λ e. AdoptAnswers seen_caller.terms seen_caller.part k (Err e.1) (part_of_caller e.0)
+      × SamePass seen_caller (seen_of_caller layout e.0))
+  adopt_answers k (Ok n) none h = (
+    subst (AdoptIs k (Ok tt) n.pages.owner) (sym (there_is k none h.0))
+        (λ i. record { log = h.1.log i; shard = h.1.owned i }),
+    same_of n.pages.owner h.1.heap h.1.same,
+  )
+  adopt_answers k (Err (w, refusal.NoShard)) none h = (
+    subst (AdoptIs k (Err refusal.NoShard) w)
+        (sym (there_is_not k none h.0)) (refl, ap part_of_caller h.1),
+    kept w h.1,
+  )
+  adopt_answers k (Err (w, refusal.Taken)) none h = (
+    subst (AdoptIs k (Err refusal.Taken) w) (sym (there_is k none h.0))
+        (part_as_was w none h.1),
+    same_of w h.1.heap h.1.same,
+  )
+  adopt_answers k (Err (w, refusal.Memory)) none h = (
+    subst (AdoptIs k (Err refusal.Memory) w)
+        (sym (there_is k none h.0)) (part_as_was w none h.1),
+    same_of w h.1.heap h.1.same,
+  )
+  adopt_answers k (Err (w, _)) none h = absurd h
+
+module _ (layout : Layout) (o : Sharded) (owned : o.pages.owner.view.own.body.owned ≡ Some o.pages.shard) where
+  abbrev seen_owner : SeenPass
+  seen_owner = seen_of_caller layout o.pages.owner
+
+  has_one : needs_shard seen_owner.part.shard ≡ None
+  has_one = ap needs_shard owned
+
+  abbrev LeaveIs : Result (Unit {0}) Refusal → Caller → Option Refusal → Type 0
+  LeaveIs r w first = UnlessRefused first seen_owner.part r (part_of_caller w)
+      (PartLeft seen_owner.part r (part_of_caller w))
+
+  pub leave_answers : (r : Result Caller (Sharded × Refusal)) → LeaveServes o r
+      → MatchResult r
+      (λ w. LeaveAnswers seen_owner.part (Ok tt) (part_of_caller w) × SamePass seen_owner (seen_of_caller layout w))
+      (λ e. LeaveAnswers seen_owner.part (Err e.1) (part_of_caller e.0.pages.owner)
+      × SamePass seen_owner (seen_of_caller layout e.0.pages.owner))
+  leave_answers (Ok w) h = (
+    subst (LeaveIs (Ok tt) w) (sym has_one) (λ i. record { log = h.log i; shard = h.owned i }),
+    same_of layout o.pages.owner w h.heap h.same,
+  )
+  leave_answers (Err (n, r)) h =
+      let c = h.1.through in
+      let w = n.pages.owner in
+      let part : part_of_caller w ≡ part_of_caller o.pages.owner =
+      (λ i. record { log = c.log i; shard = c.aside.owned i }) in
+      let L : Refusal → Type 0 = λ x. LeaveAnswers seen_owner.part (Err x) (part_of_caller w) in (
+        subst L (sym h.0) (subst (LeaveIs (Err refusal.Waiting) w) (sym has_one) part),
+        same_of layout o.pages.owner w
+            c.aside.heap c.aside.same,
+      )
+
+  abbrev InsertIs : List ℕ → Result ℕ Refusal → Caller → Type 0
+  InsertIs words r w = ValueInserted seen_owner.terms seen_owner.pass seen_owner.part words r (part_of_caller w)
+
+  part_unchanged : (w : Caller) → w.view.own.log ≡ o.pages.owner.view.own.log → w.view.own.body.owned
+      ≡ o.pages.owner.view.own.body.owned → part_of_caller w ≡ part_of_caller o.pages.owner
+  part_unchanged w log owned = λ i. record { log = log i; shard = owned i }
+
+  own_key : (key : ℕ) → IsKeyIn layout o.pages.owner o.pages.shard key
+      → IsOwnKey seen_owner.terms seen_owner.part.shard key
+  own_key key k = record {
+    own = subst (λ (z : Option ℕ). is_key_of_shard layout z key ≡ true) (sym owned)
+        (of_shard layout o.pages.owner.view.shape key o.pages.shard k.0 k.1 k.2);
+    small = ((keys_are_consecutive layout key).0 (unpacks layout o.pages.owner.view.shape key k.0 k.1)).1;
+  }
+
+  pub insert_answers : (c : ℕ) (words : List ℕ) (r : Result ℕ Refusal) (n : Sharded) → InsertServes layout c words o r n
+      → InsertIs words r n.pages.owner × SamePass seen_owner (seen_of_caller layout n.pages.owner)
+  insert_answers c words (Ok key) n h = (
+    (own_key key h.1, λ i. record { log = h.0.log i; shard = h.0.aside.owned i }),
+    same_of layout o.pages.owner n.pages.owner h.0.aside.heap h.0.aside.same,
+  )
+  insert_answers c words (Err refusal.Full) n h =
+      let t = h.left.through in (
+        part_unchanged n.pages.owner t.log t.aside.owned,
+        same_of layout o.pages.owner n.pages.owner t.aside.heap
+            t.aside.same,
+      )
+  insert_answers c words (Err refusal.Memory) n h = (
+    part_unchanged n.pages.owner h.log h.aside.owned,
+    same_of layout
+        o.pages.owner n.pages.owner h.aside.heap h.aside.same,
+  )
+  insert_answers c words (Err _) n h = absurd h
+
+  pub key_is_small : (c : ℕ) (words : List ℕ) (r : Result ℕ Refusal) (n : Sharded) → InsertServes layout c words o r n
+      → IfOk r (λ key. key < first_key layout + key_count layout)
+  key_is_small c words (Ok key) n h = (own_key key h.1).small
+  key_is_small c words (Err e) n h = tt
+
+-- ---- passes that meet
+
+map_append : (xs ys : List Told) → map log_told (xs ++ ys) ≡ map log_told xs ++ map log_told ys
+map_append [] ys = refl
+map_append (x ∷ xs) ys = ap (λ z. log_told x ∷ z) (map_append xs ys)
+
+pub joined_tale : (layout : Layout) (v w r : Caller) → r.view ≡ joined_view v.view w.view
+    → tale_told (seen_of_caller layout r) ≡ tale_told (seen_of_caller layout v) ++ tale_told (seen_of_caller layout w)
+joined_tale layout v w r e =
+    let T : View → List PassTold = λ z. record { pass = z.pass; log = z.own.log } ∷ map log_told z.told in
+    ap T e ∙ ap (λ z. record { pass = v.view.pass; log = v.view.own.log } ∷ z)
+    (map_append v.view.told (told_of w.view ∷ w.view.told))
+
+-- ---- one history of all
+
+told_have : (history : List Entry) (ts : List Told) → Each (λ t. IsLogOf t.pass t.own history) ts
+    → HasAllLogs history (map log_told ts)
+told_have history [] h = tt
+told_have history (t ∷ ts) h = (h.0, told_have history ts h.1)
+
+none_other : (passes : ℕ) (es : List Entry) → All (λ e. pass_of e < passes) es
+    → entries_of (λ p. not (nat_lt p passes)) es ≡ []
+none_other passes [] h = refl
+none_other passes (e ∷ es) h = go (nat_lt (pass_of e) passes) refl
+    (none_other passes es (λ k d l. h (suc k) d (omega (arith, l))))
+  where
+    go : (b : Bool) → nat_lt (pass_of e) passes ≡ b → entries_of (λ p. not (nat_lt p passes)) es ≡ []
+        → cond (not b) (e ∷ entries_of (λ p. not (nat_lt p passes)) es) (entries_of (λ p. not (nat_lt p passes)) es)
+        ≡ []
+    go true is rest = rest
+    go false is rest = let l : pass_of e < passes = h 0 e (omega arith)
+        in absurd (let z : nat_lt (pass_of e) passes ≡ true = grind (arith, nat_tests) in let y : true ≡ false = sym z
+        ∙ is in cc)
+
+pub whole_tale : (layout : Layout) (v : Caller) → ViewStands layout v.view
+    → HasWholeTale (seen_of_caller layout v).terms (tale_told (seen_of_caller layout v))
+whole_tale layout v stands = record {
+  history = stands.history;
+  legal = stands.tale.legal;
+  has = (stands.tale.own, told_have stands.history v.view.told stands.tale.told);
+  only = none_other v.view.shape.passes stands.history stands.ours;
+}

@@ -1,0 +1,203 @@
+-- What a call of a pass does, given its answer: which refusal comes exactly where, what the log gains, and who owns
+-- what.
+use Rattle.std.specs.Prelude.{◌≡◌, ℕ, ◌+◌, ◌<◌, nat_lt, nat_le, not, Bool, true, false, List, map, length, Option, Some}
+use Rattle.std.specs.Prelude.{None, Result, Ok, Err, ok_or, if◌then◌else◌}
+use Rattle.sh_value.specs.declared.hold.Hold.{Hold}
+use Rattle.sh_value.specs.declared.refusal.Refusal.{Refusal}
+use Rattle.sh_value.specs.declared.refusal.Refusal.TheVariants as refusal
+use Rattle.sh_key.specs.Layout.{first_key, key_count}
+use Rattle.sh_history.specs.declared.entry.Entry.TheVariants.{Insert, Gone, Crowded, Removed, Released}
+use Rattle.sh_history.specs.declared.log.LogEntry.{LogEntry}
+use Rattle.sh_history.specs.declared.log.LogEntry.TheVariants.{Known}
+use Rattle.sh_history.specs.Log.{IsGotBy, filled, AllHaveValue, logged_holds_by, logged_hold_count}
+use Rattle.sh_script.specs.declared.calls.Reference.{Reference}
+use Rattle.sh_script.specs.declared.calls.Reference.TheVariants as reference
+use Rattle.sh_script.specs.declared.calls.Call.{Call}
+use Rattle.sh_script.specs.declared.calls.Call.TheVariants as call
+use Rattle.sh_calls.specs.declared.answer.Answer.{Answer}
+use Rattle.sh_calls.specs.declared.answer.Answer.TheVariants as answer
+use Rattle.sh_calls.specs.Keys.{key_shown}
+use Rattle.sh_calls.specs.Results.{done_answer, value_answer, key_answer}
+use Rattle.sh_calls.specs.Parts.{RunTerms, PassPart, with_entry, is_run_key, is_own_key}
+
+-- a refusal that comes before all else, with nothing changed; where there is none, the rest holds_left
+abbrev pub UnlessRefused : {A : Type 0} → Option Refusal → PassPart → Result A Refusal → PassPart → Type 0 → Type 0
+UnlessRefused (Some e) v r w Rest = (r ≡ Err e) × (w ≡ v)
+UnlessRefused None v r w Rest = Rest
+
+-- ---- adopt
+
+-- a pass with a shard is refused before the shard's number is looked at
+abbrev pub adopt_refusal : RunTerms → Option ℕ → ℕ → Option Refusal
+adopt_refusal terms (Some own) shard = Some refusal.Taken
+adopt_refusal terms None shard = if nat_le terms.shape.shards shard then Some refusal.NoShard else None
+
+abbrev pub PartAdopted : PassPart → ℕ → Result (Unit {0}) Refusal → PassPart → Type 0
+PartAdopted v shard (Ok _) w = w ≡ record v { shard = Some shard }
+PartAdopted v shard (Err refusal.Taken) w = w ≡ v
+PartAdopted v shard (Err refusal.Memory) w = w ≡ v
+PartAdopted v shard (Err _) w = ⊥
+
+abbrev pub AdoptAnswers : RunTerms → PassPart → ℕ → Result (Unit {0}) Refusal → PassPart → Type 0
+AdoptAnswers terms v shard r w = UnlessRefused (adopt_refusal terms v.shard shard) v r w (PartAdopted v shard r w)
+
+-- ---- leave
+
+abbrev pub needs_shard : Option ℕ → Option Refusal
+needs_shard (Some own) = None
+needs_shard None = Some refusal.NoShard
+
+abbrev pub PartLeft : PassPart → Result (Unit {0}) Refusal → PassPart → Type 0
+PartLeft v (Ok _) w = w ≡ record v { shard = None }
+PartLeft v (Err refusal.Waiting) w = w ≡ v
+PartLeft v (Err _) w = ⊥
+
+abbrev pub LeaveAnswers : PassPart → Result (Unit {0}) Refusal → PassPart → Type 0
+LeaveAnswers v r w = UnlessRefused (needs_shard v.shard) v r w (PartLeft v r w)
+
+-- ---- insert
+
+-- the key is one that an insert may give where this shard is owned
+pub record IsOwnKey (terms : RunTerms) (shard : Option ℕ) (key : ℕ) : Type 0 where
+  pub own : is_own_key terms shard key ≡ true
+  pub small : key < first_key terms.layout + key_count terms.layout
+
+abbrev pub ValueInserted : RunTerms → ℕ → PassPart → List ℕ → Result ℕ Refusal → PassPart → Type 0
+ValueInserted terms pass v words (Ok key) w = IsOwnKey terms v.shard key
+    × (w ≡ with_entry v (Known (Insert pass key words)))
+ValueInserted terms pass v words (Err refusal.Full) w = w ≡ v
+ValueInserted terms pass v words (Err refusal.Memory) w = w ≡ v
+ValueInserted terms pass v words (Err _) w = ⊥
+
+abbrev pub InsertAnswers : RunTerms → ℕ → PassPart → List ℕ → Result ℕ Refusal → PassPart → Type 0
+InsertAnswers terms pass v words r w = UnlessRefused (needs_shard v.shard) v r w (ValueInserted terms pass v words r w)
+
+-- the words of a script may be too many for a value, which comes before all else
+abbrev pub words_refusal : List ℕ → Option Refusal
+words_refusal words = if nat_lt 16 (length words) then Some refusal.TooLong else None
+
+abbrev pub WordsAnswers : RunTerms → ℕ → PassPart → List ℕ → Result ℕ Refusal → PassPart → Type 0
+WordsAnswers terms pass v words r w = UnlessRefused (words_refusal words) v r w (InsertAnswers terms pass v words r w)
+
+-- ---- get
+
+abbrev pub get_refusal : RunTerms → ℕ → PassPart → ℕ → Option Refusal
+get_refusal terms pass v key =
+    if not (is_run_key terms key) then Some refusal.BadKey
+    else if nat_le 16 (logged_hold_count v.log pass) then Some refusal.HoldsFull
+    else None
+
+abbrev pub HoldGot : ℕ → PassPart → ℕ → Result Hold Refusal → PassPart → Type 0
+HoldGot pass v key (Ok hold) w = (hold.key ≡ key) × ((got : LogEntry) × IsGotBy pass key got × (w ≡ with_entry v got))
+HoldGot pass v key (Err refusal.Gone) w = w ≡ with_entry v (Known (Gone pass key))
+HoldGot pass v key (Err refusal.Crowded) w = w ≡ with_entry v (Known (Crowded pass key))
+HoldGot pass v key (Err _) w = ⊥
+
+abbrev pub GetAnswers : RunTerms → ℕ → PassPart → ℕ → Result Hold Refusal → PassPart → Type 0
+GetAnswers terms pass v key r w = UnlessRefused (get_refusal terms pass v key) v r w (HoldGot pass v key r w)
+
+-- ---- read and release
+
+abbrev pub hold_refusal : ℕ → PassPart → ℕ → Option Refusal
+hold_refusal pass v key = if nat_lt 0 (logged_holds_by v.log pass key) then None else Some refusal.NotHeld
+
+-- the value is that of each get of the key
+abbrev pub ValueRead : PassPart → ℕ → Result (List ℕ) Refusal → PassPart → Type 0
+ValueRead v key (Ok value) w = (w ≡ record v { log = map (filled key value) v.log }) × AllHaveValue key value w.log
+ValueRead v key (Err _) w = ⊥
+
+abbrev pub ReadAnswers : ℕ → PassPart → ℕ → Result (List ℕ) Refusal → PassPart → Type 0
+ReadAnswers pass v key r w = UnlessRefused (hold_refusal pass v key) v r w (ValueRead v key r w)
+
+abbrev pub HoldReleased : ℕ → PassPart → ℕ → Result (Unit {0}) Refusal → PassPart → Type 0
+HoldReleased pass v key (Ok _) w = w ≡ with_entry v (Known (Released pass key))
+HoldReleased pass v key (Err _) w = ⊥
+
+abbrev pub ReleaseAnswers : ℕ → PassPart → ℕ → Result (Unit {0}) Refusal → PassPart → Type 0
+ReleaseAnswers pass v key r w = UnlessRefused (hold_refusal pass v key) v r w (HoldReleased pass v key r w)
+
+-- ---- remove
+
+abbrev pub remove_refusal : RunTerms → ℕ → Option Refusal
+remove_refusal terms key = if is_run_key terms key then None else Some refusal.BadKey
+
+abbrev pub KeyRemoved : ℕ → PassPart → ℕ → Result (Unit {0}) Refusal → PassPart → Type 0
+KeyRemoved pass v key (Ok _) w = w ≡ with_entry v (Known (Removed pass key))
+KeyRemoved pass v key (Err refusal.Gone) w = w ≡ with_entry v (Known (Gone pass key))
+KeyRemoved pass v key (Err _) w = ⊥
+
+abbrev pub RemoveAnswers : RunTerms → ℕ → PassPart → ℕ → Result (Unit {0}) Refusal → PassPart → Type 0
+RemoveAnswers terms pass v key r w = UnlessRefused (remove_refusal terms key) v r w (KeyRemoved pass v key r w)
+
+-- ---- how a result is told
+
+-- the result of the call is told so
+pub record AnswerSays {A : Type 0} (tell : Result A Refusal → Answer)
+    (CallAnswers : Result A Refusal → PassPart → Type 0) (a : Answer) (w : PassPart) : Type 0 where
+  pub result : Result A Refusal
+  pub is : a ≡ tell result
+  pub does : CallAnswers result w
+
+-- ---- names
+
+-- the key that is written so
+abbrev pub key_for_number : Option ℕ → ℕ → Result ℕ Answer
+key_for_number tag number = ok_or (key_shown tag number) (answer.Refused refusal.BadKey)
+
+-- a name stands for the number that its insert was answered, if it was not refused
+abbrev pub key_for_name : Option ℕ → Option ℕ → Result ℕ Answer
+key_for_name tag (Some number) = key_for_number tag number
+key_for_name tag None = Err answer.Unbound
+
+-- the key that a call is on, or what is answered where there is none, if its name stands for this number
+abbrev pub key_meant : Option ℕ → Option ℕ → Reference → Result ℕ Answer
+key_meant tag bound (reference.Key number) = key_for_number tag number
+key_meant tag bound (reference.Name i) = key_for_name tag bound
+
+-- a call on this key
+abbrev pub OnKey : Result ℕ Answer → PassPart → (ℕ → Answer → PassPart → Type 0) → Answer → PassPart → Type 0
+OnKey (Err b) v CallAnswers a w = (a ≡ b) × (w ≡ v)
+OnKey (Ok key) v CallAnswers a w = CallAnswers key a w
+
+-- ---- a call
+
+-- A call of a pass with the part v is answered so, and leaves the part w. Where it is on a name, the name stands for
+-- this number.
+abbrev pub CallAnswers : RunTerms → Option ℕ → ℕ → PassPart → Call → Option ℕ → Answer → PassPart → Type 0
+CallAnswers terms tag pass v (call.Adopt shard) bound a w = AnswerSays done_answer (AdoptAnswers terms v shard) a w
+CallAnswers terms tag pass v call.Leave bound a w = AnswerSays done_answer (LeaveAnswers v) a w
+CallAnswers terms tag pass v (call.Insert words) bound a w = AnswerSays (key_answer tag)
+    (WordsAnswers terms pass v words) a w
+CallAnswers terms tag pass v (call.Get r) bound a w = OnKey (key_meant tag bound r) v
+    (λ key. AnswerSays done_answer (GetAnswers terms pass v key)) a w
+CallAnswers terms tag pass v (call.Read r) bound a w = OnKey (key_meant tag bound r) v
+    (λ key. AnswerSays value_answer (ReadAnswers pass v key)) a w
+CallAnswers terms tag pass v (call.Remove r) bound a w = OnKey (key_meant tag bound r) v
+    (λ key. AnswerSays done_answer (RemoveAnswers terms pass v key)) a w
+CallAnswers terms tag pass v (call.Release r) bound a w = OnKey (key_meant tag bound r) v
+    (λ key. AnswerSays done_answer (ReleaseAnswers pass v key)) a w
+CallAnswers terms tag pass v call.Post bound a w = (a ≡ answer.Done) × (w ≡ v)
+CallAnswers terms tag pass v (call.Wait name) bound a w = (a ≡ answer.Done) × (w ≡ v)
+
+-- the name that a call is on, by the order in which the names are bound
+abbrev pub name_referred : Reference → Option ℕ
+name_referred (reference.Key number) = None
+name_referred (reference.Name i) = Some i
+
+abbrev pub name_used : Call → Option ℕ
+name_used (call.Get r) = name_referred r
+name_used (call.Read r) = name_referred r
+name_used (call.Remove r) = name_referred r
+name_used (call.Release r) = name_referred r
+name_used _ = None
+
+-- the call binds the next name
+abbrev pub binds : Call → Bool
+binds (call.Insert words) = true
+binds call.Post = true
+binds _ = false
+
+-- the number that the name of an insert stands for
+abbrev pub number_told : Answer → Option ℕ
+number_told (answer.Key number) = Some number
+number_told _ = None

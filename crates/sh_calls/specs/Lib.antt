@@ -1,0 +1,12 @@
+pub mod Keys
+pub mod Numbers
+pub mod Replies
+pub mod Results
+pub mod Parts
+pub mod Calls
+pub mod Runs
+pub mod Told
+pub mod Meeting
+pub mod Alone
+pub mod Holders
+pub mod Running

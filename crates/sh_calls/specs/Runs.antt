@@ -1,0 +1,52 @@
+-- A run of lines of several passes: what each was answered.
+use Rattle.std.specs.Prelude.{◌≡◌, ℕ, ◌==◌, cond, List, [], ◌∷◌, ◌++◌, slice_get, Option, Some, None}
+use Rattle.sh_script.specs.declared.calls.Call.{Call}
+use Rattle.sh_script.specs.declared.calls.CallLine.{CallLine}
+use Rattle.sh_calls.specs.declared.answer.Answer.{Answer}
+use Rattle.sh_calls.specs.Parts.{RunTerms, PassPart, no_part}
+use Rattle.sh_calls.specs.Calls.{CallAnswers, name_used, binds, number_told}
+
+-- for each name that is bound the number that it stands for, if its insert was answered one; for each pass its part
+pub record CallsRun : Type 0 where
+  pub numbers : List (Option ℕ)
+  pub parts : ℕ → PassPart
+
+-- no name is bound, and no pass has done anything
+abbrev pub opening_calls : CallsRun
+opening_calls = record { numbers = []; parts = λ _. no_part }
+
+abbrev pub number_bound : List (Option ℕ) → Option ℕ → Option ℕ
+number_bound numbers None = None
+number_bound numbers (Some i) = elim (slice_get numbers i) [ Some number ↦ number | None ↦ None ]
+
+-- the number that the name of the call stands for
+abbrev pub number_meant : List (Option ℕ) → Call → Option ℕ
+number_meant numbers c = number_bound numbers (name_used c)
+
+abbrev pub with_number : List (Option ℕ) → Call → Answer → List (Option ℕ)
+with_number numbers c a = cond (binds c) (numbers ++ number_told a ∷ []) numbers
+
+abbrev pub with_part : (ℕ → PassPart) → ℕ → PassPart → ℕ → PassPart
+with_part parts pass part p = cond (p == pass) part (parts p)
+
+abbrev pub next_run : CallsRun → CallLine → Answer → PassPart → CallsRun
+next_run run line a part = record {
+  numbers = with_number run.numbers line.call a;
+  parts = with_part run.parts line.pass
+      part;
+}
+
+-- The line is answered so. It sees the part of its own pass alone, and the numbers of the names bound before.
+pub record LineAnswered (terms : RunTerms) (tag : Option ℕ) (run : CallsRun) (line : CallLine) (a : Answer)
+    (next : CallsRun) : Type 0 where
+  pub part : PassPart
+  pub does : CallAnswers terms tag line.pass (run.parts line.pass) line.call (number_meant run.numbers line.call) a part
+  pub next_is : next ≡ next_run run line a part
+
+-- these lines are answered so
+abbrev pub LinesAnswered : RunTerms → Option ℕ → CallsRun → List CallLine → List Answer → CallsRun → Type 0
+LinesAnswered terms tag run [] [] after = after ≡ run
+LinesAnswered terms tag run [] (a ∷ answers) after = ⊥
+LinesAnswered terms tag run (l ∷ lines) [] after = ⊥
+LinesAnswered terms tag run (l ∷ lines) (a ∷ answers) after = (next : CallsRun) × LineAnswered terms tag run l a next
+    × LinesAnswered terms tag next lines answers after

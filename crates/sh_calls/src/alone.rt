@@ -1,0 +1,73 @@
+//! A script of calls in one thread: the calls of all passes, one after the other, in the order of the lines.
+ghost use Rattle.std.specs.Prelude.{◌≡◌, Option, ◌<◌, Some, IfOk, IfErr, IfSome, map};
+ghost use Rattle.std.specs.List.{All};
+ghost use Rattle.sh_script.specs.declared.calls.CallLine.{CallLine};
+ghost use Rattle.sh_table.specs.Seats.{Heap};
+ghost use Rattle.sh_calls.specs.Keys.{HasTagRoom};
+ghost use Rattle.sh_calls.specs.Parts.{RunTerms, new_passes, told_pass, tale_told, passes_below};
+ghost use Rattle.sh_calls.specs.Told.{AreReplies, IsTold};
+ghost use Rattle.sh_calls.specs.Meeting.{CarriesTale, OwnsNone, HasMet};
+ghost use Rattle.sh_calls.specs.Alone.{tales_told, AllOfHeap};
+
+use crate::push_reply;
+use crate::line::{answered, binds, number_meant, number_told};
+use crate::meeting::meet;
+use crate::side::Side;
+use sh_script::{CallLine, Fault};
+use std::alloc::Global;
+
+// What one of the passes carries once all have met: nobody owns a shard any more. None where an owner could not leave.
+fn met<S: Side>(sides: Vec<S>) -> Option<S>
+    ghost at: { Option Heap × RunTerms }
+    requires of { AllOfHeap at.0 at.1 (map S.seen sides.items) }
+    requires all { map told_pass (tales_told (map S.seen sides.items)) ≡ passes_below at.1.shape.passes }
+    ensures { IfSome result (λ carrier. HasMet at.0 at.1 (S.seen carrier) (tales_told (map S.seen sides.items))) }
+{
+    let mut carrier: Option<S> = None;
+    for side in sides {
+        let mut side = side;
+        if !side.retire() {
+            return None;
+        }
+        carrier = Some(meet(carrier, side));
+    }
+    let carrier = carrier?;
+    carrier.whole();
+    Some(carrier)
+}
+
+/// Runs the lines in their order. Answers the reply lines, and the pass that carries the tale of all once all owners
+/// have left and all passes have met; none where an owner could not leave.
+pub fn alone_lines<S: Side>(
+    alloc: Global,
+    lines: &[CallLine],
+    tag: Option<u8>,
+    mut sides: Vec<S>,
+) -> Result<(Vec<u8>, Option<S>), Fault>
+    ghost at: { Option Heap × RunTerms }
+    requires room { HasTagRoom at.1.layout tag }
+    requires sides { map S.seen sides.items ≡ new_passes at.0 at.1 at.1.shape.passes }
+    requires passes { All (λ (l : CallLine). l.pass < at.1.shape.passes) lines.now }
+    ensures replies { IfOk result (λ ran. AreReplies at.1 tag lines.now ran.0.items) }
+    ensures told { IfOk result (λ ran. IfSome ran.1 (λ carrier. IsTold at.1 tag lines.now ran.0.items
+        (tale_told (S.seen carrier)) × CarriesTale at.0 at.1 (Some (S.seen carrier)) (tale_told (S.seen carrier))
+        × OwnsNone (Some (S.seen carrier)))) }
+    ensures fault { IfErr result (λ fault. fault ≡ Fault.Memory) }
+{
+    let mut numbers: Vec<Option<u64>> = Vec::new(alloc);
+    let mut output = Vec::new(alloc);
+    for line in lines {
+        let Some(side) = sides.get_mut(line.pass as usize) else {
+            unreachable!()
+        };
+        let bound = number_meant(numbers.as_slice(), &line.call);
+        let answer = answered(alloc, side, tag, &line.call, bound);
+        if binds(&line.call) && numbers.push(number_told(&answer)).is_err() {
+            return Err(Fault::Memory);
+        }
+        if push_reply(&mut output, line, &answer).is_err() {
+            return Err(Fault::Memory);
+        }
+    }
+    Ok((output, met(sides)))
+}

@@ -1,0 +1,110 @@
+//! Passes of the running heap: what a script's calls are made on.
+ghost use Rattle.std.specs.Prelude.{◌≡◌, map};
+ghost use Rattle.sh_calls.specs.Running.{seen_of_caller};
+
+use crate::holder::{Calls, Heap};
+use sh_key::KeyLayout;
+use sh_pass::{Pass, merge};
+use sh_shard::Shard;
+use sh_value::{Hold, Refusal, Value};
+use std::alloc::Global;
+
+// What a pass knows stands before a call, and it owns no shard after it: `shape` tells both.
+impl<'a, L: KeyLayout> Calls for Pass<'a, L> {
+    ghost seen = { λ p. seen_of_caller L.layout p };
+
+    fn get(&mut self, key: u64) -> Result<Hold, Refusal> {
+        let _ = self.shape();
+        let result = Pass::get(self, key);
+        let _ = self.shape();
+        result
+    }
+
+    fn read(&mut self, hold: Hold) -> Result<Value, Refusal> {
+        let _ = self.shape();
+        let result = Pass::read(self, hold);
+        let _ = self.shape();
+        result
+    }
+
+    fn remove(&mut self, key: u64) -> Result<(), Refusal> {
+        let _ = self.shape();
+        let result = Pass::remove(self, key);
+        let _ = self.shape();
+        result
+    }
+
+    fn release(&mut self, hold: Hold) -> Result<(), Refusal> {
+        let _ = self.shape();
+        let result = Pass::release(self, hold);
+        let _ = self.shape();
+        result
+    }
+
+    fn whole(&self) {
+        let _ = self.shape();
+    }
+}
+
+// What an owner knows stands before a call: `shape` tells it.
+impl<'a, L: KeyLayout> Calls for Shard<'a, L> {
+    ghost seen = { λ s. seen_of_caller L.layout s.pages.owner };
+
+    fn get(&mut self, key: u64) -> Result<Hold, Refusal> {
+        let _ = self.shape();
+        Shard::get(self, key)
+    }
+
+    fn read(&mut self, hold: Hold) -> Result<Value, Refusal> {
+        let _ = self.shape();
+        Shard::read(self, hold)
+    }
+
+    fn remove(&mut self, key: u64) -> Result<(), Refusal> {
+        let _ = self.shape();
+        Shard::remove(self, key)
+    }
+
+    fn release(&mut self, hold: Hold) -> Result<(), Refusal> {
+        let _ = self.shape();
+        Shard::release(self, hold)
+    }
+
+    fn whole(&self) {
+        let _ = self.shape();
+    }
+}
+
+/// The passes and the shards of a running heap.
+pub struct Running<'a, L: KeyLayout> {
+    // None is made: it names the heap that passes and shards borrow.
+    _heap: &'a sh_pass::Heap<L>,
+}
+
+impl<'a, L: KeyLayout + Send + Sync> Heap for Running<'a, L> {
+    type Pass = Pass<'a, L>;
+
+    type Shard = Shard<'a, L>;
+
+    fn adopt(
+        alloc: Global,
+        pass: Pass<'a, L>,
+        shard: u64,
+    ) -> Result<Shard<'a, L>, (Pass<'a, L>, Refusal)> {
+        Shard::adopt(alloc, pass, shard)
+    }
+
+    fn leave(shard: Shard<'a, L>) -> Result<Pass<'a, L>, (Shard<'a, L>, Refusal)> {
+        let _ = shard.shape();
+        shard.leave()
+    }
+
+    fn join(one: Pass<'a, L>, other: Pass<'a, L>) -> Pass<'a, L> {
+        merge(one, other)
+    }
+
+    fn insert(shard: &mut Shard<'a, L>, value: &Value) -> Result<u64, Refusal> {
+        let _ = shard.shape();
+        shard.insert(value)
+    }
+}

@@ -1,0 +1,71 @@
+//! A pass of a heap, with or without a shard: what runs the calls of a script.
+ghost use Rattle.std.specs.Prelude.{◌≡◌, ◌<◌, ◌+◌, ◌∷◌, ◌++◌, IfOk, true, None, map};
+ghost use Rattle.sh_key.specs.Layout.{first_key, key_count};
+ghost use Rattle.sh_calls.specs.Parts.{SeenPass, SamePass, HasWholeTale, tale_told, told_pass, passes_below};
+ghost use Rattle.sh_calls.specs.Calls.{AdoptAnswers, LeaveAnswers, InsertAnswers, GetAnswers, ReadAnswers};
+ghost use Rattle.sh_calls.specs.Calls.{RemoveAnswers, ReleaseAnswers};
+
+use sh_value::{Hold, Refusal, Value};
+use std::alloc::Global;
+
+/// A pass, which may own a shard. Its clauses say of each call which refusal comes exactly where, and what its log
+/// gains.
+pub trait Side: Drop {
+    // What a contract sees.
+    ghost seen: { Self → SeenPass };
+
+    fn adopt(&mut self, alloc: Global, shard: u64) -> Result<(), Refusal>
+        ensures does { AdoptAnswers (seen self.old).terms (seen self.old).part shard result (seen self.new).part }
+        ensures same { SamePass (seen self.old) (seen self.new) };
+
+    fn leave(&mut self) -> Result<(), Refusal>
+        ensures does { LeaveAnswers (seen self.old).part result (seen self.new).part }
+        ensures same { SamePass (seen self.old) (seen self.new) };
+
+    fn insert(&mut self, value: &Value) -> Result<u64, Refusal>
+        ensures does { InsertAnswers (seen self.old).terms (seen self.old).pass (seen self.old).part value.now result
+            (seen self.new).part }
+        ensures small { IfOk result (λ key. key < first_key (seen self.old).terms.layout + key_count
+            (seen self.old).terms.layout) }
+        ensures same { SamePass (seen self.old) (seen self.new) };
+
+    fn get(&mut self, key: u64) -> Result<Hold, Refusal>
+        ensures does { GetAnswers (seen self.old).terms (seen self.old).pass (seen self.old).part key result
+            (seen self.new).part }
+        ensures same { SamePass (seen self.old) (seen self.new) };
+
+    fn read(&mut self, hold: Hold) -> Result<Value, Refusal>
+        ensures does { ReadAnswers (seen self.old).pass (seen self.old).part hold.key result (seen self.new).part }
+        ensures same { SamePass (seen self.old) (seen self.new) };
+
+    fn remove(&mut self, key: u64) -> Result<(), Refusal>
+        ensures does { RemoveAnswers (seen self.old).terms (seen self.old).pass (seen self.old).part key result
+            (seen self.new).part }
+        ensures same { SamePass (seen self.old) (seen self.new) };
+
+    fn release(&mut self, hold: Hold) -> Result<(), Refusal>
+        ensures does { ReleaseAnswers (seen self.old).pass (seen self.old).part hold.key result (seen self.new).part }
+        ensures same { SamePass (seen self.old) (seen self.new) };
+
+    /// Whether it owns no shard, where leaving was tried if it owned one.
+    fn retire(&mut self) -> bool
+        ensures none { result ≡ true → (seen self.new).part.shard ≡ None }
+        ensures log { (seen self.new).part.log ≡ (seen self.old).part.log }
+        ensures same { SamePass (seen self.old) (seen self.new) };
+
+    /// The first side, which now speaks for both. Neither owns a shard.
+    fn join(self, other: Self) -> Self
+    where
+        Self: Sized,
+        requires none { ((seen self).part.shard ≡ None) × ((seen other).part.shard ≡ None) }
+        requires heap { (seen self).heap ≡ (seen other).heap }
+        ensures none { (seen result).part.shard ≡ None }
+        ensures heap { (seen result).heap ≡ (seen self).heap }
+        ensures terms { (seen result).terms ≡ (seen self).terms }
+        ensures tale { tale_told (seen result) ≡ tale_told (seen self) ++ tale_told (seen other) };
+
+    /// One legal history has all that it speaks for, and nothing else, where it speaks for all passes.
+    fn whole(&self)
+        requires { map told_pass (tale_told (seen self.now)) ≡ passes_below (seen self.now).terms.shape.passes }
+        ensures { HasWholeTale (seen self.now).terms (tale_told (seen self.now)) };
+}

@@ -1,5 +1,0 @@
-use Rattle.sh_replay.proofs.RunningLaws.{whole_tale}
-use Rattle.sh_replay.proofs.running.ShardCalls.whole.Goals as goal
-
-pub returns : goal.returns
-returns g c = whole_tale g.L.KeyLayout.layout c.args.self.now.pages.owner c.shape.ensures.holds.stands
