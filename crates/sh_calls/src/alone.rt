@@ -9,9 +9,9 @@ ghost use Rattle.sh_calls.specs.Told.{AreReplies, IsTold};
 ghost use Rattle.sh_calls.specs.Meeting.{CarriesTale, OwnsNone, HasMet};
 ghost use Rattle.sh_calls.specs.Alone.{tales_told, AllOfHeap};
 
-use crate::push_reply;
 use crate::line::{answered, binds, number_meant, number_told};
 use crate::meeting::meet;
+use crate::push_reply;
 use crate::side::Side;
 use sh_script::{CallLine, Fault};
 use std::alloc::Global;

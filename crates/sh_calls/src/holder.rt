@@ -44,46 +44,36 @@ pub trait Calls: Drop {
         ensures { HasWholeTale (seen self.now).terms (tale_told (seen self.now)) };
 }
 
-/// The two kinds of pass of a heap, and how one becomes the other.
-pub trait Heap {
-    type Pass: Calls + Send;
-
-    type Shard: Calls + Send;
-
-    fn adopt(
-        alloc: Global,
-        pass: Self::Pass,
-        shard: u64,
-    ) -> Result<Self::Shard, (Self::Pass, Refusal)>
-        requires none { (Self.Pass.seen pass).part.shard ≡ None }
+/// A pass that becomes a shard when it adopts one, and gets back when it leaves it.
+pub trait Adopts<S: Calls>: Calls + Sized {
+    fn adopt(self, alloc: Global, shard: u64) -> Result<S, (Self, Refusal)>
+        requires none { (Self.seen self).part.shard ≡ None }
         ensures { MatchResult result
-            (λ s. AdoptAnswers (Self.Pass.seen pass).terms (Self.Pass.seen pass).part shard (Ok tt)
-            (Self.Shard.seen s).part × SamePass (Self.Pass.seen pass) (Self.Shard.seen s))
-            (λ e. AdoptAnswers (Self.Pass.seen pass).terms (Self.Pass.seen pass).part shard (Err e.1)
-            (Self.Pass.seen e.0).part × SamePass (Self.Pass.seen pass) (Self.Pass.seen e.0)) };
+            (λ s. AdoptAnswers (Self.seen self).terms (Self.seen self).part shard (Ok tt) (S.seen s).part
+            × SamePass (Self.seen self) (S.seen s))
+            (λ e. AdoptAnswers (Self.seen self).terms (Self.seen self).part shard (Err e.1) (Self.seen e.0).part
+            × SamePass (Self.seen self) (Self.seen e.0)) };
 
-    fn leave(shard: Self::Shard) -> Result<Self::Pass, (Self::Shard, Refusal)>
+    fn leave(shard: S) -> Result<Self, (S, Refusal)>
         ensures { MatchResult result
-            (λ p. LeaveAnswers (Self.Shard.seen shard).part (Ok tt) (Self.Pass.seen p).part
-            × SamePass (Self.Shard.seen shard) (Self.Pass.seen p))
-            (λ e. LeaveAnswers (Self.Shard.seen shard).part (Err e.1) (Self.Shard.seen e.0).part
-            × SamePass (Self.Shard.seen shard) (Self.Shard.seen e.0)) };
+            (λ p. LeaveAnswers (S.seen shard).part (Ok tt) (Self.seen p).part × SamePass (S.seen shard) (Self.seen p))
+            (λ e. LeaveAnswers (S.seen shard).part (Err e.1) (S.seen e.0).part
+            × SamePass (S.seen shard) (S.seen e.0)) };
 
-    fn join(one: Self::Pass, other: Self::Pass) -> Self::Pass
-        requires heap { (Self.Pass.seen one).heap ≡ (Self.Pass.seen other).heap }
-        ensures heap { (Self.Pass.seen result).heap ≡ (Self.Pass.seen one).heap }
-        ensures terms { (Self.Pass.seen result).terms ≡ (Self.Pass.seen one).terms }
-        ensures none { (Self.Pass.seen result).part.shard ≡ (Self.Pass.seen one).part.shard }
-        ensures tale { tale_told (Self.Pass.seen result) ≡ tale_told (Self.Pass.seen one)
-            ++ tale_told (Self.Pass.seen other) };
+    fn join(self, other: Self) -> Self
+        requires heap { (Self.seen self).heap ≡ (Self.seen other).heap }
+        ensures heap { (Self.seen result).heap ≡ (Self.seen self).heap }
+        ensures terms { (Self.seen result).terms ≡ (Self.seen self).terms }
+        ensures none { (Self.seen result).part.shard ≡ (Self.seen self).part.shard }
+        ensures tale { tale_told (Self.seen result) ≡ tale_told (Self.seen self) ++ tale_told (Self.seen other) };
 
-    fn insert(shard: &mut Self::Shard, value: &Value) -> Result<u64, Refusal>
-        ensures does { ValueInserted (Self.Shard.seen shard.old).terms (Self.Shard.seen shard.old).pass
-            (Self.Shard.seen shard.old).part value.now result (Self.Shard.seen shard.new).part }
-        ensures small { IfOk result (λ key. key < first_key (Self.Shard.seen shard.old).terms.layout + key_count
-            (Self.Shard.seen shard.old).terms.layout) }
-        ensures same { SamePass (Self.Shard.seen shard.old) (Self.Shard.seen shard.new) }
-        ensures shard { (Self.Shard.seen shard.new).part.shard ≡ (Self.Shard.seen shard.old).part.shard };
+    fn insert(shard: &mut S, value: &Value) -> Result<u64, Refusal>
+        ensures does { ValueInserted (S.seen shard.old).terms (S.seen shard.old).pass (S.seen shard.old).part value.now
+            result (S.seen shard.new).part }
+        ensures small { IfOk result (λ key. key
+            < first_key (S.seen shard.old).terms.layout + key_count (S.seen shard.old).terms.layout) }
+        ensures same { SamePass (S.seen shard.old) (S.seen shard.new) }
+        ensures shard { (S.seen shard.new).part.shard ≡ (S.seen shard.old).part.shard };
 }
 
 /// What a holder has: a pass, a shard, or nothing while one becomes the other.
@@ -96,39 +86,50 @@ pub enum State<P: Drop, S: Drop> {
 
 /// A pass of a heap, which may own a shard. A contract sees what is seen of it.
 #[derive(Drop)]
-pub struct Holder<H: Heap> {
-    state: State<H::Pass, H::Shard>,
+pub struct Holder<P: Calls, S: Calls> {
+    state: State<P, S>,
 }
 
-impl<H: Heap> Model for Holder<H> {
+impl<P: Calls, S: Calls> Model for Holder<P, S> {
     ghost use Rattle.sh_calls.specs.Parts.{SeenPass};
     ghost use Rattle.sh_calls.specs.Holders.{seen_in, IsSettled};
 
     ghost Value = { SeenPass };
 
-    ghost view = { λ h. seen_in H.Pass.seen H.Shard.seen h.state };
+    ghost view = { λ h. seen_in P.seen S.seen h.state };
 
-    ghost invariant = { λ h. IsSettled H.Pass.seen H.Shard.seen h.state };
+    ghost invariant = { λ h. IsSettled P.seen S.seen h.state };
 }
 
-impl<H: Heap> Holder<H> {
+impl<P: Calls, S: Calls> Holder<P, S> {
     /// A pass that owns no shard.
-    pub fn new(pass: H::Pass) -> Self
-        requires { (H.Pass.seen pass).part.shard ≡ None }
-        ensures { result ≡ H.Pass.seen pass }
+    pub fn new(pass: P) -> Self
+        requires { (P.seen pass).part.shard ≡ None }
+        ensures { result ≡ P.seen pass }
     {
         Holder {
             state: State::Pass(pass),
         }
     }
+
+    /// The pass, where it owns no shard.
+    pub fn into_pass(self) -> P
+        requires { self.part.shard ≡ None }
+        ensures { P.seen result ≡ self }
+    {
+        match self.state {
+            State::Pass(pass) => pass,
+            State::Shard(_) | State::Moving => unreachable!(),
+        }
+    }
 }
 
-impl<H: Heap> Side for Holder<H> {
+impl<P: Adopts<S>, S: Calls> Side for Holder<P, S> {
     ghost seen = { λ h. h };
 
     fn adopt(&mut self, alloc: Global, shard: u64) -> Result<(), Refusal> {
         match mem::replace(&mut self.state, State::Moving) {
-            State::Pass(pass) => match H::adopt(alloc, pass, shard) {
+            State::Pass(pass) => match pass.adopt(alloc, shard) {
                 Ok(owner) => {
                     self.state = State::Shard(owner);
                     Ok(())
@@ -152,7 +153,7 @@ impl<H: Heap> Side for Holder<H> {
                 self.state = State::Pass(pass);
                 Err(Refusal::NoShard)
             }
-            State::Shard(owner) => match H::leave(owner) {
+            State::Shard(owner) => match P::leave(owner) {
                 Ok(pass) => {
                     self.state = State::Pass(pass);
                     Ok(())
@@ -169,7 +170,7 @@ impl<H: Heap> Side for Holder<H> {
     fn insert(&mut self, value: &Value) -> Result<u64, Refusal> {
         match &mut self.state {
             State::Pass(_) => Err(Refusal::NoShard),
-            State::Shard(owner) => H::insert(owner, value),
+            State::Shard(owner) => P::insert(owner, value),
             State::Moving => unreachable!(),
         }
     }
@@ -212,7 +213,7 @@ impl<H: Heap> Side for Holder<H> {
                 self.state = State::Pass(pass);
                 true
             }
-            State::Shard(owner) => match H::leave(owner) {
+            State::Shard(owner) => match P::leave(owner) {
                 Ok(pass) => {
                     self.state = State::Pass(pass);
                     true
@@ -229,7 +230,7 @@ impl<H: Heap> Side for Holder<H> {
     fn join(self, other: Self) -> Self {
         match (self.state, other.state) {
             (State::Pass(one), State::Pass(two)) => Holder {
-                state: State::Pass(H::join(one, two)),
+                state: State::Pass(one.join(two)),
             },
             _ => unreachable!(),
         }

@@ -2,7 +2,7 @@
 ghost use Rattle.std.specs.Prelude.{◌≡◌, map};
 ghost use Rattle.sh_calls.specs.Running.{seen_of_caller};
 
-use crate::holder::{Calls, Heap};
+use crate::holder::{Adopts, Calls};
 use sh_key::KeyLayout;
 use sh_pass::{Pass, merge};
 use sh_shard::Shard;
@@ -75,32 +75,18 @@ impl<'a, L: KeyLayout> Calls for Shard<'a, L> {
     }
 }
 
-/// The passes and the shards of a running heap.
-pub struct Running<'a, L: KeyLayout> {
-    // None is made: it names the heap that passes and shards borrow.
-    _heap: &'a sh_pass::Heap<L>,
-}
-
-impl<'a, L: KeyLayout + Send + Sync> Heap for Running<'a, L> {
-    type Pass = Pass<'a, L>;
-
-    type Shard = Shard<'a, L>;
-
-    fn adopt(
-        alloc: Global,
-        pass: Pass<'a, L>,
-        shard: u64,
-    ) -> Result<Shard<'a, L>, (Pass<'a, L>, Refusal)> {
-        Shard::adopt(alloc, pass, shard)
+impl<'a, L: KeyLayout> Adopts<Shard<'a, L>> for Pass<'a, L> {
+    fn adopt(self, alloc: Global, shard: u64) -> Result<Shard<'a, L>, (Self, Refusal)> {
+        Shard::adopt(alloc, self, shard)
     }
 
-    fn leave(shard: Shard<'a, L>) -> Result<Pass<'a, L>, (Shard<'a, L>, Refusal)> {
+    fn leave(shard: Shard<'a, L>) -> Result<Self, (Shard<'a, L>, Refusal)> {
         let _ = shard.shape();
         shard.leave()
     }
 
-    fn join(one: Pass<'a, L>, other: Pass<'a, L>) -> Pass<'a, L> {
-        merge(one, other)
+    fn join(self, other: Self) -> Self {
+        merge(self, other)
     }
 
     fn insert(shard: &mut Shard<'a, L>, value: &Value) -> Result<u64, Refusal> {

@@ -1,5 +1,6 @@
 pub mod PlainRun
 pub mod PlainDoes
+pub mod AccountLines
 pub mod StepsOutput
 pub mod StepsKeys
 pub mod Ends

@@ -87,38 +87,6 @@ event_lines tag (e ∷ lines) outcomes = elim (event_shown tag e) [
   | None ↦ event_line tag e.pass (kind_of_action e.action) Skipped ++ event_lines tag lines outcomes
 ]
 
--- ---- account lines: `page S.P class C live A marked B retired D mine E hand F queued G`, and a newline
-
--- how many of its slots have a value, or none any more
-abbrev pub used_text : Accounts → List ℕ
-used_text a = codes " live " ++ decimal a.live ++ codes " marked " ++ decimal a.marked ++ codes " retired "
-    ++ decimal a.retired
-
--- how many are empty
-abbrev pub empty_text : Accounts → List ℕ
-empty_text a = codes " mine " ++ decimal a.mine ++ codes " hand " ++ decimal a.hand ++ codes " queued "
-    ++ decimal a.queued
-
-abbrev pub page_name : (shard page : ℕ) → List ℕ
-page_name shard page = codes "page " ++ decimal shard ++ codes "." ++ decimal page
-
-abbrev pub account_line : (shard page class : ℕ) → Accounts → List ℕ
-account_line shard page class a =
-    page_name shard page ++ codes " class " ++ decimal class ++ used_text a ++ empty_text a ++ codes "\n"
-
--- a page without a class has no line
-abbrev pub page_text : (shard page : ℕ) → Accounts → List ℕ
-page_text shard page a = elim (a.class) [ Some class ↦ account_line shard page class a | None ↦ [] ]
-
--- the pages of a shard, in order
-abbrev pub shard_text : Numbers → (ℕ → Accounts) → (shard : ℕ) → List ℕ
-shard_text shape of_page shard = flat_map (λ page. page_text shard page (of_page (page_number shape shard page)))
-    (range_with_len 0 (pages_of shape))
-
--- by shards, and then by pages, where each page has these accounts by its number over the whole heap
-abbrev pub accounts_text : Numbers → (ℕ → Accounts) → List ℕ
-accounts_text shape of_page = flat_map (shard_text shape of_page) (range_with_len 0 shape.shards)
-
 -- ---- the output
 
 -- the lines of what came of the events, and then, where they are asked for, the accounts that they leave

@@ -1,6 +1,6 @@
 use Rattle.sh_calls.proofs.RunningLaws.{insert_answers, key_is_small}
 use Rattle.sh_shard.specs.Shards.{value_class}
-use Rattle.sh_calls.proofs.running.RunningHeap.insert.Goals as goal
+use Rattle.sh_calls.proofs.running.PassAdoptsShard.insert.Goals as goal
 
 pub returns-clause-does : goal.returns-clause-does
 returns-clause-does g c =
