@@ -5,7 +5,7 @@ use Rattle.sh_key.specs.Layout.{Layout}
 use Rattle.sh_shape.specs.declared.places.Place.{Place}
 use Rattle.sh_slots.specs.declared.hand.Hand.TheVariants.{Idle}
 use Rattle.sh_step.specs.Collections.{if1}
-use Rattle.sh_step.specs.Plans.{plan_of}
+use Rattle.sh_step.specs.Plans.{Plan, plan_of}
 use Rattle.sh_history.specs.declared.entry.Entry.{Entry}
 use Rattle.sh_core.specs.declared.accounts.Accounts.{Accounts}
 use Rattle.sh_core.specs.Lists.{PutLists, accounts, among, state_of}
@@ -34,11 +34,10 @@ NotesKeepHistories = (layout : Layout) (v w : View) (history : List Entry) → N
     → IsHistory layout v history → IsHistory layout w history
 
 -- how many of the keys of page q are live, marked and retired by the history is what the accounts say
-pub record CountsKeys (layout : Layout) (v : View) (q : ℕ) (a : Accounts) (history : List Entry) : Type 0 where
-  pub live : a.live ≡ count_by (is_live_key history) (page_keys (plan_of layout v.shape) q)
-  pub marked : a.marked ≡ count_by (is_marked_key history) (page_keys (plan_of layout v.shape) q)
-  pub retired : a.retired
-      ≡ count_by (is_retired_key (plan_of layout v.shape) history) (page_keys (plan_of layout v.shape) q)
+pub record CountsKeys (plan : Plan) (q : ℕ) (a : Accounts) (history : List Entry) : Type 0 where
+  pub live : a.live ≡ count_by (is_live_key history) (page_keys plan q)
+  pub marked : a.marked ≡ count_by (is_marked_key history) (page_keys plan q)
+  pub retired : a.retired ≡ count_by (is_retired_key plan history) (page_keys plan q)
 
 -- the accounts of page q of a heap of which all passes met
 pub record AreWholeAccounts (layout : Layout) (v : View) (q : ℕ) (a : Accounts) : Type 0 where
@@ -53,7 +52,7 @@ pub record AreWholeAccounts (layout : Layout) (v : View) (q : ℕ) (a : Accounts
   pub walked : (slots : List ℕ) × IsWholeStack v q slots × (a.queued ≡ length slots)
   pub fill : FillPage a
   -- every history of the tale counts the page's keys so
-  pub counts : (history : List Entry) → IsHistory layout v history → CountsKeys layout v q a history
+  pub counts : (history : List Entry) → IsHistory layout v history → CountsKeys (plan_of layout v.shape) q a history
 
 -- ---- how they are found
 

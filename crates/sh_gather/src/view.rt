@@ -2,12 +2,15 @@
 ghost use Rattle.std.specs.Prelude.{◌≡◌, ◌+◌, ◌≤◌, length, IfSome, MatchOption};
 ghost use Rattle.sh_shape.specs.Places.{page_number};
 ghost use Rattle.sh_accounts.specs.Accounts.{ShapeHasPage};
+ghost use Rattle.sh_table.specs.Tales.{ViewStands};
+ghost use Rattle.sh_pass.specs.Passes.{IsAtRest};
 ghost use Rattle.sh_gather.specs.Gathering.{AreWholeAccounts, NotedMore};
 
 use crate::accounts::accounts;
 use sh_core::Accounts;
 use sh_key::KeyLayout;
 use sh_pass::Pass;
+use sh_shape::Shape;
 use std::marker::Model;
 
 /// The heap as the pass sees it that carries the tales of all passes. No other pass steps any more, so nothing changes.
@@ -28,6 +31,15 @@ impl<'a, L: KeyLayout> Model for Whole<'a, L> {
 }
 
 impl<'a, L: KeyLayout> Whole<'a, L> {
+    /// The shape of the heap. The pass that carries the tales owns no shard, and all that it knows stands.
+    pub fn shape(&self) -> &Shape
+        ensures is { result.now ≡ self.now.heap.shape }
+        ensures rest { IsAtRest self.now }
+        ensures stands { ViewStands L.layout self.now.view }
+    {
+        self.pass.shape()
+    }
+
     /// The accounts of a shard's page: its class, and how many of the slots of the class are live, marked, retired and
     /// queued. Words of the page are looked at, 98 at most, and what is queued is found by walking its stack. None
     /// where the heap has no such page.
