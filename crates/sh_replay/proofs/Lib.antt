@@ -2,6 +2,8 @@ pub mod EndLemmas
 pub mod RunLemmas
 pub mod StepKeys
 pub mod RangeLemmas
+pub mod Telling
+pub mod WholeLemmas
 pub mod HeaderShapes
 pub mod StepLemmas
 pub mod PlainLines

@@ -1,5 +1,5 @@
 -- Account lines: `page S.P class C live A marked B retired D mine E hand F queued G`, and a newline.
-use Rattle.std.specs.Prelude.{◌≡◌, ℕ, ◌<◌, List, [], ◌++◌, codes, decimal, Some, None}
+use Rattle.std.specs.Prelude.{◌≡◌, ℕ, ◌<◌, Bool, true, List, [], ◌++◌, codes, decimal, Some, None}
 use Rattle.std.specs.List.{flat_map, range_with_len}
 use Rattle.sh_shape.specs.Shape.{Numbers}
 use Rattle.sh_shape.specs.Places.{page_number, pages_of}
@@ -46,9 +46,11 @@ accounts_text shape of_page = flat_map (shard_text shape of_page) (range_with_le
 abbrev pub accounts_after : Plan → List Event → ℕ → Accounts
 accounts_after plan events = accounts (run plan events) (lists_of plan events)
 
--- what was known of pages stays known, and the events that lead to what is known are among those that led there before
-pub record Later {A : Type 0} (numbers : A → Numbers) (leads : A → List Event → Type 0)
+-- What was known of pages stays known, and the events that lead to what is known are among those that led there before.
+-- Where asking changes nothing, it is fixed.
+pub record Later {A : Type 0} (fixed : Bool) (numbers : A → Numbers) (leads : A → List Event → Type 0)
     (says : A → ℕ → Accounts → Type 0) (old new : A) : Type 0 where
+  pub is_fixed : fixed ≡ true → new ≡ old
   pub same : numbers new ≡ numbers old
   pub narrows : (events : List Event) → leads new events → leads old events
   pub keeps : (q : ℕ) (a : Accounts) → says old q a → says new q a

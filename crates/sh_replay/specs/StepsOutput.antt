@@ -1,26 +1,23 @@
 -- What mode steps writes for a script of events: a line for each, and then, where they are asked for, the accounts of
 -- the pages.
 use Rattle.std.specs.Prelude.{ℕ, List, [], ◌∷◌, ◌++◌, Bool, cond, codes, decimal, Option, Some, None, option_map}
-use Rattle.std.specs.List.{filter_map, flat_map, range_with_len}
+use Rattle.std.specs.List.{filter_map}
 use Rattle.sh_history.specs.declared.entry.Entry.{Entry}
 use Rattle.sh_history.specs.declared.entry.Entry.TheVariants.{Insert, Got, Gone, Crowded, Removed, Released}
 use Rattle.sh_key.specs.Layout.{Layout}
 use Rattle.sh_shape.specs.Shape.{Numbers}
-use Rattle.sh_shape.specs.Places.{page_number, pages_of}
 use Rattle.sh_step.specs.declared.action.Action.{Action}
 use Rattle.sh_step.specs.declared.action.Action.TheVariants as action
 use Rattle.sh_step.specs.declared.action.Event.{Event}
 use Rattle.sh_step.specs.declared.kind.ActionKind.{ActionKind}
 use Rattle.sh_step.specs.Kinds.{kind_of_action, kind_name}
 use Rattle.sh_step.specs.Plans.{plan_of}
-use Rattle.sh_core.specs.declared.accounts.Accounts.{Accounts}
 use Rattle.sh_core.specs.declared.outcome.Outcome.{Outcome}
 use Rattle.sh_core.specs.declared.outcome.Outcome.TheVariants.{Moved, Replied, Skipped}
-use Rattle.sh_core.specs.Lists.{accounts, lists_of}
 use Rattle.sh_core.specs.Outcomes.{outcomes}
-use Rattle.sh_core.specs.Worlds.{run}
 use Rattle.sh_calls.specs.Keys.{shown, key_shown}
 use Rattle.sh_calls.specs.Numbers.{value_text}
+use Rattle.sh_replay.specs.AccountLines.{accounts_after, accounts_text}
 
 -- ---- the heap's events
 
@@ -95,4 +92,4 @@ steps_output layout shape tag lines asked =
     let plan = plan_of layout shape in
     let events = events_shown tag lines in
     event_lines tag lines (outcomes plan events)
-    ++ cond asked (accounts_text shape (accounts (run plan events) (lists_of plan events))) []
+    ++ cond asked (accounts_text shape (accounts_after plan events)) []

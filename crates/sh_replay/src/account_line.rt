@@ -1,19 +1,16 @@
 //! What lines say of pages.
-ghost use Rattle.std.specs.Prelude.{◌≡◌, ◌++◌, List, OnOk, decimal, ◌<◌};
-ghost use Rattle.sh_shape.specs.Shape.{Fits};
+ghost use Rattle.std.specs.Prelude.{◌≡◌, ◌++◌, ◌<◌, List, OnOk, decimal};
+ghost use Rattle.sh_shape.specs.Shape.{IsShape};
 ghost use Rattle.sh_shape.specs.Places.{page_number, pages_of};
 ghost use Rattle.sh_step.specs.declared.action.Event.{Event};
 ghost use Rattle.sh_step.specs.Plans.{plan_of};
-ghost use Rattle.sh_core.specs.Kept.{StandsFor};
-ghost use Rattle.sh_core.specs.Lists.{accounts, lists_of};
-ghost use Rattle.sh_core.specs.Worlds.{run};
-ghost use Rattle.sh_replay.specs.StepsOutput.{page_name, used_text, empty_text, account_line, page_text, shard_text};
-ghost use Rattle.sh_replay.specs.StepsOutput.{accounts_text};
+ghost use Rattle.sh_accounts.specs.Accounts.{ShapeHasPage};
+ghost use Rattle.sh_replay.specs.AccountLines.{page_name, used_text, empty_text, account_line, page_text, shard_text};
+ghost use Rattle.sh_replay.specs.AccountLines.{accounts_text, accounts_after, Later, ShardSaid, ShardsSaid};
 
+use crate::pages::Pages;
 use sh_calls::numbers::push_number;
-use sh_accounts::page;
-use sh_core::{Accounts, World};
-use sh_key::KeyLayout;
+use sh_core::Accounts;
 use std::alloc::AllocError;
 
 // Adds a name between spaces and its number.
@@ -64,56 +61,61 @@ fn push_account(
 }
 
 // Adds the line of a page, where it has a class.
-fn push_page<L: KeyLayout>(
+fn push_page<P: Pages>(
     out: &mut Vec<u8>,
-    world: &World<L>,
+    pages: &mut P,
     shard: u32,
     number: u32,
 ) -> Result<(), AllocError>
-    requires fits { Fits L.layout world.now.shape }
-    requires shard { shard < world.now.shape.shards }
-    requires page { number < pages_of world.now.shape }
-    ensures { (es : List Event) → let plan = plan_of L.layout world.now.shape in StandsFor world.now (run plan es)
-        → OnOk result (out.new.items ≡ out.old.items
-        ++ page_text shard number (accounts (run plan es) (lists_of plan es)
-        (page_number world.now.shape shard number))) }
+    requires there { ShapeHasPage (P.numbers pages.old) shard number }
+    ensures later { Later P.fixed P.numbers P.leads P.says pages.old pages.new }
+    ensures reached { (events : List Event) × P.leads pages.new events }
+    ensures ok { (events : List Event) → P.leads pages.new events → OnOk result (out.new.items ≡ out.old.items
+        ++ page_text shard number (accounts_after (plan_of P.layout (P.numbers pages.old)) events
+        (page_number (P.numbers pages.old) shard number))) }
+    ensures says { (events : List Event) → P.leads pages.new events
+        → P.says pages.new (page_number (P.numbers pages.old) shard number)
+        (accounts_after (plan_of P.layout (P.numbers pages.old)) events
+        (page_number (P.numbers pages.old) shard number)) }
 {
-    let Some(accounts) = page(world, shard, number) else {
-        return Ok(());
-    };
+    let accounts = pages.accounts(shard, number);
     match accounts.class {
         Some(class) => push_account(out, shard, number, class, &accounts),
         None => Ok(()),
     }
 }
 
-fn push_shard<L: KeyLayout>(
-    out: &mut Vec<u8>,
-    world: &World<L>,
-    shard: u32,
-) -> Result<(), AllocError>
-    requires fits { Fits L.layout world.now.shape }
-    requires within { shard < world.now.shape.shards }
-    ensures { (es : List Event) → let plan = plan_of L.layout world.now.shape in StandsFor world.now (run plan es)
-        → OnOk result (out.new.items ≡ out.old.items
-        ++ shard_text world.now.shape (accounts (run plan es) (lists_of plan es)) shard) }
+fn push_shard<P: Pages>(out: &mut Vec<u8>, pages: &mut P, shard: u32) -> Result<(), AllocError>
+    requires shape { IsShape (P.numbers pages.old) }
+    requires within { shard < (P.numbers pages.old).shards }
+    ensures later { Later P.fixed P.numbers P.leads P.says pages.old pages.new }
+    ensures reached { OnOk result ((events : List Event) × P.leads pages.new events) }
+    ensures ok { (events : List Event) → P.leads pages.new events → OnOk result (out.new.items ≡ out.old.items
+        ++ shard_text (P.numbers pages.old) (accounts_after (plan_of P.layout (P.numbers pages.old)) events) shard) }
+    ensures says { (events : List Event) → P.leads pages.new events → OnOk result (ShardSaid (P.says pages.new)
+        (P.numbers pages.old) (accounts_after (plan_of P.layout (P.numbers pages.old)) events) shard
+        (pages_of (P.numbers pages.old))) }
 {
-    for number in 0..world.shape().pages() {
-        push_page(out, world, shard, number)?;
+    for number in 0..pages.shape().pages() {
+        push_page(out, pages, shard, number)?;
     }
     Ok(())
 }
 
 /// Adds the account lines of the pages with a class, by shards and then by pages. They are the pages' accounts after
-/// every list of events that leads to this world.
-pub fn push_accounts<L: KeyLayout>(out: &mut Vec<u8>, world: &World<L>) -> Result<(), AllocError>
-    requires fits { Fits L.layout world.now.shape }
-    ensures { (es : List Event) → let plan = plan_of L.layout world.now.shape in StandsFor world.now (run plan es)
-        → OnOk result (out.new.items ≡ out.old.items
-        ++ accounts_text world.now.shape (accounts (run plan es) (lists_of plan es))) }
+/// whatever events lead to what is known of the heap then.
+pub fn push_accounts<P: Pages>(out: &mut Vec<u8>, pages: &mut P) -> Result<(), AllocError>
+    requires shape { IsShape (P.numbers pages.old) }
+    ensures later { Later P.fixed P.numbers P.leads P.says pages.old pages.new }
+    ensures reached { OnOk result ((events : List Event) × P.leads pages.new events) }
+    ensures ok { (events : List Event) → P.leads pages.new events → OnOk result (out.new.items ≡ out.old.items
+        ++ accounts_text (P.numbers pages.old) (accounts_after (plan_of P.layout (P.numbers pages.old)) events)) }
+    ensures says { (events : List Event) → P.leads pages.new events → OnOk result (ShardsSaid (P.says pages.new)
+        (P.numbers pages.old) (accounts_after (plan_of P.layout (P.numbers pages.old)) events)
+        (P.numbers pages.old).shards) }
 {
-    for shard in 0..world.shape().shards() {
-        push_shard(out, world, shard)?;
+    for shard in 0..pages.shape().shards() {
+        push_shard(out, pages, shard)?;
     }
     Ok(())
 }

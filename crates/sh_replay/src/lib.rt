@@ -6,6 +6,7 @@ mod ends;
 mod event_line;
 pub mod laws;
 mod mode;
+mod pages;
 mod plain;
 mod plain_output;
 mod replay;

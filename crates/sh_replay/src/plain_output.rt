@@ -7,8 +7,8 @@ ghost use Rattle.sh_calls.specs.Keys.{HasTagRoom};
 ghost use Rattle.sh_replay.specs.Output.{IsPlainOutput, IsPlain, IsScriptOf, IsFaultOf};
 
 use crate::Mode;
-use sh_calls::push_reply;
 use crate::plain::PlainRun;
+use sh_calls::push_reply;
 use sh_key::{KeyLayout, Tagged, Tiny, Wide};
 use sh_script::{CallLine, Calls, Fault, Layout, parse_calls};
 use sh_shape::Shape;

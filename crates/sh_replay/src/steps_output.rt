@@ -40,7 +40,7 @@ fn steps_lines<L: KeyLayout>(
             return Err(Fault::Memory);
         }
     }
-    if asked && push_accounts(&mut output, &world).is_err() {
+    if asked && push_accounts(&mut output, &mut world).is_err() {
         return Err(Fault::Memory);
     }
     Ok(output)

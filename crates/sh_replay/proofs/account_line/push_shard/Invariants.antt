@@ -1,17 +1,14 @@
-use Rattle.std.proofs.Common.{◌≡◌, ◌++◌, List}
-use Rattle.std.specs.List.{flat_map, range_with_len}
+use Rattle.std.proofs.Common.{ℕ}
 use Rattle.sh_shape.specs.Places.{page_number}
-use Rattle.sh_step.specs.declared.action.Event.{Event}
-use Rattle.sh_step.specs.Plans.{plan_of}
-use Rattle.sh_core.specs.Kept.{StandsFor}
-use Rattle.sh_core.specs.Lists.{accounts, lists_of}
-use Rattle.sh_core.specs.Worlds.{run}
-use Rattle.sh_replay.specs.StepsOutput.{page_text}
+use Rattle.sh_core.specs.declared.accounts.Accounts.{Accounts}
+use Rattle.sh_replay.specs.AccountLines.{page_text}
+use Rattle.sh_replay.proofs.Telling.{ToldSoFar}
 use Rattle.sh_replay.proofs.account_line.push_shard.Given as goal
 
 abbrev pub invariant-loop-number : goal.invariant-loop-number
-invariant-loop-number g l = (es : List Event) → let plan = plan_of g.L.KeyLayout.layout l.world.shape
-    in StandsFor l.world (run plan es)
-    → l.out.items ≡ l.fn.out.items ++ flat_map (λ page. page_text l.fn.shard page
-    (accounts (run plan es) (lists_of plan es) (page_number l.world.shape l.fn.shard page)))
-    (range_with_len 0 l.number)
+invariant-loop-number g l =
+    let shape = g.P.Pages.numbers l.fn.pages in
+    ToldSoFar g.P.Pages.fixed g.P.Pages.numbers g.P.Pages.leads g.P.Pages.says g.P.Pages.layout
+    (λ of_page page. page_text l.fn.shard page (of_page (page_number shape l.fn.shard page)))
+    (λ says of_page page. says (page_number shape l.fn.shard page) (of_page (page_number shape l.fn.shard page)))
+    l.fn.pages l.pages l.fn.out.items l.out.items l.number
