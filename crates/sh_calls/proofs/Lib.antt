@@ -5,3 +5,4 @@ pub mod CallLemmas
 pub mod Newcomers
 pub mod InTurn
 pub mod RunningLaws
+pub mod TaleLaws

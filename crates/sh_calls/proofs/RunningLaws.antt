@@ -472,33 +472,3 @@ joined_tale layout v w r e =
     let T : View → List PassTold = λ z. record { pass = z.pass; log = z.own.log } ∷ map log_told z.told in
     ap T e ∙ ap (λ z. record { pass = v.view.pass; log = v.view.own.log } ∷ z)
     (map_append v.view.told (told_of w.view ∷ w.view.told))
-
--- ---- one history of all
-
-told_have : (history : List Entry) (ts : List Told) → Each (λ t. IsLogOf t.pass t.own history) ts
-    → HasAllLogs history (map log_told ts)
-told_have history [] h = tt
-told_have history (t ∷ ts) h = (h.0, told_have history ts h.1)
-
-none_other : (passes : ℕ) (es : List Entry) → All (λ e. pass_of e < passes) es
-    → entries_of (λ p. not (nat_lt p passes)) es ≡ []
-none_other passes [] h = refl
-none_other passes (e ∷ es) h = go (nat_lt (pass_of e) passes) refl
-    (none_other passes es (λ k d l. h (suc k) d (omega (arith, l))))
-  where
-    go : (b : Bool) → nat_lt (pass_of e) passes ≡ b → entries_of (λ p. not (nat_lt p passes)) es ≡ []
-        → cond (not b) (e ∷ entries_of (λ p. not (nat_lt p passes)) es) (entries_of (λ p. not (nat_lt p passes)) es)
-        ≡ []
-    go true is rest = rest
-    go false is rest = let l : pass_of e < passes = h 0 e (omega arith)
-        in absurd (let z : nat_lt (pass_of e) passes ≡ true = grind (arith, nat_tests) in let y : true ≡ false = sym z
-        ∙ is in cc)
-
-pub whole_tale : (layout : Layout) (v : Caller) → ViewStands layout v.view
-    → HasWholeTale (seen_of_caller layout v).terms (tale_told (seen_of_caller layout v))
-whole_tale layout v stands = record {
-  history = stands.history;
-  legal = stands.tale.legal;
-  has = (stands.tale.own, told_have stands.history v.view.told stands.tale.told);
-  only = none_other v.view.shape.passes stands.history stands.ours;
-}

@@ -55,13 +55,13 @@ module _ {A : Type 0} (fixed : Bool) (numbers : A → Numbers) (leads : A → Li
 
   pub told_more : (v w : A) (out more : List ℕ) (n : ℕ)
       → ((P Q : ℕ → Accounts → Type 0) → ((q : ℕ) (a : Accounts) → P q a → Q q a) → (of_page : ℕ → Accounts) (i : ℕ)
-          → Said P of_page i → Said Q of_page i)
+      → Said P of_page i → Said Q of_page i)
       → ToldSoFar fixed numbers leads says layout text Said first v old out n → Later fixed numbers leads says v w
       → (events : List Event) × leads w events
       → ((events : List Event) → leads w events
-          → more ≡ out ++ text (accounts_after (plan_of layout (numbers first)) events) n)
+      → more ≡ out ++ text (accounts_after (plan_of layout (numbers first)) events) n)
       → ((events : List Event) → leads w events
-          → Said (says w) (accounts_after (plan_of layout (numbers first)) events) n)
+      → Said (says w) (accounts_after (plan_of layout (numbers first)) events) n)
       → ToldSoFar fixed numbers leads says layout text Said first w old more (n + 1)
   told_more v w out more n widens h k reached one said = record {
     later = later_next fixed numbers leads says first v w h.later k;

@@ -3,6 +3,7 @@ pub mod PlainDoes
 pub mod AccountLines
 pub mod StepsOutput
 pub mod WholeAccounts
+pub mod HeapOutput
 pub mod StepsKeys
 pub mod Ends
 pub mod Output

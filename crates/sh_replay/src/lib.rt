@@ -4,6 +4,7 @@
 mod account_line;
 mod ends;
 mod event_line;
+mod heap_lines;
 pub mod laws;
 mod mode;
 mod pages;

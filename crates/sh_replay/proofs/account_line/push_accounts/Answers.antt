@@ -46,14 +46,14 @@ loop-shard-preserved g c =
     c.args.pages.now c.args.out.now.items c.loop-shard.pages c.push_shard.new.pages c.loop-shard.out.items
     c.push_shard.new.out.items n
     (λ P Q widens of_page i said page below. widens (page_number shape i page) (of_page (page_number shape i page))
-        (said page below))
+    (said page below))
     c.loop-shard.invariant c.push_shard.ensures.later c.in_ok-push_shard.ensures.reached
     (λ es leads. subst (λ (s : Numbers). c.push_shard.new.out.items ≡ c.loop-shard.out.items
-        ++ shard_text s (accounts_after (plan_of g.P.Pages.layout s) es) n) same
-        (c.in_ok-push_shard.ensures.ok es leads))
+    ++ shard_text s (accounts_after (plan_of g.P.Pages.layout s) es) n) same
+    (c.in_ok-push_shard.ensures.ok es leads))
     (λ es leads. subst (λ (s : Numbers). ShardSaid (g.P.Pages.says c.push_shard.new.pages) s
-        (accounts_after (plan_of g.P.Pages.layout s) es) n (pages_of s)) same
-        (c.in_ok-push_shard.ensures.says es leads))
+    (accounts_after (plan_of g.P.Pages.layout s) es) n (pages_of s)) same
+    (c.in_ok-push_shard.ensures.says es leads))
 
 pub returns-clause-later : goal.returns-clause-later
 returns-clause-later g c = c.loop-shard.invariant.later
@@ -61,7 +61,7 @@ returns-clause-later g c = c.loop-shard.invariant.later
 pub returns-clause-reached : goal.returns-clause-reached
 returns-clause-reached g c =
     let e = ends (g.P.Pages.numbers c.args.pages.now) c.shape.result c.loop-shard.shard c.shards-shard-end.result
-        c.loop-shard.auto.shard-end c.loop-shard-test.false c.shards-shard-end.ensures.shards c.shape.ensures in
+    c.loop-shard.auto.shard-end c.loop-shard-test.false c.shards-shard-end.ensures.shards c.shape.ensures in
     let some = c.requires.shape.some_shard in
     c.loop-shard.invariant.reached (subst (λ (n : ℕ). 0 < n) (sym e) (omega (arith, some)))
 
@@ -69,13 +69,13 @@ pub returns-clause-ok : goal.returns-clause-ok
 returns-clause-ok g c = λ es leads.
     let shape = g.P.Pages.numbers c.args.pages.now in
     let e = ends shape c.shape.result c.loop-shard.shard c.shards-shard-end.result
-        c.loop-shard.auto.shard-end c.loop-shard-test.false c.shards-shard-end.ensures.shards c.shape.ensures in
+    c.loop-shard.auto.shard-end c.loop-shard-test.false c.shards-shard-end.ensures.shards c.shape.ensures in
     subst (λ (n : ℕ). c.loop-shard.out.items ≡ c.args.out.now.items ++ flat_map
-        (shard_text shape (accounts_after (plan_of g.P.Pages.layout shape) es)) (range_with_len 0 n)) e
-        (c.loop-shard.invariant.texts es leads)
+    (shard_text shape (accounts_after (plan_of g.P.Pages.layout shape) es)) (range_with_len 0 n)) e
+    (c.loop-shard.invariant.texts es leads)
 
 pub returns-clause-says : goal.returns-clause-says
 returns-clause-says g c = λ es leads shard below.
     let e = ends (g.P.Pages.numbers c.args.pages.now) c.shape.result c.loop-shard.shard c.shards-shard-end.result
-        c.loop-shard.auto.shard-end c.loop-shard-test.false c.shards-shard-end.ensures.shards c.shape.ensures in
+    c.loop-shard.auto.shard-end c.loop-shard-test.false c.shards-shard-end.ensures.shards c.shape.ensures in
     c.loop-shard.invariant.said es leads shard (subst (λ (n : ℕ). shard < n) (sym e) below)

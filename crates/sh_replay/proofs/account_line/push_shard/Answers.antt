@@ -52,14 +52,14 @@ loop-number-preserved g c =
     c.args.pages.now c.args.out.now.items c.loop-number.pages c.push_page.new.pages c.loop-number.out.items
     c.push_page.new.out.items n
     (λ P Q widens of_page i said. widens (page_number shape c.args.shard i)
-        (of_page (page_number shape c.args.shard i)) said)
+    (of_page (page_number shape c.args.shard i)) said)
     c.loop-number.invariant c.push_page.ensures.later c.push_page.ensures.reached
     (λ es leads. subst (λ (s : Numbers). c.push_page.new.out.items ≡ c.loop-number.out.items
-        ++ page_text c.args.shard n (accounts_after (plan_of g.P.Pages.layout s) es (page_number s c.args.shard n)))
-        same (c.in_ok-push_page.ensures.ok es leads))
+    ++ page_text c.args.shard n (accounts_after (plan_of g.P.Pages.layout s) es (page_number s c.args.shard n)))
+    same (c.in_ok-push_page.ensures.ok es leads))
     (λ es leads. subst (λ (s : Numbers). g.P.Pages.says c.push_page.new.pages (page_number s c.args.shard n)
-        (accounts_after (plan_of g.P.Pages.layout s) es (page_number s c.args.shard n)))
-        same (c.push_page.ensures.says es leads))
+    (accounts_after (plan_of g.P.Pages.layout s) es (page_number s c.args.shard n)))
+    same (c.push_page.ensures.says es leads))
 
 pub returns-clause-later : goal.returns-clause-later
 returns-clause-later g c = c.loop-number.invariant.later
@@ -67,7 +67,7 @@ returns-clause-later g c = c.loop-number.invariant.later
 pub returns-clause-reached : goal.returns-clause-reached
 returns-clause-reached g c =
     let e = ends (g.P.Pages.numbers c.args.pages.now) c.shape.result c.loop-number.number c.pages-number-end.result
-        c.loop-number.auto.number-end c.loop-number-test.false c.pages-number-end.ensures.pages c.shape.ensures in
+    c.loop-number.auto.number-end c.loop-number-test.false c.pages-number-end.ensures.pages c.shape.ensures in
     let some = some_page (g.P.Pages.numbers c.args.pages.now) c.requires.shape in
     c.loop-number.invariant.reached (subst (λ (n : ℕ). 0 < n) (sym e) some)
 
@@ -75,13 +75,13 @@ pub returns-clause-ok : goal.returns-clause-ok
 returns-clause-ok g c = λ es leads.
     let shape = g.P.Pages.numbers c.args.pages.now in
     let e = ends shape c.shape.result c.loop-number.number c.pages-number-end.result
-        c.loop-number.auto.number-end c.loop-number-test.false c.pages-number-end.ensures.pages c.shape.ensures in
+    c.loop-number.auto.number-end c.loop-number-test.false c.pages-number-end.ensures.pages c.shape.ensures in
     subst (λ (n : ℕ). c.loop-number.out.items ≡ c.args.out.now.items ++ flat_map
-        (λ page. page_text c.args.shard page (accounts_after (plan_of g.P.Pages.layout shape) es
-        (page_number shape c.args.shard page))) (range_with_len 0 n)) e (c.loop-number.invariant.texts es leads)
+    (λ page. page_text c.args.shard page (accounts_after (plan_of g.P.Pages.layout shape) es
+    (page_number shape c.args.shard page))) (range_with_len 0 n)) e (c.loop-number.invariant.texts es leads)
 
 pub returns-clause-says : goal.returns-clause-says
 returns-clause-says g c = λ es leads page below.
     let e = ends (g.P.Pages.numbers c.args.pages.now) c.shape.result c.loop-number.number c.pages-number-end.result
-        c.loop-number.auto.number-end c.loop-number-test.false c.pages-number-end.ensures.pages c.shape.ensures in
+    c.loop-number.auto.number-end c.loop-number-test.false c.pages-number-end.ensures.pages c.shape.ensures in
     c.loop-number.invariant.said es leads page (subst (λ (n : ℕ). page < n) (sym e) below)

@@ -1,4 +1,4 @@
-use Rattle.sh_calls.proofs.RunningLaws.{whole_tale}
+use Rattle.sh_calls.proofs.TaleLaws.{whole_tale}
 use Rattle.sh_calls.proofs.running.ShardCalls.whole.Goals as goal
 
 pub returns : goal.returns
