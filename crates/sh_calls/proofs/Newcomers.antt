@@ -1,10 +1,11 @@
 -- Passes that are new.
-use Rattle.std.proofs.Common.{◌≡◌, ℕ, zero, suc, ◌+◌, List, [], ◌∷◌, ◌++◌, map, length, slice_get, Option, Some, sym}
+use Rattle.std.proofs.Common.{◌≡◌, ℕ, zero, suc, ◌+◌, ◌<◌, List, [], ◌∷◌, ◌++◌, map, length, slice_get, Option, Some, sym}
 use Rattle.std.proofs.Common.{refl, ap, ◌∙◌, subst, ⊎_elim, arith, length-append}
 use Rattle.std.specs.Option.{option_map}
 use Rattle.std.proofs.lemmas.Option.{none-some, slice_get-map}
 use Rattle.sh_calls.specs.Parts.{RunTerms, SeenPass, new_pass, new_passes}
 use Rattle.sh_calls.specs.Parts.{passes_below}
+use Rattle.sh_calls.specs.Finished.{heap_seen, terms_seen, AreAllNew}
 use Rattle.sh_calls.proofs.ListLemmas.{get_snoc}
 use Rattle.sh_table.specs.Seats.{Heap}
 
@@ -51,3 +52,41 @@ pub all_new : {S : Type 0} (seen : S → SeenPass) (heap : Option Heap) (terms :
 all_new seen heap terms n all ys k e l z =
     let m : length all ≡ n = sym (length_map seen all) ∙ (ap length e ∙ newcomers_length heap terms n) in
     omega (arith, l, z, m)
+
+-- ---- the heap and the terms of new passes are those of the first
+
+-- each of the first passes is of this heap, if the first one is
+one_heap : (heap : Option Heap) (terms : RunTerms) (n : ℕ) → heap_seen (new_passes heap terms (suc n)) ≡ heap
+one_heap heap terms zero = refl
+one_heap heap terms (suc n) =
+    go (new_passes heap terms (suc n)) (new_pass heap terms (suc n)) (one_heap heap terms n) refl
+  where
+    go : (xs : List SeenPass) (x : SeenPass) → heap_seen xs ≡ heap → x.heap ≡ heap → heap_seen (xs ++ x ∷ []) ≡ heap
+    go [] x h e = e
+    go (y ∷ ys) x h e = h
+
+one_terms : (heap : Option Heap) (terms : RunTerms) (n : ℕ) → terms_seen (new_passes heap terms (suc n)) ≡ terms
+one_terms heap terms zero = refl
+one_terms heap terms (suc n) =
+    go (new_passes heap terms (suc n)) (new_pass heap terms (suc n)) (one_terms heap terms n) refl
+  where
+    go : (xs : List SeenPass) (x : SeenPass) → terms_seen xs ≡ terms → x.terms ≡ terms
+        → terms_seen (xs ++ x ∷ []) ≡ terms
+    go [] x h e = e
+    go (y ∷ ys) x h e = h
+
+pub heap_of_new : (heap : Option Heap) (terms : RunTerms) (n : ℕ) (ss : List SeenPass) → 0 < n
+    → ss ≡ new_passes heap terms n → heap_seen ss ≡ heap
+heap_of_new heap terms zero ss some e = absurd (let z : 0 < 0 = some in omega (arith, z))
+heap_of_new heap terms (suc n) ss some e = ap heap_seen e ∙ one_heap heap terms n
+
+pub terms_of_new : (heap : Option Heap) (terms : RunTerms) (n : ℕ) (ss : List SeenPass) → 0 < n
+    → ss ≡ new_passes heap terms n → terms_seen ss ≡ terms
+terms_of_new heap terms zero ss some e = absurd (let z : 0 < 0 = some in omega (arith, z))
+terms_of_new heap terms (suc n) ss some e = ap terms_seen e ∙ one_terms heap terms n
+
+-- all passes of a heap
+pub opened_passes : (heap : Option Heap) (terms : RunTerms) (ss : List SeenPass) → 0 < terms.shape.passes
+    → ss ≡ new_passes heap terms terms.shape.passes → AreAllNew ss
+opened_passes heap terms ss some e =
+    rw (heap_of_new heap terms terms.shape.passes ss some e, terms_of_new heap terms terms.shape.passes ss some e) e

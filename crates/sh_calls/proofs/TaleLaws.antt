@@ -42,7 +42,7 @@ pub whole_told : (layout : Layout) (v : Caller) (n : Numbers) (history : List En
     → (w : HasWholeTale (heap_terms layout n) (tale_told (seen_of_caller layout v))) × (w.history ≡ history)
 whole_told layout v n history same tale ours =
     let P : Numbers → Type 0 = λ s. (w : HasWholeTale (heap_terms layout s) (tale_told (seen_of_caller layout v)))
-        × (w.history ≡ history) in
+    × (w.history ≡ history) in
     let at : P v.view.shape = (
       record {
         history = history;
@@ -83,6 +83,7 @@ all_named (suc n) a below = named_last a (passes_below n) n
     either : (b : Bool) → (b || true) ≡ true
     either true = refl
     either false = refl
+
     go : (b : Bool) → (n == a) ≡ b → ((n == a) ≡ false → named a (passes_below n) ≡ true)
         → (named a (passes_below n) || b) ≡ true
     go true is rest = either (named a (passes_below n))

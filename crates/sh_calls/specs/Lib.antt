@@ -10,3 +10,4 @@ pub mod Meeting
 pub mod Alone
 pub mod Holders
 pub mod Running
+pub mod Finished

@@ -1,5 +1,5 @@
 //! A script of calls in one thread: the calls of all passes, one after the other, in the order of the lines.
-ghost use Rattle.std.specs.Prelude.{◌≡◌, Option, ◌<◌, Some, IfOk, IfErr, IfSome, map};
+ghost use Rattle.std.specs.Prelude.{◌≡◌, Option, ◌<◌, Some, IfOk, IfErr, IfSome, map, option_map};
 ghost use Rattle.std.specs.List.{All};
 ghost use Rattle.sh_script.specs.declared.calls.CallLine.{CallLine};
 ghost use Rattle.sh_table.specs.Seats.{Heap};
@@ -8,6 +8,7 @@ ghost use Rattle.sh_calls.specs.Parts.{RunTerms, new_passes, told_pass, tale_tol
 ghost use Rattle.sh_calls.specs.Told.{AreReplies, IsTold};
 ghost use Rattle.sh_calls.specs.Meeting.{CarriesTale, OwnsNone, HasMet};
 ghost use Rattle.sh_calls.specs.Alone.{tales_told, AllOfHeap};
+ghost use Rattle.sh_calls.specs.Finished.{heap_seen, terms_seen, AreAllNew, LinesRan};
 
 use crate::line::{answered, binds, number_meant, number_told};
 use crate::meeting::meet;
@@ -36,9 +37,8 @@ fn met<S: Side>(sides: Vec<S>) -> Option<S>
     Some(carrier)
 }
 
-/// Runs the lines in their order. Answers the reply lines, and the pass that carries the tale of all once all owners
-/// have left and all passes have met; none where an owner could not leave.
-pub fn alone_lines<S: Side>(
+// Runs the lines in their order, on the passes of a heap that is named.
+fn lines_in_turn<S: Side>(
     alloc: Global,
     lines: &[CallLine],
     tag: Option<u8>,
@@ -48,10 +48,7 @@ pub fn alone_lines<S: Side>(
     requires room { HasTagRoom at.1.layout tag }
     requires sides { map S.seen sides.items ≡ new_passes at.0 at.1 at.1.shape.passes }
     requires passes { All (λ (l : CallLine). l.pass < at.1.shape.passes) lines.now }
-    ensures replies { IfOk result (λ ran. AreReplies at.1 tag lines.now ran.0.items) }
-    ensures told { IfOk result (λ ran. IfSome ran.1 (λ carrier. IsTold at.1 tag lines.now ran.0.items
-        (tale_told (S.seen carrier)) × CarriesTale at.0 at.1 (Some (S.seen carrier)) (tale_told (S.seen carrier))
-        × OwnsNone (Some (S.seen carrier)))) }
+    ensures ran { IfOk result (λ ran. LinesRan at.0 at.1 tag lines.now ran.0.items (option_map S.seen ran.1)) }
     ensures fault { IfErr result (λ fault. fault ≡ Fault.Memory) }
 {
     let mut numbers: Vec<Option<u64>> = Vec::new(alloc);
@@ -70,4 +67,22 @@ pub fn alone_lines<S: Side>(
         }
     }
     Ok((output, met(sides)))
+}
+
+/// Runs the lines in their order. Answers the reply lines, and the pass that carries the tale of all once all owners
+/// have left and all passes have met; none where an owner could not leave.
+pub fn alone_lines<S: Side>(
+    alloc: Global,
+    lines: &[CallLine],
+    tag: Option<u8>,
+    sides: Vec<S>,
+) -> Result<(Vec<u8>, Option<S>), Fault>
+    requires room { HasTagRoom (terms_seen (map S.seen sides.items)).layout tag }
+    requires sides { AreAllNew (map S.seen sides.items) }
+    requires passes { All (λ (l : CallLine). l.pass < (terms_seen (map S.seen sides.items)).shape.passes) lines.now }
+    ensures ran { IfOk result (λ ran. LinesRan (heap_seen (map S.seen sides.items))
+        (terms_seen (map S.seen sides.items)) tag lines.now ran.0.items (option_map S.seen ran.1)) }
+    ensures fault { IfErr result (λ fault. fault ≡ Fault.Memory) }
+{
+    lines_in_turn(alloc, lines, tag, sides)
 }

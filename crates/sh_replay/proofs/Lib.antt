@@ -4,6 +4,7 @@ pub mod StepKeys
 pub mod RangeLemmas
 pub mod Telling
 pub mod WholeLemmas
+pub mod OpenedLemmas
 pub mod HeaderShapes
 pub mod StepLemmas
 pub mod PlainLines

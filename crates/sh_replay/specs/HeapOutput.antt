@@ -52,14 +52,12 @@ pub record IsHeapWaiting (text output : List ℕ) : Type 0 where
 
 -- ---- how it is made
 
--- the replies were told, and where there is a carrier it owns no shard and carries the tale of all
-pub record LinesRan (heap : Option Heap) (terms : RunTerms) (tag : Option ℕ) (lines : List CallLine) (output : List ℕ)
-    (carrier : Option SeenPass) : Type 0 where
-  pub replies : AreReplies terms tag lines output
-  pub told : IfSome carrier (λ c. IsTold terms tag lines output (tale_told c)
-      × CarriesTale heap terms (Some c) (tale_told c) × OwnsNone (Some c))
-
 -- what came of the lines, and whether an owner could not leave
 abbrev pub IsRan : Layout → Numbers → Option ℕ → List CallLine → (asked : Bool) → List ℕ → (is_waiting : Bool) → Type 0
 IsRan layout shape tag lines asked output true = AreReplies (heap_terms layout shape) tag lines output
 IsRan layout shape tag lines asked output false = IsHeapOutput layout shape tag lines asked output
+
+-- what came of a script on the running heap, and whether an owner could not leave
+abbrev pub IsHeapRun : (asked : Bool) → (text output : List ℕ) → (is_waiting : Bool) → Type 0
+IsHeapRun asked text output true = IsHeapWaiting text output
+IsHeapRun asked text output false = IsHeap asked text output

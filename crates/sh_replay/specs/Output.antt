@@ -1,5 +1,5 @@
 -- What a run writes for a script.
-use Rattle.std.specs.Prelude.{◌≡◌, ℕ, Bool, List, Option, ◌⊎◌}
+use Rattle.std.specs.Prelude.{◌≡◌, ℕ, Bool, true, false, List, Option, ◌⊎◌}
 use Rattle.std.specs.Io.KnownBytes.{Appends, Keeps}
 use Rattle.sh_key.specs.Layout.{Layout}
 use Rattle.sh_shape.specs.Shape.{Numbers}
@@ -16,7 +16,8 @@ use Rattle.sh_replay.specs.declared.mode.Mode.TheVariants as mode
 use Rattle.sh_calls.specs.Replies.{replies_text}
 use Rattle.sh_replay.specs.PlainRun.{Run, Ran, opening_run}
 use Rattle.sh_replay.specs.StepsOutput.{steps_output}
-use Rattle.sh_replay.specs.Ends.{WroteBeginning}
+use Rattle.sh_replay.specs.Ends.{WroteBeginning, IsEndFault}
+use Rattle.sh_replay.specs.HeapOutput.{IsHeap, IsHeapWaiting}
 
 -- ---- mode plain
 
@@ -48,22 +49,33 @@ pub record IsSteps (asked : Bool) (text output : List ℕ) : Type 0 where
   pub is_events : IsEvents text header lines
   pub is_output : output ≡ steps_output (layout_of header.layout) header.shape header.tag lines asked
 
--- ---- either mode
+-- ---- any mode
 
 -- the text is a script of the mode, and this is what its run may write
 abbrev pub IsOutput : Mode → (accounts : Bool) → (text output : List ℕ) → Type 0
 IsOutput mode.Plain accounts text output = IsPlain text output
 IsOutput mode.Steps accounts text output = IsSteps accounts text output
+IsOutput mode.Heap accounts text output = IsHeap accounts text output
+
+-- the same, of a run at whose end an owner could not leave
+abbrev pub IsWaiting : Mode → (text output : List ℕ) → Type 0
+IsWaiting mode.Heap text output = IsHeapWaiting text output
+IsWaiting _ text output = ⊥
+
+-- what came of a script, and whether an owner could not leave
+abbrev pub IsRunOf : Mode → (accounts : Bool) → (text output : List ℕ) → (is_waiting : Bool) → Type 0
+IsRunOf mode accounts text output true = IsWaiting mode text output
+IsRunOf mode accounts text output false = IsOutput mode accounts text output
 
 -- the text is a script of the mode
 abbrev pub IsScriptOf : Mode → List ℕ → Type 0
-IsScriptOf mode.Plain text = (header : Header) × (lines : List CallLine) × IsCalls text header lines
 IsScriptOf mode.Steps text = (header : Header) × (lines : List Event) × IsEvents text header lines
+IsScriptOf _ text = (header : Header) × (lines : List CallLine) × IsCalls text header lines
 
 -- the first fault of a text that is no script of the mode
 abbrev pub IsScriptFault : Mode → List ℕ → Fault → Type 0
-IsScriptFault mode.Plain text f = IsCallsFault text f
 IsScriptFault mode.Steps text f = IsEventsFault text f
+IsScriptFault _ text f = IsCallsFault text f
 
 -- the text is a script, and the whole output of its run was written
 pub record WritesOutput (mode : Mode) (accounts : Bool) (text : List ℕ) (old new : Option (List ℕ)) : Type 0 where
@@ -71,18 +83,39 @@ pub record WritesOutput (mode : Mode) (accounts : Bool) (text : List ℕ) (old n
   pub is_output : IsOutput mode accounts text output
   pub written : Appends old new output
 
--- the text is a script, and a beginning of an output of its run was written, and not all of it
+-- the text is a script, an owner could not leave at the end of its run, and all replies were written
+pub record WritesReplies (mode : Mode) (text : List ℕ) (old new : Option (List ℕ)) : Type 0 where
+  pub output : List ℕ
+  pub is_waiting : IsWaiting mode text output
+  pub written : Appends old new output
+
+-- the text is a script, and a beginning of what its run may write was written, and not all of it
 pub record Begins (mode : Mode) (accounts : Bool) (text : List ℕ) (old new : Option (List ℕ)) : Type 0 where
   pub output : List ℕ
-  pub is_output : IsOutput mode accounts text output
+  pub is_output : IsOutput mode accounts text output ⊎ IsWaiting mode text output
   pub written : WroteBeginning old new output
 
--- what a run that ends with a fault has written: nothing, or a beginning of an output, and never a whole one
-abbrev pub Stops : Mode → (accounts : Bool) → List ℕ → Option (List ℕ) → Option (List ℕ) → Type 0
-Stops mode accounts text old new = Keeps old new ⊎ Begins mode accounts text old new
+-- What a run that ends with a fault has written: all replies where an owner could not leave, and else nothing, or a
+-- beginning of an output, and never a whole one.
+abbrev pub Stops : Mode → (accounts : Bool) → List ℕ → Fault → Option (List ℕ) → Option (List ℕ) → Type 0
+Stops mode accounts text fault.Waiting old new = WritesReplies mode text old new
+Stops mode accounts text f old new = Keeps old new ⊎ Begins mode accounts text old new
 
--- memory may be refused and an end may fail at any text; any other fault is the text's
+-- an owner may be unable to leave in a mode of the running heap alone
+abbrev pub MayWait : Mode → Type 0
+MayWait mode.Plain = ⊥
+MayWait mode.Steps = ⊥
+MayWait _ = Unit {0}
+
+-- memory may be refused and an end may fail at any text, and an owner may be unable to leave at a script; any other
+-- fault is the text's
 abbrev pub IsFaultOf : Mode → List ℕ → Fault → Type 0
 IsFaultOf mode text fault.Memory = Unit {0}
 IsFaultOf mode text fault.Io = Unit {0}
+IsFaultOf mode text fault.Waiting = MayWait mode × IsScriptOf mode text
 IsFaultOf mode text f = IsScriptFault mode text f
+
+-- the faults that a run of a script may end with
+abbrev pub IsRunFault : Mode → Fault → Type 0
+IsRunFault mode fault.Waiting = MayWait mode
+IsRunFault mode f = IsEndFault f

@@ -5,8 +5,9 @@ ghost use Rattle.sh_script.specs.declared.calls.CallLine.{CallLine};
 ghost use Rattle.sh_table.specs.Seats.{Heap as HeapSeen};
 ghost use Rattle.sh_table.specs.Whole.{IsWhole};
 ghost use Rattle.sh_calls.specs.Parts.{heap_terms, new_passes, tale_told};
+ghost use Rattle.sh_calls.specs.Finished.{LinesRan, CarrierRan};
 ghost use Rattle.sh_calls.specs.Running.{seen_of_caller};
-ghost use Rattle.sh_replay.specs.HeapOutput.{TellsTale, LinesRan, IsRan};
+ghost use Rattle.sh_replay.specs.HeapOutput.{TellsTale, IsHeapOutput, IsRan};
 
 use crate::account_line::push_accounts;
 use sh_calls::holder::Holder;
@@ -91,25 +92,48 @@ fn push_whole<L: KeyLayout>(output: &mut Vec<u8>, pass: Pass<'_, L>) -> Result<(
     push_accounts(output, &mut whole)
 }
 
-/// What the lines' replies and their carrier give: with the accounts, where they are asked for and there is a carrier.
-pub fn gathered<L: KeyLayout>(
+// The replies, and after them the accounts where they are asked for, which the carrier tells.
+fn told<L: KeyLayout>(
     mut output: Vec<u8>,
+    carrier: PassHolder<'_, L>,
+    asked: bool,
+) -> Result<Vec<u8>, AllocError>
+    ghost at: { HeapSeen × Option ℕ × List CallLine }
+    requires shape { IsShape at.0.shape }
+    requires ran { CarrierRan (Some at.0) (heap_terms L.layout at.0.shape) at.1 at.2 output.items carrier }
+    ensures { IfOk result (λ output. IsHeapOutput L.layout at.0.shape at.1 at.2 asked output.items) }
+{
+    let pass = carrier.into_pass();
+    if asked {
+        push_whole(&mut output, pass)?;
+    }
+    Ok(output)
+}
+
+/// What is written for lines that ran: their replies, and after them the accounts, where they are asked for and all
+/// owners could leave.
+pub fn gathered<L: KeyLayout>(
+    output: Vec<u8>,
     carrier: Option<PassHolder<'_, L>>,
     asked: bool,
 ) -> Result<Ran, Fault>
     ghost at: { HeapSeen × Option ℕ × List CallLine }
     requires shape { IsShape at.0.shape }
-    requires ran { LinesRan (Some at.0) (heap_terms L.layout at.0.shape) at.1 at.2 output.items carrier.entry }
+    requires ran { LinesRan (Some at.0) (heap_terms L.layout at.0.shape) at.1 at.2 output.items carrier }
     ensures told { IfOk result (λ r. IsRan L.layout at.0.shape at.1 at.2 asked r.output.items r.is_waiting) }
     ensures memory { IfErr result (λ fault. fault ≡ Fault.Memory) }
 {
-    let is_waiting = carrier.is_none();
-    if let Some(carrier) = carrier
-        && asked
-    {
-        if push_whole(&mut output, carrier.into_pass()).is_err() {
-            return Err(Fault::Memory);
-        }
+    let Some(carrier) = carrier else {
+        return Ok(Ran {
+            output,
+            is_waiting: true,
+        });
+    };
+    match told(output, carrier, asked) {
+        Ok(output) => Ok(Ran {
+            output,
+            is_waiting: false,
+        }),
+        Err(_) => Err(Fault::Memory),
     }
-    Ok(Ran { output, is_waiting })
 }

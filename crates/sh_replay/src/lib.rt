@@ -5,6 +5,7 @@ mod account_line;
 mod ends;
 mod event_line;
 mod heap_lines;
+mod heap_output;
 pub mod laws;
 mod mode;
 mod pages;

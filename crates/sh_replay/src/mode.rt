@@ -5,6 +5,8 @@
 pub enum Mode {
     /// The plain store, which keeps the history of its answers. The script is one of calls.
     Plain,
+    /// The running heap, each call whole, in the order of the lines. The script is one of calls.
+    Heap,
     /// The core, step by step. The script is one of events.
     Steps,
 }

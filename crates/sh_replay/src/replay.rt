@@ -1,26 +1,33 @@
 //! A whole run: read, parsed, run and written.
-ghost use Rattle.std.specs.Prelude.{◌≡◌, ℕ, List, IfOk, IfErr, OnOk, OnErr, Some, take};
+ghost use Rattle.std.specs.Prelude.{◌≡◌, ℕ, List, IfOk, IfErr, OnOk, Some, take};
 ghost use Rattle.sh_replay.specs.Ends.{IsEndFault, ReadsAtMostBytes};
-ghost use Rattle.sh_replay.specs.Output.{IsOutput, IsScriptOf, WritesOutput, Stops, IsFaultOf};
+ghost use Rattle.sh_replay.specs.Output.{IsRunOf, IsScriptOf, WritesOutput, Stops, IsFaultOf, IsRunFault};
 
 use crate::Mode;
 use crate::ends::{read_text, write_text};
+use crate::heap_lines::Ran;
+use crate::heap_output::heap_output;
 use crate::plain_output::plain_output;
 use crate::steps_output::steps_output;
 use sh_script::Fault;
 use std::alloc::Global;
 use std::io::{Read, Write};
 
-// What a script's run in a mode gives.
-fn output(alloc: Global, text: &[u8], mode: Mode, accounts: bool) -> Result<Vec<u8>, Fault>
-    ensures output { IfOk result (λ output. IsOutput mode accounts text.now output.items) }
+// What a script's run in a mode gives, and whether an owner could not leave at its end.
+fn output(alloc: Global, text: &[u8], mode: Mode, accounts: bool) -> Result<Ran, Fault>
+    ensures output { IfOk result (λ r. IsRunOf mode accounts text.now r.output.items r.is_waiting) }
     ensures fault { IfErr result (IsFaultOf mode text.now) }
     ensures answers { IsScriptOf mode text.now → IfErr result IsEndFault }
 {
-    match mode {
-        Mode::Plain => plain_output(alloc, text),
-        Mode::Steps => steps_output(alloc, text, accounts),
-    }
+    let output = match mode {
+        Mode::Plain => plain_output(alloc, text)?,
+        Mode::Steps => steps_output(alloc, text, accounts)?,
+        Mode::Heap => return heap_output(alloc, text, accounts),
+    };
+    Ok(Ran {
+        output,
+        is_waiting: false,
+    })
 }
 
 // Runs a script that was read.
@@ -33,11 +40,16 @@ fn run<W: Write>(
 ) -> Result<(), Fault>
     ensures ok { OnOk result (WritesOutput mode accounts text.now (W.contents writer.old) (W.contents writer.new)) }
     ensures fault { IfErr result (IsFaultOf mode text.now) }
-    ensures answers { IsScriptOf mode text.now → IfErr result IsEndFault }
-    ensures stops { OnErr result (Stops mode accounts text.now (W.contents writer.old) (W.contents writer.new)) }
+    ensures answers { IsScriptOf mode text.now → IfErr result (IsRunFault mode) }
+    ensures stops { IfErr result (λ fault.
+        Stops mode accounts text.now fault (W.contents writer.old) (W.contents writer.new)) }
 {
-    let output = output(alloc, text, mode, accounts)?;
-    write_text(writer, output.as_slice())
+    let Ran { output, is_waiting } = output(alloc, text, mode, accounts)?;
+    write_text(writer, output.as_slice())?;
+    if is_waiting {
+        return Err(Fault::Waiting);
+    }
+    Ok(())
 }
 
 /// Reads a script, runs it in a mode and writes its replies.
@@ -60,9 +72,10 @@ pub fn replay_alone<R: Read, W: Write>(
     ensures fault { (input : List ℕ) → R.remaining reader.old ≡ Some input
         → IfErr result (IsFaultOf mode (take 1048577 input)) }
     ensures answers { (input : List ℕ) → R.remaining reader.old ≡ Some input → IsScriptOf mode (take 1048577 input)
-        → IfErr result IsEndFault }
+        → IfErr result (IsRunFault mode) }
     ensures stops { (input : List ℕ) → R.remaining reader.old ≡ Some input
-        → OnErr result (Stops mode accounts (take 1048577 input) (W.contents writer.old) (W.contents writer.new)) }
+        → IfErr result (λ fault. Stops mode accounts (take 1048577 input) fault
+        (W.contents writer.old) (W.contents writer.new)) }
 
     ensures reads { ReadsAtMostBytes (R.remaining reader.old) (R.remaining reader.new) 1048577 }
 {

@@ -1,10 +1,6 @@
 use Rattle.std.proofs.Common.{map}
-use Rattle.sh_calls.specs.Alone.{AnsweredSoFar}
+use Rattle.sh_calls.specs.Finished.{heap_seen, terms_seen}
 use Rattle.sh_calls.proofs.alone.alone_lines.Given as goal
 
-abbrev pub ghost-met : goal.ghost-met
-ghost-met g a = g.at
-
-abbrev pub invariant-loop-line : goal.invariant-loop-line
-invariant-loop-line g l = AnsweredSoFar g.at.0 g.at.1 l.tag l.lines l.line-index l.numbers.items
-    (map g.S.Side.seen l.sides.items) l.output.items
+abbrev pub ghost-lines_in_turn : goal.ghost-lines_in_turn
+ghost-lines_in_turn g a = (heap_seen (map g.S.Side.seen a.sides.items), terms_seen (map g.S.Side.seen a.sides.items))
