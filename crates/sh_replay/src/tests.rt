@@ -1,5 +1,6 @@
 //! Whole runs over memory: worked scripts and faults.
 mod ends;
+mod heap;
 mod sizes;
 mod step_ends;
 mod steps;

@@ -36,8 +36,7 @@ gathered-requires g c κs within =
     let heap : c.args.heap.now ≡ g.at.0 = search rules in
     let shape : IsShape g.at.0.shape = search rules in
     let tag : c.args.tag ≡ g.at.1 = search rules in
-    let lines : c.args.lines.now ≡ g.at.2 = search rules in
-    (
+    let lines : c.args.lines.now ≡ g.at.2 = search rules in (
       within,
       (
         shape,
