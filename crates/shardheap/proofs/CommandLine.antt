@@ -1,8 +1,8 @@
 -- How the reading of a command line ends.
 use Rattle.std.proofs.Common.{◌≡◌, ◌≢◌, ◌⊎◌, ◌∙◌, ◌||◌, Bool, ℕ, List, [], ◌∷◌, Option, Some, None, true, false, map}
-use Rattle.std.proofs.Common.{refl, sym, subst, ap, inl, inr, codes}
+use Rattle.std.proofs.Common.{refl, sym, subst, ap, inl, inr, codes, drop}
 use Rattle.std.specs.Prelude.{option_map, unwrap_or}
-use Rattle.std.specs.List.{list_any}
+use Rattle.std.specs.List.{list_any, slice_index_or}
 use Rattle.std.specs.Str.{bytes_eq}
 use Rattle.std.specs.Borrow.{Bor}
 use Rattle.std.proofs.lemmas.Slice.Eq.{bytes_eq-Decides}
@@ -15,8 +15,7 @@ use Rattle.clap.specs.declared.error.kind.ErrorKind.{ErrorKind}
 use Rattle.clap.specs.declared.error.kind.ErrorKind.TheVariants.{OutOfMemory}
 use Rattle.clap.proofs.WalkLemmas.{first_value-rows, one_text-rows}
 use Rattle.sh_replay.specs.declared.mode.Mode.{Mode}
-use Rattle.sh_replay.specs.declared.mode.Mode.TheVariants.{Plain, Steps}
-use Rattle.shardheap.specs.Options.{IsNoMode, IsRefused, NameModes, flag_text, command_line, mode_word, mode_name}
+use Rattle.shardheap.specs.Options.{IsNoMode, IsRefused, NameModes, all_modes, flag_text, command_line, mode_word, mode_name}
 
 simple_and_free : (modes : Bor (List (Bor Text))) → is_simple_and_free (command_line modes) ≡ true
 simple_and_free modes = refl
@@ -60,7 +59,7 @@ read_word None b w t e is = cc
 -- a word that is among the modes' names
 pub among : (modes : Bor (List (Bor Text))) (t : Text) → NameModes modes → Accepts false (Names modes) t → IsNoMode t
     → ⊥
-among modes t named accepted unnamed = go modes.now named accepted
+among modes t named accepted unnamed = go all_modes modes.now named accepted
   where
     same : (mode : Mode) (x : Text) → x ≡ mode_name mode → bytes_eq x t ≡ false
     same mode x is = differ (bytes_eq x t) refl
@@ -69,18 +68,16 @@ among modes t named accepted unnamed = go modes.now named accepted
         differ true e = absurd (unnamed mode (sym ((bytes_eq-Decides x t).0 e) ∙ is))
         differ false e = e
 
-    go : (names : List (Bor Text)) → map (λ w. w.now) names ≡ mode_name Plain ∷ mode_name Steps ∷ []
+    -- it is the name of none of these modes
+    go : (ms : List Mode) (names : List (Bor Text)) → map (λ w. w.now) names ≡ map mode_name ms
         → list_any (λ name. bytes_eq name.now t) names ≡ true → ⊥
-    go [] is e = cc
-    go (x ∷ []) is e = cc
-    go (x ∷ y ∷ []) is e =
-        let first : bytes_eq x.now t ≡ false = same Plain x.now
-        (ap (λ (l : List Text). Rattle.std.specs.List.slice_index_or l 0 []) is) in
-        let second : bytes_eq y.now t ≡ false = same Steps y.now
-        (ap (λ (l : List Text). Rattle.std.specs.List.slice_index_or l 1 []) is) in
-        let no : false ≡ true = rw (first, second) at e in
-        cc
-    go (x ∷ y ∷ z ∷ xs) is e = cc
+    go [] [] is e = cc
+    go [] (x ∷ xs) is e = cc
+    go (m ∷ ms) [] is e = cc
+    go (m ∷ ms) (x ∷ xs) is e =
+        let here : bytes_eq x.now t ≡ false = same m x.now (ap (λ l. slice_index_or l 0 []) is) in
+        let rest : list_any (λ name. bytes_eq name.now t) xs ≡ true = rw here at e in
+        go ms xs (ap (drop 1) is) rest
 
 pub refused : (c : Command) (modes : Bor (List (Bor Text))) (words : List Text) (k : ErrorKind) → NameModes modes
     → app_of c ≡ command_line modes

@@ -9,20 +9,25 @@ use Rattle.clap.specs.declared.error.kind.ErrorKind.{ErrorKind}
 use Rattle.clap.specs.declared.error.kind.ErrorKind.TheVariants.{OutOfMemory}
 use Rattle.clap.specs.declared.builder.value_parser.ValueParser.TheVariants.{Names}
 use Rattle.sh_replay.specs.declared.mode.Mode.{Mode}
-use Rattle.sh_replay.specs.declared.mode.Mode.TheVariants.{Plain, Steps}
+use Rattle.sh_replay.specs.declared.mode.Mode.TheVariants.{Plain, Heap, Steps}
 
 -- how a mode is written
 abbrev pub mode_name : Mode → Text
 mode_name Plain = codes "plain"
+mode_name Heap = codes "heap"
 mode_name Steps = codes "steps"
 
 -- the word names no mode
 abbrev pub IsNoMode : Text → Type 0
 IsNoMode word = (mode : Mode) → word ≢ mode_name mode
 
--- the words of the modes, in the order of the help, wherever they stand
+-- the modes, in the order of the help
+abbrev pub all_modes : List Mode
+all_modes = Plain ∷ Heap ∷ Steps ∷ []
+
+-- the words of the modes, wherever they stand
 abbrev pub NameModes : Bor (List (Bor Text)) → Type 0
-NameModes modes = map (λ w. w.now) modes.now ≡ mode_name Plain ∷ mode_name Steps ∷ []
+NameModes modes = map (λ w. w.now) modes.now ≡ map mode_name all_modes
 
 -- the mode has to be given, and is one of these words
 abbrev pub mode_rule : Bor (List (Bor Text)) → Rule

@@ -5,8 +5,7 @@ use Rattle.clap.specs.declared.error.kind.ErrorKind.{ErrorKind}
 use Rattle.clap.specs.declared.error.kind.ErrorKind.TheVariants.{DisplayHelp, DisplayVersion, OutOfMemory}
 use Rattle.sh_script.specs.declared.fault.Fault.{Fault}
 use Rattle.sh_replay.specs.declared.mode.Mode.{Mode}
-use Rattle.sh_replay.specs.Ends.{IsEndFault}
-use Rattle.sh_replay.specs.Output.{IsFaultOf, IsScriptOf, WritesOutput, Stops}
+use Rattle.sh_replay.specs.Output.{IsFaultOf, IsRunFault, IsScriptOf, WritesOutput, Stops}
 use Rattle.shardheap.specs.Faults.{status_of}
 use Rattle.shardheap.specs.Options.{IsRefused, CommandSays}
 
@@ -34,8 +33,8 @@ pub record EndsFaulty (mode : Mode) (accounts : Bool) (text : List ℕ) (old new
     pub fault : Fault
     pub is : status ≡ status_of fault
     pub may : IsFaultOf mode text fault
-    pub answers : IsScriptOf mode text → IsEndFault fault
-    pub stops : Stops mode accounts text old new
+    pub answers : IsScriptOf mode text → IsRunFault mode fault
+    pub stops : Stops mode accounts text fault old new
 
 -- the words say a mode, and the script was run in it: to its end, with status 0, or up to a fault
 pub record EndsRun (words : List Text) (text : List ℕ) (old new : Option (List ℕ)) (status : ℕ) : Type 0 where

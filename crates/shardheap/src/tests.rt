@@ -69,6 +69,8 @@ fn options_are_taken(rt: HostRuntime) -> Result<(), Fail> {
     assert!(rt; options(alloc, &["shardheap", "plain"])? == (Mode::Plain, false));
     assert!(rt; options(alloc, &["shardheap", "plain", "--accounts"])? == (Mode::Plain, true));
     assert!(rt; options(alloc, &["shardheap", "--accounts", "plain"])? == (Mode::Plain, true));
+    assert!(rt; options(alloc, &["shardheap", "heap"])? == (Mode::Heap, false));
+    assert!(rt; options(alloc, &["shardheap", "heap", "--accounts"])? == (Mode::Heap, true));
     assert!(rt; options(alloc, &["shardheap", "steps"])? == (Mode::Steps, false));
     assert!(rt; options(alloc, &["shardheap", "steps", "--accounts"])? == (Mode::Steps, true));
     Ok(())
@@ -78,7 +80,7 @@ fn options_are_taken(rt: HostRuntime) -> Result<(), Fail> {
 fn options_are_refused(rt: HostRuntime) -> Result<(), Fail> {
     let table: [(&[&str], ErrorKind, bool); 8] = [
         (&["shardheap"], ErrorKind::MissingRequiredArgument, true),
-        (&["shardheap", "heap"], ErrorKind::InvalidValue, true),
+        (&["shardheap", "table"], ErrorKind::InvalidValue, true),
         (&["shardheap", ""], ErrorKind::InvalidValue, true),
         (&["shardheap", "Plain"], ErrorKind::InvalidValue, true),
         (
@@ -107,9 +109,10 @@ fn options_are_refused(rt: HostRuntime) -> Result<(), Fail> {
 
 #[test]
 fn a_script_runs(rt: HostRuntime) -> Result<(), Fail> {
-    let table: [&[&str]; 2] = [
+    let table: [&[&str]; 3] = [
         &["shardheap", "plain"],
         &["shardheap", "plain", "--accounts"],
+        &["shardheap", "heap"],
     ];
     for words in table {
         let mut output = Vec::new(rt.alloc());
@@ -185,12 +188,12 @@ fn a_mistake_in_the_words_is_shown(rt: HostRuntime) -> Result<(), Fail> {
             "error: the following required arguments were not provided:\n  <mode>\n\nUsage: shardheap <mode>\n\nFor more information, try '--help'.\n",
         ),
         (
-            &["shardheap", "heap"],
-            "error: invalid value 'heap' for '<mode>'\n  [possible values: plain, steps]\n\nFor more information, try '--help'.\n",
+            &["shardheap", "table"],
+            "error: invalid value 'table' for '<mode>'\n  [possible values: plain, heap, steps]\n\nFor more information, try '--help'.\n",
         ),
         (
             &["shardheap", "plan"],
-            "error: invalid value 'plan' for '<mode>'\n  [possible values: plain, steps]\n\n  tip: a similar value exists: 'plain'\n\nFor more information, try '--help'.\n",
+            "error: invalid value 'plan' for '<mode>'\n  [possible values: plain, heap, steps]\n\n  tip: a similar value exists: 'plain'\n\nFor more information, try '--help'.\n",
         ),
     ];
     for (words, text) in table {
