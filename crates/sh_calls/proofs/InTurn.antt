@@ -15,8 +15,8 @@ use Rattle.sh_calls.specs.Replies.{reply_line, replies_text}
 use Rattle.sh_calls.specs.Runs.{CallsRun, LineAnswered, LinesAnswered, opening_calls, next_run, with_part, with_number}
 use Rattle.sh_calls.specs.Runs.{number_meant}
 use Rattle.sh_calls.specs.Told.{AreReplies, IsTold, part_told}
-use Rattle.sh_calls.specs.Meeting.{CarriesTale, MeetsCarrier, OwnsNone, HasMet}
-use Rattle.sh_calls.specs.Alone.{seen_with_part, AnsweredSoFar, tales_told, AllOfHeap}
+use Rattle.sh_calls.specs.Meeting.{CarriesTale, MeetsCarrier, OwnsNone, HasMet, tales_told, AllOfHeap}
+use Rattle.sh_calls.specs.Alone.{seen_with_part, AnsweredSoFar}
 use Rattle.sh_calls.proofs.ListLemmas.{get_set_same, get_set_other, take_at, take_past, next, map_more, up_length}
 use Rattle.sh_calls.proofs.LineLemmas.{one_more, part_here, part_there}
 use Rattle.sh_calls.proofs.Newcomers.{newcomers_length, newcomers_get, length_map}
