@@ -1,5 +1,5 @@
-use Rattle.std.proofs.Common.{rules, arith, ◌≡◌, ◌≤◌, ◌∙◌, sym, ap, subst, refl, true, false, List, ◌++◌, ◌∷◌, [], length}
-use Rattle.std.proofs.Common.{Some, slice_get, map}
+use Rattle.std.proofs.Common.{rules, arith, ◌≡◌, ◌≤◌, ◌∙◌, sym, ap, subst, refl, true, false, List, ◌++◌, ◌∷◌, []}
+use Rattle.std.proofs.Common.{length, Some, slice_get, map}
 use Rattle.std.proofs.lemmas.Grind.{common_steps}
 use Rattle.std.proofs.lemmas.Option.{gets}
 use Rattle.sh_script.specs.declared.calls.CallLine.{CallLine}

@@ -33,12 +33,12 @@ met-requires g c κs within =
     let room = g.B.Room in
     let lines = c.args.lines.now in
     let sides = map g.S.Side.seen c.in_ok-output.sides.items in
+    let output = c.in_ok-output.output.items in
     let answered = c.in_ok-output.ensures.answered in (
       within,
       (
-        all_are room.heap room.terms room.tag lines (length lines) answered.0 sides c.in_ok-output.output.items answered.1,
-        all_speak room.heap room.terms room.tag lines (length lines) answered.0 sides c.in_ok-output.output.items
-            answered.1,
+        all_are room.heap room.terms room.tag lines (length lines) answered.0 sides output answered.1,
+        all_speak room.heap room.terms room.tag lines (length lines) answered.0 sides output answered.1,
       ),
     )
 
