@@ -67,13 +67,13 @@ impl<S: Side> Ended<S> {
 }
 
 /// The passes of these workers, and what each made. `Io` where one did not make all its calls.
-pub fn gathered<S: Side, B: Room>(
+pub fn all_ended<S: Side, B: Room>(
     empty: Ended<S>,
     workers: Vec<Worker<S, B>>,
     count: usize,
 ) -> Result<Ended<S>, Fault>
     requires empty { (empty.sides.items ≡ []) × (empty.rests.items ≡ []) }
-    requires room { (vec_len workers ≤ vec_capacity empty.sides) × (vec_len workers ≤ vec_capacity empty.rests) }
+    requires space { (vec_len workers ≤ vec_capacity empty.sides) × (vec_len workers ≤ vec_capacity empty.rests) }
     requires count { count ≡ length B.lines }
     requires all { workers.items ≡ passes_below B.terms.shape.passes }
     ensures ended { IfOk result (λ ended. HaveEnded B.heap B.terms B.tag B.lines B.terms.shape.passes

@@ -40,7 +40,7 @@ fn joined<S: Side, B: Room, R: Threads>(
     mut all: Vec<Worker<S, B>>,
 ) -> Vec<Worker<S, B>>
     requires empty { all.items ≡ [] }
-    requires room { vec_len handles ≤ vec_capacity all }
+    requires space { vec_len handles ≤ vec_capacity all }
     ensures { result.items ≡ map promised handles.items }
 {
     for handle in handles {

@@ -1,18 +1,16 @@
 //! A script of calls in threads: one for each pass that has lines.
-ghost use Rattle.std.specs.Prelude.{◌≡◌, Option, ◌<◌, Some, IfOk, IfErr, IfSome, map, length};
+ghost use Rattle.std.specs.Prelude.{◌≡◌, ◌<◌, IfOk, IfErr, map, length, option_map};
 ghost use Rattle.std.specs.List.{All};
 ghost use Rattle.sh_script.specs.declared.calls.CallLine.{CallLine};
-ghost use Rattle.sh_table.specs.Seats.{Heap};
 ghost use Rattle.sh_calls.specs.Keys.{HasTagRoom};
-ghost use Rattle.sh_calls.specs.Parts.{RunTerms, new_passes, tale_told, passes_below};
-ghost use Rattle.sh_calls.specs.Told.{AreReplies, IsTold};
-ghost use Rattle.sh_calls.specs.Meeting.{CarriesTale, OwnsNone};
+ghost use Rattle.sh_calls.specs.Parts.{new_passes, passes_below};
+ghost use Rattle.sh_calls.specs.Finished.{heap_seen, terms_seen, AreAllNew, LinesRan};
 ghost use Rattle.sh_replay.specs.Ends.{IsEndFault};
 ghost use Rattle.sh_replay.specs.Works.{own_calls};
 
 use crate::board::Board;
 use crate::gate::Gate;
-use crate::gather::{Ended, gathered};
+use crate::gather::{Ended, all_ended};
 use crate::merge::merged;
 use crate::room::Room;
 use crate::run::run_all;
@@ -80,10 +78,7 @@ fn played<S: Side + Send, B: Room + Send + Sync, R: Threads + Wait + Sync, G: Ga
     requires room { HasTagRoom B.terms.layout tag }
     requires sides { map S.seen sides.items ≡ new_passes B.heap B.terms B.terms.shape.passes }
     requires passes { All (λ (l : CallLine). l.pass < B.terms.shape.passes) lines.now }
-    ensures replies { IfOk result (λ ran. AreReplies B.terms tag lines.now ran.0.items) }
-    ensures told { IfOk result (λ ran. IfSome ran.1 (λ carrier. IsTold B.terms tag lines.now ran.0.items
-        (tale_told (S.seen carrier)) × CarriesTale B.heap B.terms (Some (S.seen carrier)) (tale_told (S.seen carrier))
-        × OwnsNone (Some (S.seen carrier)))) }
+    ensures ran { IfOk result (λ ran. LinesRan B.heap B.terms tag lines.now ran.0.items (option_map S.seen ran.1)) }
     ensures fault { IfErr result IsEndFault }
 {
     let Ok(empty) = Ended::with_capacity(alloc, sides.len()) else {
@@ -94,7 +89,7 @@ fn played<S: Side + Send, B: Room + Send + Sync, R: Threads + Wait + Sync, G: Ga
     };
     let workers: Vec<Worker<S, B>> = workers(alloc, lines, sides)?;
     let workers = run_all(rt, alloc, lines, tag, &board, gate, workers)?;
-    let ended = gathered(empty, workers, lines.len())?;
+    let ended = all_ended(empty, workers, lines.len())?;
     let (output, sides) = merged::<S, B>(alloc, lines, ended)?;
     Ok((output, met(sides)))
 }
@@ -111,14 +106,11 @@ pub fn threads_lines<S: Side + Send, R: Threads + Wait + Sync, G: Gate + Sync>(
     sides: Vec<S>,
     gate: &G,
 ) -> Result<(Vec<u8>, Option<S>), Fault>
-    ghost at: { Option Heap × RunTerms }
-    requires room { HasTagRoom at.1.layout tag }
-    requires sides { map S.seen sides.items ≡ new_passes at.0 at.1 at.1.shape.passes }
-    requires passes { All (λ (l : CallLine). l.pass < at.1.shape.passes) lines.now }
-    ensures replies { IfOk result (λ ran. AreReplies at.1 tag lines.now ran.0.items) }
-    ensures told { IfOk result (λ ran. IfSome ran.1 (λ carrier. IsTold at.1 tag lines.now ran.0.items
-        (tale_told (S.seen carrier)) × CarriesTale at.0 at.1 (Some (S.seen carrier)) (tale_told (S.seen carrier))
-        × OwnsNone (Some (S.seen carrier)))) }
+    requires room { HasTagRoom (terms_seen (map S.seen sides.items)).layout tag }
+    requires sides { AreAllNew (map S.seen sides.items) }
+    requires passes { All (λ (l : CallLine). l.pass < (terms_seen (map S.seen sides.items)).shape.passes) lines.now }
+    ensures ran { IfOk result (λ ran. LinesRan (heap_seen (map S.seen sides.items))
+        (terms_seen (map S.seen sides.items)) tag lines.now ran.0.items (option_map S.seen ran.1)) }
     ensures fault { IfErr result IsEndFault }
 {
     played::<S, Brand, R, G>(rt, alloc, lines, tag, sides, gate)

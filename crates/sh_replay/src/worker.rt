@@ -145,7 +145,7 @@ impl<S: Side, B: Room> Worker<S, B> {
     pub fn new(number: usize, side: S, made: Vec<Made>) -> Self
         requires side { S.seen side ≡ new_pass B.heap B.terms number }
         requires made { made.items ≡ [] }
-        requires room { length (own_calls number B.lines) ≤ vec_capacity made }
+        requires space { length (own_calls number B.lines) ≤ vec_capacity made }
         ensures { result ≡ number }
     {
         Worker {

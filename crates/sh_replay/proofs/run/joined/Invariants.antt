@@ -7,5 +7,5 @@ use Rattle.sh_replay.proofs.run.joined.Given as goal
 abbrev pub invariant-loop-handle : goal.invariant-loop-handle
 invariant-loop-handle g l = record {
   joined : l.all.items ≡ map promised l.yielded;
-  room : vec_len l.all + into_iter_len l.handle-iterator ≤ vec_capacity l.all;
+  space : vec_len l.all + into_iter_len l.handle-iterator ≤ vec_capacity l.all;
 }

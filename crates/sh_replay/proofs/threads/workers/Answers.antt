@@ -23,7 +23,7 @@ loop-side-preserved g c =
     record {
       made = grown ∙ ((λ i. was.made i ++ is i ∷ []) ∙ sym (up_more y c.in-Some.side));
       long = omega (arith, longer, was.long, length-append y (c.in-Some.side ∷ []));
-      room = omega (arith, was.room, longer, c.push_reserved.ensures.capacity, c.in-Some.ensures.steps.1);
+      space = omega (arith, was.space, longer, c.push_reserved.ensures.capacity, c.in-Some.ensures.steps.1);
       rest = was.rest ∙ (ap (λ z. y ++ z) c.in-Some.ensures.steps.0 ∙ sym (append_assoc y (c.in-Some.side ∷ []) _));
       counted = omega (arith, was.counted, c.in-Some.ensures.steps.1, length-append y (c.in-Some.side ∷ []));
     }

@@ -8,7 +8,7 @@ abbrev pub invariant-loop-side : goal.invariant-loop-side
 invariant-loop-side g l = record {
   made : l.all.items ≡ passes_below (length l.yielded);
   long : vec_len l.all ≡ length l.yielded;
-  room : vec_len l.all + into_iter_len l.side-iterator ≤ vec_capacity l.all;
+  space : vec_len l.all + into_iter_len l.side-iterator ≤ vec_capacity l.all;
   rest : l.fn.sides.items ≡ l.yielded ++ into_iter_items l.side-iterator;
   counted : length l.yielded + into_iter_len l.side-iterator ≡ length l.fn.sides.items;
 }

@@ -7,6 +7,6 @@ use Rattle.sh_replay.proofs.run.fn.run_all.scope.Given as goal
 abbrev pub invariant-loop-worker : goal.invariant-loop-worker
 invariant-loop-worker g l = record {
   started : map promised l.handles.items ≡ l.yielded;
-  room : vec_len l.handles + into_iter_len l.worker-iterator ≤ vec_capacity l.handles;
+  space : vec_len l.handles + into_iter_len l.worker-iterator ≤ vec_capacity l.handles;
   joins : vec_len l.handles + into_iter_len l.worker-iterator ≤ vec_capacity l.all;
 }

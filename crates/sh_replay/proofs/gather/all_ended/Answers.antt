@@ -6,7 +6,7 @@ use Rattle.sh_replay.specs.declared.worker.Made.{Made}
 use Rattle.sh_replay.specs.Gathers.{HaveEnded}
 use Rattle.sh_replay.specs.Works.{IsWork}
 use Rattle.sh_replay.proofs.Gathers.{one_more_ended, next_worker}
-use Rattle.sh_replay.proofs.gather.gathered.Goals as goal
+use Rattle.sh_replay.proofs.gather.all_ended.Goals as goal
 
 pub loop-worker-preserved : goal.loop-worker-preserved
 loop-worker-preserved g c =
