@@ -1,7 +1,7 @@
 -- All passes in one thread: a line more, and the end.
 use Rattle.std.proofs.Common.{◌≡◌, ◌≢◌, ℕ, zero, suc, ◌+◌, ◌<◌, ◌≤◌, List, [], ◌∷◌, ◌++◌, length, take, set, map}
 use Rattle.std.proofs.Common.{slice_get, Option, Some, None, sym, refl, ap, ◌∙◌, subst, arith, append_assoc, append-nil}
-use Rattle.std.proofs.Common.{length-append, length-set}
+use Rattle.std.proofs.Common.{IfSome, length-append, length-set}
 use Rattle.std.specs.Option.{option_map}
 use Rattle.std.proofs.lemmas.Option.{none-some, same_Some, slice_get-map}
 use mathlib.Core.Logic.{dite}
@@ -15,8 +15,9 @@ use Rattle.sh_calls.specs.Replies.{reply_line, replies_text}
 use Rattle.sh_calls.specs.Runs.{CallsRun, LineAnswered, LinesAnswered, opening_calls, next_run, with_part, with_number}
 use Rattle.sh_calls.specs.Runs.{number_meant}
 use Rattle.sh_calls.specs.Told.{AreReplies, IsTold, part_told}
-use Rattle.sh_calls.specs.Meeting.{CarriesTale, MeetsCarrier, OwnsNone, HasMet}
-use Rattle.sh_calls.specs.Alone.{seen_with_part, AnsweredSoFar, tales_told, AllOfHeap}
+use Rattle.sh_calls.specs.Meeting.{CarriesTale, MeetsCarrier, OwnsNone, HasMet, tales_told, AllOfHeap}
+use Rattle.sh_calls.specs.Alone.{seen_with_part, AnsweredSoFar}
+use Rattle.sh_calls.specs.Finished.{CarrierRan, LinesRan}
 use Rattle.sh_calls.proofs.ListLemmas.{get_set_same, get_set_other, take_at, take_past, next, map_more, up_length}
 use Rattle.sh_calls.proofs.LineLemmas.{one_more, part_here, part_there}
 use Rattle.sh_calls.proofs.Newcomers.{newcomers_length, newcomers_get, length_map}
@@ -235,7 +236,7 @@ ends_alone heap terms tag lines i numbers sides output past h =
       is = h.text ∙ ap (λ ls. replies_text ls h.answers) whole;
     }
 
-pub told_alone : (heap : Option Heap) (terms : RunTerms) (tag : Option ℕ) (lines : List CallLine) (i : ℕ)
+told_alone : (heap : Option Heap) (terms : RunTerms) (tag : Option ℕ) (lines : List CallLine) (i : ℕ)
     (numbers : List (Option ℕ)) (sides : List SeenPass) (output : List ℕ) (s : SeenPass) → length lines ≤ i
     → AnsweredSoFar heap terms tag lines i numbers sides output
     → HasMet heap terms s (tales_told sides) → IsTold terms tag lines output (tale_told s)
@@ -252,6 +253,25 @@ told_alone heap terms tag lines i numbers sides output s past h m =
       (m.carries.0, m.carries.1, refl),
       m.none,
     )
+
+-- what holds of what is seen of the carrier, where there is one
+some_met : {S : Type 0} {P : S → Type 0} (seen : S → SeenPass) (Q : SeenPass → Type 0) → ((s : S) → P s → Q (seen s))
+    → (o : Option S) → IfSome o P → IfSome (option_map seen o) Q
+some_met seen Q f None h = h
+some_met seen Q f (Some s) h = f s h
+
+-- the replies, and what the carrier has, if all could meet
+pub lines_ran : {S : Type 0} (seen : S → SeenPass) (heap : Option Heap) (terms : RunTerms) (tag : Option ℕ)
+    (lines : List CallLine) (i : ℕ) (numbers : List (Option ℕ)) (sides : List SeenPass) (output : List ℕ)
+    (carrier : Option S) → length lines ≤ i → AnsweredSoFar heap terms tag lines i numbers sides output
+    → IfSome carrier (λ s. HasMet heap terms (seen s) (tales_told sides))
+    → LinesRan heap terms tag lines output (option_map seen carrier)
+lines_ran seen heap terms tag lines i numbers sides output carrier past h met = record {
+  replies = ends_alone heap terms tag lines i numbers sides output past h;
+  met = some_met seen (CarrierRan heap terms tag lines output) (λ s m.
+      let t = told_alone heap terms tag lines i numbers sides output (seen s) past h m in
+      record { told = t.0; carries = t.1; none = t.2 }) carrier met;
+}
 
 pub map_set : {A B : Type 0} (f : A → B) (xs : List A) (k : ℕ) (y : A) → map f (set xs k y) ≡ set (map f xs) k (f y)
 map_set f [] k y = refl

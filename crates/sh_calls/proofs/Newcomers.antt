@@ -23,7 +23,7 @@ newcomers_get heap terms (suc n) k s e = ⊎_elim
     ∙ ap (new_pass heap terms) (sym (x.0 ∙ newcomers_length heap terms n)))
     (get_snoc (new_passes heap terms n) (new_pass heap terms n) s k e)
 
-get_middle : {A : Type 0} (xs : List A) (x : A) (ys : List A) → slice_get (xs ++ x ∷ ys) (length xs) ≡ Some x
+pub get_middle : {A : Type 0} (xs : List A) (x : A) (ys : List A) → slice_get (xs ++ x ∷ ys) (length xs) ≡ Some x
 get_middle [] x ys = refl
 get_middle (z ∷ zs) x ys = get_middle zs x ys
 

@@ -1,8 +1,8 @@
 -- All passes in one thread.
-use Rattle.std.specs.Prelude.{◌≡◌, ℕ, List, [], ◌∷◌, ◌++◌, Option, Some, slice_get, length, take}
+use Rattle.std.specs.Prelude.{◌≡◌, ℕ, List, Option, Some, slice_get, length, take}
 use Rattle.sh_script.specs.declared.calls.CallLine.{CallLine}
 use Rattle.sh_calls.specs.declared.answer.Answer.{Answer}
-use Rattle.sh_calls.specs.Parts.{RunTerms, PassPart, SeenPass, PassTold, new_pass, tale_told}
+use Rattle.sh_calls.specs.Parts.{RunTerms, PassPart, SeenPass, new_pass}
 use Rattle.sh_calls.specs.Replies.{replies_text}
 use Rattle.sh_calls.specs.Runs.{CallsRun, LinesAnswered, opening_calls}
 use Rattle.sh_table.specs.Seats.{Heap}
@@ -21,15 +21,3 @@ pub record AnsweredSoFar (heap : Option Heap) (terms : RunTerms) (tag : Option �
   pub text : output ≡ replies_text (take i lines) answers
   pub all : length sides ≡ terms.shape.passes
   pub each : (p : ℕ) (s : SeenPass) → slice_get sides p ≡ Some s → s ≡ seen_with_part heap terms run.parts p
-
--- ---- passes that meet
-
--- all that these passes speak for
-abbrev pub tales_told : List SeenPass → List PassTold
-tales_told [] = []
-tales_told (s ∷ ss) = tale_told s ++ tales_told ss
-
--- each is a pass of the heap
-abbrev pub AllOfHeap : Option Heap → RunTerms → List SeenPass → Type 0
-AllOfHeap heap terms [] = Unit {0}
-AllOfHeap heap terms (s ∷ ss) = (s.heap ≡ heap) × (s.terms ≡ terms) × AllOfHeap heap terms ss

@@ -1,5 +1,5 @@
 -- Passes that meet: one of them carries the tale of all.
-use Rattle.std.specs.Prelude.{◌≡◌, List, [], ◌++◌, Option, Some, None}
+use Rattle.std.specs.Prelude.{◌≡◌, List, [], ◌∷◌, ◌++◌, Option, Some, None}
 use Rattle.sh_calls.specs.Parts.{RunTerms, SeenPass, PassTold, HasWholeTale, tale_told}
 use Rattle.sh_table.specs.Seats.{Heap}
 
@@ -28,3 +28,13 @@ pub record HasMet (heap : Option Heap) (terms : RunTerms) (s : SeenPass) (tale :
   pub carries : CarriesTale heap terms (Some s) tale
   pub none : OwnsNone (Some s)
   pub whole : HasWholeTale terms tale
+
+-- all that these passes speak for
+abbrev pub tales_told : List SeenPass → List PassTold
+tales_told [] = []
+tales_told (s ∷ ss) = tale_told s ++ tales_told ss
+
+-- each is a pass of the heap
+abbrev pub AllOfHeap : Option Heap → RunTerms → List SeenPass → Type 0
+AllOfHeap heap terms [] = Unit {0}
+AllOfHeap heap terms (s ∷ ss) = (s.heap ≡ heap) × (s.terms ≡ terms) × AllOfHeap heap terms ss

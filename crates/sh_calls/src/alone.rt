@@ -1,41 +1,18 @@
 //! A script of calls in one thread: the calls of all passes, one after the other, in the order of the lines.
-ghost use Rattle.std.specs.Prelude.{◌≡◌, Option, ◌<◌, Some, IfOk, IfErr, IfSome, map, option_map};
+ghost use Rattle.std.specs.Prelude.{◌≡◌, Option, ◌<◌, IfOk, IfErr, map, option_map};
 ghost use Rattle.std.specs.List.{All};
 ghost use Rattle.sh_script.specs.declared.calls.CallLine.{CallLine};
 ghost use Rattle.sh_table.specs.Seats.{Heap};
 ghost use Rattle.sh_calls.specs.Keys.{HasTagRoom};
-ghost use Rattle.sh_calls.specs.Parts.{RunTerms, new_passes, told_pass, tale_told, passes_below};
-ghost use Rattle.sh_calls.specs.Told.{AreReplies, IsTold};
-ghost use Rattle.sh_calls.specs.Meeting.{CarriesTale, OwnsNone, HasMet};
-ghost use Rattle.sh_calls.specs.Alone.{tales_told, AllOfHeap};
+ghost use Rattle.sh_calls.specs.Parts.{RunTerms, new_passes};
 ghost use Rattle.sh_calls.specs.Finished.{heap_seen, terms_seen, AreAllNew, LinesRan};
 
 use crate::line::{answered, binds, number_meant, number_told};
-use crate::meeting::meet;
+use crate::meeting::met;
 use crate::push_reply;
 use crate::side::Side;
 use sh_script::{CallLine, Fault};
 use std::alloc::Global;
-
-// What one of the passes carries once all have met: nobody owns a shard any more. None where an owner could not leave.
-fn met<S: Side>(sides: Vec<S>) -> Option<S>
-    ghost at: { Option Heap × RunTerms }
-    requires of { AllOfHeap at.0 at.1 (map S.seen sides.items) }
-    requires all { map told_pass (tales_told (map S.seen sides.items)) ≡ passes_below at.1.shape.passes }
-    ensures { IfSome result (λ carrier. HasMet at.0 at.1 (S.seen carrier) (tales_told (map S.seen sides.items))) }
-{
-    let mut carrier: Option<S> = None;
-    for side in sides {
-        let mut side = side;
-        if !side.retire() {
-            return None;
-        }
-        carrier = Some(meet(carrier, side));
-    }
-    let carrier = carrier?;
-    carrier.whole();
-    Some(carrier)
-}
 
 // Runs the lines in their order, on the passes of a heap that is named.
 fn lines_in_turn<S: Side>(

@@ -8,3 +8,6 @@ pub mod OpenedLemmas
 pub mod HeaderShapes
 pub mod StepLemmas
 pub mod PlainLines
+pub mod Works
+pub mod Gathers
+pub mod Merges

@@ -7,3 +7,7 @@ pub mod HeapOutput
 pub mod StepsKeys
 pub mod Ends
 pub mod Output
+pub mod Works
+pub mod Gathers
+pub mod Merges
+pub mod Promises

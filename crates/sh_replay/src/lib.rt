@@ -2,18 +2,26 @@
 #![tactic(auto)]
 
 mod account_line;
+mod board;
 mod ends;
 mod event_line;
+pub mod gate;
+mod gather;
 mod heap_lines;
 mod heap_output;
 pub mod laws;
+mod merge;
 mod mode;
 mod pages;
 mod plain;
 mod plain_output;
 mod replay;
+mod room;
+mod run;
 mod steps;
 mod steps_output;
+pub mod threads;
+mod worker;
 
 pub use mode::Mode;
 pub use replay::replay_alone;

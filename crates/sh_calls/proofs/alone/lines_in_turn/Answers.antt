@@ -1,25 +1,18 @@
 use Rattle.std.proofs.Common.{rules, arith, ◌≡◌, ◌≤◌, ◌∙◌, ℕ, sym, ap, subst, true, false, map, ◌++◌, ◌∷◌, [], length}
-use Rattle.std.proofs.Common.{Some, None, Option, IfSome, slice_get}
+use Rattle.std.proofs.Common.{Some, Option, slice_get}
 use Rattle.std.specs.Option.{option_map}
 use Rattle.std.proofs.lemmas.Grind.{common_steps}
 use Rattle.std.proofs.lemmas.Option.{gets, slice_get-map}
 use Rattle.sh_script.specs.declared.calls.CallLine.{CallLine}
 use Rattle.sh_calls.specs.Keys.{HasTagRoom}
-use Rattle.sh_calls.specs.Parts.{RunTerms, SeenPass, new_passes}
-use Rattle.sh_calls.specs.Finished.{CarrierRan}
+use Rattle.sh_calls.specs.Parts.{RunTerms, new_passes}
 use Rattle.sh_calls.specs.Calls.{CallAnswers, binds, number_told}
 use Rattle.sh_calls.specs.Replies.{reply_line}
 use Rattle.sh_calls.specs.Runs.{number_meant, with_number}
-use Rattle.sh_calls.proofs.InTurn.{begins_alone, answered_more, map_set, all_are, all_speak, ends_alone, told_alone}
+use Rattle.sh_calls.proofs.InTurn.{begins_alone, answered_more, map_set, all_are, all_speak, lines_ran}
 use Rattle.sh_calls.proofs.InTurn.{terms_at}
 use Rattle.sh_calls.proofs.alone.lines_in_turn.Goals.{else-binds-via-then-binds+else-is_err, else-binds-via-else-binds}
 use Rattle.sh_calls.proofs.alone.lines_in_turn.Goals as goal
-
--- what holds of what is seen of the carrier, where there is one
-some_met : {S : Type 0} {P : S → Type 0} (seen : S → SeenPass) (Q : SeenPass → Type 0) → ((s : S) → P s → Q (seen s))
-    → (o : Option S) → IfSome o P → IfSome (option_map seen o) Q
-some_met seen Q f None h = h
-some_met seen Q f (Some s) h = f s h
 
 pub loop-line-init : goal.loop-line-init
 loop-line-init g c =
@@ -89,12 +82,5 @@ pub returns-clause-ran : goal.returns-clause-ran
 returns-clause-ran g c =
     let past : length c.args.lines.now ≤ c.loop-line.line-index = search rules in
     let sides = map g.S.Side.seen c.loop-line.sides.items in
-    let output = c.loop-line.output.items in
-    record {
-      replies = ends_alone g.at.0 g.at.1 c.args.tag c.args.lines.now c.loop-line.line-index c.loop-line.numbers.items
-          sides output past c.loop-line.invariant;
-      met = some_met g.S.Side.seen (CarrierRan g.at.0 g.at.1 c.args.tag c.args.lines.now output) (λ carrier h.
-          let t = told_alone g.at.0 g.at.1 c.args.tag c.args.lines.now c.loop-line.line-index c.loop-line.numbers.items
-          sides output (g.S.Side.seen carrier) past c.loop-line.invariant h in
-          record { told = t.0; carries = t.1; none = t.2 }) c.met.result c.met.ensures;
-    }
+    lines_ran g.S.Side.seen g.at.0 g.at.1 c.args.tag c.args.lines.now c.loop-line.line-index c.loop-line.numbers.items
+    sides c.loop-line.output.items c.met.result past c.loop-line.invariant c.met.ensures

@@ -1,9 +1,8 @@
 use Rattle.std.proofs.Common.{◌≡◌, ◌++◌, ◌+◌, length, map}
 use Rattle.std.specs.Option.{option_map}
 use Rattle.std.specs.Vec.Iter.{into_iter_items, into_iter_len}
-use Rattle.sh_calls.specs.Meeting.{CarriesTale, OwnsNone}
-use Rattle.sh_calls.specs.Alone.{tales_told, AllOfHeap}
-use Rattle.sh_calls.proofs.alone.met.Given as goal
+use Rattle.sh_calls.specs.Meeting.{CarriesTale, OwnsNone, tales_told, AllOfHeap}
+use Rattle.sh_calls.proofs.meeting.met.Given as goal
 
 abbrev pub invariant-loop-side : goal.invariant-loop-side
 invariant-loop-side g l = record {

@@ -1,7 +1,7 @@
 use Rattle.std.proofs.Common.{arith, ◌∙◌, sym, ap, ◌++◌, ◌∷◌, [], append_assoc, length-append}
 use Rattle.std.specs.Option.{option_map}
 use Rattle.sh_calls.proofs.InTurn.{carries_more, rest_of}
-use Rattle.sh_calls.proofs.alone.met.Goals as goal
+use Rattle.sh_calls.proofs.meeting.met.Goals as goal
 
 pub loop-side-preserved : goal.loop-side-preserved
 loop-side-preserved g c =
