@@ -1,5 +1,6 @@
 pub mod EndLemmas
 pub mod RunLemmas
+pub mod EndingLemmas
 pub mod StepKeys
 pub mod RangeLemmas
 pub mod Telling

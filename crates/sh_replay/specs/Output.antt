@@ -1,5 +1,5 @@
 -- What a run writes for a script.
-use Rattle.std.specs.Prelude.{◌≡◌, ℕ, Bool, true, false, List, Option, ◌⊎◌}
+use Rattle.std.specs.Prelude.{◌≡◌, ℕ, Bool, true, false, List, Option, ◌⊎◌, Result, Ok, Err}
 use Rattle.std.specs.Io.KnownBytes.{Appends, Keeps}
 use Rattle.sh_key.specs.Layout.{Layout}
 use Rattle.sh_shape.specs.Shape.{Numbers}
@@ -56,11 +56,13 @@ abbrev pub IsOutput : Mode → (accounts : Bool) → (text output : List ℕ) �
 IsOutput mode.Plain accounts text output = IsPlain text output
 IsOutput mode.Steps accounts text output = IsSteps accounts text output
 IsOutput mode.Heap accounts text output = IsHeap accounts text output
+IsOutput mode.Threads accounts text output = IsHeap accounts text output
 
 -- the same, of a run at whose end an owner could not leave
 abbrev pub IsWaiting : Mode → (text output : List ℕ) → Type 0
-IsWaiting mode.Heap text output = IsHeapWaiting text output
-IsWaiting _ text output = ⊥
+IsWaiting mode.Plain text output = ⊥
+IsWaiting mode.Steps text output = ⊥
+IsWaiting _ text output = IsHeapWaiting text output
 
 -- what came of a script, and whether an owner could not leave
 abbrev pub IsRunOf : Mode → (accounts : Bool) → (text output : List ℕ) → (is_waiting : Bool) → Type 0
@@ -119,3 +121,22 @@ IsFaultOf mode text f = IsScriptFault mode text f
 abbrev pub IsRunFault : Mode → Fault → Type 0
 IsRunFault mode fault.Waiting = MayWait mode
 IsRunFault mode f = IsEndFault f
+
+-- what was written where writing ends with a fault: the whole output, which is all replies of a run at whose end an owner
+-- could not leave, or a beginning of it, since a write failed
+abbrev pub EndsWriting : (output : List ℕ) → (is_waiting : Bool) → Fault → Option (List ℕ) → Option (List ℕ) → Type 0
+EndsWriting output is_waiting fault.Waiting old new = (is_waiting ≡ true) × Appends old new output
+EndsWriting output is_waiting fault.Io old new = WroteBeginning old new output
+EndsWriting output is_waiting _ old new = ⊥
+
+-- how the run of a text ends with a fault
+pub record Fails (mode : Mode) (accounts : Bool) (text : List ℕ) (f : Fault) (old new : Option (List ℕ)) : Type 0 where
+  pub may : IsFaultOf mode text f
+  pub answers : IsScriptOf mode text → IsRunFault mode f
+  pub stops : Stops mode accounts text f old new
+
+-- how the run of a text ends
+abbrev pub Replays : Mode → (accounts : Bool) → List ℕ → Result (Unit {0}) Fault → Option (List ℕ) → Option (List ℕ)
+    → Type 0
+Replays mode accounts text (Ok _) old new = WritesOutput mode accounts text old new
+Replays mode accounts text (Err f) old new = Fails mode accounts text f old new

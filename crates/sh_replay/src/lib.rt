@@ -15,16 +15,18 @@ mod mode;
 mod pages;
 mod plain;
 mod plain_output;
-mod replay;
+mod replaying;
 mod room;
 mod run;
 mod steps;
 mod steps_output;
 pub mod threads;
+mod threads_output;
 mod worker;
 
+pub use gate::{Gate, OpenGate};
 pub use mode::Mode;
-pub use replay::replay_alone;
+pub use replaying::{replay, replay_alone, replay_gated};
 
 #[cfg(test)]
 mod tests;

@@ -7,6 +7,8 @@ pub enum Mode {
     Plain,
     /// The running heap, each call whole, in the order of the lines. The script is one of calls.
     Heap,
+    /// The running heap, the calls of each pass in a thread of its own. The script is one of calls.
+    Threads,
     /// The core, step by step. The script is one of events.
     Steps,
 }

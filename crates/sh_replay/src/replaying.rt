@@ -1,0 +1,138 @@
+//! A whole run: read, parsed, run and written.
+ghost use Rattle.std.specs.Prelude.{◌≡◌, ◌≢◌, ℕ, List, IfOk, IfErr, OnOk, Some, take, false};
+ghost use Rattle.std.specs.Io.KnownBytes.{Appends};
+ghost use Rattle.sh_replay.specs.Ends.{IsEndFault, ReadsAtMostBytes};
+ghost use Rattle.sh_replay.specs.Output.{IsRunOf, IsScriptOf, IsFaultOf, EndsWriting, Replays};
+
+use crate::Mode;
+use crate::ends::{read_text, write_text};
+use crate::gate::{Gate, OpenGate};
+use crate::heap_lines::Ran;
+use crate::heap_output::heap_output;
+use crate::plain_output::plain_output;
+use crate::steps_output::steps_output;
+use crate::threads_output::threads_output;
+use sh_script::Fault;
+use std::alloc::Global;
+use std::io::{Read, Write};
+use std::sync::Wait;
+use std::thread::Threads;
+
+// What a script's run in one thread gives, and whether an owner could not leave at its end.
+fn output(alloc: Global, text: &[u8], mode: Mode, accounts: bool) -> Result<Ran, Fault>
+    requires { mode ≢ Mode.Threads }
+    ensures output { IfOk result (λ r. IsRunOf mode accounts text.now r.output.items r.is_waiting) }
+    ensures fault { IfErr result (IsFaultOf mode text.now) }
+    ensures answers { IsScriptOf mode text.now → IfErr result IsEndFault }
+{
+    let output = match mode {
+        Mode::Plain => plain_output(alloc, text)?,
+        Mode::Steps => steps_output(alloc, text, accounts)?,
+        Mode::Heap => return heap_output(alloc, text, accounts),
+        Mode::Threads => unreachable!(),
+    };
+    Ok(Ran {
+        output,
+        is_waiting: false,
+    })
+}
+
+// The same in any mode.
+fn output_gated<R: Threads + Wait + Sync, G: Gate + Sync>(
+    rt: &R,
+    alloc: Global,
+    text: &[u8],
+    mode: Mode,
+    accounts: bool,
+    gate: &G,
+) -> Result<Ran, Fault>
+    ensures output { IfOk result (λ r. IsRunOf mode accounts text.now r.output.items r.is_waiting) }
+    ensures fault { IfErr result (IsFaultOf mode text.now) }
+    ensures answers { IsScriptOf mode text.now → IfErr result IsEndFault }
+{
+    match mode {
+        Mode::Threads => threads_output(rt, alloc, text, accounts, gate),
+        _ => output(alloc, text, mode, accounts),
+    }
+}
+
+// Writes what a script's run gave. It is waiting that ends it then, where an owner could not leave.
+fn write_ran<W: Write>(writer: &mut W, ran: &Ran) -> Result<(), Fault>
+    ensures ok { OnOk result ((ran.now.is_waiting ≡ false)
+        × Appends (W.contents writer.old) (W.contents writer.new) ran.now.output.items) }
+    ensures fault { IfErr result (λ fault.
+        EndsWriting ran.now.output.items ran.now.is_waiting fault (W.contents writer.old) (W.contents writer.new)) }
+{
+    write_text(writer, ran.output.as_slice())?;
+    if ran.is_waiting {
+        return Err(Fault::Waiting);
+    }
+    Ok(())
+}
+
+/// Reads a script, runs it in one thread, in a mode other than threads, and writes its replies.
+///
+/// It reads until a read gives no byte, or 1,048,577 bytes, and parses the whole script before anything runs. A fault is
+/// the first fault of the script, or `Memory`, or `Io` where a read or a write failed, or, in mode heap, `Waiting` where
+/// an owner could not leave once all replies were written. The flag asks for accounts, which mode plain has none of.
+pub fn replay_alone<R: Read, W: Write>(
+    alloc: Global,
+    reader: &mut R,
+    writer: &mut W,
+    mode: Mode,
+    accounts: bool,
+) -> Result<(), Fault>
+    requires mode { mode ≢ Mode.Threads }
+
+    // Where the run ends well, what was read is a script, and the output of its run was written. Else it ends with a
+    // fault of the script, or, at a script too, with want of memory, a failed end, or an owner that could not leave.
+    ensures ends { (input : List ℕ) → R.remaining reader.old ≡ Some input → Replays mode accounts (take 1048577 input)
+        result (W.contents writer.old) (W.contents writer.new) }
+    ensures reads { ReadsAtMostBytes (R.remaining reader.old) (R.remaining reader.new) 1048577 }
+{
+    let text = read_text(alloc, reader)?;
+    let ran = output(alloc, text.as_slice(), mode, accounts)?;
+    write_ran(writer, &ran)
+}
+
+/// The same in any mode. In mode threads the lines of each pass run in a thread of their own, and a line that uses a name
+/// waits until it is bound; each worker passes the gate before and after each of its calls. It ends with `Io` too where
+/// a thread can't be started, with nothing written.
+///
+/// Nothing is promised of a gate that does not return, or of when a thread runs.
+pub fn replay_gated<R: Read, W: Write, T: Threads + Wait + Sync, G: Gate + Sync>(
+    rt: &T,
+    alloc: Global,
+    reader: &mut R,
+    writer: &mut W,
+    mode: Mode,
+    accounts: bool,
+    gate: &G,
+) -> Result<(), Fault>
+    ensures ends { (input : List ℕ) → R.remaining reader.old ≡ Some input → Replays mode accounts (take 1048577 input)
+        result (W.contents writer.old) (W.contents writer.new) }
+    ensures reads { ReadsAtMostBytes (R.remaining reader.old) (R.remaining reader.new) 1048577 }
+{
+    let text = read_text(alloc, reader)?;
+    let ran = output_gated(rt, alloc, text.as_slice(), mode, accounts, gate)?;
+    write_ran(writer, &ran)
+}
+
+/// The same with a gate that does nothing.
+pub fn replay<R: Read, W: Write, T: Threads + Wait + Sync>(
+    rt: &T,
+    alloc: Global,
+    reader: &mut R,
+    writer: &mut W,
+    mode: Mode,
+    accounts: bool,
+) -> Result<(), Fault>
+    ensures ends { (input : List ℕ) → R.remaining reader.old ≡ Some input → Replays mode accounts (take 1048577 input)
+        result (W.contents writer.old) (W.contents writer.new) }
+    ensures reads { ReadsAtMostBytes (R.remaining reader.old) (R.remaining reader.new) 1048577 }
+{
+    match mode {
+        Mode::Threads => replay_gated(rt, alloc, reader, writer, mode, accounts, &OpenGate),
+        _ => replay_alone(alloc, reader, writer, mode, accounts),
+    }
+}
