@@ -4,6 +4,7 @@ mod heap;
 mod sizes;
 mod step_ends;
 mod steps;
+mod workers;
 
 use crate::{Mode, replay_alone};
 use sh_script::{Cause, Fault};
