@@ -9,13 +9,14 @@ use Rattle.clap.specs.declared.error.kind.ErrorKind.{ErrorKind}
 use Rattle.clap.specs.declared.error.kind.ErrorKind.TheVariants.{OutOfMemory}
 use Rattle.clap.specs.declared.builder.value_parser.ValueParser.TheVariants.{Names}
 use Rattle.sh_replay.specs.declared.mode.Mode.{Mode}
-use Rattle.sh_replay.specs.declared.mode.Mode.TheVariants.{Plain, Heap, Steps}
+use Rattle.sh_replay.specs.declared.mode.Mode.TheVariants.{Plain, Heap, Steps, Threads}
 
 -- how a mode is written
 abbrev pub mode_name : Mode → Text
 mode_name Plain = codes "plain"
 mode_name Heap = codes "heap"
 mode_name Steps = codes "steps"
+mode_name Threads = codes "threads"
 
 -- the word names no mode
 abbrev pub IsNoMode : Text → Type 0
@@ -23,7 +24,7 @@ IsNoMode word = (mode : Mode) → word ≢ mode_name mode
 
 -- the modes, in the order of the help
 abbrev pub all_modes : List Mode
-all_modes = Plain ∷ Heap ∷ Steps ∷ []
+all_modes = Plain ∷ Heap ∷ Steps ∷ Threads ∷ []
 
 -- the words of the modes, wherever they stand
 abbrev pub NameModes : Bor (List (Bor Text)) → Type 0

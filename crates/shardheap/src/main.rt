@@ -18,6 +18,8 @@ use std::alloc::{AllocError, Global};
 use std::io;
 use std::io::{ErrorKind, Write};
 use std::process::ExitCode;
+use std::sync::Wait;
+use std::thread::Threads;
 
 /// What is wrong where the process's own words could not be had: they are no text, or memory ran out.
 fn refuse<E: Write>(error: &io::Error, errors: &mut E) -> u8
@@ -44,13 +46,14 @@ fn texts(alloc: Global, words: &[String]) -> Result<Vec<&str>, AllocError>
     Ok(texts)
 }
 
-fn start(rt: &HostRuntime) -> io::Result<u8>
+fn start<T: Threads + Wait + Sync>(rt: &HostRuntime, threads: &T) -> io::Result<u8>
     ensures { IfOk result IsStatus }
 {
     let alloc = rt.alloc();
     let words: Vec<String> = std::env::args(rt)?.collect(alloc)?;
     let words = texts(alloc, words.as_slice())?;
     Ok(program::run(
+        threads,
         alloc,
         words.as_slice(),
         &mut rt.stdin(),
@@ -60,7 +63,7 @@ fn start(rt: &HostRuntime) -> io::Result<u8>
 }
 
 fn main(rt: HostRuntime) -> ExitCode {
-    let status = match start(&rt) {
+    let status = match start(&rt, &rt) {
         Ok(status) => status,
         Err(error) => refuse(&error, &mut rt.stderr()),
     };

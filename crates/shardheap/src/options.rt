@@ -8,7 +8,7 @@ use sh_replay::Mode;
 use std::alloc::{AllocError, Global};
 
 /// The modes, in the order in which help lists them.
-const MODES: [Mode; 3] = [Mode::Plain, Mode::Heap, Mode::Steps];
+const MODES: [Mode; 4] = [Mode::Plain, Mode::Heap, Mode::Steps, Mode::Threads];
 
 /// How a mode is written.
 fn name(mode: Mode) -> &'static str
@@ -18,6 +18,7 @@ fn name(mode: Mode) -> &'static str
         Mode::Plain => "plain",
         Mode::Heap => "heap",
         Mode::Steps => "steps",
+        Mode::Threads => "threads",
     }
 }
 
@@ -30,6 +31,7 @@ fn mode_named(word: &str) -> Option<Mode>
         "plain" => Some(Mode::Plain),
         "heap" => Some(Mode::Heap),
         "steps" => Some(Mode::Steps),
+        "threads" => Some(Mode::Threads),
         _ => None,
     }
 }
@@ -69,7 +71,7 @@ pub fn options<'a>(alloc: Global, words: &'a [&'a str]) -> Result<(Mode, bool), 
     ensures ok { IfOk result (λ r. CommandSays (map (λ w. w.now) words.entry.now) r.0 r.1) }
     ensures err { IfErr result (λ e. IsRefused (map (λ w. w.now) words.entry.now) (kind_of e)) }
 {
-    let modes = [name(MODES[0]), name(MODES[1]), name(MODES[2])];
+    let modes = [name(MODES[0]), name(MODES[1]), name(MODES[2]), name(MODES[3])];
     let matches = command(alloc, modes.as_slice())?.try_get_matches_from(words)?;
     // A parse that succeeds has a word for the mode, since it is required, and the word is one of these.
     let word = matches.get_str("mode").unwrap_or("");

@@ -9,10 +9,12 @@ use crate::faults::{fault_line, status};
 use crate::options::options;
 use clap::Error;
 use clap::error::ErrorKind;
-use sh_replay::replay_alone;
+use sh_replay::replay;
 use sh_script::Fault;
 use std::alloc::Global;
 use std::io::{Read, Write};
+use std::sync::Wait;
+use std::thread::Threads;
 
 /// Names a fault on one line of `errors`, in one write where the line is taken whole, and gives the exit status. The
 /// status tells it also where `errors` takes nothing.
@@ -49,7 +51,8 @@ fn show<W: Write, E: Write>(error: &Error, output: &mut W, errors: &mut E) -> u8
 ///
 /// Nothing of `input` is read for help, for the version and for a mistake in the words, and never more than one byte
 /// more than a script may have.
-pub fn run<R: Read, W: Write, E: Write>(
+pub fn run<R: Read, W: Write, E: Write, T: Threads + Wait + Sync>(
+    rt: &T,
     alloc: Global,
     words: &[&str],
     input: &mut R,
@@ -68,7 +71,7 @@ pub fn run<R: Read, W: Write, E: Write>(
         Ok(chosen) => chosen,
         Err(error) => return show(&error, output, errors),
     };
-    match replay_alone(alloc, input, output, mode, accounts) {
+    match replay(rt, alloc, input, output, mode, accounts) {
         Ok(()) => 0,
         Err(fault) => report(fault, errors),
     }

@@ -71,6 +71,7 @@ fn options_are_taken(rt: HostRuntime) -> Result<(), Fail> {
     assert!(rt; options(alloc, &["shardheap", "--accounts", "plain"])? == (Mode::Plain, true));
     assert!(rt; options(alloc, &["shardheap", "heap"])? == (Mode::Heap, false));
     assert!(rt; options(alloc, &["shardheap", "heap", "--accounts"])? == (Mode::Heap, true));
+    assert!(rt; options(alloc, &["shardheap", "threads"])? == (Mode::Threads, false));
     assert!(rt; options(alloc, &["shardheap", "steps"])? == (Mode::Steps, false));
     assert!(rt; options(alloc, &["shardheap", "steps", "--accounts"])? == (Mode::Steps, true));
     Ok(())
@@ -109,16 +110,17 @@ fn options_are_refused(rt: HostRuntime) -> Result<(), Fail> {
 
 #[test]
 fn a_script_runs(rt: HostRuntime) -> Result<(), Fail> {
-    let table: [&[&str]; 3] = [
+    let table: [&[&str]; 4] = [
         &["shardheap", "plain"],
         &["shardheap", "plain", "--accounts"],
         &["shardheap", "heap"],
+        &["shardheap", "threads"],
     ];
     for words in table {
         let mut output = Vec::new(rt.alloc());
         let mut errors = Vec::new(rt.alloc());
         let mut input = SCRIPT.as_bytes();
-        let status = run(rt.alloc(), words, &mut input, &mut output, &mut errors);
+        let status = run(&rt, rt.alloc(), words, &mut input, &mut output, &mut errors);
         assert_eq!(rt; status, 0);
         assert!(rt; output.as_slice() == REPLIES.as_bytes());
         assert!(rt; errors.is_empty());
@@ -139,7 +141,7 @@ fn a_script_of_events_runs(rt: HostRuntime) -> Result<(), Fail> {
         let mut output = Vec::new(rt.alloc());
         let mut errors = Vec::new(rt.alloc());
         let mut input = script.as_bytes();
-        let status = run(rt.alloc(), words, &mut input, &mut output, &mut errors);
+        let status = run(&rt, rt.alloc(), words, &mut input, &mut output, &mut errors);
         assert_eq!(rt; status, 0);
         let text = format!(in rt.alloc(); "{lines}{accounts}")?;
         assert!(rt; output.as_slice() == text.as_bytes());
@@ -167,6 +169,7 @@ fn a_faulty_script_is_named(rt: HostRuntime) -> Result<(), Fail> {
         let mut errors = Vec::new(rt.alloc());
         let mut input = script.as_bytes();
         let status = run(
+            &rt,
             rt.alloc(),
             &["shardheap", "plain"],
             &mut input,
@@ -189,17 +192,24 @@ fn a_mistake_in_the_words_is_shown(rt: HostRuntime) -> Result<(), Fail> {
         ),
         (
             &["shardheap", "table"],
-            "error: invalid value 'table' for '<mode>'\n  [possible values: plain, heap, steps]\n\nFor more information, try '--help'.\n",
+            "error: invalid value 'table' for '<mode>'\n  [possible values: plain, heap, steps, threads]\n\nFor more information, try '--help'.\n",
         ),
         (
             &["shardheap", "plan"],
-            "error: invalid value 'plan' for '<mode>'\n  [possible values: plain, heap, steps]\n\n  tip: a similar value exists: 'plain'\n\nFor more information, try '--help'.\n",
+            "error: invalid value 'plan' for '<mode>'\n  [possible values: plain, heap, steps, threads]\n\n  tip: a similar value exists: 'plain'\n\nFor more information, try '--help'.\n",
         ),
     ];
     for (words, text) in table {
         let mut output = Vec::new(rt.alloc());
         let mut errors = Vec::new(rt.alloc());
-        let status = run(rt.alloc(), words, &mut Broken, &mut output, &mut errors);
+        let status = run(
+            &rt,
+            rt.alloc(),
+            words,
+            &mut Broken,
+            &mut output,
+            &mut errors,
+        );
         assert_eq!(rt; status, 2, "{text}");
         assert!(rt; output.is_empty(), "{text}");
         assert!(rt; errors.as_slice() == text.as_bytes(), "{text}");
@@ -223,7 +233,14 @@ fn help_and_the_version_are_output(rt: HostRuntime) -> Result<(), Fail> {
     let mut errors = Vec::new(rt.alloc());
     let words = ["shardheap", "--help"];
     assert_eq!(rt;
-        run(rt.alloc(), &words, &mut Broken, &mut output, &mut errors),
+        run(
+            &rt,
+            rt.alloc(),
+            &words,
+            &mut Broken,
+            &mut output,
+            &mut errors
+        ),
         0
     );
     assert!(rt; output.starts_with("Runs a script".as_bytes()));
@@ -231,7 +248,14 @@ fn help_and_the_version_are_output(rt: HostRuntime) -> Result<(), Fail> {
     let words = ["shardheap", "--version"];
     let mut output = Vec::new(rt.alloc());
     assert_eq!(rt;
-        run(rt.alloc(), &words, &mut Broken, &mut output, &mut errors),
+        run(
+            &rt,
+            rt.alloc(),
+            &words,
+            &mut Broken,
+            &mut output,
+            &mut errors
+        ),
         0
     );
     assert!(rt; output.as_slice() == "shardheap 0.1.0\n".as_bytes());
@@ -275,12 +299,20 @@ fn a_broken_device_is_named(rt: HostRuntime) -> Result<(), Fail> {
     let mut errors = Vec::new(rt.alloc());
     let words = ["shardheap", "plain"];
     assert_eq!(rt;
-        run(rt.alloc(), &words, &mut Broken, &mut output, &mut errors),
+        run(
+            &rt,
+            rt.alloc(),
+            &words,
+            &mut Broken,
+            &mut output,
+            &mut errors
+        ),
         3
     );
     assert!(rt; output.is_empty());
     assert_eq!(rt;
         run(
+            &rt,
             rt.alloc(),
             &words,
             &mut SCRIPT.as_bytes(),
@@ -291,6 +323,7 @@ fn a_broken_device_is_named(rt: HostRuntime) -> Result<(), Fail> {
     );
     assert_eq!(rt;
         run(
+            &rt,
             rt.alloc(),
             &["shardheap", "--help"],
             &mut Broken,
@@ -303,7 +336,14 @@ fn a_broken_device_is_named(rt: HostRuntime) -> Result<(), Fail> {
     let lines = format!(in rt.alloc(); "{line}{line}{line}")?;
     assert!(rt; errors.as_slice() == lines.as_bytes());
     assert_eq!(rt;
-        run(rt.alloc(), &words, &mut Broken, &mut output, &mut Broken),
+        run(
+            &rt,
+            rt.alloc(),
+            &words,
+            &mut Broken,
+            &mut output,
+            &mut Broken
+        ),
         3
     );
     Ok(())
