@@ -13,11 +13,11 @@ use Rattle.sh_step.specs.Collections.{total, if1}
 use Rattle.sh_step.specs.Plans.{Plan, Lawful, heap_pages, plan_of, keys_of, name_in}
 use Rattle.sh_core.specs.Lists.{times}
 use Rattle.sh_core.specs.Stacks.{spot}
-use Rattle.sh_core.proofs.LayoutLaws.{plan_lawful}
 use Rattle.sh_core.proofs.More.{spots_total}
 use Rattle.sh_core.proofs.StackSteps.{same_page}
 use Rattle.sh_core.proofs.Slots.{same_spot-true, same_spot-refl}
 use Rattle.sh_core.proofs.Totals.{total_append}
+use Rattle.sh_table.specs.Reached.{PlansAreLawful}
 use Rattle.sh_gather.specs.PageKeys.{keys_of_slot, keys_of_slots, page_keys, PageKeysAreAll}
 use Rattle.sh_gather.proofs.PageKeys.{up_to}
 use Rattle.sh_gather.proofs.PageNumbers.{keys_total}
@@ -133,10 +133,10 @@ module _ (plan : Plan) (laws : Lawful plan) (ranges : (k : ℕ) (n : Name) → p
         let inside : if1 ((n.page == q) && not (nat_lt n.slot 0) && nat_lt n.slot (0 + 48))
         ≡ 1 = grind (arith, nat_tests) in omega arith
 
-pub page_keys_once : PageKeysAreAll
-page_keys_once layout shape a b c q k page =
+pub page_keys_once : PlansAreLawful → PageKeysAreAll
+page_keys_once lawful layout shape a b c q k page =
     let plan : Plan = plan_of layout shape in
-    let laws : Lawful plan = plan_lawful layout shape a b c in
+    let laws : Lawful plan = lawful layout shape a b c in
     let ranges = last_generation layout shape.shards (8 * shape.segments) in (
       (λ n e here low. stands_once plan laws ranges q page k n e here low),
       λ some. in_slots plan laws ranges q page k 0

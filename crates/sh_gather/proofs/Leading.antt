@@ -15,12 +15,11 @@ use Rattle.sh_core.specs.Lists.{lists_of}
 use Rattle.sh_core.specs.Refines.{Always, Refines}
 use Rattle.sh_core.specs.Words.{read}
 use Rattle.sh_core.specs.Worlds.{World, run}
-use Rattle.sh_core.proofs.LayoutLaws.{plan_lawful}
 use Rattle.sh_table.specs.declared.view.Told.{Told}
 use Rattle.sh_table.specs.declared.view.View.{View}
 use Rattle.sh_table.specs.Views.{Each, names, names_told}
 use Rattle.sh_table.specs.Whole.{Known, noting}
-use Rattle.sh_table.specs.Reached.{HasOwn}
+use Rattle.sh_table.specs.Reached.{HasOwn, PlansAreLawful}
 use Rattle.sh_table.proofs.Zips.{each_map, got_inside}
 use Rattle.sh_gather.specs.PageKeys.{page_keys}
 use Rattle.sh_gather.specs.Histories.{LeadsHere, CanBe}
@@ -30,9 +29,9 @@ use Rattle.sh_gather.proofs.Histories.{same_live, same_marked, same_retired}
 use Rattle.sh_gather.proofs.PageKeys.{AllRest}
 use Rattle.sh_gather.proofs.PageNumbers.{IsPage, accounts_are, fills, live_count, marked_count, retired_count}
 
--- what the core's theorem says of every run
+-- what the core's theorem says of every run, and the laws of plans
 abbrev pub Core : Type 0
-Core = Always (λ plan w l. Refines plan w l)
+Core = Always (λ plan w l. Refines plan w l) × PlansAreLawful
 
 -- ---- noting one word more
 
@@ -63,7 +62,7 @@ pub leading : (layout : Layout) (v : View) → Core → Known layout v → CanBe
 leading layout v core k = (
   k.events,
   record { noted = k.noted; own = k.own; told = each_map _ _ (λ (t : Told) x. x.0) v.told k.told },
-  record { tale = k.tale; ours = (core layout v.shape k.is_layout k.is_shape k.fits k.events).entries },
+  record { tale = k.tale; ours = (core.0 layout v.shape k.is_layout k.is_shape k.fits k.events).entries },
 )
 
 abbrev IsIdle : Body → Type 0
@@ -88,10 +87,10 @@ module _ (layout : Layout) (v : View) (core : Core) (gathered : IsGathered v) (k
   plan = plan_of layout v.shape
 
   pub laws : Lawful plan
-  laws = plan_lawful layout v.shape known.is_layout known.is_shape known.fits
+  laws = core.1 layout v.shape known.is_layout known.is_shape known.fits
 
   pub refined : (es : List Event) → Refines plan (run plan es) (lists_of plan es)
-  refined es = core layout v.shape known.is_layout known.is_shape known.fits es
+  refined es = core.0 layout v.shape known.is_layout known.is_shape known.fits es
 
   idle_tale : Each (λ (t : Told). IsIdle t.own.body) v.told
   idle_tale = each_map _ _ (λ (t : Told) x. (x.1, x.2)) v.told known.told

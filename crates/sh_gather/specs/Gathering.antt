@@ -1,14 +1,14 @@
 -- Whole accounts.
-use Rattle.std.specs.Prelude.{◌≡◌, ℕ, ◌+◌, ◌≤◌, not, ◌&&◌, List, ◌++◌, length, drop, count_by, Option, None}
+use Rattle.std.specs.Prelude.{◌≡◌, ℕ, ◌+◌, ◌≤◌, List, ◌++◌, length, drop, count_by, Option, None}
 use Rattle.sh_word.specs.Fields.{Fields}
 use Rattle.sh_key.specs.Layout.{Layout}
 use Rattle.sh_shape.specs.declared.places.Place.{Place}
 use Rattle.sh_slots.specs.declared.hand.Hand.TheVariants.{Idle}
-use Rattle.sh_step.specs.Collections.{if1}
 use Rattle.sh_step.specs.Plans.{Plan, plan_of}
 use Rattle.sh_history.specs.declared.entry.Entry.{Entry}
 use Rattle.sh_core.specs.declared.accounts.Accounts.{Accounts}
 use Rattle.sh_core.specs.Lists.{PutLists, accounts, among, state_of}
+use Rattle.sh_core.specs.Refines.{live, marked, retired}
 use Rattle.sh_core.specs.Stacks.{top}
 use Rattle.sh_core.specs.Worlds.{World}
 use Rattle.sh_accounts.specs.Accounts.{FillPage}
@@ -58,17 +58,17 @@ pub record AreWholeAccounts (layout : Layout) (v : View) (q : ℕ) (a : Accounts
 
 -- how many of the first n slots of page q are live, marked, retired
 pub record CountedTo (q n : ℕ) (a : Accounts) (w : World) : Type 0 where
-  pub live : a.live ≡ among q (λ x. if1 ((state_of w x).present && not (state_of w x).marked)) n
-  pub marked : a.marked ≡ among q (λ x. if1 ((state_of w x).present && (state_of w x).marked)) n
-  pub retired : a.retired ≡ among q (λ x. if1 (not (state_of w x).present && (state_of w x).marked)) n
+  pub live : a.live ≡ among q (λ x. live (state_of w x)) n
+  pub marked : a.marked ≡ among q (λ x. marked (state_of w x)) n
+  pub retired : a.retired ≡ among q (λ x. retired (state_of w x)) n
 
 -- with one slot of this state more
 abbrev pub with_state : Accounts → Fields → Accounts
 with_state a st = record {
   class = a.class;
-  live = a.live + if1 (st.present && not st.marked);
-  marked = a.marked + if1 (st.present && st.marked);
-  retired = a.retired + if1 (not st.present && st.marked);
+  live = a.live + live st;
+  marked = a.marked + marked st;
+  retired = a.retired + retired st;
   mine = a.mine;
   hand = a.hand;
   queued = a.queued;

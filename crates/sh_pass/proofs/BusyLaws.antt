@@ -1,6 +1,6 @@
 -- Steps by hand: where a condition fails, and what a step leaves.
 use Rattle.std.proofs.Common.{◌≡◌, ◌≢◌, ℕ, ◌<◌, ◌≤◌, ◌==◌, Bool, true, false, List, length, Option, Some, None, refl}
-use Rattle.std.proofs.Common.{ap, ◌∙◌, sym, arith}
+use Rattle.std.proofs.Common.{ap, ◌∙◌, sym, subst, arith}
 use Rattle.std.proofs.lemmas.Bool.{false≢true}
 use Rattle.std.proofs.lemmas.Bool.Decides.{nat_tests}
 use Rattle.std.specs.Prelude.{cond}
@@ -17,19 +17,19 @@ use Rattle.sh_step.specs.declared.action.Action.TheVariants as action
 use Rattle.sh_step.specs.declared.action.SlotName.{SlotName}
 use Rattle.sh_step.specs.declared.body.Body.{Body}
 use Rattle.sh_step.specs.declared.moves.Move.{Move}
-use Rattle.sh_step.specs.Collections.{has, without}
+use Rattle.sh_step.specs.Collections.{has}
 use Rattle.sh_step.specs.Conditions.{Meets}
 use Rattle.sh_step.specs.Kinds.{kind_of_action}
 use Rattle.sh_step.specs.Moves.{place_named}
 use Rattle.sh_step.specs.Plans.{Plan, plan_of}
 use Rattle.sh_step.specs.Rows.{Row, row, hand}
 use Rattle.sh_step.proofs.ConditionLaws.{meets}
-use Rattle.sh_core.specs.Lists.{times}
 use Rattle.sh_table.specs.declared.view.View.{View}
 use Rattle.sh_table.specs.Seats.{Heap, Did}
 use Rattle.sh_table.specs.Steps.{MayDo, row_by}
 use Rattle.sh_table.specs.Views.{names}
 use Rattle.sh_pass.specs.Busy.{Acts, IsBusy, is_by_hand}
+use Rattle.sh_pass.specs.Passes.{HoldsKept}
 
 -- ---- where the condition fails
 
@@ -150,15 +150,13 @@ done {n = n} x m by may d = (by, (m, n, may, d.view, d.fits))
 pub busy_with : {layout : Layout} {heap : Heap} {n bits : ℕ} {t u : Seat (Unit {0}) View} {held : List ℕ} {h : Hand}
     (x : Action) (m : Move) (held' : List ℕ) (h' : Hand) (b : Body) → IsBusy layout heap t held bits h
     → Did layout heap x m n t u → (row_by layout t.me.0 m).part n ≡ b
-    → b.hand ≡ h' → b.owned ≡ None → length held' ≡ length b.holds → ((k : ℕ) → times k held' ≡ times k b.holds)
-    → IsBusy layout heap u held' bits h'
-busy_with {t = t} {u = u} x m held' h' b p d is begun left count holds =
+    → b.hand ≡ h' → b.owned ≡ None → HoldsKept held' b.holds → IsBusy layout heap u held' bits h'
+busy_with {t = t} {u = u} x m held' h' b p d is begun left kept =
     let body : u.me.0.own.body ≡ b = ap (λ (v : View). v.own.body) d.view ∙ is in record {
       seat = d.seat;
       hand = ap (λ (q : Body). q.hand) body ∙ begun;
       left = ap (λ (q : Body). q.owned) body ∙ left;
-      count = count ∙ sym (ap (λ (q : Body). length q.holds) body);
-      holds = λ k. holds k ∙ sym (ap (λ (q : Body). times k q.holds) body);
+      kept = subst (λ (q : Body). HoldsKept held' q.holds) (sym body) kept;
       tally = λ k. p.tally k ∙ sym (ap (λ (v : View). cond (names v k) 1 0) d.view);
     }
 
@@ -167,7 +165,7 @@ pub busy_still : {layout : Layout} {heap : Heap} {n bits : ℕ} {t u : Seat (Uni
     (x : Action) (m : Move) (h' : Hand) → IsBusy layout heap t held bits h → Did layout heap x m n t u
     → (row_by layout t.me.0 m).part n ≡ hand t.me.0.own.body h' → IsBusy layout heap u held bits h'
 busy_still {t = t} {held = held} x m h' p d is = busy_with x m held h' (hand t.me.0.own.body h') p d is refl p.left
-    p.count p.holds
+    p.kept
 
 -- ---- keys, as the code finds them out
 

@@ -1,6 +1,6 @@
 -- What a call leaves of what an owner knows.
-use Rattle.std.proofs.Common.{◌≡◌, ◌≢◌, ℕ, zero, suc, ◌+◌, ◌*◌, ◌/◌, ◌%◌, ◌<◌, ◌==◌, ◌&&◌, ◌||◌, Bool, true, false}
-use Rattle.std.proofs.Common.{cond, Option, Some, None, List, [], ◌∷◌, ◌++◌, refl, ap, ◌∙◌, sym, subst, arith, mod-lt}
+use Rattle.std.proofs.Common.{◌≡◌, ℕ, zero, suc, ◌+◌, ◌*◌, ◌/◌, ◌%◌, ◌<◌, ◌==◌, ◌&&◌, ◌||◌, Bool, true, false}
+use Rattle.std.proofs.Common.{cond, Option, Some, None, List, ◌∷◌, refl, ap, ◌∙◌, sym, subst, arith, mod-lt}
 use Rattle.std.proofs.lemmas.Bool.{false≢true}
 use Rattle.sh_history.specs.declared.log.LogEntry.{LogEntry}
 use Rattle.sh_key.specs.Layout.{Layout}
@@ -17,14 +17,13 @@ use Rattle.sh_step.specs.Collections.{has, noted, without}
 use Rattle.sh_step.specs.Footsteps.{takes_page, takes_bell, meets_page, meets_bell, arms_page, at_head, at_bell}
 use Rattle.sh_step.specs.Footsteps.{at_link, at_belled, did_find}
 use Rattle.sh_step.specs.Kinds.{kind_of_action}
-use Rattle.sh_step.specs.Plans.{Plan, plan_of, home, local, heap_pages}
+use Rattle.sh_step.specs.Plans.{Plan, plan_of, home, local}
 use Rattle.sh_step.proofs.ConditionLaws.{owns_is}
-use Rattle.sh_table.specs.declared.view.View.{View}
 use Rattle.sh_table.specs.Tales.{OwnerStands, ViewStands}
-use Rattle.sh_pass.specs.Growing.{Grows, SameTale, SameOwn, CallsAlone, IsOfShard, is_of_call, came, with_slot}
+use Rattle.sh_pass.specs.Growing.{Grows, SameTale, SameOwn, CallsAlone, IsOfShard, is_of_call, with_slot}
 use Rattle.sh_pass.specs.Passes.{Caller}
-use Rattle.sh_pass.specs.Owners.{CallLeaves, SlotCame, MayTouch, OnPage, SamePages, SameBells, SeenPage, own_body}
-use Rattle.sh_pass.specs.Owners.{seen_page, seen_bell, heap_page, page_with}
+use Rattle.sh_pass.specs.Owners.{CallLeaves, SlotCame, SameBells, SeenPage, own_body}
+use Rattle.sh_pass.specs.Owners.{seen_page, page_with}
 use Rattle.sh_pass.proofs.OwnNotes.{self, one_more, one_more_else}
 
 -- ---- no step of a call takes from a page or from a bell, follows or arms

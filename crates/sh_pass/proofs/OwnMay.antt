@@ -1,16 +1,14 @@
 -- Where an owner may step: the conditions of its actions, by what it knows of its pages.
-use Rattle.std.proofs.Common.{◌≡◌, ℕ, zero, suc, ◌+◌, ◌-◌, ◌*◌, ◌<◌, ◌≤◌, ◌==◌, ◌&&◌, ◌⊎◌, inl, inr, Bool, true, false}
-use Rattle.std.proofs.Common.{Some, None, length, List, [], ◌∷◌, refl, ap, ◌∙◌, sym, subst, arith}
+use Rattle.std.proofs.Common.{◌≡◌, ℕ, zero, suc, ◌+◌, ◌-◌, ◌*◌, ◌<◌, ◌≤◌, ◌==◌, ◌&&◌, inl, inr, Bool, true, false}
+use Rattle.std.proofs.Common.{Some, None, length, List, [], refl, ap, ◌∙◌, sym, subst, arith}
 use Rattle.std.proofs.lemmas.Nat.{div-mul-add}
 use Rattle.sh_key.specs.Layout.{Layout}
-use Rattle.sh_shape.specs.Places.{pages_of}
 use Rattle.sh_shape.specs.Classes.{width, slots}
 use Rattle.sh_slots.specs.declared.hand.Hand.TheVariants.{Idle, Filling, Tying}
 use Rattle.sh_slots.specs.declared.hand.Spot.{Spot}
 use Rattle.sh_slots.specs.Slots.{same_spot, spots}
 use Rattle.sh_step.specs.declared.action.Action.TheVariants as action
 use Rattle.sh_step.specs.declared.action.PageName.{PageName}
-use Rattle.sh_step.specs.declared.body.Body.{Body}
 use Rattle.sh_step.specs.declared.moves.Move.TheVariants as move
 use Rattle.sh_step.specs.Collections.{has, noted, every}
 use Rattle.sh_step.specs.Conditions.{HasPage, Owns, Meets}

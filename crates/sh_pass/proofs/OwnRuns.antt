@@ -1,5 +1,5 @@
 -- Steps of an owner one after the other, and the key under which it stores a value.
-use Rattle.std.proofs.Common.{◌≡◌, ℕ, ◌+◌, ◌<◌, ◌&&◌, ◌==◌, true, cond, Option, Some, None, List, ◌++◌, append_assoc}
+use Rattle.std.proofs.Common.{◌≡◌, ℕ, ◌+◌, ◌&&◌, true, cond, Option, Some, None, List, ◌++◌, append_assoc}
 use Rattle.std.proofs.Common.{refl, ap, ◌∙◌, sym, subst, arith}
 use Rattle.std.specs.Prelude.{nat_lt}
 use Rattle.sh_history.specs.declared.log.LogEntry.{LogEntry}
@@ -17,7 +17,6 @@ use Rattle.sh_step.specs.declared.moves.Move.TheVariants as move
 use Rattle.sh_step.specs.Moves.{place_named}
 use Rattle.sh_step.specs.Plans.{Plan, plan_of, heap_pages}
 use Rattle.sh_step.proofs.Truths.{lt_true}
-use Rattle.sh_pass.specs.Growing.{SameTale}
 use Rattle.sh_pass.specs.Passes.{Caller}
 use Rattle.sh_pass.specs.Owners.{MayTouch, OwnerDid, OwnerActs, Aside, OnPage, SamePages, SeenPage, IsKeyIn, heap_page}
 use Rattle.sh_pass.specs.Owners.{heap_spot}

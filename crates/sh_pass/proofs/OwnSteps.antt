@@ -1,10 +1,10 @@
 -- What each step of an owner leaves of what it knows of its pages and of its bell.
 use Rattle.std.proofs.Common.{◌≡◌, ◌≢◌, ℕ, zero, suc, ◌+◌, ◌-◌, ◌*◌, ◌≤◌, append-nil, ◌==◌, ◌&&◌, ◌||◌, Bool, true}
-use Rattle.std.proofs.Common.{false, cond, Option, Some, None, List, [], ◌∷◌, ◌++◌, length, refl, ap, ◌∙◌, sym, subst}
+use Rattle.std.proofs.Common.{false, cond, Option, Some, None, List, [], ◌∷◌, ◌++◌, length, refl, ap, ◌∙◌, sym}
 use Rattle.std.proofs.Common.{arith}
 use Rattle.std.proofs.lemmas.List.{length-append}
 use Rattle.std.proofs.lemmas.Bool.Decides.{nat_tests}
-use Rattle.std.specs.Prelude.{nat_lt, not, count_by}
+use Rattle.std.specs.Prelude.{nat_lt, count_by}
 use Rattle.sh_bell.specs.Bell.{is_armed, top_of}
 use Rattle.sh_history.specs.declared.entry.Entry.TheVariants as entry
 use Rattle.sh_history.specs.declared.log.LogEntry.{LogEntry}
@@ -19,7 +19,6 @@ use Rattle.sh_stack.specs.Stack.{link_item, link_over, top_item}
 use Rattle.sh_step.specs.declared.action.Action.{Action}
 use Rattle.sh_step.specs.declared.action.Action.TheVariants as action
 use Rattle.sh_step.specs.declared.action.PageName.{PageName}
-use Rattle.sh_step.specs.declared.action.SlotName.{SlotName}
 use Rattle.sh_step.specs.declared.body.Body.{Body}
 use Rattle.sh_step.specs.declared.footstep.Footstep.{Footstep}
 use Rattle.sh_step.specs.declared.moves.Move.{Move}
@@ -37,7 +36,7 @@ use Rattle.sh_table.specs.Views.{filled_by, key_read, logged_of}
 use Rattle.sh_pass.specs.Growing.{SameTale}
 use Rattle.sh_pass.specs.Passes.{Caller}
 use Rattle.sh_pass.specs.Owners.{OwnerDid, OwnerActs, OnPage, SamePages, SameBells, NonePut, NoneArmed, OwnerTries}
-use Rattle.sh_pass.specs.Owners.{OwnerAdopts, Adopted, Left, SeenPage, own_body, seen_page, seen_bell, heap_page}
+use Rattle.sh_pass.specs.Owners.{OwnerAdopts, Left, SeenPage, own_body, seen_page, seen_bell, heap_page}
 use Rattle.sh_pass.specs.Owners.{heap_spot, slot_in, published, page_taken, page_armed, page_followed, page_without}
 use Rattle.sh_pass.specs.Owners.{page_given, page_noted, page_rung, bell_taken, bell_followed, page_on_bell}
 use Rattle.sh_pass.proofs.OwnNotes.{self, unlike, noted_point, noted_point_else, noted_unpoint_else, disarmed}

@@ -1,5 +1,5 @@
 -- Passes that step by hand: one event a call.
-use Rattle.std.specs.Prelude.{◌≡◌, ◌≢◌, ℕ, Bool, true, false, List, length, Some, None, Result, Ok, Err}
+use Rattle.std.specs.Prelude.{◌≡◌, ◌≢◌, ℕ, Bool, true, false, List, Some, None, Result, Ok, Err}
 use Rattle.atomic_table.specs.declared.shared.Seat.{Seat}
 use Rattle.sh_key.specs.Layout.{Layout}
 use Rattle.sh_slots.specs.declared.hand.Hand.{Hand}
@@ -13,23 +13,16 @@ use Rattle.sh_step.specs.Operations.{answer}
 use Rattle.sh_step.specs.Kinds.{kind_of_action}
 use Rattle.sh_step.specs.Plans.{plan_of}
 use Rattle.sh_step.specs.Rows.{row}
-use Rattle.sh_core.specs.Lists.{times}
 use Rattle.sh_table.specs.declared.view.View.{View}
 use Rattle.sh_table.specs.Seats.{Heap, IsSeat}
 use Rattle.sh_table.specs.Steps.{MayDo, did, row_by}
-use Rattle.sh_pass.specs.Passes.{Caller, IsTally}
+use Rattle.sh_pass.specs.Growing.{is_of_call}
+use Rattle.sh_pass.specs.Passes.{Caller, HoldsKept, IsTally}
 
--- the kinds of step that a pass does by hand
+-- the kinds of step that a pass does by hand: all that its calls are made of, but reads
 abbrev pub is_by_hand : ActionKind → Bool
-is_by_hand kind.Enter = true
-is_by_hand kind.Mark = true
-is_by_hand kind.Drop = true
-is_by_hand kind.Finish = true
-is_by_hand kind.Put = true
-is_by_hand kind.Tie = true
-is_by_hand kind.Ring = true
-is_by_hand kind.RingTie = true
-is_by_hand _ = false
+is_by_hand kind.Read = false
+is_by_hand x = is_of_call x
 
 -- The call answers whether the action is of such a kind and its condition holds. Then it was that one event, for the
 -- word that it found, and its row meets that word where it answers it; and else nothing
@@ -52,6 +45,5 @@ pub record IsBusy (layout : Layout) (heap : Heap) (t : Seat (Unit {0}) View) (he
   pub seat : IsSeat layout heap t
   pub hand : t.me.0.own.body.hand ≡ begun
   pub left : t.me.0.own.body.owned ≡ None
-  pub count : length held ≡ length t.me.0.own.body.holds
-  pub holds : (k : ℕ) → times k held ≡ times k t.me.0.own.body.holds
+  pub kept : HoldsKept held t.me.0.own.body.holds
   pub tally : IsTally bits t.me.0

@@ -1,12 +1,12 @@
 -- Owners: what a contract sees of a pass that may own a shard, and what each of its steps does.
-use Rattle.std.specs.Prelude.{◌≡◌, ◌≢◌, ℕ, zero, suc, ◌+◌, ◌-◌, ◌*◌, ◌<◌, ◌==◌, ◌⊎◌, nat_lt, Bool, true, false, cond}
+use Rattle.std.specs.Prelude.{◌≡◌, ◌≢◌, ℕ, zero, suc, ◌+◌, ◌-◌, ◌<◌, ◌==◌, ◌⊎◌, nat_lt, Bool, true, false, cond}
 use Rattle.std.specs.Prelude.{not, ◌&&◌, ◌||◌, List, ◌++◌, length, Option, Some, None}
 use Rattle.atomic_table.specs.declared.shared.Seat.{Seat}
 use Rattle.sh_bell.specs.Bell.{is_armed, top_of}
 use Rattle.sh_history.specs.declared.log.LogEntry.{LogEntry}
 use Rattle.sh_key.specs.Layout.{Layout}
 use Rattle.sh_shape.specs.Classes.{slots}
-use Rattle.sh_shape.specs.Places.{pages_of}
+use Rattle.sh_shape.specs.Places.{pages_of, page_number}
 use Rattle.sh_slots.specs.declared.hand.Hand.{Hand}
 use Rattle.sh_slots.specs.declared.hand.Hand.TheVariants.{Idle}
 use Rattle.sh_slots.specs.declared.hand.Name.{Name}
@@ -24,13 +24,12 @@ use Rattle.sh_step.specs.Footsteps.{takes, met, bell_takes, bell_met, owner_met,
 use Rattle.sh_step.specs.Moves.{place_named}
 use Rattle.sh_step.specs.Operations.{answer}
 use Rattle.sh_step.specs.Plans.{plan_of, home}
-use Rattle.sh_core.specs.Lists.{times}
 use Rattle.sh_table.specs.declared.view.View.{View}
 use Rattle.sh_table.specs.Seats.{Heap, IsSeat}
 use Rattle.sh_table.specs.Steps.{WordSays, row_by, did}
 use Rattle.sh_table.specs.Tales.{ViewStands}
 use Rattle.sh_pass.specs.Growing.{SameTale}
-use Rattle.sh_pass.specs.Passes.{Caller, IsTally}
+use Rattle.sh_pass.specs.Passes.{Caller, HoldsKept, IsTally}
 
 -- what the pass knows of its own
 abbrev pub own_body : Caller → Body
@@ -38,7 +37,7 @@ own_body v = v.view.own.body
 
 -- the number of the page over the whole heap
 abbrev pub heap_page : Caller → PageName → ℕ
-heap_page v x = x.shard * pages_of v.view.shape + x.page
+heap_page v x = page_number v.view.shape x.shard x.page
 
 -- slot s of the page
 abbrev pub heap_spot : Caller → PageName → ℕ → Spot
@@ -52,11 +51,6 @@ pub record MayTouch (v : Caller) (x : PageName) : Type 0 where
   pub idle : (own_body v).hand ≡ Idle
   pub owned : (own_body v).owned ≡ Some x.shard
   pub page : x.page < pages_of v.view.shape
-
--- these are the holds, in some order
-pub record HoldsKept (held hs : List ℕ) : Type 0 where
-  pub count : length held ≡ length hs
-  pub holds : (k : ℕ) → times k held ≡ times k hs
 
 -- a seat, and what is kept of it: its holds, the bits of its tale, and its shard
 pub record IsOwner (layout : Layout) (heap : Heap) (t : Seat (Unit {0}) View) (held : List ℕ) (bits : ℕ)

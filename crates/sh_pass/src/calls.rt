@@ -2,8 +2,8 @@
 ghost use Rattle.std.specs.Prelude.{◌≡◌, ◌==◌, None, position};
 ghost use Rattle.sh_slots.specs.declared.hand.Hand.TheVariants.{Idle};
 ghost use Rattle.sh_table.specs.Seats.{IsSeat};
-ghost use Rattle.sh_pass.specs.Passes.{GetDoes, ReadDoes, RemoveDoes, ReleaseDoes, caller_of};
-ghost use Rattle.sh_pass.specs.Owners.{HoldsKept, CallLeaves};
+ghost use Rattle.sh_pass.specs.Passes.{GetDoes, ReadDoes, RemoveDoes, ReleaseDoes, HoldsKept, caller_of};
+ghost use Rattle.sh_pass.specs.Owners.{CallLeaves};
 
 use crate::entering::{get_at, release_at, remove_at};
 use crate::reading::read_at;

@@ -12,9 +12,10 @@ use Rattle.sh_history.specs.History.{released_count_by}
 use Rattle.sh_history.specs.Log.{Agrees, pass_of, is_logged_got_by, is_logged_release_by, logged_holds_by}
 use Rattle.sh_history.specs.Log.{is_logged_got_from, is_logged_release_from, logged_hold_count}
 use Rattle.sh_history.proofs.LogLaws.{count_by-cons}
-use Rattle.sh_step.specs.Collections.{total, if1, has, without}
+use Rattle.sh_step.specs.Collections.{if1, has, without}
 use Rattle.sh_core.specs.Lists.{times}
 use Rattle.sh_core.proofs.BellKinds.{some_has, times_off}
+use Rattle.sh_core.proofs.StackSteps.{times_cons, times_none}
 use Rattle.sh_core.proofs.Totals.{total_append}
 use Rattle.sh_table.specs.Tales.{by}
 
@@ -95,11 +96,10 @@ holds_told a k held log es agrees counts =
 
 -- ---- and so many there are in all
 
--- lists that have each number equally often are equally long
-shorter : (k : ℕ) (xs : List ℕ) → has (λ x. x == k) xs ≡ true → length (without (λ x. x == k) xs) + 1 ≡ length xs
+pub one_shorter : (k : ℕ) (xs : List ℕ) → has (λ x. x == k) xs ≡ true → length (without (λ x. x == k) xs) + 1 ≡ length xs
 unfolding has without
-shorter k [] h = cc
-shorter k (x ∷ xs) h = go (x == k) (λ e. shorter k xs e) h
+one_shorter k [] h = cc
+one_shorter k (x ∷ xs) h = go (x == k) (λ e. one_shorter k xs e) h
   where
     go : (b : Bool) → (has (λ x. x == k) xs ≡ true → length (without (λ x. x == k) xs) + 1 ≡ length xs)
         → (b || has (λ x. x == k) xs) ≡ true
@@ -107,20 +107,13 @@ shorter k (x ∷ xs) h = go (x == k) (λ e. shorter k xs e) h
     go true rest h = omega arith
     go false rest h = let e = rest h in omega (arith, e)
 
-times_cons : (k x : ℕ) (xs : List ℕ) → times k (x ∷ xs) ≡ if1 (x == k) + times k xs
-unfolding total
-times_cons k x xs = refl
-
-times_none : (k : ℕ) → times k [] ≡ 0
-unfolding total
-times_none k = refl
-
 one : (x : ℕ) → if1 (x == x) ≡ 1
 one x = ap if1 (eq-eqb x x refl)
 
 cancels : (b m n l : ℕ) → b + m ≡ n → l + b ≡ n → m ≡ l
 cancels b m n l e f = omega (arith, e, f)
 
+-- lists that have each number equally often are equally long
 same_length : (xs ys : List ℕ) → ((k : ℕ) → times k xs ≡ times k ys) → length xs ≡ length ys
 same_length [] [] h = refl
 same_length [] (y ∷ ys) h = let n = h y in let z = times_none y in let c = times_cons y y ys in let o = one y
@@ -130,7 +123,7 @@ same_length (x ∷ xs) ys h =
     let rest : length xs ≡ length (without (λ y. y == x) ys) =
     same_length xs (without (λ y. y == x) ys) (λ k. cancels (if1 (x == k)) (times k xs) (times k ys)
     (times k (without (λ y. y == x) ys)) (sym (times_cons k x xs) ∙ h k) (times_off x k ys here)) in
-    let more = shorter x ys (some_has x ys here) in
+    let more = one_shorter x ys (some_has x ys here) in
     omega (arith, rest, more)
 
 -- the keys that a pass got, and those that it released

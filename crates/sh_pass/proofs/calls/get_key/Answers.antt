@@ -1,9 +1,8 @@
-use Rattle.std.proofs.Common.{◌≡◌, ◌∷◌, ◌++◌, [], ℕ, List, refl, ap, sym, subst}
+use Rattle.std.proofs.Common.{ℕ, List, refl, ap, sym, subst}
 use Rattle.sh_step.specs.declared.body.Body.{Body}
 use Rattle.sh_slots.specs.declared.enter.GetAnswer.{GetAnswer}
 use Rattle.sh_pass.specs.Growing.{GetGrows}
-use Rattle.sh_pass.specs.Passes.{caller_of}
-use Rattle.sh_pass.specs.Owners.{HoldsKept}
+use Rattle.sh_pass.specs.Passes.{HoldsKept, caller_of}
 use Rattle.sh_pass.proofs.HeldLaws.{kept_more}
 use Rattle.sh_pass.proofs.OwnCalls.{leaves_grown}
 use Rattle.sh_pass.proofs.calls.get_key.Goals as goal

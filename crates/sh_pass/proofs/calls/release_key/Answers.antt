@@ -1,8 +1,6 @@
-use Rattle.std.proofs.Common.{◌≡◌, ◌==◌, ◌∙◌, ℕ, List, refl, ap, sym, subst}
-use Rattle.sh_step.specs.Collections.{without}
+use Rattle.std.proofs.Common.{◌≡◌, ◌∙◌, ℕ, List, refl, ap, sym, subst}
 use Rattle.sh_step.specs.declared.body.Body.{Body}
-use Rattle.sh_pass.specs.Passes.{caller_of, heap_of}
-use Rattle.sh_pass.specs.Owners.{HoldsKept}
+use Rattle.sh_pass.specs.Passes.{HoldsKept, caller_of, heap_of}
 use Rattle.sh_pass.proofs.HeldLaws.{hold_found, no_hold, held_named, kept_less, adds_of, same_home}
 use Rattle.sh_pass.proofs.OwnCalls.{leaves_grown}
 use Rattle.sh_pass.proofs.calls.release_key.Goals as goal

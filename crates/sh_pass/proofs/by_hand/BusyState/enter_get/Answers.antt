@@ -11,7 +11,7 @@ use Rattle.sh_pass.specs.Busy.{IsBusy}
 use Rattle.sh_pass.specs.Growing.{got}
 use Rattle.sh_pass.proofs.MayLaws.{may_enter_get}
 use Rattle.sh_pass.proofs.PartLaws.{answered, entered_got, entered_crowded}
-use Rattle.sh_pass.proofs.HeldLaws.{one_more, one_longer}
+use Rattle.sh_pass.proofs.HeldLaws.{kept_more}
 use Rattle.sh_pass.proofs.BusyLaws.{not_idle_to_get, holds_full, few_left, refused_row, named_here, done, busy_with}
 use Rattle.sh_pass.proofs.BusyLaws.{busy_still}
 use Rattle.sh_pass.proofs.by_hand.BusyState.enter_get.Goals as goal
@@ -25,7 +25,7 @@ returns-in_default g c = record {
 
 pub returns-then-is_full-clause-acts : goal.returns-then-is_full-clause-acts
 returns-then-is_full-clause-acts g c = holds_full g.L.KeyLayout.layout c.args.self.now.seat.me.0 c.args.key
-    c.args.self.now.held.items c.is_full.result c.requires.count c.is_full.ensures.value c.if-is_full.true
+    c.args.self.now.held.items c.is_full.result c.requires.kept.count c.is_full.ensures.value c.if-is_full.true
 
 pub returns-in_default-place_of_key-clause-acts : goal.returns-in_default-place_of_key-clause-acts
 returns-in_default-place_of_key-clause-acts g c = refused_row g.L.KeyLayout.layout c.args.self.now.seat.me.0
@@ -40,7 +40,7 @@ enter_get-found-requires g c = record {
       c.args.key c.in-Some.name (named_here g.L.KeyLayout.layout c.shape.result.now c.args.self.now.seat.me.0.shape
       c.args.key _ (Some c.in-Some.name) (c.shape.ensures ∙ sym c.requires.seat.shape) c.place_of_key.ensures
       c.in-Some.is) (c.requires.hand ∙ c.in-Idle.is) (few_left c.args.self.now.held.items
-      c.args.self.now.seat.me.0.own.body.holds c.is_full.result c.requires.count c.requires.seat.stands.part.few_holds
+      c.args.self.now.seat.me.0.own.body.holds c.is_full.result c.requires.kept.count c.requires.seat.stands.part.few_holds
       c.is_full.ensures.value c.if-is_full.false);
 }
 
@@ -57,8 +57,7 @@ returns-in-Got-clause-busy g c =
     subst P (sym c.push.ensures.items) (busy_with (action.EnterGet c.args.key) (move.EnterGet c.args.key c.in-Some.name)
     (held ++ c.args.key ∷ []) c.args.self.now.hand (got body c.args.key) c.requires c.enter_get-found.ensures left.0
     c.requires.hand c.requires.left
-    (one_longer c.args.key held body.holds c.requires.count)
-    (λ k. one_more k c.args.key held body.holds (c.requires.holds k)))
+    (kept_more c.args.key held body.holds _ c.requires.kept refl))
 
 pub returns-in-Got-clause-acts : goal.returns-in-Got-clause-acts
 returns-in-Got-clause-acts g c = done (action.EnterGet c.args.key) (move.EnterGet c.args.key c.in-Some.name) refl
@@ -66,7 +65,7 @@ returns-in-Got-clause-acts g c = done (action.EnterGet c.args.key) (move.EnterGe
     (named_here g.L.KeyLayout.layout c.shape.result.now c.args.self.now.seat.me.0.shape c.args.key _
     (Some c.in-Some.name) (c.shape.ensures ∙ sym c.requires.seat.shape) c.place_of_key.ensures c.in-Some.is)
     (c.requires.hand ∙ c.in-Idle.is) (few_left c.args.self.now.held.items c.args.self.now.seat.me.0.own.body.holds
-    c.is_full.result c.requires.count c.requires.seat.stands.part.few_holds c.is_full.ensures.value c.if-is_full.false))
+    c.is_full.result c.requires.kept.count c.requires.seat.stands.part.few_holds c.is_full.ensures.value c.if-is_full.false))
     c.enter_get-found.ensures
 
 pub returns-in-Crowded-clause-busy : goal.returns-in-Crowded-clause-busy
@@ -85,7 +84,7 @@ returns-in-Crowded-clause-acts g c = done (action.EnterGet c.args.key) (move.Ent
     (named_here g.L.KeyLayout.layout c.shape.result.now c.args.self.now.seat.me.0.shape c.args.key _
     (Some c.in-Some.name) (c.shape.ensures ∙ sym c.requires.seat.shape) c.place_of_key.ensures c.in-Some.is)
     (c.requires.hand ∙ c.in-Idle.is) (few_left c.args.self.now.held.items c.args.self.now.seat.me.0.own.body.holds
-    c.is_full.result c.requires.count c.requires.seat.stands.part.few_holds c.is_full.ensures.value c.if-is_full.false))
+    c.is_full.result c.requires.kept.count c.requires.seat.stands.part.few_holds c.is_full.ensures.value c.if-is_full.false))
     c.enter_get-found.ensures
 
 pub returns-in-Gone-clause-acts : goal.returns-in-Gone-clause-acts
@@ -94,5 +93,5 @@ returns-in-Gone-clause-acts g c = done (action.EnterGet c.args.key) (move.EnterG
     (named_here g.L.KeyLayout.layout c.shape.result.now c.args.self.now.seat.me.0.shape c.args.key _
     (Some c.in-Some.name) (c.shape.ensures ∙ sym c.requires.seat.shape) c.place_of_key.ensures c.in-Some.is)
     (c.requires.hand ∙ c.in-Idle.is) (few_left c.args.self.now.held.items c.args.self.now.seat.me.0.own.body.holds
-    c.is_full.result c.requires.count c.requires.seat.stands.part.few_holds c.is_full.ensures.value c.if-is_full.false))
+    c.is_full.result c.requires.kept.count c.requires.seat.stands.part.few_holds c.is_full.ensures.value c.if-is_full.false))
     c.enter_get-found.ensures

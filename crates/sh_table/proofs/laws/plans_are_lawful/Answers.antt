@@ -1,0 +1,5 @@
+use Rattle.sh_core.proofs.LayoutLaws.{plan_lawful}
+use Rattle.sh_table.proofs.laws.plans_are_lawful.Goals as goal
+
+pub returns : goal.returns
+returns c = plan_lawful
