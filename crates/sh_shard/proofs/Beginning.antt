@@ -1,5 +1,5 @@
 -- Reading the class words of a shard that was adopted.
-use Rattle.std.proofs.Common.{◌≡◌, ◌≢◌, ℕ, zero, suc, ◌+◌, ◌<◌, ◌≤◌, ⊎_elim, false, Option, Some, None, List, [], ◌∷◌}
+use Rattle.std.proofs.Common.{◌≡◌, ◌≢◌, ℕ, zero, suc, ◌+◌, ◌<◌, ◌≤◌, ⊎_elim, false, Some, None, List, [], ◌∷◌}
 use Rattle.std.proofs.Common.{◌++◌, length, get_or, refl, ap, ◌∙◌, sym, subst, arith, append-nil}
 use Rattle.std.proofs.lemmas.Bool.{cases_eq}
 use Rattle.std.proofs.lemmas.Bool.Decides.{nat_tests}
@@ -9,10 +9,10 @@ use Rattle.sh_shape.specs.Places.{pages_of}
 use Rattle.sh_slots.specs.declared.hand.Hand.TheVariants.{Idle}
 use Rattle.sh_table.specs.Tales.{ViewStands}
 use Rattle.sh_pass.specs.Passes.{Caller}
-use Rattle.sh_pass.specs.Owners.{SeenPage, SeenBell, Aside, OwnerActs, OnPage, SameBells, MayTouch, HasNothing}
+use Rattle.sh_pass.specs.Owners.{SeenPage, SeenBell, Aside, OwnerActs, OnPage, SameBells, HasNothing}
 use Rattle.sh_pass.specs.Owners.{heap_page, own_body, seen_page, page_noted}
 use Rattle.sh_shard.specs.declared.pages.PageState.{PageState}
-use Rattle.sh_shard.specs.Pages.{shard_page, AdoptsShard, BarePage}
+use Rattle.sh_shard.specs.Pages.{shard_page, AdoptsShard}
 use Rattle.sh_shard.specs.Kept.{KeepsPage, KeepsPages, bare_lists, blank_state}
 use Rattle.sh_shard.proofs.Keeping.{page_of, here_at, others_at}
 use Rattle.sh_shard.proofs.Working.{aside_none, aside_more, paged_of}

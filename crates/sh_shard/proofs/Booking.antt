@@ -1,11 +1,11 @@
 -- A shard keeps the laws of a store.
-use Rattle.std.proofs.Common.{◌≡◌, ℕ, ◌+◌, ◌<◌, ◌==◌, ◌||◌, Bool, true, false, List, [], ◌∷◌, ◌++◌, map, refl, ap, ◌∙◌}
+use Rattle.std.proofs.Common.{◌≡◌, ℕ, ◌<◌, ◌==◌, ◌||◌, true, false, List, ◌∷◌, refl, ap}
 use Rattle.std.proofs.Common.{sym, subst, arith, eq-eqb}
 use Rattle.std.specs.Prelude.{Result, Ok, Err}
 use Rattle.sh_history.specs.declared.log.LogEntry.TheVariants.{Unread}
 use Rattle.sh_history.specs.Log.{logged_holds_by}
 use Rattle.sh_key.specs.Layout.{Layout}
-use Rattle.sh_plain.specs.Store.{Setting, IsBook, InsertLeaves, GetLeaves, ReadLeaves, RemoveLeaves, ReleaseLeaves}
+use Rattle.sh_plain.specs.Store.{IsBook, InsertLeaves, GetLeaves, ReadLeaves, RemoveLeaves, ReleaseLeaves}
 use Rattle.sh_value.specs.declared.hold.Hold.{Hold}
 use Rattle.sh_value.specs.declared.refusal.Refusal.{Refusal}
 use Rattle.sh_value.specs.declared.refusal.Refusal.TheVariants as refusal

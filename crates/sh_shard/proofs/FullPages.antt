@@ -1,12 +1,11 @@
 -- Pages come back from the full queue, and the pages of a shard that is adopted come to their queues.
 use Rattle.std.proofs.Common.{◌≡◌, ◌≢◌, ℕ, zero, suc, ◌+◌, ◌-◌, ◌*◌, ◌<◌, ◌≤◌, ◌⊎◌, inl, inr, ⊎_elim, Bool, true, false}
-use Rattle.std.proofs.Common.{Option, Some, None, List, [], ◌∷◌, length, refl, ap, ◌∙◌, sym, subst, arith}
+use Rattle.std.proofs.Common.{Option, Some, None, refl, ap, ◌∙◌, sym, subst, arith}
 use Rattle.std.proofs.lemmas.Bool.{cases_eq, cases_lt, false≢true}
 use Rattle.sh_queue.specs.Numbers.{has_number}
 use Rattle.sh_queue.specs.Queues.{PageQueues, EachOnce, class_queue, at_back, none_opened, one_more_segment}
 use Rattle.sh_queue.proofs.PageLaws.{has_number-from_without, has_number-at_back, full_opened, blank_opened}
-use Rattle.sh_queue.proofs.PageLaws.{class_apart, EachOnce-at_back}
-use Rattle.sh_pass.specs.Owners.{SeenPage, page_with}
+use Rattle.sh_pass.specs.Owners.{SeenPage}
 use Rattle.sh_shard.specs.Pages.{Paged, page_at, seen_class, SlotComes}
 use Rattle.sh_shard.specs.Shards.{SortedPages, FullPage}
 use Rattle.sh_shard.specs.Returning.{SortedBut, ReturnsPage, AllBlank, FiledBelow}

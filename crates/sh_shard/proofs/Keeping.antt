@@ -1,5 +1,5 @@
 -- What is kept of the pages stays what is known of them, step by step.
-use Rattle.std.proofs.Common.{◌≡◌, ◌≢◌, ℕ, zero, suc, ◌+◌, ◌-◌, ◌*◌, ◌/◌, ◌<◌, ◌≤◌, ◌==◌, ⊎_elim, Bool, true, false}
+use Rattle.std.proofs.Common.{◌≡◌, ◌≢◌, ℕ, zero, suc, ◌+◌, ◌-◌, ◌*◌, ◌/◌, ◌<◌, ◌==◌, ⊎_elim, Bool, true, false}
 use Rattle.std.proofs.Common.{cond, Option, Some, None, List, [], ◌++◌, length, get_or, set, IfSome, refl, ap, ◌∙◌, sym}
 use Rattle.std.proofs.Common.{subst, arith, append-nil}
 use Rattle.std.specs.Prelude.{nat_lt}

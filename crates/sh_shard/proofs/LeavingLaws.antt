@@ -1,18 +1,18 @@
 -- Leaving a shard: what is collected, what is put back, and what is left.
 use Rattle.std.proofs.Common.{◌≡◌, ◌≢◌, ℕ, zero, suc, ◌+◌, ◌<◌, ◌≤◌, ◌==◌, ◌&&◌, ◌⊎◌, inl, inr, ⊎_elim, Bool, true}
-use Rattle.std.proofs.Common.{false, cond, Option, Some, None, MatchOption, MatchBool, List, [], ◌++◌, refl, ap, ◌∙◌}
-use Rattle.std.proofs.Common.{sym, subst, arith, append-nil}
+use Rattle.std.proofs.Common.{false, Option, Some, None, MatchOption, refl, ap, ◌∙◌}
+use Rattle.std.proofs.Common.{sym, subst, arith}
 use Rattle.std.specs.Prelude.{not}
 use Rattle.std.proofs.lemmas.Bool.{cases_eq, false≢true}
 use Rattle.std.proofs.lemmas.Bool.Decides.{nat_tests}
 use Rattle.sh_step.specs.Collections.{if1}
 use Rattle.sh_pass.specs.Passes.{Caller}
-use Rattle.sh_pass.specs.Owners.{SeenPage, SeenBell, Aside, HasNothing, page_without}
+use Rattle.sh_pass.specs.Owners.{SeenPage, SeenBell, Aside, page_without}
 use Rattle.sh_shard.specs.Pages.{Paged, page_at, count_below, own_slots, armed_pages, CursorStands, NothingMine}
-use Rattle.sh_shard.specs.Pages.{WaitsSince, WorksOn, TakesPage, CursorStops, BellTakes, BellStops, BellReads}
+use Rattle.sh_shard.specs.Pages.{WorksOn, TakesPage, CursorStops, BellTakes, BellStops, BellReads}
 use Rattle.sh_shard.specs.Pages.{ShardLeft}
 use Rattle.sh_shard.specs.Leaving.{Collecting, BellFollowed, BellEmptied, PageEmptied, EmptiesPage, PagesEmptied}
-use Rattle.sh_shard.specs.Leaving.{AtRest, AllAtRest, NotAtRest, RestsNot, Waiting, PutsOne, PutsBack, PutsAllBack}
+use Rattle.sh_shard.specs.Leaving.{AtRest, AllAtRest, NotAtRest, Waiting, PutsOne, PutsBack, PutsAllBack}
 use Rattle.sh_shard.proofs.Working.{aside_none, aside_more, works_more, count_few}
 
 pub collecting_none : (o : Paged) → Collecting o o

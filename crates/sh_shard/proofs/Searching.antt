@@ -1,14 +1,14 @@
 -- A search of the pages of a class.
-use Rattle.std.proofs.Common.{◌≡◌, ◌≢◌, ℕ, zero, suc, ◌+◌, ◌*◌, ◌<◌, ◌≤◌, ◌||◌, ◌⊎◌, inl, inr, ⊎_elim, Bool, true}
+use Rattle.std.proofs.Common.{◌≡◌, ◌≢◌, ℕ, zero, suc, ◌+◌, ◌<◌, ◌≤◌, ◌||◌, ◌⊎◌, inl, inr, ⊎_elim, Bool, true}
 use Rattle.std.proofs.Common.{false, Option, Some, None, MatchOption, List, [], ◌∷◌, ◌++◌, append_assoc, append-nil}
 use Rattle.std.proofs.Common.{length, slice_get, refl, ap, ◌∙◌, sym, subst, arith}
 use Rattle.std.specs.List.{last_or}
 use Rattle.std.proofs.lemmas.Bool.{cases_eq, cases_lt, false≢true}
 use Rattle.std.specs.Prelude.{nat_lt}
-use Rattle.sh_lists.specs.Numbers.{Distinct, upward}
+use Rattle.sh_lists.specs.Numbers.{Distinct}
 use Rattle.sh_lists.proofs.Distincts.{Misses-left}
 use Rattle.sh_queue.specs.Numbers.{has_number}
-use Rattle.sh_queue.specs.Queues.{PageQueues, EachOnce, class_queue, at_back, among_full, one_more_segment}
+use Rattle.sh_queue.specs.Queues.{PageQueues, EachOnce, class_queue, at_back, among_full}
 use Rattle.sh_queue.proofs.Numbers.{has_number-append, has_number-from_Misses, has_number-first, has_number-last}
 use Rattle.sh_queue.proofs.PageLaws.{has_number-only, class_queue-at_back_front, class_queue-among_full_front}
 use Rattle.sh_queue.proofs.PageLaws.{class_distinct, length-class_queue, opened_somewhere}
@@ -19,7 +19,8 @@ use Rattle.sh_shape.specs.Classes.{slots}
 use Rattle.sh_pass.specs.Owners.{SeenPage, Aside, IsKeyIn}
 use Rattle.sh_shard.specs.Pages.{Paged, page_at, seen_class, WorksOn, PageDone, PageInserts, NothingMine, WhollyMine}
 use Rattle.sh_shard.specs.Pages.{GivesClass}
-use Rattle.sh_shard.specs.Shards.{Sharded, SortedPages, FullPage, Added, NoneLeft, NoRoom, WorksThroughout}
+use Rattle.sh_shard.specs.Shards.{Sharded, SortedPages, FullPage, Added, NoneLeft, WorksThroughout, IsBlank}
+use Rattle.sh_shard.specs.Shards.{NoneOpenedBlank, IsLowest}
 use Rattle.sh_shard.specs.Searches.{WorkedSince, Settles, Searched, Searching, Tried}
 use Rattle.sh_shard.proofs.Sides.{aside_none, aside_then}
 
@@ -314,23 +315,41 @@ none_left c o n s k once = record {
 word_of : (g : SeenPage) (word : ℕ) → g.class ≡ Some word → seen_class g ≡ word
 word_of g word is = ap (λ (o : Option ℕ). elim o as (λ _. ℕ) [ Some m ↦ m | None ↦ 0 ]) is
 
--- no page is blank, once none stands among the blank ones and no segment is unopened
-pub none_blank : (n : Sharded) → SortedPages n.pages n.queues → EachOnce n.queues → n.queues.unopened ≡ 0
-    → slice_get n.queues.blank 0 ≡ None
-    → (p : ℕ) → p < n.pages.count → (page_at n.pages p).class ≢ Some 0
-none_blank n k once none front p l is = not_blank (opened_somewhere p n.queues once (let a = k.all in omega arith))
+-- an opened page that is blank stands among the blank ones
+pub blank_stands : (n : Sharded) → SortedPages n.pages n.queues → EachOnce n.queues → (p : ℕ) → p < n.queues.opened
+    → IsBlank (page_at n.pages p) → has_number p n.queues.blank ≡ true
+blank_stands n k once p l is = stands (opened_somewhere p n.queues once l)
   where
-    empty : (xs : List ℕ) → slice_get xs 0 ≡ None → xs ≡ []
-    empty [] e = refl
-    empty (x ∷ xs) e = absurd (let z : Some x ≡ None = e in cc)
-
-    not_blank : ((c : ℕ) × (c < 8) × (has_number p (class_queue n.queues c) ≡ true))
-        ⊎ ((has_number p n.queues.full ≡ true) ⊎ (has_number p n.queues.blank ≡ true)) → ⊥
-    not_blank (inl r) = let e : Some (r.0 + 1) ≡ Some 0 = sym (k.classes r.0 p r.2) ∙ is in let f : r.0 + 1 ≡ 0 = cc
+    stands : ((c : ℕ) × (c < 8) × (has_number p (class_queue n.queues c) ≡ true))
+        ⊎ ((has_number p n.queues.full ≡ true) ⊎ (has_number p n.queues.blank ≡ true))
+        → has_number p n.queues.blank ≡ true
+    stands (inl r) = let e : Some (r.0 + 1) ≡ Some 0 = sym (k.classes r.0 p r.2) ∙ is in let f : r.0 + 1 ≡ 0 = cc
         in absurd (omega arith)
-    not_blank (inr (inl t)) = let some = (k.full p t).classed in let e : seen_class (page_at n.pages p)
+    stands (inr (inl t)) = let some = (k.full p t).classed in let e : seen_class (page_at n.pages p)
         ≡ 0 = word_of (page_at n.pages p) 0 is in absurd (omega arith)
-    not_blank (inr (inr t)) = absurd (false≢true (sym (ap (has_number p) (empty n.queues.blank front)) ∙ t))
+    stands (inr (inr t)) = t
+
+-- no opened page is blank, once none stands among the blank ones
+pub none_opened_blank : (n : Sharded) → SortedPages n.pages n.queues → EachOnce n.queues
+    → slice_get n.queues.blank 0 ≡ None → NoneOpenedBlank n
+none_opened_blank n k once front p l is = go n.queues.blank front (blank_stands n k once p l is)
+  where
+    go : (xs : List ℕ) → slice_get xs 0 ≡ None → has_number p xs ≡ true → ⊥
+    go [] e here = false≢true here
+    go (x ∷ xs) e here = let z : Some x ≡ None = e in cc
+
+-- no page is blank, once no opened one is and no segment is unopened
+pub none_blank : (n : Sharded) → SortedPages n.pages n.queues → n.queues.unopened ≡ 0 → NoneOpenedBlank n → (p : ℕ)
+    → p < n.pages.count → ¬ IsBlank (page_at n.pages p)
+none_blank n k none opened p l is = opened p (let a = k.all in omega arith) is
+
+-- the lowest of the pages that stand among the blank ones is the lowest blank page
+pub lowest_blank : (n : Sharded) → SortedPages n.pages n.queues → EachOnce n.queues → (p : ℕ) → p < n.queues.opened
+    → IsBlank (page_at n.pages p) → ((q : ℕ) → has_number q n.queues.blank ≡ true → p ≤ q) → IsLowest IsBlank p n.pages
+lowest_blank n k once p inside here lowest = record {
+  here = here;
+  lower = λ q below is. let l = lowest q (blank_stands n k once q (omega arith) is) in absurd (omega arith);
+}
 
 pub front_blank : (p : ℕ) (q : PageQueues) → slice_get q.blank 0 ≡ Some p → has_number p q.blank ≡ true
 front_blank p q e = has_number-first p q.blank e
@@ -350,12 +369,6 @@ slots_some (suc (suc (suc (suc (suc (suc (suc (suc c)))))))) l = absurd (omega a
 pub some_given : {A : Type 0} (p c : ℕ) (o n : Paged) → c < 8 → GivesClass p c o n → NothingMine (page_at n p) → A
 some_given p c o n l g none = absurd (false≢true (sym (none 0) ∙
     (ap (λ (z : SeenPage). z.mine 0) g.here ∙ slots_some c l)))
-
-pub some_blank : (q q' : PageQueues) → q' ≡ one_more_segment q → slice_get q'.blank 0 ≢ None
-some_blank q q' is e = go q.blank (sym (ap (λ (z : PageQueues). slice_get z.blank 0) is) ∙ e) where
-  go : (xs : List ℕ) → slice_get (xs ++ upward q.opened 8) 0 ≡ None → ⊥
-  go [] e = let z : Some q.opened ≡ None = e in cc
-  go (x ∷ xs) e = let z : Some x ≡ None = e in cc
 
 -- a page of the class with nothing left is not wholly its owner's
 pub not_whole : (c p : ℕ) (n : Paged) → c < 8 → NothingMine (page_at n p) → (page_at n p).class ≡ Some (c + 1)

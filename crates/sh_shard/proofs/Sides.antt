@@ -1,6 +1,5 @@
 -- What an owner's work leaves aside, over one piece of work after another.
 use Rattle.std.proofs.Common.{refl, ◌∙◌}
-use Rattle.sh_pass.specs.Growing.{SameTale}
 use Rattle.sh_pass.specs.Passes.{Caller}
 use Rattle.sh_pass.specs.Owners.{Aside}
 

@@ -1,10 +1,9 @@
 -- Each page stands where it belongs, after each move and after work on a page.
-use Rattle.std.proofs.Common.{◌≡◌, ◌≢◌, ℕ, zero, suc, ◌+◌, ◌<◌, ◌≤◌, ◌||◌, ◌⊎◌, ⊎_elim, Bool, true, false, Option, Some}
-use Rattle.std.proofs.Common.{None, MatchOption, List, [], ◌∷◌, ◌++◌, length, refl, ap, ◌∙◌, sym, subst, arith}
-use Rattle.std.specs.List.{concat}
+use Rattle.std.proofs.Common.{◌≡◌, ◌≢◌, ℕ, zero, suc, ◌+◌, ◌<◌, ◌≤◌, ◌||◌, ⊎_elim, Bool, true, false, Option, Some}
+use Rattle.std.proofs.Common.{None, MatchOption, List, [], ◌∷◌, length, refl, ap, ◌∙◌, sym, subst, arith}
 use Rattle.std.proofs.lemmas.Bool.{cases_eq, false≢true}
 use Rattle.sh_queue.specs.Numbers.{has_number, without_number}
-use Rattle.sh_queue.specs.Queues.{PageQueues, EachOnce, class_queue, queued_pages, at_front, at_back, among_full}
+use Rattle.sh_queue.specs.Queues.{PageQueues, EachOnce, class_queue, at_front, at_back, among_full}
 use Rattle.sh_queue.specs.Queues.{one_more_segment}
 use Rattle.sh_queue.proofs.Numbers.{has_number-append, has_number-here}
 use Rattle.sh_queue.proofs.PageLaws.{has_number-from_without, has_number-in_back, has_number-at_front}

@@ -15,14 +15,12 @@ use Rattle.sh_step.specs.Moves.{place_named}
 use Rattle.sh_step.specs.Plans.{plan_of, home}
 use Rattle.sh_shard.specs.declared.pages.PageState.{PageState}
 use Rattle.sh_shard.specs.Kept.{KeepsPage}
-use Rattle.sh_history.specs.declared.log.LogEntry.{LogEntry}
 use Rattle.sh_slots.specs.declared.hand.Hand.TheVariants.{Idle}
 use Rattle.sh_stack.specs.Stack.{link_item}
 use Rattle.sh_step.specs.Collections.{if1}
-use Rattle.sh_pass.specs.Growing.{SameTale}
 use Rattle.sh_pass.specs.Passes.{Caller}
 use Rattle.sh_pass.specs.Owners.{SeenPage, SeenBell, Aside, OwnerActs, OnPage, SamePages, SameBells, NonePut, NoneArmed}
-use Rattle.sh_pass.specs.Owners.{heap_page, own_body, seen_page, seen_bell, page_on_bell, page_taken, page_followed}
+use Rattle.sh_pass.specs.Owners.{heap_page, seen_bell, page_on_bell, page_taken, page_followed}
 use Rattle.sh_pass.specs.Owners.{page_rung, page_without, page_given, IsKeyIn, bell_taken, bell_followed}
 use Rattle.sh_shard.specs.Pages.{Paged, shard_page, page_at, count_below, own_slots, NothingMine, WorksOn, TakesPage}
 use Rattle.sh_shard.specs.Pages.{CursorMoves, CursorStops, CollectsPage, GuardsPage, PageDone, PageInserts, GivesClass}

@@ -1,5 +1,5 @@
 -- How an owner leaves its shard: it empties the bell and the stacks, puts back what it has, and gives the shard up.
-use Rattle.std.specs.Prelude.{◌≡◌, ◌≢◌, ℕ, ◌+◌, ◌<◌, ◌≤◌, ◌⊎◌, true, false, List, Option, Some, None, MatchOption}
+use Rattle.std.specs.Prelude.{◌≡◌, ◌≢◌, ℕ, ◌+◌, ◌<◌, ◌≤◌, ◌⊎◌, true, false, None, MatchOption}
 use Rattle.std.specs.Prelude.{Result, Ok, Err}
 use Rattle.sh_pass.specs.Passes.{Caller}
 use Rattle.sh_pass.specs.Owners.{SeenPage, Aside, HasNothing, NonePut}

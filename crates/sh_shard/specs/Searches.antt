@@ -1,10 +1,10 @@
 -- What a search of an owner's pages does, part by part.
-use Rattle.std.specs.Prelude.{◌≡◌, ◌≢◌, ℕ, ◌+◌, ◌-◌, ◌<◌, ◌≤◌, ◌⊎◌, Bool, true, false, List, ◌++◌, length, Some, None}
+use Rattle.std.specs.Prelude.{◌≡◌, ℕ, ◌+◌, ◌-◌, ◌<◌, ◌≤◌, ◌⊎◌, Bool, true, false, List, ◌++◌, length, Some, None}
 use Rattle.std.specs.Prelude.{MatchOption}
 use Rattle.std.specs.List.{last_or}
 use Rattle.sh_queue.specs.Numbers.{has_number}
 use Rattle.sh_queue.specs.Queues.{class_queue, at_back, among_full}
-use Rattle.sh_pass.specs.Owners.{Aside, NonePut, NoneArmed}
+use Rattle.sh_pass.specs.Owners.{Aside, NonePut}
 use Rattle.sh_shard.specs.Pages.{Paged, page_at, PageDone, BellReads}
 use Rattle.sh_shard.specs.Shards.{Sharded, WorksThroughout, BellDone}
 

@@ -1,5 +1,5 @@
 -- What a contract sees of an owner's shard, and what its calls do.
-use Rattle.std.specs.Prelude.{◌≡◌, ◌≢◌, ℕ, ◌+◌, ◌*◌, ◌<◌, ◌≤◌, ◌⊎◌, false, true, List, [], ◌∷◌, ◌++◌, length, None}
+use Rattle.std.specs.Prelude.{◌≡◌, ◌≢◌, ℕ, ◌+◌, ◌*◌, ◌<◌, ◌≤◌, ◌⊎◌, true, List, [], ◌∷◌, ◌++◌, length, None}
 use Rattle.std.specs.Prelude.{Some, MatchOption, Result, Ok, Err, slice_get}
 use Rattle.sh_history.specs.declared.entry.Entry.TheVariants as entry
 use Rattle.sh_history.specs.declared.log.LogEntry.TheVariants.{Known}
@@ -82,18 +82,40 @@ pub record IsSpare (c : ℕ) (g : SeenPage) : Type 0 where
   pub whole : WhollyMine g
   pub other : g.class ≢ Some (c + 1)
 
+abbrev pub IsBlank : SeenPage → Type 0
+IsBlank g = g.class ≡ Some 0
+
+abbrev pub NoneSpare : ℕ → Paged → Type 0
+NoneSpare c v = (p : ℕ) → p < v.count → ¬ IsSpare c (page_at v p)
+
+-- no page of an opened segment is blank
+abbrev pub NoneOpenedBlank : Sharded → Type 0
+NoneOpenedBlank o = (p : ℕ) → p < o.queues.opened → ¬ IsBlank (page_at o.pages p)
+
 -- no page can be given class c: none is blank, in no segment either that is not opened, and none is spare
 pub record NoPageFor (c : ℕ) (o : Sharded) : Type 0 where
-  pub blank : (p : ℕ) → p < o.pages.count → (page_at o.pages p).class ≢ Some 0
-  pub spare : (p : ℕ) → p < o.pages.count → ¬ IsSpare c (page_at o.pages p)
+  pub blank : (p : ℕ) → p < o.pages.count → ¬ IsBlank (page_at o.pages p)
+  pub spare : NoneSpare c o.pages
   pub unopened : o.queues.unopened ≡ 0
 
--- page p, which was blank or spare, was given class c, and is the front page of the class
+-- page p is such a page, and no lower one is
+pub record IsLowest (such : SeenPage → Type 0) (p : ℕ) (v : Paged) : Type 0 where
+  pub here : such (page_at v p)
+  pub lower : (q : ℕ) → q < p → ¬ such (page_at v q)
+
+-- page p is the next one for class c: the lowest blank page, if that is opened; where no opened page is blank, the
+-- lowest spare one; and where none is spare either, the lowest blank page, which is the first of the next segment
+abbrev pub IsNextFor : ℕ → ℕ → Sharded → Type 0
+IsNextFor c p o = ((p < o.queues.opened) × IsLowest IsBlank p o.pages)
+    ⊎ ((NoneOpenedBlank o × IsLowest (IsSpare c) p o.pages)
+    ⊎ (NoneSpare c o.pages × (p ≡ o.queues.opened) × IsLowest IsBlank p o.pages))
+
+-- page p, the next one for class c, was given the class, and stands in front of the pages of the class
 pub record PreparesPage (c p : ℕ) (o n : Sharded) : Type 0 where
   pub inside : p < o.pages.count
-  pub was : ((page_at o.pages p).class ≡ Some 0) ⊎ IsSpare c (page_at o.pages p)
+  pub next : IsNextFor c p o
   pub gives : GivesClass p c o.pages n.pages
-  pub front : slice_get (class_queue n.queues c) 0 ≡ Some p
+  pub front : class_queue n.queues c ≡ p ∷ class_queue o.queues c
 
 -- a page is prepared for class c, or there is none that could be, or a segment's growth was refused
 abbrev pub PrepareServes : ℕ → Sharded → Result ℕ Refusal → Sharded → Type 0

@@ -1,5 +1,5 @@
 -- An owner's shard as a store: its book is the log of its pass, from before it owned the shard too.
-use Rattle.std.specs.Prelude.{ℕ, ◌==◌, List}
+use Rattle.std.specs.Prelude.{◌==◌, List}
 use Rattle.sh_history.specs.declared.log.LogEntry.{LogEntry}
 use Rattle.sh_key.specs.Layout.{Layout}
 use Rattle.sh_plain.specs.Store.{Setting}

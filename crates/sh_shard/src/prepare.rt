@@ -1,8 +1,9 @@
 // Giving a class to a page that is blank, or that has another class and all of whose slots are the owner's.
-ghost use Rattle.std.specs.Prelude.{◌≡◌, ◌≢◌, ℕ, ◌+◌, ◌<◌, None, Some, MatchOption, MatchBool, IfErr, OnOk, OnErr};
-ghost use Rattle.std.specs.Prelude.{slice_get};
+ghost use Rattle.std.specs.Prelude.{◌≡◌, ◌≢◌, ◌+◌, ◌<◌, None, Some, MatchOption, MatchBool, IfErr, OnOk, OnErr};
+ghost use Rattle.sh_queue.specs.Queues.{one_more_segment};
 ghost use Rattle.sh_shard.specs.Pages.{page_at};
-ghost use Rattle.sh_shard.specs.Shards.{IsSpare, PreparesPage, PrepareServes, StaysOwner};
+ghost use Rattle.sh_shard.specs.Shards.{IsSpare, NoneSpare, NoneOpenedBlank, IsLowest, PreparesPage, PrepareServes};
+ghost use Rattle.sh_shard.specs.Shards.{StaysOwner};
 
 use crate::shard::Shard;
 use sh_key::KeyLayout;
@@ -40,8 +41,8 @@ impl<'a, L: KeyLayout> Shard<'a, L> {
     // Opens the next segment, and gives its first page the class.
     fn give_opened(&mut self, class: u32) -> Result<u32, Refusal>
         requires class { class < 8 }
-        requires blank { slice_get self.old.queues.blank 0 ≡ None }
-        requires spare { (p : ℕ) → p < self.old.pages.count → ¬ IsSpare class (page_at self.old.pages p) }
+        requires blank { NoneOpenedBlank self.old }
+        requires spare { NoneSpare class self.old.pages }
         ensures { PrepareServes class self.old result self.new }
     {
         let _opened = self.queues.opened();
@@ -58,7 +59,7 @@ impl<'a, L: KeyLayout> Shard<'a, L> {
     // Gives the lowest blank page the class.
     fn give_blank(&mut self, class: u32) -> Option<u32>
         requires { class < 8 }
-        ensures { MatchOption result ((self.new ≡ self.old) × (slice_get self.old.queues.blank 0 ≡ None))
+        ensures { MatchOption result ((self.new ≡ self.old) × NoneOpenedBlank self.old)
             (λ page. PreparesPage class page self.old self.new) }
     {
         let _opened = self.queues.opened();
@@ -70,11 +71,12 @@ impl<'a, L: KeyLayout> Shard<'a, L> {
         Some(page)
     }
 
-    // Gives the lowest page of another class all of whose slots are the owner's this one.
+    // Where no opened page is blank, gives the lowest page of another class all of whose slots are the owner's this
+    // one.
     fn give_spare(&mut self, class: u32) -> Option<u32>
-        requires { class < 8 }
-        ensures { MatchOption result ((self.new ≡ self.old) ×
-            ((p : ℕ) → p < self.old.pages.count → ¬ IsSpare class (page_at self.old.pages p)))
+        requires class { class < 8 }
+        requires blank { NoneOpenedBlank self.old }
+        ensures { MatchOption result ((self.new ≡ self.old) × NoneSpare class self.old.pages)
             (λ page. PreparesPage class page self.old self.new) }
     {
         let Some(page) = self.spare(class) else {
@@ -88,9 +90,8 @@ impl<'a, L: KeyLayout> Shard<'a, L> {
 
     // The lowest opened page of another class all of whose slots are the owner's.
     fn spare(&self, class: u32) -> Option<u32>
-        ensures { MatchOption result
-            ((p : ℕ) → p < self.now.pages.count → ¬ IsSpare class (page_at self.now.pages p))
-            (λ page. (page < self.now.queues.opened) × IsSpare class (page_at self.now.pages page)) }
+        ensures { MatchOption result (NoneSpare class self.now.pages)
+            (λ page. (page < self.now.queues.opened) × IsLowest (IsSpare class) page self.now.pages) }
     {
         let opened = self.queues.opened();
         for page in 0..opened {
@@ -120,7 +121,7 @@ impl<'a, L: KeyLayout> Shard<'a, L> {
         ensures pages { self.new.pages ≡ self.old.pages }
         ensures memory { IfErr result (λ refusal. refusal ≡ Refusal.Memory) }
         ensures same { OnErr result (self.new ≡ self.old) }
-        ensures blank { OnOk result (slice_get self.new.queues.blank 0 ≢ None) }
+        ensures opened { OnOk result (self.new.queues ≡ one_more_segment self.old.queues) }
     {
         let _first = self.queues.open_segment()?;
         Ok(())

@@ -6,6 +6,7 @@ mod changing_hands;
 mod filling;
 mod memory;
 mod order;
+mod records;
 mod replies;
 mod stopped;
 mod threads;

@@ -1,5 +1,4 @@
-use Rattle.std.proofs.Common.{◌≡◌, ◌∙◌, arith}
-use Rattle.sh_shard.proofs.FullPages.{filed_blank, filed_more}
+use Rattle.sh_shard.proofs.FullPages.{filed_more}
 use Rattle.sh_shard.proofs.adopting.file_page.Goals as goal
 
 pub returns-clause-filed : goal.returns-clause-filed

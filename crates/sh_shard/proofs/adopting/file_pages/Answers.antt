@@ -1,4 +1,4 @@
-use Rattle.std.proofs.Common.{sym, ◌∙◌, arith}
+use Rattle.std.proofs.Common.{sym, arith}
 use Rattle.sh_shard.proofs.FullPages.{filed_none, filed_all}
 use Rattle.sh_shard.proofs.adopting.file_pages.Goals as goal
 

@@ -1,4 +1,4 @@
-use Rattle.std.proofs.Common.{ℕ, ◌≡◌, ◌≢◌, ◌+◌, ◌<◌, ◌≤◌, ◌⊎◌, ⊎_elim, refl, ◌∙◌, sym, arith}
+use Rattle.std.proofs.Common.{ℕ, ◌≢◌, ◌+◌, ◌<◌, ◌≤◌, ⊎_elim, ◌∙◌, sym, arith}
 use Rattle.std.proofs.lemmas.Bool.{cases_lt}
 use Rattle.sh_queue.proofs.PageLaws.{full_opened}
 use Rattle.sh_shard.proofs.FullPages.{but_none, but_fewer, but_returned, full_classed, returns_opened}

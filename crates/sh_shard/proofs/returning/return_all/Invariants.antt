@@ -1,4 +1,4 @@
-use Rattle.std.proofs.Common.{◌≡◌, ℕ, ◌≤◌}
+use Rattle.std.proofs.Common.{◌≡◌, ◌≤◌}
 use Rattle.sh_shard.specs.Returning.{SortedBut}
 use Rattle.sh_shard.proofs.returning.return_all.Given as goal
 

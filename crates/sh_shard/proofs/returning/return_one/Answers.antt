@@ -1,4 +1,4 @@
-use Rattle.std.proofs.Common.{ℕ, ◌≡◌, ◌≢◌, Some, ◌∙◌, sym}
+use Rattle.std.proofs.Common.{◌≡◌, Some, ◌∙◌, sym}
 use Rattle.sh_shard.proofs.FullPages.{but_none, but_returned, full_classed}
 use Rattle.sh_shard.proofs.returning.return_one.Goals as goal
 

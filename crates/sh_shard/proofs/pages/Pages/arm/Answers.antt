@@ -1,12 +1,11 @@
-use Rattle.std.proofs.Common.{◌≡◌, ◌+◌, ◌<◌, arith, true, length, set, refl, ◌∙◌, sym, subst, ap}
+use Rattle.std.proofs.Common.{◌<◌, arith, true, length, set, refl, ◌∙◌, sym, subst}
 use Rattle.std.proofs.lemmas.List.{length-set}
-use Rattle.sh_bell.specs.Bell.{top_of}
 use Rattle.sh_stack.specs.Stack.{top_item}
-use Rattle.sh_pass.specs.Owners.{SeenPage, page_armed}
+use Rattle.sh_pass.specs.Owners.{page_armed}
 use Rattle.sh_shard.specs.declared.pages.PageState.{PageState}
 use Rattle.sh_shard.specs.Pages.{Paged, WorksOn, page_at, seen_class}
 use Rattle.sh_shard.proofs.PageLaws.{kept_armed}
-use Rattle.sh_shard.proofs.Keeping.{state_kept, keeps_set, small_cursor, page_of, here_at}
+use Rattle.sh_shard.proofs.Keeping.{state_kept, keeps_set, small_cursor, page_of}
 use Rattle.sh_shard.proofs.Working.{paged_of, works_on}
 use Rattle.sh_shard.proofs.pages.Pages.arm.Goals as goal
 

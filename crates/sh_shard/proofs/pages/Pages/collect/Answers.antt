@@ -1,5 +1,5 @@
-use Rattle.std.proofs.Common.{subst, sym}
-use Rattle.sh_shard.specs.Pages.{Paged, CollectsPage, CursorStops}
+use Rattle.std.proofs.Common.{subst}
+use Rattle.sh_shard.specs.Pages.{Paged, CursorStops}
 use Rattle.sh_shard.proofs.Working.{collects, collects_taken, works_none}
 use Rattle.sh_shard.proofs.pages.Pages.collect.Goals as goal
 use Rattle.sh_shard.proofs.pages.Pages.collect.Goals.{then-not-has_cursor, else-not-has_cursor}

@@ -3,8 +3,8 @@ use Rattle.std.proofs.lemmas.List.{length-set}
 use Rattle.sh_stack.specs.Stack.{link_item}
 use Rattle.sh_shard.specs.declared.pages.PageState.{PageState}
 use Rattle.sh_shard.specs.Pages.{Paged, CursorMoves, CursorStops}
-use Rattle.sh_shard.proofs.PageLaws.{kept_followed, kept_met, followed_cursor}
-use Rattle.sh_shard.proofs.Keeping.{page_of, state_kept, ready, keeps_set, keeps_same, small_cursor}
+use Rattle.sh_shard.proofs.PageLaws.{kept_followed, followed_cursor}
+use Rattle.sh_shard.proofs.Keeping.{page_of, state_kept, ready, keeps_set, small_cursor}
 use Rattle.sh_shard.proofs.Working.{paged_of, moved, stopped}
 use Rattle.sh_shard.proofs.pages.Pages.follow.Goals as goal
 

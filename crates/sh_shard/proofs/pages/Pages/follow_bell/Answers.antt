@@ -1,9 +1,9 @@
-use Rattle.std.proofs.Common.{◌≡◌, false, length, set, refl, subst, arith}
+use Rattle.std.proofs.Common.{false, length, set, subst, arith}
 use Rattle.std.proofs.lemmas.List.{length-set}
 use Rattle.sh_shard.specs.declared.pages.PageState.{PageState}
 use Rattle.sh_shard.specs.Pages.{Paged, BellReads, BellStops}
-use Rattle.sh_shard.proofs.PageLaws.{kept_rung, kept_waiting}
-use Rattle.sh_shard.proofs.Keeping.{at_bell, may_touch, state_kept, keeps_bell, keeps_bell_waiting}
+use Rattle.sh_shard.proofs.PageLaws.{kept_rung}
+use Rattle.sh_shard.proofs.Keeping.{at_bell, may_touch, state_kept, keeps_bell}
 use Rattle.sh_shard.proofs.Working.{paged_of, bell_read, bell_stopped}
 use Rattle.sh_shard.proofs.pages.Pages.follow_bell.Goals as goal
 

@@ -1,7 +1,4 @@
-use Rattle.std.proofs.Common.{◌≡◌, ◌≢◌, ◌<◌, ◌+◌, ⊎_elim, arith, subst, sym}
-use Rattle.std.proofs.lemmas.Bool.{cases_eq}
-use Rattle.sh_shard.specs.Leaving.{AtRest}
-use Rattle.sh_shard.specs.Pages.{page_at}
+use Rattle.std.proofs.Common.{arith}
 use Rattle.sh_shard.proofs.LeavingLaws.{rests_more}
 use Rattle.sh_shard.proofs.pages.Pages.is_at_rest.Goals as goal
 

@@ -1,4 +1,4 @@
-use Rattle.std.proofs.Common.{◌≡◌, ℕ, ◌<◌, true, MatchBool, length, sym, subst, ◌∙◌}
+use Rattle.std.proofs.Common.{◌<◌, MatchBool, length, sym, subst}
 use Rattle.std.specs.Prelude.{nat_eq}
 use Rattle.sh_shard.specs.Pages.{Paged, page_at, WhollyMine}
 use Rattle.sh_shard.proofs.Keeping.{state_kept, page_of, below_class}

@@ -1,8 +1,6 @@
-use Rattle.std.proofs.Common.{◌≡◌, ◌<◌, Option, IfSome, length, set, refl, ◌∙◌, sym, subst}
+use Rattle.std.proofs.Common.{◌<◌, length, set, ◌∙◌, sym, subst}
 use Rattle.std.proofs.lemmas.List.{length-set}
-use Rattle.sh_bell.specs.Bell.{top_of}
 use Rattle.sh_stack.specs.Stack.{top_item}
-use Rattle.sh_pass.specs.Owners.{page_taken}
 use Rattle.sh_shard.specs.declared.pages.PageState.{PageState}
 use Rattle.sh_shard.specs.Pages.{Paged, TakesPage}
 use Rattle.sh_shard.proofs.PageLaws.{kept_taken}

@@ -1,5 +1,5 @@
-use Rattle.std.proofs.Common.{subst, sym, ◌∙◌}
-use Rattle.sh_shard.specs.Shards.{Sharded, InsertServes, IsQuick}
+use Rattle.std.proofs.Common.{subst}
+use Rattle.sh_shard.specs.Shards.{Sharded, InsertServes}
 use Rattle.sh_shard.proofs.Preparing.{not_quick}
 use Rattle.sh_shard.proofs.shard.Shard.insert_in.Goals as goal
 

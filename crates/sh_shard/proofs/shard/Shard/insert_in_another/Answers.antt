@@ -1,4 +1,4 @@
-use Rattle.sh_shard.proofs.Preparing.{elsewhere_refused, elsewhere_added, prepared_has_slot}
+use Rattle.sh_shard.proofs.Preparing.{elsewhere_refused, prepared_has_slot}
 use Rattle.sh_shard.proofs.shard.Shard.insert_in_another.Goals as goal
 
 pub returns-in-Err : goal.returns-in-Err

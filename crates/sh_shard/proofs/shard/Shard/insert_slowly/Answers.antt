@@ -1,4 +1,3 @@
-use Rattle.std.proofs.Common.{subst, sym}
 use Rattle.sh_shard.proofs.Preparing.{served_after}
 use Rattle.sh_shard.proofs.shard.Shard.insert_slowly.Goals as goal
 

@@ -1,7 +1,6 @@
 use Rattle.std.proofs.Common.{◌≢◌, sym, subst}
 use Rattle.sh_shard.specs.Shards.{Sharded}
 use Rattle.sh_shard.proofs.Sorting.{sorted_opened}
-use Rattle.sh_shard.proofs.Searching.{some_blank}
 use Rattle.sh_shard.proofs.shard.Shard.open_segment.Goals as goal
 
 pub invariant_of-self-2 : goal.invariant_of-self-2
@@ -10,6 +9,3 @@ invariant_of-self-2 g c =
     c.requires in
     sorted_opened c.self.inside.pages c.self.inside.queues c.self.invariant c.open_segment.new.self some
     c.in_ok-_first.ensures.ok
-
-pub returns-clause-blank : goal.returns-clause-blank
-returns-clause-blank g c = some_blank c.self.inside.queues c.open_segment.new.self c.in_ok-_first.ensures.ok

@@ -1,4 +1,4 @@
-use Rattle.std.proofs.Common.{ap, ◌∙◌, sym, subst, arith}
+use Rattle.std.proofs.Common.{ap, ◌∙◌, subst, arith}
 use Rattle.sh_shard.specs.Shards.{Sharded, SortedPages}
 use Rattle.sh_shard.proofs.Preparing.{none_spare, spare_next}
 use Rattle.sh_shard.proofs.shard.Shard.spare.Goals as goal
