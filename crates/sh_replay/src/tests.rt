@@ -1,9 +1,11 @@
 //! Whole runs over memory: worked scripts and faults.
 mod ends;
+mod hands;
 mod heap;
 mod sizes;
 mod step_ends;
 mod steps;
+mod threads;
 mod workers;
 
 use crate::{Mode, replay_alone};

@@ -214,6 +214,34 @@ fn a_page_with_a_retired_slot_keeps_its_class(rt: HostRuntime) -> Result<(), Fai
 }
 
 #[test]
+fn a_page_changes_its_class_beside_a_retired_slot(rt: HostRuntime) -> Result<(), Fail> {
+    let (mut script, mut output) = full_alone(rt.alloc())?;
+    let more = format!(in rt.alloc();
+        "0 remove #4160\n0 insert a {V}\n0 remove a\n0 insert b {V}\n0 remove b\n0 remove #4096\n0 remove #4097\n0 remove #4098\n0 insert s 1\n"
+    )?;
+    script.push_str(more.as_str())?;
+    output.push_str("0 remove ok\n0 insert 8256\n0 remove ok\n0 insert 12352\n0 remove ok\n")?;
+    output.push_str("0 remove ok\n0 remove ok\n0 remove ok\n0 insert 8192\n")?;
+    output.push_str("page 0.0 class 0 live 1 marked 0 retired 0 mine 0 hand 0 queued 47\n")?;
+    output.push_str("page 0.1 class 7 live 2 marked 0 retired 1 mine 0 hand 0 queued 0\n")?;
+    output.push_str(full_pages(rt.alloc(), 2)?.as_str())?;
+    expect(&rt, rt.alloc(), script.as_str(), output.as_str());
+    Ok(())
+}
+
+#[test]
+fn accounts_are_listed_by_shard_and_page(rt: HostRuntime) -> Result<(), Fail> {
+    let script = format!(in rt.alloc();
+        "heap wide 2 1 2\n1 adopt 1\n0 adopt 0\n1 insert a 1\n1 insert b {V}\n0 insert c 1 2\n0 get a\n1 remove a\n"
+    )?;
+    // The generation stands from bit 24 on, the shard from bit 16 on, and the page from bit 6 on.
+    let output =
+        "1 adopt ok\n0 adopt ok\n1 insert 16842752\n1 insert 16842816\n0 insert 16777216\n0 get ok\n1 remove ok\npage 0.0 class 1 live 1 marked 0 retired 0 mine 0 hand 0 queued 23\npage 1.0 class 0 live 0 marked 1 retired 0 mine 0 hand 0 queued 47\npage 1.1 class 7 live 1 marked 0 retired 0 mine 0 hand 0 queued 2\n";
+    expect(&rt, rt.alloc(), script.as_str(), output);
+    Ok(())
+}
+
+#[test]
 fn tagged_keys_are_those_of_the_tag(rt: HostRuntime) {
     let script =
         "version 2\nheap tagged 1 1 1 tag 5\n0 adopt 0\n0 insert a 7\n0 get a\n0 get #360287970190688256\n0 get #1048576\n0 get #4503599628419072\n";

@@ -1,4 +1,4 @@
-//! Workers in threads: they run at once, wait for names, and end where one stops.
+//! Workers in threads: they wait for names, and end where one stops.
 ghost use Rattle.std.specs.Prelude.{◌<◌};
 ghost use Rattle.std.specs.List.{All};
 ghost use Rattle.sh_script.specs.declared.calls.CallLine.{CallLine};
@@ -13,8 +13,7 @@ use sh_script::{Call, CallLine, Fault, Reference};
 use sh_shape::Shape;
 use std::alloc::Global;
 use std::sync::Wait;
-use std::sync::atomic::{AtomicU64, Ordering};
-use std::thread::{Threads, join, yield_now};
+use std::thread::{Threads, join};
 
 /// The reply lines of calls of two passes on a new heap, each pass's in a thread of its own.
 fn replies<R: Threads + Wait + Sync, G: Gate + Sync>(
@@ -103,56 +102,4 @@ fn a_worker_that_stops_ends_the_others(rt: HostRuntime) {
     ];
     let ended = replies(&rt, rt.alloc(), &lines, &OpenGate);
     assert!(rt; matches!(ended, Err(Fault::Io)));
-}
-
-// A gate at which each of two workers waits until the other is there too, or gives up.
-#[derive(Drop)]
-struct Meeting {
-    here: [AtomicU64; 2],
-    given_up: AtomicU64,
-}
-
-impl Gate for Meeting {
-    fn before(&self, pass: usize, _call: usize) {
-        let [first, second] = &self.here;
-        let (own, other) = if pass == 0 {
-            (first, second)
-        } else {
-            (second, first)
-        };
-        own.store(1, Ordering::SeqCst);
-        for _ in 0..10_000_000 {
-            if other.load(Ordering::SeqCst) == 1 {
-                return;
-            }
-            yield_now();
-        }
-        self.given_up.store(1, Ordering::SeqCst);
-    }
-
-    fn after(&self, _pass: usize, _call: usize) {}
-}
-
-#[test]
-fn workers_run_at_once(rt: HostRuntime) {
-    let lines = [
-        CallLine {
-            pass: 0,
-            call: Call::Get(Reference::Key(0)),
-        },
-        CallLine {
-            pass: 1,
-            call: Call::Get(Reference::Key(0)),
-        },
-    ];
-    let gate = Meeting {
-        here: [AtomicU64::new(0), AtomicU64::new(0)],
-        given_up: AtomicU64::new(0),
-    };
-    let output = replies(&rt, rt.alloc(), &lines, &gate).expect(&rt, "it runs");
-    assert_eq!(rt;
-        output.as_slice(),
-        b"0 get refused 1 BadKey\n1 get refused 1 BadKey\n".as_slice()
-    );
-    assert_eq!(rt; gate.given_up.load(Ordering::SeqCst), 0);
 }

@@ -9,5 +9,5 @@ returns-clause-ends g c = λ input known.
     let text = c.as_slice.ensures.value ∙ c.in_ok-text.ensures.text input known in
     replays c.args.mode c.args.accounts _ ran.output.items ran.is_waiting c.write_ran.result _ _
     (subst (λ (t : List ℕ). IsRunOf c.args.mode c.args.accounts t ran.output.items ran.is_waiting) text
-        c.in_ok-ran.ensures.output)
+    c.in_ok-ran.ensures.output)
     c.write_ran.ensures.ok c.write_ran.ensures.fault

@@ -9,8 +9,7 @@ lines_on-requires g c κs within =
     let opened = c.in_ok-heap.ensures.shape in
     let bounds = c.type_bounds in
     let passes = subst (λ (n : Numbers). All (λ (l : CallLine). l.pass < n.passes) c.args.lines.now) (sym opened.0)
-        c.requires.passes in
-    (
+    c.requires.passes in (
       within.0,
       (
         within.1.0,
