@@ -5,16 +5,14 @@ ghost use Rattle.sh_calls.specs.Keys.{HasTagRoom};
 ghost use Rattle.sh_replay.specs.Ends.{IsEndFault};
 ghost use Rattle.sh_replay.specs.Promises.{promised};
 
-use crate::board::Board;
 use crate::gate::Gate;
 use crate::room::Room;
-use crate::worker::Worker;
+use crate::worker::{Shared, Worker};
 use sh_calls::side::Side;
-use sh_script::{CallLine, Fault};
-use std::alloc::Global;
+use sh_script::Fault;
 use std::sync::Wait;
 use std::thread;
-use std::thread::{Promise, PromisedHandle, Threads};
+use std::thread::{Promise, PromisedHandle, Scope, Threads};
 
 /// The number of the worker.
 #[derive(Clone, Copy, Drop)]
@@ -55,37 +53,71 @@ fn joined<S: Side, B: Room, R: Threads>(
 // One worker, in its thread.
 fn ran<S: Side, B: Room, R: Wait, G: Gate>(
     rt: &R,
-    alloc: Global,
-    lines: &[CallLine],
-    tag: Option<u8>,
-    board: &Board,
-    gate: &G,
+    shared: &Shared<'_, G>,
     worker: Worker<S, B>,
 ) -> Worker<S, B>
-    requires lines { lines.now ≡ B.lines }
-    requires tag { tag ≡ B.tag }
-    requires room { HasTagRoom B.terms.layout tag }
+    requires lines { shared.now.lines.now ≡ B.lines }
+    requires tag { shared.now.tag ≡ B.tag }
+    requires room { HasTagRoom B.terms.layout shared.now.tag }
     ensures { result ≡ worker }
 {
     let mut worker = worker;
-    worker.run(rt, alloc, lines, tag, board, gate);
+    worker.run(rt, shared);
     worker
+}
+
+// Starts a worker in a thread of its own, if it has lines; else it ends here. `Io` where it can't be started: the board
+// is then closed.
+fn start<
+    's,
+    'e: 's,
+    S: Side + Send + 's,
+    B: Room + Send + Sync + 's,
+    R: Wait + Sync + 's,
+    G: Gate + Sync + 's,
+>(
+    scope: &Scope<'s, &'e ()>,
+    rt: &'s R,
+    shared: &'s Shared<'s, G>,
+    worker: Worker<S, B>,
+) -> Result<Started<S, B>, Fault>
+    requires lines { shared.now.lines.now ≡ B.lines }
+    requires tag { shared.now.tag ≡ B.tag }
+    requires room { HasTagRoom B.terms.layout shared.now.tag }
+    ensures promised { IfOk result (λ started. promised started ≡ worker) }
+    ensures fault { IfErr result (λ fault. fault ≡ Fault.Io) }
+{
+    if !worker.has_calls(shared.lines) {
+        return Ok(Started::Here(ran(rt, shared, worker)));
+    }
+    let thread = scope.spawn_with(
+        Number(worker.number()),
+        move || -> Worker<S, B>
+            requires lines { shared.now.lines.now ≡ B.lines }
+            requires tag { shared.now.tag ≡ B.tag }
+            requires room { HasTagRoom B.terms.layout shared.now.tag }
+            ensures { result ≡ worker }
+        { ran(rt, shared, worker) },
+    );
+    match thread {
+        Ok(handle) => Ok(Started::There(handle)),
+        Err(_) => {
+            shared.board.close(rt);
+            Err(Fault::Io)
+        }
+    }
 }
 
 /// Runs each worker that has lines in a thread of its own. `Io` where one can't be started: the board is then closed,
 /// and those that run end.
 pub fn run_all<S: Side + Send, B: Room + Send + Sync, R: Threads + Wait + Sync, G: Gate + Sync>(
     rt: &R,
-    alloc: Global,
-    lines: &[CallLine],
-    tag: Option<u8>,
-    board: &Board,
-    gate: &G,
+    shared: &Shared<'_, G>,
     workers: Vec<Worker<S, B>>,
 ) -> Result<Vec<Worker<S, B>>, Fault>
-    requires lines { lines.now ≡ B.lines }
-    requires tag { tag ≡ B.tag }
-    requires room { HasTagRoom B.terms.layout tag }
+    requires lines { shared.now.lines.now ≡ B.lines }
+    requires tag { shared.now.tag ≡ B.tag }
+    requires room { HasTagRoom B.terms.layout shared.now.tag }
     ensures all { IfOk result (λ v. v.items ≡ workers.items) }
     ensures fault { IfErr result IsEndFault }
 {
@@ -93,39 +125,20 @@ pub fn run_all<S: Side + Send, B: Room + Send + Sync, R: Threads + Wait + Sync, 
         thread::scope_env(),
         rt,
         move |scope| -> Result<Vec<Worker<S, B>>, Fault>
-            requires lines { lines.now ≡ B.lines }
-            requires tag { tag ≡ B.tag }
-            requires room { HasTagRoom B.terms.layout tag }
+            requires lines { shared.now.lines.now ≡ B.lines }
+            requires tag { shared.now.tag ≡ B.tag }
+            requires room { HasTagRoom B.terms.layout shared.now.tag }
             ensures all { IfOk result (λ v. v.items ≡ workers.items) }
             ensures fault { IfErr result IsEndFault }
         {
-            let Ok(mut handles) = Vec::with_capacity(alloc, workers.len()) else {
+            let Ok(mut handles) = Vec::with_capacity(shared.alloc, workers.len()) else {
                 return Err(Fault::Memory);
             };
-            let Ok(all) = Vec::with_capacity(alloc, workers.len()) else {
+            let Ok(all) = Vec::with_capacity(shared.alloc, workers.len()) else {
                 return Err(Fault::Memory);
             };
             for worker in workers {
-                if !worker.has_calls(lines) {
-                    let ended = ran(rt, alloc, lines, tag, board, gate, worker);
-                    handles.push_reserved(Started::Here(ended));
-                    continue;
-                }
-                let number = Number(worker.number());
-                let started = scope.spawn_with(
-                    number,
-                    move || -> Worker<S, B>
-                        requires lines { lines.now ≡ B.lines }
-                        requires tag { tag ≡ B.tag }
-                        requires room { HasTagRoom B.terms.layout tag }
-                        ensures { result ≡ worker }
-                    { ran(rt, alloc, lines, tag, board, gate, worker) },
-                );
-                let Ok(handle) = started else {
-                    board.close(rt);
-                    return Err(Fault::Io);
-                };
-                handles.push_reserved(Started::There(handle));
+                handles.push_reserved(start(scope, rt, shared, worker)?);
             }
             Ok(joined(rt, handles, all))
         },

@@ -14,7 +14,7 @@ use crate::gather::{Ended, all_ended};
 use crate::merge::merged;
 use crate::room::Room;
 use crate::run::run_all;
-use crate::worker::Worker;
+use crate::worker::{Shared, Worker};
 use sh_calls::line::binds;
 use sh_calls::meeting::met;
 use sh_calls::side::Side;
@@ -88,7 +88,14 @@ fn played<S: Side + Send, B: Room + Send + Sync, R: Threads + Wait + Sync, G: Ga
         return Err(Fault::Memory);
     };
     let workers: Vec<Worker<S, B>> = workers(alloc, lines, sides)?;
-    let workers = run_all(rt, alloc, lines, tag, &board, gate, workers)?;
+    let shared = Shared {
+        alloc,
+        lines,
+        tag,
+        board: &board,
+        gate,
+    };
+    let workers = run_all(rt, &shared, workers)?;
     let ended = all_ended(empty, workers, lines.len())?;
     let (output, sides) = merged::<S, B>(alloc, lines, ended)?;
     Ok((output, met(sides)))

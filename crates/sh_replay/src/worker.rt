@@ -16,6 +16,16 @@ use std::alloc::Global;
 use std::marker::{Model, PhantomData};
 use std::sync::Wait;
 
+/// What all workers share: the script, the board of its names, and the gate that they pass.
+#[derive(Drop)]
+pub struct Shared<'a, G: Gate> {
+    pub alloc: Global,
+    pub lines: &'a [CallLine],
+    pub tag: Option<u8>,
+    pub board: &'a Board,
+    pub gate: &'a G,
+}
+
 /// A call that was made: the number that its name stood for, if it is on a name, and what it was answered.
 #[derive(Drop)]
 pub struct Made {
@@ -71,35 +81,27 @@ fn names_bound(call: &Call) -> usize
 impl<S: Side, B: Room> Worker<S, B> {
     // Passes the next line, and makes its call if it is its own. False where there is no line left, or the board is
     // closed. It takes no memory but what the call takes: the room for what it was answered was taken before.
-    fn step<R: Wait, G: Gate>(
-        &mut self,
-        rt: &R,
-        alloc: Global,
-        lines: &[CallLine],
-        tag: Option<u8>,
-        board: &Board,
-        gate: &G,
-    ) -> bool
-        requires lines { lines.now ≡ B.lines }
-        requires tag { tag ≡ B.tag }
-        requires room { HasTagRoom B.terms.layout tag }
+    fn step<R: Wait, G: Gate>(&mut self, rt: &R, shared: &Shared<'_, G>) -> bool
+        requires lines { shared.now.lines.now ≡ B.lines }
+        requires tag { shared.now.tag ≡ B.tag }
+        requires room { HasTagRoom B.terms.layout shared.now.tag }
         ensures { self.new ≡ self.old }
     {
-        let Some(line) = lines.get(self.next) else {
+        let Some(line) = shared.lines.get(self.next) else {
             return false;
         };
         if line.pass as usize == self.number {
             let call = self.made.len();
-            gate.before(self.number, call);
-            let Some(bound) = awaited(rt, board, &line.call) else {
+            shared.gate.before(self.number, call);
+            let Some(bound) = awaited(rt, shared.board, &line.call) else {
                 return false;
             };
-            let answer = answered(alloc, &mut self.side, tag, &line.call, bound);
+            let answer = answered(shared.alloc, &mut self.side, shared.tag, &line.call, bound);
             if binds(&line.call) {
-                board.bind(rt, self.names, number_told(&answer));
+                shared.board.bind(rt, self.names, number_told(&answer));
             }
             self.made.push_reserved(Made { bound, answer });
-            gate.after(self.number, call);
+            shared.gate.after(self.number, call);
         }
         self.names += names_bound(&line.call);
         self.next += 1;
@@ -107,23 +109,15 @@ impl<S: Side, B: Room> Worker<S, B> {
     }
 
     /// Makes the calls that are left, in order. Where it stops before the last, it closes the board.
-    pub fn run<R: Wait, G: Gate>(
-        &mut self,
-        rt: &R,
-        alloc: Global,
-        lines: &[CallLine],
-        tag: Option<u8>,
-        board: &Board,
-        gate: &G,
-    )
-        requires lines { lines.now ≡ B.lines }
-        requires tag { tag ≡ B.tag }
-        requires room { HasTagRoom B.terms.layout tag }
+    pub fn run<R: Wait, G: Gate>(&mut self, rt: &R, shared: &Shared<'_, G>)
+        requires lines { shared.now.lines.now ≡ B.lines }
+        requires tag { shared.now.tag ≡ B.tag }
+        requires room { HasTagRoom B.terms.layout shared.now.tag }
         ensures { self.new ≡ self.old }
     {
-        for _ in 0..lines.len() {
-            if !self.step(rt, alloc, lines, tag, board, gate) {
-                board.close(rt);
+        for _ in 0..shared.lines.len() {
+            if !self.step(rt, shared) {
+                shared.board.close(rt);
                 return;
             }
         }

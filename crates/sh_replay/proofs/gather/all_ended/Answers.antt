@@ -30,7 +30,8 @@ loop-worker-preserved g c =
     z.1 z.2 in
     record {
       ended = subst E (λ i. (count i, sym sides i, sym rests i)) (one_more_ended room.heap room.terms room.tag
-          room.lines (length y) (map seen c.loop-worker.sides.items) c.loop-worker.rests.items side made was.ended work);
+          room.lines (length y) (map seen c.loop-worker.sides.items) c.loop-worker.rests.items side made was.ended
+          work);
       rest = was.rest ∙ (ap (λ (z : List ℕ). y ++ z) step.0 ∙ sym (append_assoc y (w ∷ []) _));
       counted = omega (arith, was.counted, step.1, length-append y (w ∷ []));
       sides_room = omega (arith, was.sides_room, step.1, c.push_reserved.ensures.len, c.push_reserved.ensures.capacity);
