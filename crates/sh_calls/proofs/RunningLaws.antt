@@ -1,8 +1,8 @@
 -- What calls of a pass of the running heap are in a run of calls.
-use Rattle.std.proofs.Common.{◌≡◌, ℕ, suc, ◌+◌, ◌<◌, ◌≤◌, ◌==◌, ◌&&◌, Bool, true, false, cond, List, [], ◌∷◌, ◌++◌, map}
+use Rattle.std.proofs.Common.{◌≡◌, ℕ, ◌+◌, ◌<◌, ◌≤◌, ◌==◌, ◌&&◌, Bool, true, false, List, [], ◌∷◌, ◌++◌, map}
 use Rattle.std.proofs.Common.{length, refl, sym, ap, subst, ◌∙◌, arith, Option, Some, None, Result, Ok, Err, ltb-true}
 use Rattle.std.proofs.Common.{eq-eqb}
-use Rattle.std.specs.Prelude.{nat_lt, nat_le, not, IsSome, IfOk, MatchResult}
+use Rattle.std.specs.Prelude.{nat_lt, nat_le, IsSome, IfOk, MatchResult}
 use Rattle.std.proofs.lemmas.Bool.Decides.{nat_tests}
 use Rattle.std.proofs.lemmas.Option.{same_Some}
 use Rattle.sh_value.specs.declared.hold.Hold.{Hold}
@@ -13,12 +13,10 @@ use Rattle.sh_key.specs.Layout.{Layout, unpacked, first_key, key_count}
 use Rattle.sh_key.proofs.Packing.{keys_are_consecutive}
 use Rattle.sh_shape.specs.Shape.{Numbers}
 use Rattle.sh_shape.specs.Places.{pages_of, page_number}
-use Rattle.std.specs.List.{All}
-use Rattle.sh_history.specs.declared.entry.Entry.{Entry}
 use Rattle.sh_history.specs.declared.entry.Entry.TheVariants as entry
 use Rattle.sh_history.specs.declared.log.LogEntry.{LogEntry}
 use Rattle.sh_history.specs.declared.log.LogEntry.TheVariants.{Known, Unread}
-use Rattle.sh_history.specs.Log.{pass_of, entries_of, filled, logged_holds_by, logged_hold_count}
+use Rattle.sh_history.specs.Log.{filled, logged_holds_by, logged_hold_count}
 use Rattle.sh_slots.specs.declared.hand.Name.{Name}
 use Rattle.sh_step.specs.Moves.{has_place, place_named}
 use Rattle.sh_step.specs.Collections.{has}
@@ -29,15 +27,15 @@ use Rattle.sh_core.proofs.BellKinds.{some_has}
 use Rattle.sh_core.proofs.ListCounts.{has_some}
 use Rattle.sh_table.specs.declared.view.View.{View}
 use Rattle.sh_table.specs.declared.view.Told.{Told}
-use Rattle.sh_table.specs.Tales.{ViewStands, IsLogOf}
-use Rattle.sh_table.specs.Views.{Each, told_of, joined_view}
+use Rattle.sh_table.specs.Tales.{ViewStands}
+use Rattle.sh_table.specs.Views.{told_of, joined_view}
 use Rattle.sh_pass.specs.Growing.{SameTale}
 use Rattle.sh_pass.specs.Owners.{IsKeyIn}
 use Rattle.sh_pass.proofs.OwnMay.{home_is}
 use Rattle.sh_shard.specs.Pages.{ShardLeft}
 use Rattle.sh_shard.specs.Shards.{Sharded, AdoptServes, LeaveServes, InsertServes}
 use Rattle.sh_pass.specs.Passes.{Caller, IsKeyOfHeap, GetDoes, ReadDoes, RemoveDoes, ReleaseDoes, holds}
-use Rattle.sh_calls.specs.Parts.{PassTold, SeenPass, SamePass, HasAllLogs, HasWholeTale, tale_told, is_placed_key}
+use Rattle.sh_calls.specs.Parts.{PassTold, SeenPass, SamePass, tale_told, is_placed_key}
 use Rattle.sh_calls.specs.Parts.{is_key_of_shard, heap_terms, with_entry}
 use Rattle.sh_calls.specs.Calls.{UnlessRefused, GetAnswers, HoldGot, get_refusal, ReadAnswers, ValueRead, hold_refusal}
 use Rattle.sh_calls.specs.Calls.{RemoveAnswers, KeyRemoved, remove_refusal, ReleaseAnswers, HoldReleased, AdoptAnswers}

@@ -1,5 +1,5 @@
 -- What the tale of a pass of the running heap tells: one history of all, and which passes it names.
-use Rattle.std.proofs.Common.{◌≡◌, ℕ, zero, suc, ◌+◌, ◌<◌, ◌==◌, ◌||◌, Bool, true, false, cond, List, [], ◌∷◌, ◌++◌, map}
+use Rattle.std.proofs.Common.{◌≡◌, ℕ, zero, suc, ◌<◌, ◌==◌, ◌||◌, Bool, true, false, cond, List, [], ◌∷◌, ◌++◌, map}
 use Rattle.std.proofs.Common.{refl, sym, ap, subst, ◌∙◌, arith}
 use Rattle.std.specs.Prelude.{nat_lt, not}
 use Rattle.std.proofs.lemmas.Bool.Decides.{nat_tests}
@@ -8,7 +8,6 @@ use Rattle.sh_key.specs.Layout.{Layout}
 use Rattle.sh_shape.specs.Shape.{Numbers}
 use Rattle.sh_history.specs.declared.entry.Entry.{Entry}
 use Rattle.sh_history.specs.Log.{pass_of, entries_of}
-use Rattle.sh_table.specs.declared.view.View.{View}
 use Rattle.sh_table.specs.declared.view.Told.{Told}
 use Rattle.sh_table.specs.Tales.{ViewStands, IsLogOf, IsTale}
 use Rattle.sh_table.specs.Views.{Each, names_told}

@@ -1,6 +1,6 @@
 -- How the reading of a command line ends.
-use Rattle.std.proofs.Common.{◌≡◌, ◌≢◌, ◌⊎◌, ◌∙◌, ◌||◌, Bool, ℕ, List, [], ◌∷◌, Option, Some, None, true, false, map}
-use Rattle.std.proofs.Common.{refl, sym, subst, ap, inl, inr, codes, drop}
+use Rattle.std.proofs.Common.{◌≡◌, ◌⊎◌, ◌∙◌, Bool, List, [], ◌∷◌, Option, Some, None, true, false, map}
+use Rattle.std.proofs.Common.{refl, sym, subst, ap, codes, drop}
 use Rattle.std.specs.Prelude.{option_map, unwrap_or}
 use Rattle.std.specs.List.{list_any, slice_index_or}
 use Rattle.std.specs.Str.{bytes_eq}

@@ -1,5 +1,5 @@
 -- The word that a parse finds for the mode is one of those that clap was told.
-use Rattle.std.proofs.Common.{◌≡◌, ◌⊎◌, ◌∙◌, ◌<◌, ◌≤◌, ◌&&◌, ℕ, zero, suc, Bool, true, false, List, [], ◌∷◌, length}
+use Rattle.std.proofs.Common.{◌≡◌, ◌⊎◌, ◌∙◌, ◌<◌, ◌≤◌, ℕ, zero, suc, Bool, true, false, List, [], ◌∷◌, length}
 use Rattle.std.proofs.Common.{map, is_some, Option, Some, None, not, refl, sym, ap, subst, inl, inr, arith, codes}
 use Rattle.std.proofs.Common.{slice_index, slice_get}
 use Rattle.std.specs.List.{All, slice_index_or}
@@ -7,7 +7,6 @@ use Rattle.std.specs.Str.{bytes_eq}
 use Rattle.std.specs.Prelude.{option_and_then, option_map}
 use Rattle.std.specs.Borrow.{Bor}
 use Rattle.std.proofs.lemmas.Slice.Eq.{bytes_eq-Decides}
-use Rattle.std.proofs.lemmas.List.Elements.{All-get_or}
 use Rattle.clap.specs.Words.{App, Rule, Text, Accepts, app_of, args_of, first_value, found_of, groups_of, matched_of}
 use Rattle.clap.specs.Words.{rule_of}
 use Rattle.clap.specs.Facts.{Entry, EntryPasses, EntryValuesPass, IsGroupEntry, IsKnownGroup, PassesArg, least_values}

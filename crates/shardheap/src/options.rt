@@ -71,7 +71,12 @@ pub fn options<'a>(alloc: Global, words: &'a [&'a str]) -> Result<(Mode, bool), 
     ensures ok { IfOk result (λ r. CommandSays (map (λ w. w.now) words.entry.now) r.0 r.1) }
     ensures err { IfErr result (λ e. IsRefused (map (λ w. w.now) words.entry.now) (kind_of e)) }
 {
-    let modes = [name(MODES[0]), name(MODES[1]), name(MODES[2]), name(MODES[3])];
+    let modes = [
+        name(MODES[0]),
+        name(MODES[1]),
+        name(MODES[2]),
+        name(MODES[3]),
+    ];
     let matches = command(alloc, modes.as_slice())?.try_get_matches_from(words)?;
     // A parse that succeeds has a word for the mode, since it is required, and the word is one of these.
     let word = matches.get_str("mode").unwrap_or("");

@@ -1,10 +1,9 @@
 use Rattle.std.proofs.Common.{◌≡◌, ◌∙◌, Some, ap, ap₂, rules, true}
-use Rattle.clap.specs.Words.{App, Rule, app_of, rule_of, with_rule}
+use Rattle.clap.specs.Words.{App, app_of, rule_of, with_rule}
 use Rattle.clap.specs.Simple.{app_of_fields}
-use Rattle.clap.specs.declared.builder.value_parser.ValueParser.{ValueParser}
 use Rattle.clap.specs.declared.builder.value_parser.ValueParser.TheVariants.{Names}
 use Rattle.std.proofs.lemmas.Result.{IfOk-weaker}
-use Rattle.shardheap.specs.Options.{accounts_rule, command_line, mode_rule, program_app}
+use Rattle.shardheap.specs.Options.{accounts_rule, mode_rule, program_app}
 use Rattle.shardheap.proofs.options.command.Goals as goal
 
 pub returns : goal.returns

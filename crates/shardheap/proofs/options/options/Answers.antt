@@ -1,8 +1,7 @@
-use Rattle.std.proofs.Common.{◌≡◌, ◌∙◌, ap, sym, subst, map, List, [], Option, Some, None, refl, rules, codes}
-use Rattle.std.specs.Prelude.{option_map, unwrap_or}
+use Rattle.std.proofs.Common.{◌≡◌, ◌∙◌, ap, sym, subst, map, List, Some, rules}
 use Rattle.std.proofs.lemmas.Result.{err_from_is_err_and}
-use Rattle.clap.specs.Words.{Text, app_of, first_value, found_of}
-use Rattle.shardheap.specs.Options.{IsNoMode, NameModes, command_line, mode_word}
+use Rattle.clap.specs.Words.{Text, app_of}
+use Rattle.shardheap.specs.Options.{IsNoMode, NameModes, command_line}
 use Rattle.shardheap.proofs.ModeLemmas.{mode_found}
 use Rattle.shardheap.proofs.CommandLine.{among, flag_is, free, no_fault, read_word, refused, rows_are, word_is}
 use Rattle.shardheap.proofs.options.options.Goals as goal
