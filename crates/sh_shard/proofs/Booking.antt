@@ -155,7 +155,8 @@ get_leaves layout key o n (Ok hold) s k =
       k.0,
       (Unread o.pages.owner.view.pass key, (refl, refl), adds.log),
       subst
-          (λ a. 0 < logged_holds_by (shard_book n) a key) adds.same.pass (held_now layout n.pages.owner.view key s here),
+          (λ a. 0 < logged_holds_by (shard_book n) a key) adds.same.pass
+          (held_now layout n.pages.owner.view key s here),
     )
 get_leaves layout key o n (Err refusal.BadKey) s k = log_is o.pages.owner n.pages.owner k.1
 get_leaves layout key o n (Err refusal.Gone) s k = k.2.log

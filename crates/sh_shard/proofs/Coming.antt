@@ -27,8 +27,8 @@ few_pages {layout} {v} {shard} {states = states} k = go (length states) k.few (k
       go : (n : ℕ) → n ≡ pages_of v.view.shape → shard < v.view.shape.shards
           → v.view.shape.shards * pages_of v.view.shape ≤ 2048 → shard * n + n ≤ 2048
       go n e l few =
-          let a : shard * pages_of v.view.shape + pages_of v.view.shape ≤ v.view.shape.shards * pages_of v.view.shape = more
-          shard v.view.shape.shards (pages_of v.view.shape) l in
+          let a : shard * pages_of v.view.shape + pages_of v.view.shape
+          ≤ v.view.shape.shards * pages_of v.view.shape = more shard v.view.shape.shards (pages_of v.view.shape) l in
           subst (λ z. shard * z + z ≤ 2048) (sym e) (omega arith) where
             more : (s t n : ℕ) → s < t → s * n + n ≤ t * n
             more s t n l = let x : suc s * n ≤ t * n = mul-le-mul_right {m = suc s} {n = t} n l in omega arith

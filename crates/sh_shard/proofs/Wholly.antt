@@ -78,8 +78,9 @@ pub some_slot : (st : PageState) (g : SeenPage) (n : ℕ) → KeepsPage st g →
     (NothingMine g)
 some_slot st g n a e = go (st.lists.free ++ st.lists.local) a.mine (length-append st.lists.free st.lists.local)
     (nat_lt 0 n) refl where
-      go : (xs : List ℕ) → ((s : ℕ) → has_number s xs ≡ g.mine s) → length xs ≡ length st.lists.free + length st.lists.local
-          → (b : Bool) → nat_lt 0 n ≡ b → MatchBool b ((s : ℕ) × (g.mine s ≡ true)) (NothingMine g)
+      go : (xs : List ℕ) → ((s : ℕ) → has_number s xs ≡ g.mine s)
+          → length xs ≡ length st.lists.free + length st.lists.local → (b : Bool) → nat_lt 0 n ≡ b
+          → MatchBool b ((s : ℕ) × (g.mine s ≡ true)) (NothingMine g)
       go [] h l true t = absurd (let z : 0 < n = grind (arith, nat_tests) in omega arith)
       go [] h l false t = λ s. sym (h s)
       go (x ∷ xs) h l true t = (x, sym (h x) ∙ head_has x xs)

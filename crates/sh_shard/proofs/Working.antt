@@ -421,7 +421,8 @@ pub tried : (p : ℕ) (value : List ℕ) (r : Option ℕ) (o m₁ m₂ m₃ m₄
     → MatchOption r (WorksOn p o n × PageDone o n p) (λ key. PageInserts p value key o n)
 tried p value r o m₁ m₂ m₃ m₄ n first g second h = go r (subst (λ (z : Paged). CollectsPage p z m₂) first g)
     (subst (λ (z : Paged). GuardsPage p z m₄) second h) where
-      go : (r : Option ℕ) → CollectsPage p o m₂ → GuardsPage p m₂ m₄ → MatchOption r ((n ≡ m₄) × NothingMine (page_at m₄ p))
+      go : (r : Option ℕ) → CollectsPage p o m₂ → GuardsPage p m₂ m₄
+          → MatchOption r ((n ≡ m₄) × NothingMine (page_at m₄ p))
           (λ key. PageInserts p value key m₄ n) → MatchOption r (WorksOn p o n × PageDone o n p)
           (λ key. PageInserts p value key o n)
       go None g h e = subst (λ (z : Paged). WorksOn p o z × PageDone o z p) (sym e.0) (done_of p o m₂ m₄ g h e.1)

@@ -86,7 +86,8 @@ impl<'a, L: KeyLayout> Pages<'a, L> {
         requires bell { (own_body owner).bell_cursor ≡ None }
         requires pages { (q : ℕ) → HasNothing (seen_page owner q) }
         requires stands { ViewStands L.layout owner.view }
-        ensures { MatchResult result (λ pages. AdoptsShard owner.entry shard pages) (λ back. ShardLeft owner.entry back) }
+        ensures { MatchResult result (λ pages. AdoptsShard owner.entry shard pages)
+            (λ back. ShardLeft owner.entry back) }
     {
         let mut owner = owner;
         let count = owner.pages();
@@ -130,7 +131,8 @@ impl<'a, L: KeyLayout> Pages<'a, L> {
     /// Whether the page has a cursor.
     pub(crate) fn has_cursor(&self, page: u64) -> bool
         requires { page < self.now.count }
-        ensures { MatchBool result (CursorStands (page_at self.now page).cursor) ((page_at self.now page).cursor ≡ None) }
+        ensures { MatchBool result (CursorStands (page_at self.now page).cursor)
+            ((page_at self.now page).cursor ≡ None) }
     {
         self.states[page as usize].lists.cursor().is_some()
     }

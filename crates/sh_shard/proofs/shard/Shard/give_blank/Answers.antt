@@ -21,8 +21,9 @@ returns g c =
     (record { pages = c.give_class.new.self; queues = c.to_front.new.self }) in
     let was : IsBlank (page_at c.self.inside.pages c.in-Some.page) = c.self.invariant.blank c.in-Some.page
     (front_blank c.in-Some.page c.self.inside.queues (sym c.blank.ensures.front ∙ c.in-Some.is)) in
-    let lowest : IsLowest IsBlank c.in-Some.page c.self.inside.pages = lowest_blank (record { pages = c.self.inside.pages; queues = c.self.inside.queues }) c.self.invariant c.opened-opened.ensures.once c.in-Some.page
-    c.in-Some.ensures.opened was c.in-Some.ensures.lowest in
+    let lowest : IsLowest IsBlank c.in-Some.page c.self.inside.pages = lowest_blank
+    (record { pages = c.self.inside.pages; queues = c.self.inside.queues }) c.self.invariant
+    c.opened-opened.ensures.once c.in-Some.page c.in-Some.ensures.opened was c.in-Some.ensures.lowest in
     subst P c.self.view_is (prepared c.self.inside.pages c.give_class.new.self c.self.inside.queues c.to_front.new.self
     c.args.class c.in-Some.page c.self.invariant c.opened-opened.ensures.once c.requires c.in-Some.ensures.opened
     (inl (c.in-Some.ensures.opened, lowest)) (blank_other c.args.class (page_at c.self.inside.pages c.in-Some.page) was)

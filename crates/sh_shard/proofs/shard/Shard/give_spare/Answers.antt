@@ -24,7 +24,8 @@ pub returns : goal.returns
 returns g c =
     let inside : c.in-Some.page < c.self.inside.queues.opened = subst
     (λ (z : Sharded). c.in-Some.page < z.queues.opened) (sym c.self.view_is) c.in-Some.ensures.0 in
-    let none : NoneOpenedBlank (record { pages = c.self.inside.pages; queues = c.self.inside.queues }) = subst NoneOpenedBlank (sym c.self.view_is) c.requires.blank in
+    let none : NoneOpenedBlank (record { pages = c.self.inside.pages; queues = c.self.inside.queues }) = subst
+    NoneOpenedBlank (sym c.self.view_is) c.requires.blank in
     let lowest : IsLowest (IsSpare c.args.class) c.in-Some.page c.self.inside.pages = subst
     (λ (z : Sharded). IsLowest (IsSpare c.args.class) c.in-Some.page z.pages) (sym c.self.view_is)
     c.in-Some.ensures.1 in
