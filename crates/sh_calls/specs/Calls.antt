@@ -1,6 +1,6 @@
 -- What a call of a pass does, given its answer: which refusal comes exactly where, what the log gains, and who owns
 -- what.
-use Rattle.std.specs.Prelude.{◌≡◌, ℕ, ◌+◌, ◌<◌, nat_lt, nat_le, not, Bool, true, false, List, map, length, Option, Some}
+use Rattle.std.specs.Prelude.{◌≡◌, ℕ, ◌+◌, ◌<◌, nat_lt, nat_le, not, true, List, map, length, Option, Some}
 use Rattle.std.specs.Prelude.{None, Result, Ok, Err, ok_or, if◌then◌else◌}
 use Rattle.sh_value.specs.declared.hold.Hold.{Hold}
 use Rattle.sh_value.specs.declared.refusal.Refusal.{Refusal}
@@ -10,6 +10,7 @@ use Rattle.sh_history.specs.declared.entry.Entry.TheVariants.{Insert, Gone, Crow
 use Rattle.sh_history.specs.declared.log.LogEntry.{LogEntry}
 use Rattle.sh_history.specs.declared.log.LogEntry.TheVariants.{Known}
 use Rattle.sh_history.specs.Log.{IsGotBy, filled, AllHaveValue, logged_holds_by, logged_hold_count}
+pub use Rattle.sh_script.specs.BoundNames.{name_referred, name_used, binds}
 use Rattle.sh_script.specs.declared.calls.Reference.{Reference}
 use Rattle.sh_script.specs.declared.calls.Reference.TheVariants as reference
 use Rattle.sh_script.specs.declared.calls.Call.{Call}
@@ -178,24 +179,6 @@ CallAnswers terms tag pass v (call.Release r) bound a w = OnKey (key_meant tag b
     (λ key. AnswerSays done_answer (ReleaseAnswers pass v key)) a w
 CallAnswers terms tag pass v call.Post bound a w = (a ≡ answer.Done) × (w ≡ v)
 CallAnswers terms tag pass v (call.Wait name) bound a w = (a ≡ answer.Done) × (w ≡ v)
-
--- the name that a call is on, by the order in which the names are bound
-abbrev pub name_referred : Reference → Option ℕ
-name_referred (reference.Key number) = None
-name_referred (reference.Name i) = Some i
-
-abbrev pub name_used : Call → Option ℕ
-name_used (call.Get r) = name_referred r
-name_used (call.Read r) = name_referred r
-name_used (call.Remove r) = name_referred r
-name_used (call.Release r) = name_referred r
-name_used _ = None
-
--- the call binds the next name
-abbrev pub binds : Call → Bool
-binds (call.Insert words) = true
-binds call.Post = true
-binds _ = false
 
 -- the number that the name of an insert stands for
 abbrev pub number_told : Answer → Option ℕ

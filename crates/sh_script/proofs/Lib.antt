@@ -14,4 +14,5 @@ pub mod LineLemmas
 pub mod Reading
 pub mod GrammarLemmas
 pub mod PassLemmas
+pub mod BoundLemmas
 pub mod ScriptLemmas

@@ -11,6 +11,7 @@ use Rattle.sh_script.specs.EventLines.{event_added}
 use Rattle.sh_script.specs.CallMeaning.{SaysCall}
 use Rattle.sh_script.specs.EventMeaning.{SaysEvent}
 use Rattle.sh_script.specs.HeaderMeaning.{AreTag, HasTag}
+use Rattle.sh_script.specs.BoundNames.{NamesAreBound}
 use Rattle.sh_script.specs.Grammar.{Means}
 use Rattle.sh_script.specs.Script.{script_of}
 use Rattle.sh_script.specs.Scripts.{IsCalls, IsCallsFault, calls_of, GivesCalls, IsEvents, IsEventsFault, GivesEvents}
@@ -27,6 +28,7 @@ use Rattle.sh_script.proofs.CallLemmas.{calls_agree}
 use Rattle.sh_script.proofs.EventLemmas.{events_agree}
 use Rattle.sh_script.proofs.GrammarLemmas.{script_only, script_found, fault_only, fault_found}
 use Rattle.sh_script.proofs.PassLemmas.{IsLasting, script_keeps}
+use Rattle.sh_script.proofs.BoundLemmas.{AreBound, calls_stay_bound}
 
 -- ---- calls
 
@@ -90,6 +92,14 @@ pub passes_of_calls : (text : List ℕ) (r : Result Calls Fault) → GivesCalls 
 passes_of_calls text (Ok c) h = let x = calls_found text c.header c.lines.items h
     in script_keeps SaysCall no_calls CallsBelow calls_stay_below text c.header _ x.1
 passes_of_calls text (Err f) h = tt
+
+pub names_of_calls : (text : List ℕ) (r : Result Calls Fault) → GivesCalls r (calls_of text)
+    → IfOk r (λ c. NamesAreBound c.lines.items)
+names_of_calls text (Ok c) h =
+    let x = calls_found text c.header c.lines.items h in
+    let all = script_keeps SaysCall no_calls AreBound calls_stay_bound text c.header _ x.1 in
+    all.bound
+names_of_calls text (Err f) h = tt
 
 -- the header has a tag where it may
 abbrev KeepsTag : {S : Type 0} → Header → S → Type 0

@@ -9,6 +9,7 @@ pub mod CallLines
 pub mod CallMeaning
 pub mod EventLines
 pub mod EventMeaning
+pub mod BoundNames
 pub mod Script
 pub mod Grammar
 pub mod Scripts

@@ -7,6 +7,7 @@ ghost use Rattle.sh_script.specs.declared.header.Header.{Header};
 ghost use Rattle.sh_script.specs.declared.calls.CallLine.{CallLine};
 ghost use Rattle.sh_script.specs.HeaderMeaning.{HasTag};
 ghost use Rattle.sh_script.specs.EventLines.{event_added};
+ghost use Rattle.sh_script.specs.BoundNames.{NamesAreBound};
 ghost use Rattle.sh_script.specs.Script.{script_of};
 ghost use Rattle.sh_script.specs.Scripts.{IsCalls, IsCallsFault, IsEvents, IsEventsFault, calls_of, GivesCalls};
 ghost use Rattle.sh_script.specs.Scripts.{GivesEvents};
@@ -45,6 +46,8 @@ pub fn parse_calls(alloc: Global, text: &[u8]) -> Result<Calls, Fault>
     ensures calls { IfOk result (λ c. IsCalls text.now c.header c.lines.items) }
     ensures tag { IfOk result (λ c. HasTag c.header.layout c.header.tag) }
     ensures passes { IfOk result (λ c. All (λ l. l.pass < c.header.shape.passes) c.lines.items) }
+    // A line uses, and waits for, no name but those that the lines before it bind.
+    ensures bound { IfOk result (λ c. NamesAreBound c.lines.items) }
     ensures fault { IfErr result (λ f. f ≢ Fault.Memory → IsCallsFault text.now f) }
 
     // What is so is answered, unless memory runs out.
