@@ -2,6 +2,7 @@
 mod ends;
 mod hands;
 mod heap;
+mod refused;
 mod sizes;
 mod step_ends;
 mod steps;
