@@ -21,7 +21,7 @@ use Rattle.sh_calls.specs.Keys.{key_shown}
 use Rattle.sh_calls.specs.Results.{done_answer, value_answer, key_answer}
 use Rattle.sh_calls.specs.Parts.{RunTerms, PassPart, with_entry, is_run_key, is_own_key}
 
--- a refusal that comes before all else, with nothing changed; where there is none, the rest holds_left
+-- a refusal that comes before all else, with nothing changed; where there is none, the rest holds
 abbrev pub UnlessRefused : {A : Type 0} → Option Refusal → PassPart → Result A Refusal → PassPart → Type 0 → Type 0
 UnlessRefused (Some e) v r w Rest = (r ≡ Err e) × (w ≡ v)
 UnlessRefused None v r w Rest = Rest

@@ -16,23 +16,27 @@ pub trait Calls: Drop {
     // What a contract sees.
     ghost seen: { Self → SeenPass };
 
+    /// Takes a hold on the key.
     fn get(&mut self, key: u64) -> Result<Hold, Refusal>
         ensures does { GetAnswers (seen self.old).terms (seen self.old).pass (seen self.old).part key result
             (seen self.new).part }
         ensures same { SamePass (seen self.old) (seen self.new) }
         ensures shard { (seen self.new).part.shard ≡ (seen self.old).part.shard };
 
+    /// The value of the key that it holds.
     fn read(&mut self, hold: Hold) -> Result<Value, Refusal>
         ensures does { ReadAnswers (seen self.old).pass (seen self.old).part hold.key result (seen self.new).part }
         ensures same { SamePass (seen self.old) (seen self.new) }
         ensures shard { (seen self.new).part.shard ≡ (seen self.old).part.shard };
 
+    /// Removes the key.
     fn remove(&mut self, key: u64) -> Result<(), Refusal>
         ensures does { RemoveAnswers (seen self.old).terms (seen self.old).pass (seen self.old).part key result
             (seen self.new).part }
         ensures same { SamePass (seen self.old) (seen self.new) }
         ensures shard { (seen self.new).part.shard ≡ (seen self.old).part.shard };
 
+    /// Gives a hold back.
     fn release(&mut self, hold: Hold) -> Result<(), Refusal>
         ensures does { ReleaseAnswers (seen self.old).pass (seen self.old).part hold.key result (seen self.new).part }
         ensures same { SamePass (seen self.old) (seen self.new) }
@@ -46,6 +50,7 @@ pub trait Calls: Drop {
 
 /// A pass that becomes a shard when it adopts one, and gets back when it leaves it.
 pub trait Adopts<S: Calls>: Calls + Sized {
+    /// The shard that the pass becomes; where the adoption is refused, the pass comes back.
     fn adopt(self, alloc: Global, shard: u64) -> Result<S, (Self, Refusal)>
         requires none { (Self.seen self).part.shard ≡ None }
         ensures { MatchResult result
@@ -54,12 +59,14 @@ pub trait Adopts<S: Calls>: Calls + Sized {
             (λ e. AdoptAnswers (Self.seen self).terms (Self.seen self).part shard (Err e.1) (Self.seen e.0).part
             × SamePass (Self.seen self) (Self.seen e.0)) };
 
+    /// The pass that the shard was; where leaving is refused, the shard comes back.
     fn leave(shard: S) -> Result<Self, (S, Refusal)>
         ensures { MatchResult result
             (λ p. LeaveAnswers (S.seen shard).part (Ok tt) (Self.seen p).part × SamePass (S.seen shard) (Self.seen p))
             (λ e. LeaveAnswers (S.seen shard).part (Err e.1) (S.seen e.0).part
             × SamePass (S.seen shard) (S.seen e.0)) };
 
+    /// The first pass, which now speaks for both.
     fn join(self, other: Self) -> Self
         requires heap { (Self.seen self).heap ≡ (Self.seen other).heap }
         ensures heap { (Self.seen result).heap ≡ (Self.seen self).heap }
@@ -67,6 +74,7 @@ pub trait Adopts<S: Calls>: Calls + Sized {
         ensures none { (Self.seen result).part.shard ≡ (Self.seen self).part.shard }
         ensures tale { tale_told (Self.seen result) ≡ tale_told (Self.seen self) ++ tale_told (Self.seen other) };
 
+    /// Stores the value in the shard, and answers its key.
     fn insert(shard: &mut S, value: &Value) -> Result<u64, Refusal>
         ensures does { ValueInserted (S.seen shard.old).terms (S.seen shard.old).pass (S.seen shard.old).part value.now
             result (S.seen shard.new).part }
@@ -79,8 +87,11 @@ pub trait Adopts<S: Calls>: Calls + Sized {
 /// What a holder has: a pass, a shard, or nothing while one becomes the other.
 #[derive(Drop)]
 pub enum State<P: Drop, S: Drop> {
+    /// It owns no shard.
     Pass(P),
+    /// It owns a shard.
     Shard(S),
+    /// One is becoming the other; between calls it is never so.
     Moving,
 }
 

@@ -14,14 +14,19 @@ pub trait Side: Drop {
     // What a contract sees.
     ghost seen: { Self → SeenPass };
 
+    /// Adopts the shard. Refused as `Taken` where it owns one, as `NoShard` where there is no such shard, as `Taken`
+    /// where another owns it, and as `Memory`.
     fn adopt(&mut self, alloc: Global, shard: u64) -> Result<(), Refusal>
         ensures does { AdoptAnswers (seen self.old).terms (seen self.old).part shard result (seen self.new).part }
         ensures same { SamePass (seen self.old) (seen self.new) };
 
+    /// Leaves its shard. Refused as `NoShard` where it owns none, and as `Waiting`.
     fn leave(&mut self) -> Result<(), Refusal>
         ensures does { LeaveAnswers (seen self.old).part result (seen self.new).part }
         ensures same { SamePass (seen self.old) (seen self.new) };
 
+    /// Stores the value in its shard, and answers its key. Refused as `NoShard` where it owns none, as `Full`, and as
+    /// `Memory`.
     fn insert(&mut self, value: &Value) -> Result<u64, Refusal>
         ensures does { InsertAnswers (seen self.old).terms (seen self.old).pass (seen self.old).part value.now result
             (seen self.new).part }
@@ -29,20 +34,24 @@ pub trait Side: Drop {
             (seen self.old).terms.layout) }
         ensures same { SamePass (seen self.old) (seen self.new) };
 
+    /// Takes a hold on the key. Refused as `BadKey`, `HoldsFull`, `Gone` or `Crowded`.
     fn get(&mut self, key: u64) -> Result<Hold, Refusal>
         ensures does { GetAnswers (seen self.old).terms (seen self.old).pass (seen self.old).part key result
             (seen self.new).part }
         ensures same { SamePass (seen self.old) (seen self.new) };
 
+    /// The value of the key that it holds. Refused as `NotHeld`.
     fn read(&mut self, hold: Hold) -> Result<Value, Refusal>
         ensures does { ReadAnswers (seen self.old).pass (seen self.old).part hold.key result (seen self.new).part }
         ensures same { SamePass (seen self.old) (seen self.new) };
 
+    /// Removes the key. Refused as `BadKey` or `Gone`.
     fn remove(&mut self, key: u64) -> Result<(), Refusal>
         ensures does { RemoveAnswers (seen self.old).terms (seen self.old).pass (seen self.old).part key result
             (seen self.new).part }
         ensures same { SamePass (seen self.old) (seen self.new) };
 
+    /// Gives a hold back. Refused as `NotHeld`.
     fn release(&mut self, hold: Hold) -> Result<(), Refusal>
         ensures does { ReleaseAnswers (seen self.old).pass (seen self.old).part hold.key result (seen self.new).part }
         ensures same { SamePass (seen self.old) (seen self.new) };
