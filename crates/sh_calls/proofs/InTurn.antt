@@ -1,7 +1,8 @@
 -- All passes in one thread: a line more, and the end.
 use Rattle.std.proofs.Common.{◌≡◌, ◌≢◌, ℕ, zero, suc, ◌+◌, ◌<◌, ◌≤◌, List, [], ◌∷◌, ◌++◌, length, take, set, map}
 use Rattle.std.proofs.Common.{slice_get, Option, Some, None, sym, refl, ap, ◌∙◌, subst, arith, append_assoc, append-nil}
-use Rattle.std.proofs.Common.{IfSome, length-append, length-set}
+use Rattle.std.proofs.Common.{IfSome, length-append, length-set, ◌⊎◌, inl, inr, ⊎_elim}
+use Rattle.std.specs.Prelude.{IfNone, IsSome}
 use Rattle.std.specs.Option.{option_map}
 use Rattle.std.proofs.lemmas.Option.{none-some, same_Some, slice_get-map}
 use mathlib.Core.Logic.{dite}
@@ -15,12 +16,12 @@ use Rattle.sh_calls.specs.Replies.{reply_line, replies_text}
 use Rattle.sh_calls.specs.Runs.{CallsRun, LineAnswered, LinesAnswered, opening_calls, next_run, with_part, with_number}
 use Rattle.sh_calls.specs.Runs.{number_meant}
 use Rattle.sh_calls.specs.Told.{AreReplies, IsTold, part_told}
-use Rattle.sh_calls.specs.Meeting.{CarriesTale, MeetsCarrier, OwnsNone, HasMet, tales_told, AllOfHeap}
+use Rattle.sh_calls.specs.Meeting.{CarriesTale, MeetsCarrier, OwnsNone, HasMet, SomeOwns, tales_told, AllOfHeap}
 use Rattle.sh_calls.specs.Alone.{seen_with_part, AnsweredSoFar}
 use Rattle.sh_calls.specs.Finished.{CarrierRan, LinesRan}
 use Rattle.sh_calls.proofs.ListLemmas.{get_set_same, get_set_other, take_at, take_past, next, map_more, up_length}
 use Rattle.sh_calls.proofs.LineLemmas.{one_more, part_here, part_there}
-use Rattle.sh_calls.proofs.Newcomers.{newcomers_length, newcomers_get, length_map}
+use Rattle.sh_calls.proofs.Newcomers.{newcomers_length, newcomers_get, length_map, get_middle}
 use Rattle.sh_table.specs.Seats.{Heap}
 
 -- ---- passes that meet
@@ -260,17 +261,50 @@ some_met : {S : Type 0} {P : S → Type 0} (seen : S → SeenPass) (Q : SeenPass
 some_met seen Q f None h = h
 some_met seen Q f (Some s) h = f s h
 
--- the replies, and what the carrier has, if all could meet
+-- the next one of these passes owns a shard
+pub next_owns : {S : Type 0} (seen : S → SeenPass) (all ys rest its : List S) (s : S) → all ≡ ys ++ its
+    → its ≡ s ∷ rest → IsSome (seen s).part.shard → SomeOwns (map seen all)
+next_owns seen all ys rest its s e f owns =
+    let at : slice_get all (length ys) ≡ Some s = ap (λ z. slice_get z (length ys)) (e ∙ ap (λ z. ys ++ z) f)
+    ∙ get_middle ys s rest in
+    (
+      length ys,
+      seen s,
+      slice_get-map seen all (length ys) ∙ ap (option_map seen) at,
+      owns,
+    )
+
+-- where nobody carries a tale once all have met, there is no pass
+pub none_there : {S : Type 0} (seen : S → SeenPass) (all ys : List S) (left : ℕ) → length ys + left ≡ length all
+    → left ≡ 0 → tales_told (map seen ys) ≡ [] → map seen all ≡ []
+none_there seen [] ys left counted none t = refl
+none_there seen (x ∷ xs) [] left counted none t =
+    absurd (let e : 0 + left ≡ suc (length xs) = counted in omega (arith, e, none))
+none_there seen (x ∷ xs) (y ∷ ys) left counted none t =
+    absurd (let z : tales_told (map seen (y ∷ ys)) ≡ [] = t in cc)
+
+-- the same where there is none
+none_met : {S : Type 0} {P Q : Type 0} (seen : S → SeenPass) → (P → Q) → (o : Option S) → IfNone o P
+    → IfNone (option_map seen o) Q
+none_met seen f None h = f h
+none_met seen f (Some s) h = h
+
+-- what the carrier has, if all could meet, and else who still owned a shard
 pub lines_ran : {S : Type 0} (seen : S → SeenPass) (heap : Option Heap) (terms : RunTerms) (tag : Option ℕ)
     (lines : List CallLine) (i : ℕ) (numbers : List (Option ℕ)) (sides : List SeenPass) (output : List ℕ)
     (carrier : Option S) → length lines ≤ i → AnsweredSoFar heap terms tag lines i numbers sides output
     → IfSome carrier (λ s. HasMet heap terms (seen s) (tales_told sides))
+    → IfNone carrier (SomeOwns sides ⊎ (sides ≡ []))
     → LinesRan heap terms tag lines output (option_map seen carrier)
-lines_ran seen heap terms tag lines i numbers sides output carrier past h met = record {
-  replies = ends_alone heap terms tag lines i numbers sides output past h;
+lines_ran seen heap terms tag lines i numbers sides output carrier past h met stays = record {
   met = some_met seen (CarrierRan heap terms tag lines output) (λ s m.
       let t = told_alone heap terms tag lines i numbers sides output (seen s) past h m in
       record { told = t.0; carries = t.1; none = t.2 }) carrier met;
+  stays = none_met seen (⊎_elim (λ (o : SomeOwns sides). inl (record {
+      replies = ends_alone heap terms tag lines i numbers sides output past h;
+      owner = o.0;
+      owns = subst (λ (s : SeenPass). IsSome s.part.shard) (h.each o.0 o.1 o.2) o.3;
+    })) (λ (e : sides ≡ []). inr (sym h.all ∙ ap length e))) carrier stays;
 }
 
 pub map_set : {A B : Type 0} (f : A → B) (xs : List A) (k : ℕ) (y : A) → map f (set xs k y) ≡ set (map f xs) k (f y)

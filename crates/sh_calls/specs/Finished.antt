@@ -1,5 +1,5 @@
 -- What came of the lines of a script on the passes of a heap.
-use Rattle.std.specs.Prelude.{◌≡◌, ℕ, List, [], ◌∷◌, Option, Some, None, IfSome}
+use Rattle.std.specs.Prelude.{◌≡◌, ℕ, List, [], ◌∷◌, ◌⊎◌, Option, Some, None, IfSome, IfNone, IsSome}
 use Rattle.sh_script.specs.declared.calls.CallLine.{CallLine}
 use Rattle.sh_table.specs.Seats.{Heap}
 use Rattle.sh_calls.specs.Parts.{SeenPass, RunTerms, no_terms, new_passes, tale_told}
@@ -26,8 +26,15 @@ pub record CarrierRan (heap : Option Heap) (terms : RunTerms) (tag : Option ℕ)
   pub carries : CarriesTale heap terms (Some c) (tale_told c)
   pub none : OwnsNone (Some c)
 
--- the replies were told, and if there is a carrier, it carries the tale of all
+-- the replies were told, and this pass still owned a shard when the lines had run
+pub record AreWaiting (terms : RunTerms) (tag : Option ℕ) (lines : List CallLine) (output : List ℕ) : Type 0 where
+  pub replies : AreReplies terms tag lines output
+  pub owner : ℕ
+  pub owns : IsSome (replies.after.parts owner).shard
+
+-- the replies were told; if there is a carrier, it carries the tale of all, and there is none only where some pass still
+-- owned a shard, which it could not leave, or where there is no pass
 pub record LinesRan (heap : Option Heap) (terms : RunTerms) (tag : Option ℕ) (lines : List CallLine) (output : List ℕ)
     (carrier : Option SeenPass) : Type 0 where
-  pub replies : AreReplies terms tag lines output
   pub met : IfSome carrier (CarrierRan heap terms tag lines output)
+  pub stays : IfNone carrier (AreWaiting terms tag lines output ⊎ (terms.shape.passes ≡ 0))

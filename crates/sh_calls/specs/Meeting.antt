@@ -1,5 +1,5 @@
 -- Passes that meet: one of them carries the tale of all.
-use Rattle.std.specs.Prelude.{◌≡◌, List, [], ◌∷◌, ◌++◌, Option, Some, None}
+use Rattle.std.specs.Prelude.{◌≡◌, ℕ, List, [], ◌∷◌, ◌++◌, slice_get, Option, Some, None, IsSome}
 use Rattle.sh_calls.specs.Parts.{RunTerms, SeenPass, PassTold, HasWholeTale, tale_told}
 use Rattle.sh_table.specs.Seats.{Heap}
 
@@ -38,3 +38,7 @@ tales_told (s ∷ ss) = tale_told s ++ tales_told ss
 abbrev pub AllOfHeap : Option Heap → RunTerms → List SeenPass → Type 0
 AllOfHeap heap terms [] = Unit {0}
 AllOfHeap heap terms (s ∷ ss) = (s.heap ≡ heap) × (s.terms ≡ terms) × AllOfHeap heap terms ss
+
+-- one of these passes owns a shard
+abbrev pub SomeOwns : List SeenPass → Type 0
+SomeOwns ss = (i : ℕ) × (s : SeenPass) × (slice_get ss i ≡ Some s) × IsSome s.part.shard

@@ -1,8 +1,9 @@
 //! Passes that meet.
-ghost use Rattle.std.specs.Prelude.{◌≡◌, Option, None, IfSome, map, option_map};
+ghost use Rattle.std.specs.Prelude.{◌≡◌, ◌⊎◌, [], Option, None, IfSome, IfNone, map, option_map};
 ghost use Rattle.sh_table.specs.Seats.{Heap};
 ghost use Rattle.sh_calls.specs.Parts.{RunTerms, told_pass, passes_below};
-ghost use Rattle.sh_calls.specs.Meeting.{MeetsCarrier, OwnsNone, IsOfHeap, HasMet, tales_told, AllOfHeap};
+ghost use Rattle.sh_calls.specs.Meeting.{MeetsCarrier, OwnsNone, IsOfHeap, HasMet, SomeOwns, tales_told};
+ghost use Rattle.sh_calls.specs.Meeting.{AllOfHeap};
 
 use crate::side::Side;
 
@@ -19,12 +20,14 @@ pub fn meet<S: Side>(carrier: Option<S>, side: S) -> S
     }
 }
 
-/// What one of the passes carries once all have met: nobody owns a shard any more. None where an owner could not leave.
+/// What one of the passes carries once all have met: nobody owns a shard any more. None where an owner could not leave,
+/// or where there is no pass.
 pub fn met<S: Side>(sides: Vec<S>) -> Option<S>
     ghost at: { Option Heap × RunTerms }
     requires of { AllOfHeap at.0 at.1 (map S.seen sides.items) }
     requires all { map told_pass (tales_told (map S.seen sides.items)) ≡ passes_below at.1.shape.passes }
-    ensures { IfSome result (λ carrier. HasMet at.0 at.1 (S.seen carrier) (tales_told (map S.seen sides.items))) }
+    ensures met { IfSome result (λ carrier. HasMet at.0 at.1 (S.seen carrier) (tales_told (map S.seen sides.items))) }
+    ensures stays { IfNone result (SomeOwns (map S.seen sides.items) ⊎ (map S.seen sides.items ≡ [])) }
 {
     let mut carrier: Option<S> = None;
     for side in sides {

@@ -1,5 +1,5 @@
 //! A pass of a heap, with or without a shard: what runs the calls of a script.
-ghost use Rattle.std.specs.Prelude.{◌≡◌, ◌<◌, ◌+◌, ◌∷◌, ◌++◌, IfOk, true, None, map};
+ghost use Rattle.std.specs.Prelude.{◌≡◌, ◌<◌, ◌+◌, ◌∷◌, ◌++◌, IfOk, true, false, None, IsSome, map};
 ghost use Rattle.sh_key.specs.Layout.{first_key, key_count};
 ghost use Rattle.sh_calls.specs.Parts.{SeenPass, SamePass, HasWholeTale, tale_told, told_pass, passes_below};
 ghost use Rattle.sh_calls.specs.Calls.{AdoptAnswers, LeaveAnswers, InsertAnswers, GetAnswers, ReadAnswers};
@@ -59,6 +59,7 @@ pub trait Side: Drop {
     /// Whether it owns no shard, where leaving was tried if it owned one.
     fn retire(&mut self) -> bool
         ensures none { result ≡ true → (seen self.new).part.shard ≡ None }
+        ensures owned { result ≡ false → IsSome (seen self.old).part.shard }
         ensures log { (seen self.new).part.log ≡ (seen self.old).part.log }
         ensures same { SamePass (seen self.old) (seen self.new) };
 

@@ -10,7 +10,8 @@ use Rattle.sh_script.specs.declared.calls.CallLine.{CallLine}
 use Rattle.sh_script.specs.declared.header.Header.{Header}
 use Rattle.sh_table.specs.Seats.{Heap}
 use Rattle.sh_calls.specs.Parts.{SeenPass, PassTold, HasWholeTale, RunTerms, heap_terms, tale_told}
-use Rattle.sh_calls.specs.Told.{AreReplies, IsTold}
+use Rattle.sh_calls.specs.Told.{IsTold}
+use Rattle.sh_calls.specs.Finished.{AreWaiting}
 use Rattle.sh_calls.specs.Meeting.{CarriesTale, OwnsNone}
 use Rattle.sh_replay.specs.WholeAccounts.{AreAccountLines}
 
@@ -42,19 +43,19 @@ pub record IsHeap (asked : Bool) (text output : List ℕ) : Type 0 where
   pub is_calls : IsCalls text header lines
   pub is_output : IsHeapOutput (layout_of header.layout) header.shape header.tag lines asked output
 
--- The text is a script of calls, and these are the replies of a run of it at whose end an owner could not leave: there is
--- no account line then.
+-- The text is a script of calls, and these are the replies of a run of it at whose end a pass still owned a shard, and could
+-- not leave it: there is no account line then.
 pub record IsHeapWaiting (text output : List ℕ) : Type 0 where
   pub header : Header
   pub lines : List CallLine
   pub is_calls : IsCalls text header lines
-  pub replies : AreReplies (heap_terms (layout_of header.layout) header.shape) header.tag lines output
+  pub waiting : AreWaiting (heap_terms (layout_of header.layout) header.shape) header.tag lines output
 
 -- ---- how it is made
 
 -- what came of the lines, and whether an owner could not leave
 abbrev pub IsRan : Layout → Numbers → Option ℕ → List CallLine → (asked : Bool) → List ℕ → (is_waiting : Bool) → Type 0
-IsRan layout shape tag lines asked output true = AreReplies (heap_terms layout shape) tag lines output
+IsRan layout shape tag lines asked output true = AreWaiting (heap_terms layout shape) tag lines output
 IsRan layout shape tag lines asked output false = IsHeapOutput layout shape tag lines asked output
 
 -- what came of a script on the running heap, and whether an owner could not leave

@@ -83,4 +83,4 @@ returns-clause-ran g c =
     let past : length c.args.lines.now ≤ c.loop-line.line-index = search rules in
     let sides = map g.S.Side.seen c.loop-line.sides.items in
     lines_ran g.S.Side.seen g.at.0 g.at.1 c.args.tag c.args.lines.now c.loop-line.line-index c.loop-line.numbers.items
-    sides c.loop-line.output.items c.met.result past c.loop-line.invariant c.met.ensures
+    sides c.loop-line.output.items c.met.result past c.loop-line.invariant c.met.ensures.met c.met.ensures.stays

@@ -1,6 +1,11 @@
-use Rattle.std.proofs.Common.{arith, ◌∙◌, sym, ap, ◌++◌, ◌∷◌, [], append_assoc, length-append}
+use Rattle.std.proofs.Common.{arith, rules, ◌≡◌, ◌⊎◌, ◌∙◌, sym, ap, subst, inl, inr, ◌++◌, ◌∷◌, [], append_assoc}
+use Rattle.std.proofs.Common.{length-append, map, Option, Some, None}
+use Rattle.std.specs.Prelude.{IfNone, IsSome}
+use Rattle.std.specs.Vec.Iter.{into_iter_len}
+use Rattle.sh_calls.specs.Parts.{SeenPass}
+use Rattle.sh_calls.specs.Meeting.{CarriesTale, tales_told}
 use Rattle.std.specs.Option.{option_map}
-use Rattle.sh_calls.proofs.InTurn.{carries_more, rest_of}
+use Rattle.sh_calls.proofs.InTurn.{carries_more, rest_of, next_owns, none_there}
 use Rattle.sh_calls.proofs.meeting.met.Goals as goal
 
 pub loop-side-preserved : goal.loop-side-preserved
@@ -18,3 +23,27 @@ loop-side-preserved g c =
       rest = was.rest ∙ (ap (λ z. y ++ z) step ∙ sym (append_assoc y (c.in-Some.side ∷ []) _));
       counted = omega (arith, was.counted, c.in-Some.ensures.steps.1, length-append y (c.in-Some.side ∷ []));
     }
+
+-- what holds in any case holds where there is none
+in_any_case : {A P : Type 0} (o : Option A) → P → IfNone o P
+in_any_case None p = p
+in_any_case (Some x) p = tt
+
+pub returns-then-not-retire-clause-stays : goal.returns-then-not-retire-clause-stays
+returns-then-not-retire-clause-stays g c =
+    let seen = g.S.Side.seen in
+    let step = c.in-Some.ensures.steps.0 in
+    let owns : IsSome (seen c.in-Some.side).part.shard = search rules in
+    inl (next_owns seen c.args.sides.items c.loop-side.yielded _ _ c.in-Some.side c.loop-side.invariant.rest step owns)
+
+pub returns-in_err-carrier-clause-stays : goal.returns-in_err-carrier-clause-stays
+returns-in_err-carrier-clause-stays g c =
+    let seen = g.S.Side.seen in
+    let y = c.loop-side.yielded in
+    let none : c.loop-side.carrier ≡ None = search rules in
+    let tale : tales_told (map seen y) ≡ [] =
+        subst (λ o. CarriesTale g.at.0 g.at.1 (option_map seen o) (tales_told (map seen y))) none
+        c.loop-side.invariant.carries in
+    in_any_case c.from_residual.result
+    (inr (none_there seen c.args.sides.items y (into_iter_len c.loop-side.side-iterator) c.loop-side.invariant.counted
+        c.in-None.ensures.steps.0 tale))

@@ -46,4 +46,5 @@ returns-clause-ran g c =
     let past : length lines ≤ length lines = omega arith in
     let R : Option ℕ → Type 0 = λ tag. LinesRan room.heap room.terms tag lines output (option_map seen c.met.result) in
     subst R (sym c.requires.tag) (lines_ran seen room.heap room.terms room.tag lines (length lines) answered.0
-    (map seen c.in_ok-output.sides.items) output c.met.result past answered.1 c.met.ensures)
+    (map seen c.in_ok-output.sides.items) output c.met.result past answered.1 c.met.ensures.met
+    c.met.ensures.stays)
