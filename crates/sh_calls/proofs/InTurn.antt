@@ -266,8 +266,7 @@ pub next_owns : {S : Type 0} (seen : S → SeenPass) (all ys rest its : List S) 
     → its ≡ s ∷ rest → IsSome (seen s).part.shard → SomeOwns (map seen all)
 next_owns seen all ys rest its s e f owns =
     let at : slice_get all (length ys) ≡ Some s = ap (λ z. slice_get z (length ys)) (e ∙ ap (λ z. ys ++ z) f)
-    ∙ get_middle ys s rest in
-    (
+    ∙ get_middle ys s rest in (
       length ys,
       seen s,
       slice_get-map seen all (length ys) ∙ ap (option_map seen) at,
@@ -301,10 +300,10 @@ lines_ran seen heap terms tag lines i numbers sides output carrier past h met st
       let t = told_alone heap terms tag lines i numbers sides output (seen s) past h m in
       record { told = t.0; carries = t.1; none = t.2 }) carrier met;
   stays = none_met seen (⊎_elim (λ (o : SomeOwns sides). inl (record {
-      replies = ends_alone heap terms tag lines i numbers sides output past h;
-      owner = o.0;
-      owns = subst (λ (s : SeenPass). IsSome s.part.shard) (h.each o.0 o.1 o.2) o.3;
-    })) (λ (e : sides ≡ []). inr (sym h.all ∙ ap length e))) carrier stays;
+    replies = ends_alone heap terms tag lines i numbers sides output past h;
+    owner = o.0;
+    owns = subst (λ (s : SeenPass). IsSome s.part.shard) (h.each o.0 o.1 o.2) o.3;
+  })) (λ (e : sides ≡ []). inr (sym h.all ∙ ap length e))) carrier stays;
 }
 
 pub map_set : {A B : Type 0} (f : A → B) (xs : List A) (k : ℕ) (y : A) → map f (set xs k y) ≡ set (map f xs) k (f y)

@@ -188,11 +188,13 @@ fn a_mistake_in_the_words_is_shown(rt: HostRuntime) -> Result<(), Fail> {
     let table: [(&[&str], &str); 3] = [
         (
             &["shardheap"],
-            "error: the following required arguments were not provided:\n  <mode>\n\nUsage: shardheap <mode>\n\nFor more information, try '--help'.\n",
+            "error: the following required arguments were not provided:\n  <mode>\n\nUsage: shardheap <mode>\n\n\
+            For more information, try '--help'.\n",
         ),
         (
             &["shardheap", "table"],
-            "error: invalid value 'table' for '<mode>'\n  [possible values: plain, heap, steps, threads]\n\nFor more information, try '--help'.\n",
+            "error: invalid value 'table' for '<mode>'\n  [possible values: plain, heap, steps, threads]\n\n\
+            For more information, try '--help'.\n",
         ),
         (
             &["shardheap", "plan"],

@@ -41,8 +41,8 @@ fn the_first_script_is_answered(rt: HostRuntime) {
 #[test]
 fn an_empty_value_is_read(rt: HostRuntime) {
     let script = "heap tiny 1 1 1\n0 adopt 0\n0 insert a\n0 get a\n0 read a\n";
-    let output =
-        "0 adopt ok\n0 insert 4096\n0 get ok\n0 read 0\npage 0.0 class 0 live 1 marked 0 retired 0 mine 0 hand 0 queued 47\n";
+    let output = "0 adopt ok\n0 insert 4096\n0 get ok\n0 read 0\n\
+        page 0.0 class 0 live 1 marked 0 retired 0 mine 0 hand 0 queued 47\n";
     expect(&rt, rt.alloc(), script, output);
 }
 
@@ -98,7 +98,8 @@ fn the_name_of_a_refused_insert_is_unbound(rt: HostRuntime) -> Result<(), Fail> 
         "heap tiny 1 1 1\n0 adopt 0\n0 insert a {V} 17\n0 get a\n0 insert b {V}\n0 insert c {W}\n"
     )?;
     let output =
-        "0 adopt ok\n0 insert refused 6 TooLong\n0 get unbound\n0 insert 4096\n0 insert 4097\npage 0.0 class 7 live 2 marked 0 retired 0 mine 0 hand 0 queued 1\n";
+        "0 adopt ok\n0 insert refused 6 TooLong\n0 get unbound\n0 insert 4096\n0 insert 4097\n\
+        page 0.0 class 7 live 2 marked 0 retired 0 mine 0 hand 0 queued 1\n";
     expect(&rt, rt.alloc(), script.as_str(), output);
     Ok(())
 }
@@ -106,10 +107,13 @@ fn the_name_of_a_refused_insert_is_unbound(rt: HostRuntime) -> Result<(), Fail> 
 #[test]
 fn a_slot_is_retired_after_its_last_generation(rt: HostRuntime) -> Result<(), Fail> {
     let script = format!(in rt.alloc();
-        "heap tiny 1 1 1\n0 adopt 0\n0 insert a {V}\n0 insert b {V}\n0 insert c {V}\n0 remove a\n0 insert d {V}\n0 remove d\n0 insert e {V}\n0 remove e\n0 get a\n0 get d\n0 get e\n"
+        "heap tiny 1 1 1\n0 adopt 0\n0 insert a {V}\n0 insert b {V}\n0 insert c {V}\n0 remove a\n0 insert d {V}\n\
+        0 remove d\n0 insert e {V}\n0 remove e\n0 get a\n0 get d\n0 get e\n"
     )?;
     let output =
-        "0 adopt ok\n0 insert 4096\n0 insert 4097\n0 insert 4098\n0 remove ok\n0 insert 8192\n0 remove ok\n0 insert 12288\n0 remove ok\n0 get refused 2 Gone\n0 get refused 2 Gone\n0 get refused 2 Gone\npage 0.0 class 7 live 2 marked 0 retired 1 mine 0 hand 0 queued 0\n";
+        "0 adopt ok\n0 insert 4096\n0 insert 4097\n0 insert 4098\n0 remove ok\n0 insert 8192\n0 remove ok\n\
+        0 insert 12288\n0 remove ok\n0 get refused 2 Gone\n0 get refused 2 Gone\n0 get refused 2 Gone\n\
+        page 0.0 class 7 live 2 marked 0 retired 1 mine 0 hand 0 queued 0\n";
     expect(&rt, rt.alloc(), script.as_str(), output);
     Ok(())
 }
@@ -119,15 +123,16 @@ fn a_removed_value_stays_while_it_is_held(rt: HostRuntime) {
     let script =
         "heap tiny 1 1 2\n0 adopt 0\n0 insert a 7 8\n1 get a\n0 remove a\n1 read a\n1 get a\n1 release a\n";
     let output =
-        "0 adopt ok\n0 insert 4096\n1 get ok\n0 remove ok\n1 read 2 7 8\n1 get refused 2 Gone\n1 release ok\npage 0.0 class 1 live 0 marked 0 retired 0 mine 0 hand 0 queued 24\n";
+        "0 adopt ok\n0 insert 4096\n1 get ok\n0 remove ok\n1 read 2 7 8\n1 get refused 2 Gone\n1 release ok\n\
+        page 0.0 class 1 live 0 marked 0 retired 0 mine 0 hand 0 queued 24\n";
     expect(&rt, rt.alloc(), script, output);
 }
 
 #[test]
 fn a_held_value_is_marked_in_the_accounts(rt: HostRuntime) {
     let script = "heap tiny 1 1 2\n0 adopt 0\n0 insert a 7 8\n1 get a\n0 remove a\n0 remove a\n";
-    let output =
-        "0 adopt ok\n0 insert 4096\n1 get ok\n0 remove ok\n0 remove refused 2 Gone\npage 0.0 class 1 live 0 marked 1 retired 0 mine 0 hand 0 queued 23\n";
+    let output = "0 adopt ok\n0 insert 4096\n1 get ok\n0 remove ok\n0 remove refused 2 Gone\n\
+        page 0.0 class 1 live 0 marked 1 retired 0 mine 0 hand 0 queued 23\n";
     expect(&rt, rt.alloc(), script, output);
 }
 
@@ -136,7 +141,8 @@ fn only_keys_of_the_heap_are_good(rt: HostRuntime) {
     let script =
         "heap tiny 1 1 2\n1 get #0\n1 get #9223372036854775808\n1 get #5056\n1 get #12288\n1 get #4144\n";
     let output =
-        "1 get refused 1 BadKey\n1 get refused 1 BadKey\n1 get refused 1 BadKey\n1 get refused 2 Gone\n1 get refused 1 BadKey\n";
+        "1 get refused 1 BadKey\n1 get refused 1 BadKey\n1 get refused 1 BadKey\n1 get refused 2 Gone\n\
+        1 get refused 1 BadKey\n";
     expect(&rt, rt.alloc(), script, output);
 }
 
@@ -145,16 +151,19 @@ fn a_shard_has_one_owner(rt: HostRuntime) {
     let script =
         "heap tiny 1 1 2\n0 adopt 0\n1 adopt 0\n1 adopt 4\n0 leave\n1 adopt 0\n0 leave\n1 adopt 0\n0 insert a 1\n";
     let output =
-        "0 adopt ok\n1 adopt refused 9 Taken\n1 adopt refused 10 NoShard\n0 leave ok\n1 adopt ok\n0 leave refused 10 NoShard\n1 adopt refused 9 Taken\n0 insert refused 10 NoShard\n";
+        "0 adopt ok\n1 adopt refused 9 Taken\n1 adopt refused 10 NoShard\n0 leave ok\n1 adopt ok\n\
+        0 leave refused 10 NoShard\n1 adopt refused 9 Taken\n0 insert refused 10 NoShard\n";
     expect(&rt, rt.alloc(), script, output);
 }
 
 #[test]
 fn a_fifth_hold_is_crowded(rt: HostRuntime) {
     let script =
-        "heap tiny 1 1 1\n0 adopt 0\n0 insert a 1\n0 get a\n0 get a\n0 get a\n0 get a\n0 get a\n0 release a\n0 release a\n0 release a\n0 release a\n0 release a\n";
+        "heap tiny 1 1 1\n0 adopt 0\n0 insert a 1\n0 get a\n0 get a\n0 get a\n0 get a\n0 get a\n0 release a\n\
+        0 release a\n0 release a\n0 release a\n0 release a\n";
     let output =
-        "0 adopt ok\n0 insert 4096\n0 get ok\n0 get ok\n0 get ok\n0 get ok\n0 get refused 3 Crowded\n0 release ok\n0 release ok\n0 release ok\n0 release ok\n0 release refused 5 NotHeld\n";
+        "0 adopt ok\n0 insert 4096\n0 get ok\n0 get ok\n0 get ok\n0 get ok\n0 get refused 3 Crowded\n0 release ok\n\
+        0 release ok\n0 release ok\n0 release ok\n0 release refused 5 NotHeld\n";
     replies(&rt, rt.alloc(), script, output);
 }
 
@@ -202,7 +211,8 @@ fn an_empty_page_gets_another_class(rt: HostRuntime) -> Result<(), Fail> {
 fn a_page_with_a_retired_slot_keeps_its_class(rt: HostRuntime) -> Result<(), Fail> {
     let (mut script, mut output) = full_alone(rt.alloc())?;
     let more = format!(in rt.alloc();
-        "0 remove #4096\n0 insert a {V}\n0 remove a\n0 insert b {V}\n0 remove b\n0 remove #4097\n0 remove #4098\n0 insert s 1\n"
+        "0 remove #4096\n0 insert a {V}\n0 remove a\n0 insert b {V}\n0 remove b\n0 remove #4097\n0 remove #4098\n\
+        0 insert s 1\n"
     )?;
     script.push_str(more.as_str())?;
     output.push_str("0 remove ok\n0 insert 8192\n0 remove ok\n0 insert 12288\n0 remove ok\n")?;
@@ -217,7 +227,8 @@ fn a_page_with_a_retired_slot_keeps_its_class(rt: HostRuntime) -> Result<(), Fai
 fn a_page_changes_its_class_beside_a_retired_slot(rt: HostRuntime) -> Result<(), Fail> {
     let (mut script, mut output) = full_alone(rt.alloc())?;
     let more = format!(in rt.alloc();
-        "0 remove #4160\n0 insert a {V}\n0 remove a\n0 insert b {V}\n0 remove b\n0 remove #4096\n0 remove #4097\n0 remove #4098\n0 insert s 1\n"
+        "0 remove #4160\n0 insert a {V}\n0 remove a\n0 insert b {V}\n0 remove b\n0 remove #4096\n0 remove #4097\n\
+        0 remove #4098\n0 insert s 1\n"
     )?;
     script.push_str(more.as_str())?;
     output.push_str("0 remove ok\n0 insert 8256\n0 remove ok\n0 insert 12352\n0 remove ok\n")?;
@@ -236,7 +247,10 @@ fn accounts_are_listed_by_shard_and_page(rt: HostRuntime) -> Result<(), Fail> {
     )?;
     // The generation stands from bit 24 on, the shard from bit 16 on, and the page from bit 6 on.
     let output =
-        "1 adopt ok\n0 adopt ok\n1 insert 16842752\n1 insert 16842816\n0 insert 16777216\n0 get ok\n1 remove ok\npage 0.0 class 1 live 1 marked 0 retired 0 mine 0 hand 0 queued 23\npage 1.0 class 0 live 0 marked 1 retired 0 mine 0 hand 0 queued 47\npage 1.1 class 7 live 1 marked 0 retired 0 mine 0 hand 0 queued 2\n";
+        "1 adopt ok\n0 adopt ok\n1 insert 16842752\n1 insert 16842816\n0 insert 16777216\n0 get ok\n1 remove ok\n\
+        page 0.0 class 1 live 1 marked 0 retired 0 mine 0 hand 0 queued 23\n\
+        page 1.0 class 0 live 0 marked 1 retired 0 mine 0 hand 0 queued 47\n\
+        page 1.1 class 7 live 1 marked 0 retired 0 mine 0 hand 0 queued 2\n";
     expect(&rt, rt.alloc(), script.as_str(), output);
     Ok(())
 }
@@ -244,9 +258,11 @@ fn accounts_are_listed_by_shard_and_page(rt: HostRuntime) -> Result<(), Fail> {
 #[test]
 fn tagged_keys_are_those_of_the_tag(rt: HostRuntime) {
     let script =
-        "version 2\nheap tagged 1 1 1 tag 5\n0 adopt 0\n0 insert a 7\n0 get a\n0 get #360287970190688256\n0 get #1048576\n0 get #4503599628419072\n";
+        "version 2\nheap tagged 1 1 1 tag 5\n0 adopt 0\n0 insert a 7\n0 get a\n0 get #360287970190688256\n\
+        0 get #1048576\n0 get #4503599628419072\n";
     let output =
-        "0 adopt ok\n0 insert 360287970190688256\n0 get ok\n0 get ok\n0 get refused 1 BadKey\n0 get refused 1 BadKey\npage 0.0 class 0 live 1 marked 0 retired 0 mine 0 hand 0 queued 47\n";
+        "0 adopt ok\n0 insert 360287970190688256\n0 get ok\n0 get ok\n0 get refused 1 BadKey\n\
+        0 get refused 1 BadKey\npage 0.0 class 0 live 1 marked 0 retired 0 mine 0 hand 0 queued 47\n";
     expect(&rt, rt.alloc(), script, output);
     let script = "version 2\nheap tagged 1 1 1 tag 0\n0 adopt 0\n0 insert a 7\n";
     let output = "0 adopt ok\n0 insert 1048576\n";

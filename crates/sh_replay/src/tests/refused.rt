@@ -10,8 +10,8 @@ use std::thread::Threads;
 
 const SCRIPT: &str = "heap tiny 1 1 2\n0 adopt 0\n0 insert a 7\n1 get a\n1 read a\n1 release a\n";
 
-const OUTPUT: &str =
-    "0 adopt ok\n0 insert 4096\n1 get ok\n1 read 1 7\n1 release ok\npage 0.0 class 0 live 1 marked 0 retired 0 mine 0 hand 0 queued 47\n";
+const OUTPUT: &str = "0 adopt ok\n0 insert 4096\n1 get ok\n1 read 1 7\n1 release ok\n\
+    page 0.0 class 0 live 1 marked 0 retired 0 mine 0 hand 0 queued 47\n";
 
 // What is written where the adoption's memory was refused, and where that of the segment was which the insert opens: each
 // is a reply, and the run goes on.

@@ -18,7 +18,8 @@ const CALLS_OUTPUT: &str = "0 adopt ok\n0 insert 4096\n1 get ok\n1 read 1 7\n";
 const EVENTS: &str = "0 Adopt 0\n0 Read 0.0\n0 SetClass 0.0 7\n0 Fill 0.0.0\n0 Publish\n;.\n";
 
 const EVENTS_OUTPUT: &str =
-    "0 Adopt moved\n0 Read moved\n0 SetClass moved\n0 Fill moved\n0 Publish Insert 4096 0\npage 0.0 class 7 live 1 marked 0 retired 0 mine 2 hand 0 queued 0\n";
+    "0 Adopt moved\n0 Read moved\n0 SetClass moved\n0 Fill moved\n0 Publish Insert 4096 0\n\
+    page 0.0 class 7 live 1 marked 0 retired 0 mine 2 hand 0 queued 0\n";
 
 /// A script of so many times 64 bytes, whose lines that say something are its first and its last ones.
 fn script_of(alloc: Global, pieces: usize, last: &str) -> Result<String, AllocError> {

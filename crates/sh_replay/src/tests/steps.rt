@@ -56,9 +56,13 @@ fn of_two_marks_the_first_removes(rt: HostRuntime) -> Result<(), Fail> {
 #[test]
 fn a_late_visitor_finishes_the_next_generation(rt: HostRuntime) -> Result<(), Fail> {
     let script =
-        "0 Enter remove 4096\n0 Mark\n0 Drop\n0 Finish\n0 Fill 0.0.0 6\n0 Fill\n0 Publish\n1 Enter get 4096\n0 Enter remove 8192\n0 Mark\n0 Drop\n1 Drop\n1 Finish\n1 Put\n1 Tie\n";
+        "0 Enter remove 4096\n0 Mark\n0 Drop\n0 Finish\n0 Fill 0.0.0 6\n0 Fill\n0 Publish\n1 Enter get 4096\n\
+        0 Enter remove 8192\n0 Mark\n0 Drop\n1 Drop\n1 Finish\n1 Put\n1 Tie\n";
     let output =
-        "0 Enter moved\n0 Mark Removed 4096\n0 Drop moved\n0 Finish moved\n0 Fill moved\n0 Fill moved\n0 Publish Insert 8192 1 6\n1 Enter Gone 4096\n0 Enter moved\n0 Mark Removed 8192\n0 Drop moved\n1 Drop moved\n1 Finish moved\n1 Put moved\n1 Tie moved\npage 0.0 class 7 live 0 marked 0 retired 0 mine 2 hand 0 queued 1\n";
+        "0 Enter moved\n0 Mark Removed 4096\n0 Drop moved\n0 Finish moved\n0 Fill moved\n0 Fill moved\n\
+        0 Publish Insert 8192 1 6\n1 Enter Gone 4096\n0 Enter moved\n0 Mark Removed 8192\n0 Drop moved\n\
+        1 Drop moved\n1 Finish moved\n1 Put moved\n1 Tie moved\n\
+        page 0.0 class 7 live 0 marked 0 retired 0 mine 2 hand 0 queued 1\n";
     expect_after(&rt, rt.alloc(), (OPEN, OPEN_OUTPUT), script, output)
 }
 
@@ -67,16 +71,22 @@ fn a_finish_that_fails_is_left_to_the_last_visitor(rt: HostRuntime) -> Result<()
     let script =
         "0 Enter remove 4096\n0 Mark\n0 Drop\n1 Enter get 4096\n0 Finish\n1 Drop\n1 Finish\n";
     let output =
-        "0 Enter moved\n0 Mark Removed 4096\n0 Drop moved\n1 Enter Gone 4096\n0 Finish moved\n1 Drop moved\n1 Finish moved\npage 0.0 class 7 live 0 marked 0 retired 0 mine 2 hand 1 queued 0\n";
+        "0 Enter moved\n0 Mark Removed 4096\n0 Drop moved\n1 Enter Gone 4096\n0 Finish moved\n1 Drop moved\n\
+        1 Finish moved\npage 0.0 class 7 live 0 marked 0 retired 0 mine 2 hand 1 queued 0\n";
     expect_after(&rt, rt.alloc(), (OPEN, OPEN_OUTPUT), script, output)
 }
 
 /// Pass 1 puts slot 0 and does not tie it; pass 2 puts slot 1 onto it; the owner follows up to the missing link.
 const UNTIED: &str =
-    "heap tiny 1 1 3\n0 Adopt 0\n0 Read 0.0\n0 SetClass 0.0 7\n0 Fill 0.0.0\n0 Publish\n0 Fill 0.0.1\n0 Publish\n1 Enter remove 4096\n1 Mark\n1 Drop\n1 Finish\n1 Put\n2 Enter remove 4097\n2 Mark\n2 Drop\n2 Finish\n2 Put\n2 Tie\n0 Take 0.0\n0 Follow 0.0\n0 Follow 0.0\n";
+    "heap tiny 1 1 3\n0 Adopt 0\n0 Read 0.0\n0 SetClass 0.0 7\n0 Fill 0.0.0\n0 Publish\n0 Fill 0.0.1\n0 Publish\n\
+    1 Enter remove 4096\n1 Mark\n1 Drop\n1 Finish\n1 Put\n2 Enter remove 4097\n2 Mark\n2 Drop\n2 Finish\n2 Put\n\
+    2 Tie\n0 Take 0.0\n0 Follow 0.0\n0 Follow 0.0\n";
 
 const UNTIED_OUTPUT: &str =
-    "0 Adopt moved\n0 Read moved\n0 SetClass moved\n0 Fill moved\n0 Publish Insert 4096 0\n0 Fill moved\n0 Publish Insert 4097 0\n1 Enter moved\n1 Mark Removed 4096\n1 Drop moved\n1 Finish moved\n1 Put moved\n2 Enter moved\n2 Mark Removed 4097\n2 Drop moved\n2 Finish moved\n2 Put moved\n2 Tie moved\n0 Take moved\n0 Follow moved\n0 Follow moved\n";
+    "0 Adopt moved\n0 Read moved\n0 SetClass moved\n0 Fill moved\n0 Publish Insert 4096 0\n0 Fill moved\n\
+    0 Publish Insert 4097 0\n1 Enter moved\n1 Mark Removed 4096\n1 Drop moved\n1 Finish moved\n1 Put moved\n\
+    2 Enter moved\n2 Mark Removed 4097\n2 Drop moved\n2 Finish moved\n2 Put moved\n2 Tie moved\n0 Take moved\n\
+    0 Follow moved\n0 Follow moved\n";
 
 #[test]
 fn a_missing_link_ends_the_following(rt: HostRuntime) -> Result<(), Fail> {
@@ -100,10 +110,13 @@ fn a_link_that_is_tied_is_followed(rt: HostRuntime) -> Result<(), Fail> {
 #[test]
 fn an_owner_leaves_what_it_put_to_the_next(rt: HostRuntime) -> Result<(), Fail> {
     let script = format!(in rt.alloc();
-        "{UNTIED}0 Leave\n1 Tie\n0 Follow 0.0\n0 Put 0.0.0\n0 Tie\n0 Put 0.0.1\n0 Tie\n0 Put 0.0.2\n0 Tie\n0 Leave\n1 Adopt 0\n1 Read 0.0\n1 Take 0.0\n1 Follow 0.0\n1 Follow 0.0\n1 Fill 0.0.1 9\n1 Fill\n1 Publish\n"
+        "{UNTIED}0 Leave\n1 Tie\n0 Follow 0.0\n0 Put 0.0.0\n0 Tie\n0 Put 0.0.1\n0 Tie\n0 Put 0.0.2\n0 Tie\n0 Leave\n\
+        1 Adopt 0\n1 Read 0.0\n1 Take 0.0\n1 Follow 0.0\n1 Follow 0.0\n1 Fill 0.0.1 9\n1 Fill\n1 Publish\n"
     )?;
     let output = format!(in rt.alloc();
-        "{UNTIED_OUTPUT}0 Leave skipped\n1 Tie moved\n0 Follow moved\n0 Put moved\n0 Tie moved\n0 Put moved\n0 Tie moved\n0 Put moved\n0 Tie moved\n0 Leave moved\n1 Adopt moved\n1 Read moved\n1 Take moved\n1 Follow moved\n1 Follow moved\n1 Fill moved\n1 Fill moved\n1 Publish Insert 8193 1 9\n"
+        "{UNTIED_OUTPUT}0 Leave skipped\n1 Tie moved\n0 Follow moved\n0 Put moved\n0 Tie moved\n0 Put moved\n\
+        0 Tie moved\n0 Put moved\n0 Tie moved\n0 Leave moved\n1 Adopt moved\n1 Read moved\n1 Take moved\n\
+        1 Follow moved\n1 Follow moved\n1 Fill moved\n1 Fill moved\n1 Publish Insert 8193 1 9\n"
     )?;
     let mut out = Vec::new(rt.alloc());
     assert_eq!(rt; steps(rt.alloc(), script.as_str(), false, &mut out), Ok(()));
@@ -114,9 +127,12 @@ fn an_owner_leaves_what_it_put_to_the_next(rt: HostRuntime) -> Result<(), Fail> 
 #[test]
 fn a_page_is_armed_until_its_bell_is_followed(rt: HostRuntime) -> Result<(), Fail> {
     let script =
-        "0 Arm 0.0\n1 Enter remove 4096\n1 Mark\n1 Drop\n1 Finish\n1 Put\n1 Tie\n1 Ring\n0 TakeBell\n0 FollowBell\n0 Arm 0.0\n1 RingTie\n0 FollowBell\n0 Arm 0.0\n";
+        "0 Arm 0.0\n1 Enter remove 4096\n1 Mark\n1 Drop\n1 Finish\n1 Put\n1 Tie\n1 Ring\n0 TakeBell\n0 FollowBell\n\
+        0 Arm 0.0\n1 RingTie\n0 FollowBell\n0 Arm 0.0\n";
     let output =
-        "0 Arm moved\n1 Enter moved\n1 Mark Removed 4096\n1 Drop moved\n1 Finish moved\n1 Put moved\n1 Tie moved\n1 Ring moved\n0 TakeBell moved\n0 FollowBell moved\n0 Arm skipped\n1 RingTie moved\n0 FollowBell moved\n0 Arm moved\npage 0.0 class 7 live 0 marked 0 retired 0 mine 2 hand 0 queued 1\n";
+        "0 Arm moved\n1 Enter moved\n1 Mark Removed 4096\n1 Drop moved\n1 Finish moved\n1 Put moved\n1 Tie moved\n\
+        1 Ring moved\n0 TakeBell moved\n0 FollowBell moved\n0 Arm skipped\n1 RingTie moved\n0 FollowBell moved\n\
+        0 Arm moved\npage 0.0 class 7 live 0 marked 0 retired 0 mine 2 hand 0 queued 1\n";
     expect_after(&rt, rt.alloc(), (OPEN, OPEN_OUTPUT), script, output)
 }
 
@@ -137,7 +153,8 @@ fn a_take_between_put_and_tie_leaves_the_slot_queued(rt: HostRuntime) -> Result<
         "{TAKEN}1 Tie\n1 Ring\n0 TakeBell\n0 FollowBell\n0 Arm 0.0\n1 RingTie\n0 FollowBell\n0 Arm 0.0\n"
     )?;
     let output = format!(in rt.alloc();
-        "{TAKEN_OUTPUT}1 Tie moved\n1 Ring moved\n0 TakeBell moved\n0 FollowBell moved\n0 Arm skipped\n1 RingTie moved\n0 FollowBell moved\n0 Arm skipped\n{accounts}"
+        "{TAKEN_OUTPUT}1 Tie moved\n1 Ring moved\n0 TakeBell moved\n0 FollowBell moved\n0 Arm skipped\n\
+        1 RingTie moved\n0 FollowBell moved\n0 Arm skipped\n{accounts}"
     )?;
     expect_after(
         &rt,
@@ -173,7 +190,8 @@ fn a_page_that_is_wholly_empty_changes_its_class(rt: HostRuntime) -> Result<(), 
     let script =
         "0 SetClass 0.0 0\n0 Enter remove 4096\n0 Mark\n0 Drop\n0 Finish\n0 SetClass 0.0 0\n";
     let output =
-        "0 SetClass skipped\n0 Enter moved\n0 Mark Removed 4096\n0 Drop moved\n0 Finish moved\n0 SetClass moved\npage 0.0 class 0 live 0 marked 0 retired 0 mine 48 hand 0 queued 0\n";
+        "0 SetClass skipped\n0 Enter moved\n0 Mark Removed 4096\n0 Drop moved\n0 Finish moved\n0 SetClass moved\n\
+        page 0.0 class 0 live 0 marked 0 retired 0 mine 48 hand 0 queued 0\n";
     expect_after(&rt, rt.alloc(), (OPEN, OPEN_OUTPUT), script, output)
 }
 
@@ -193,7 +211,8 @@ fn an_owner_with_slots_of_its_own_cannot_leave(rt: HostRuntime) {
         &rt,
         rt.alloc(),
         "heap tiny 1 1 2\n0 Adopt 0\n0 Leave\n0 Leave\n1 Adopt 0\n1 Read 0.0\n1 SetClass 0.0 7\n1 Leave\n",
-        "0 Adopt moved\n0 Leave moved\n0 Leave skipped\n1 Adopt moved\n1 Read moved\n1 SetClass moved\n1 Leave skipped\npage 0.0 class 7 live 0 marked 0 retired 0 mine 3 hand 0 queued 0\n",
+        "0 Adopt moved\n0 Leave moved\n0 Leave skipped\n1 Adopt moved\n1 Read moved\n1 SetClass moved\n\
+        1 Leave skipped\npage 0.0 class 7 live 0 marked 0 retired 0 mine 3 hand 0 queued 0\n",
     );
 }
 
@@ -212,9 +231,13 @@ fn a_hundred_events_are_skipped(rt: HostRuntime) -> Result<(), Fail> {
 #[test]
 fn accounts_are_listed_by_shard_and_page(rt: HostRuntime) {
     let script =
-        "heap tiny 2 1 2\n0 Adopt 1\n1 Adopt 0\n0 Read 1.0\n0 SetClass 1.0 7\n1 Read 0.3\n1 SetClass 0.3 7\n1 Read 0.1\n1 SetClass 0.1 7\n";
+        "heap tiny 2 1 2\n0 Adopt 1\n1 Adopt 0\n0 Read 1.0\n0 SetClass 1.0 7\n1 Read 0.3\n1 SetClass 0.3 7\n\
+        1 Read 0.1\n1 SetClass 0.1 7\n";
     let output =
-        "0 Adopt moved\n1 Adopt moved\n0 Read moved\n0 SetClass moved\n1 Read moved\n1 SetClass moved\n1 Read moved\n1 SetClass moved\npage 0.1 class 7 live 0 marked 0 retired 0 mine 3 hand 0 queued 0\npage 0.3 class 7 live 0 marked 0 retired 0 mine 3 hand 0 queued 0\npage 1.0 class 7 live 0 marked 0 retired 0 mine 3 hand 0 queued 0\n";
+        "0 Adopt moved\n1 Adopt moved\n0 Read moved\n0 SetClass moved\n1 Read moved\n1 SetClass moved\n1 Read moved\n\
+        1 SetClass moved\npage 0.1 class 7 live 0 marked 0 retired 0 mine 3 hand 0 queued 0\n\
+        page 0.3 class 7 live 0 marked 0 retired 0 mine 3 hand 0 queued 0\n\
+        page 1.0 class 7 live 0 marked 0 retired 0 mine 3 hand 0 queued 0\n";
     expect(&rt, rt.alloc(), script, output);
 }
 

@@ -36,18 +36,20 @@ fn the_first_script_is_answered(rt: HostRuntime) {
     let output = "0 adopt ok\n0 insert 4096\n0 get ok\n0 read 1 7\n";
     expect(&rt, rt.alloc(), script, false, output);
     let script = "heap tiny 1 1 2\n0 adopt 0\n0 insert a 7\n0 get a\n0 read a\n0 release a\n";
-    let output =
-        "0 adopt ok\n0 insert 4096\n0 get ok\n0 read 1 7\n0 release ok\npage 0.0 class 0 live 1 marked 0 retired 0 mine 0 hand 0 queued 47\n";
+    let output = "0 adopt ok\n0 insert 4096\n0 get ok\n0 read 1 7\n0 release ok\n\
+        page 0.0 class 0 live 1 marked 0 retired 0 mine 0 hand 0 queued 47\n";
     expect(&rt, rt.alloc(), script, true, output);
 }
 
 #[test]
 fn names_cross_from_pass_to_pass(rt: HostRuntime) -> Result<(), Fail> {
     let script = format!(in rt.alloc();
-        "heap tiny 1 1 2\n0 adopt 0\n0 insert a {V}\n0 insert b {V}\n0 insert c {V}\n1 remove a\n1 post done\n0 wait done\n0 insert d {V}\n"
+        "heap tiny 1 1 2\n0 adopt 0\n0 insert a {V}\n0 insert b {V}\n0 insert c {V}\n1 remove a\n1 post done\n\
+        0 wait done\n0 insert d {V}\n"
     )?;
     let output =
-        "0 adopt ok\n0 insert 4096\n0 insert 4097\n0 insert 4098\n1 remove ok\n1 post ok\n0 wait ok\n0 insert 8192\npage 0.0 class 7 live 3 marked 0 retired 0 mine 0 hand 0 queued 0\n";
+        "0 adopt ok\n0 insert 4096\n0 insert 4097\n0 insert 4098\n1 remove ok\n1 post ok\n0 wait ok\n0 insert 8192\n\
+        page 0.0 class 7 live 3 marked 0 retired 0 mine 0 hand 0 queued 0\n";
     expect(&rt, rt.alloc(), script.as_str(), true, output);
     Ok(())
 }
@@ -62,7 +64,8 @@ fn an_insert_that_is_refused_ends_the_wait_for_its_name(rt: HostRuntime) {
 #[test]
 fn tagged_keys_are_those_of_the_tag(rt: HostRuntime) {
     let script =
-        "version 2\nheap tagged 1 1 1 tag 5\n0 adopt 0\n0 insert a 7\n0 get a\n0 get #360287970190688256\n0 get #1048576\n0 get #4503599628419072\n";
+        "version 2\nheap tagged 1 1 1 tag 5\n0 adopt 0\n0 insert a 7\n0 get a\n0 get #360287970190688256\n\
+        0 get #1048576\n0 get #4503599628419072\n";
     let output =
         "0 adopt ok\n0 insert 360287970190688256\n0 get ok\n0 get ok\n0 get refused 1 BadKey\n0 get refused 1 BadKey\n";
     expect(&rt, rt.alloc(), script, false, output);

@@ -42,8 +42,8 @@ returns-in_err-carrier-clause-stays g c =
     let y = c.loop-side.yielded in
     let none : c.loop-side.carrier ≡ None = search rules in
     let tale : tales_told (map seen y) ≡ [] =
-        subst (λ o. CarriesTale g.at.0 g.at.1 (option_map seen o) (tales_told (map seen y))) none
-        c.loop-side.invariant.carries in
+    subst (λ o. CarriesTale g.at.0 g.at.1 (option_map seen o) (tales_told (map seen y))) none
+    c.loop-side.invariant.carries in
     in_any_case c.from_residual.result
     (inr (none_there seen c.args.sides.items y (into_iter_len c.loop-side.side-iterator) c.loop-side.invariant.counted
-        c.in-None.ensures.steps.0 tale))
+    c.in-None.ensures.steps.0 tale))
