@@ -32,8 +32,8 @@ pub record AreWaiting (terms : RunTerms) (tag : Option ℕ) (lines : List CallLi
   pub owner : ℕ
   pub owns : IsSome (replies.after.parts owner).shard
 
--- the replies were told; if there is a carrier, it carries the tale of all, and there is none only where some pass still
--- owned a shard, which it could not leave, or where there is no pass
+-- the replies were told; if there is a carrier, it carries the tale of all, and there is none only where some pass
+-- still owned a shard, which it could not leave, or where there is no pass
 pub record LinesRan (heap : Option Heap) (terms : RunTerms) (tag : Option ℕ) (lines : List CallLine) (output : List ℕ)
     (carrier : Option SeenPass) : Type 0 where
   pub met : IfSome carrier (CarrierRan heap terms tag lines output)

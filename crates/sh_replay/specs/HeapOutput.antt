@@ -1,5 +1,5 @@
--- What modes heap and threads write for a script of calls: the reply lines, and then, where they are asked for and every
--- owner could leave, the accounts of the pages.
+-- What modes heap and threads write for a script of calls: the reply lines, and then, where they are asked for and
+-- every owner could leave, the accounts of the pages.
 use Rattle.std.specs.Prelude.{◌≡◌, ℕ, Bool, true, false, List, [], ◌++◌, map, Some, IfSome, Option}
 use Rattle.sh_key.specs.Layout.{Layout}
 use Rattle.sh_shape.specs.Shape.{Numbers}
@@ -43,8 +43,8 @@ pub record IsHeap (asked : Bool) (text output : List ℕ) : Type 0 where
   pub is_calls : IsCalls text header lines
   pub is_output : IsHeapOutput (layout_of header.layout) header.shape header.tag lines asked output
 
--- The text is a script of calls, and these are the replies of a run of it at whose end a pass still owned a shard, and could
--- not leave it: there is no account line then.
+-- The text is a script of calls, and these are the replies of a run of it at whose end a pass still owned a shard, and
+-- could not leave it: there is no account line then.
 pub record IsHeapWaiting (text output : List ℕ) : Type 0 where
   pub header : Header
   pub lines : List CallLine

@@ -122,8 +122,8 @@ abbrev pub IsRunFault : Mode → Fault → Type 0
 IsRunFault mode fault.Waiting = MayWait mode
 IsRunFault mode f = IsEndFault f
 
--- what was written where writing ends with a fault: the whole output, which is all replies of a run at whose end an owner
--- could not leave, or a beginning of it, since a write failed
+-- what was written where writing ends with a fault: the whole output, which is all replies of a run at whose end an
+-- owner could not leave, or a beginning of it, since a write failed
 abbrev pub EndsWriting : (output : List ℕ) → (is_waiting : Bool) → Fault → Option (List ℕ) → Option (List ℕ) → Type 0
 EndsWriting output is_waiting fault.Waiting old new = (is_waiting ≡ true) × Appends old new output
 EndsWriting output is_waiting fault.Io old new = WroteBeginning old new output

@@ -13,8 +13,8 @@ use Rattle.sh_gather.specs.Histories.{IsHistory, LeadsHere}
 use Rattle.sh_gather.specs.Gathering.{CountsKeys}
 use Rattle.sh_replay.specs.AccountLines.{ShardsSaid, accounts_after, accounts_text}
 
--- the numbers of a page by the history: none is an owner's or in a hand, the page's keys are counted by what the history
--- says of them, and the queued slots are those that are left of the slots of the page's class
+-- the numbers of a page by the history: none is an owner's or in a hand, the page's keys are counted by what the
+-- history says of them, and the queued slots are those that are left of the slots of the page's class
 pub record HasNumbers (plan : Plan) (q : ℕ) (a : Accounts) (history : List Entry) : Type 0 where
   pub mine : a.mine ≡ 0
   pub hand : a.hand ≡ 0

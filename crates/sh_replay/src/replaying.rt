@@ -72,9 +72,10 @@ fn write_ran<W: Write>(writer: &mut W, ran: &Ran) -> Result<(), Fault>
 
 /// Reads a script, runs it in one thread, in a mode other than threads, and writes its replies.
 ///
-/// It reads until a read gives no byte, or 1,048,577 bytes, and parses the whole script before anything runs. A fault is
-/// the first fault of the script, or `Memory`, or `Io` where a read or a write failed, or, in mode heap, `Waiting` where
-/// an owner could not leave once all replies were written. The flag asks for accounts, which mode plain has none of.
+/// It reads until a read gives no byte, or 1,048,577 bytes, and parses the whole script before anything runs. A fault
+/// is the first fault of the script, or `Memory`, or `Io` where a read or a write failed, or, in mode heap, `Waiting`
+/// where an owner could not leave once all replies were written. The flag asks for accounts, which mode plain has none
+/// of.
 pub fn replay_alone<R: Read, W: Write>(
     alloc: Global,
     reader: &mut R,
@@ -95,9 +96,9 @@ pub fn replay_alone<R: Read, W: Write>(
     write_ran(writer, &ran)
 }
 
-/// The same in any mode. In mode threads the lines of each pass run in a thread of their own, and a line that uses a name
-/// waits until it is bound; each worker passes the gate before and after each of its calls. It ends with `Io` too where
-/// a thread can't be started, with nothing written.
+/// The same in any mode. In mode threads the lines of each pass run in a thread of their own, and a line that uses a
+/// name waits until it is bound; each worker passes the gate before and after each of its calls. It ends with `Io` too
+/// where a thread can't be started, with nothing written.
 ///
 /// Nothing is promised of a gate that does not return, or of when a thread runs.
 pub fn replay_gated<R: Read, W: Write, T: Threads + Wait + Sync, G: Gate + Sync>(

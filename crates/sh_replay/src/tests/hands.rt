@@ -1,4 +1,5 @@
-//! A shard that changes hands: each owner gives pages a class, and once all passes met, the accounts of each page add up.
+//! A shard that changes hands: each owner gives pages a class, and once all passes met, the accounts of each page add
+//! up.
 use sh_core::Accounts;
 use sh_gather::{Whole, join, whole};
 use sh_key::{KeyLayout, Tiny};
