@@ -409,7 +409,7 @@ module _ (layout : Layout) (o : Sharded) (owned : o.pages.owner.view.own.body.ow
     same_of layout o.pages.owner w h.heap h.same,
   )
   leave_answers (Err (n, r)) h =
-      let c = h.1.through in
+      let c = h.1.collects.through in
       let w = n.pages.owner in
       let part : part_of_caller w ≡ part_of_caller o.pages.owner =
       (λ i. record { log = c.log i; shard = c.aside.owned i }) in

@@ -15,7 +15,8 @@ use Rattle.sh_shard.specs.declared.pages.PageState.{PageState}
 use Rattle.sh_shard.specs.Pages.{shard_page, AdoptsShard}
 use Rattle.sh_shard.specs.Kept.{KeepsPage, KeepsPages, bare_lists, blank_state}
 use Rattle.sh_shard.proofs.Keeping.{page_of, here_at, others_at}
-use Rattle.sh_shard.proofs.Working.{aside_none, aside_more, paged_of}
+use Rattle.sh_shard.proofs.Sides.{aside_none, aside_then}
+use Rattle.sh_shard.proofs.Working.{paged_of}
 
 abbrev pub state_of : ℕ → PageState
 state_of n = record { lists = bare_lists; class_word = n; armed = false }
@@ -75,7 +76,7 @@ pub reading_more : {layout : Layout} (shard n : ℕ) (v w x : Caller) (states : 
     → ViewStands layout x.view → n ≤ 8
     → Reading layout shard v x (states ++ state_of n ∷ [])
 reading_more {layout} shard n v w x states r acts bells on stands few = record {
-  aside = aside_more r.aside acts.aside;
+  aside = aside_then r.aside acts.aside;
   log = acts.log ∙ (append-nil w.view.own.log ∙ r.log);
   stands = stands;
   idle = acts.hand;

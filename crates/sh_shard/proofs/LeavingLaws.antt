@@ -11,97 +11,29 @@ use Rattle.sh_pass.specs.Owners.{SeenPage, SeenBell, Aside, page_without}
 use Rattle.sh_shard.specs.Pages.{Paged, page_at, count_below, own_slots, armed_pages, CursorStands, NothingMine}
 use Rattle.sh_shard.specs.Pages.{WorksOn, TakesPage, CursorStops, BellTakes, BellStops, BellReads}
 use Rattle.sh_shard.specs.Pages.{ShardLeft}
-use Rattle.sh_shard.specs.Leaving.{Collecting, BellFollowed, BellEmptied, PageEmptied, EmptiesPage, PagesEmptied}
+use Rattle.sh_shard.specs.Works.{BellDone}
+use Rattle.sh_shard.specs.Leaving.{Collecting, BellFollowed, PageEmptied, EmptiesPage, PagesEmptied}
 use Rattle.sh_shard.specs.Leaving.{AtRest, AllAtRest, NotAtRest, Waiting, PutsOne, PutsBack, PutsAllBack}
-use Rattle.sh_shard.proofs.Working.{aside_none, aside_more, works_more, count_few}
+use Rattle.sh_shard.proofs.Sides.{aside_none, aside_then}
+use Rattle.sh_shard.proofs.Works.{through_none, through_more, through_takes, through_stops, through_reads, through_works}
+use Rattle.sh_shard.proofs.Working.{works_more, count_few}
 
 pub collecting_none : (o : Paged) → Collecting o o
-collecting_none o = record {
-  aside = aside_none o.owner;
-  put = refl;
-  arm = refl;
-  log = refl;
-  shard = refl;
-  count = refl;
-  classes = λ q. refl;
-  takes = λ q. omega arith;
-  met = λ q. omega arith;
-  bell_takes = omega arith;
-  bell_met = omega
-      arith;
-}
+collecting_none o = record { through = through_none o; arm = refl }
 
 pub collecting_more : (o m n : Paged) → Collecting o m → Collecting m n → Collecting o n
-collecting_more o m n g h = record {
-  aside = aside_more g.aside h.aside;
-  put = h.put ∙ g.put;
-  arm = h.arm ∙ g.arm;
-  log = h.log ∙ g.log;
-  shard = h.shard ∙ g.shard;
-  count = h.count ∙ g.count;
-  classes = λ q. h.classes q ∙ g.classes q;
-  takes = λ q. let a = g.takes q in let b = h.takes q in omega arith;
-  met = λ q. let a = g.met q in let b = h.met q in omega arith;
-  bell_takes = let a = g.bell_takes in let b = h.bell_takes in omega arith;
-  bell_met = let a = g.bell_met in let b = h.bell_met in omega arith;
-}
+collecting_more o m n g h = record { through = through_more o m n g.through h.through; arm = h.arm ∙ g.arm }
 
 -- ---- the bell
 
-as_much : (a b : ℕ) → a ≡ b → b ≤ a
-as_much a b e = omega arith
-
 pub collecting_takes : (o n : Paged) → BellTakes o n → Collecting o n
-collecting_takes o n b = record {
-  aside = b.aside;
-  put = b.put;
-  arm = b.arm;
-  log = b.log;
-  shard = b.shard;
-  count = b.count;
-  classes = λ q. ap (λ (g : SeenPage). g.class) (b.pages q);
-  takes = λ q. as_much (page_at n q).takes (page_at o q).takes (ap (λ (g : SeenPage). g.takes) (b.pages q));
-  met = λ q. as_much (page_at n q).met (page_at o q).met (ap (λ (g : SeenPage). g.met) (b.pages q));
-  bell_takes = let e = b.takes in omega arith;
-  bell_met = let e = b.met in omega arith;
-}
+collecting_takes o n b = record { through = through_takes o n b; arm = b.arm }
 
 pub collecting_stops : (o n : Paged) → BellStops o n → Collecting o n
-collecting_stops o n b = record {
-  aside = b.aside;
-  put = b.put;
-  arm = b.arm;
-  log = b.log;
-  shard = b.shard;
-  count = b.count;
-  classes = λ q. ap (λ (g : SeenPage). g.class) (b.pages q);
-  takes = λ q. as_much (page_at n q).takes (page_at o q).takes (ap (λ (g : SeenPage). g.takes) (b.pages q));
-  met = λ q. as_much (page_at n q).met (page_at o q).met (ap (λ (g : SeenPage). g.met) (b.pages q));
-  bell_takes = let e = b.takes in omega arith;
-  bell_met = b.met;
-}
-
-read_of : (p : ℕ) {B : Type 0} (f : SeenPage → B) (o n : Paged) → BellReads p o n → f (page_at n p) ≡ f (page_at o p)
-    → (q : ℕ) → f (page_at n q) ≡ f (page_at o q)
-read_of p f o n b e q = ⊎_elim (λ (is : q ≡ p). subst (λ z. f (page_at n z) ≡ f (page_at o z)) (sym is) e)
-    (λ (ne : q ≢ p). ap f (b.others q ne)) (cases_eq q p)
+collecting_stops o n b = record { through = through_stops o n b; arm = b.arm }
 
 pub collecting_reads : (p : ℕ) (o n : Paged) → BellReads p o n → Collecting o n
-collecting_reads p o n b = record {
-  aside = b.aside;
-  put = b.put;
-  arm = b.arm;
-  log = b.log;
-  shard = b.shard;
-  count = b.count;
-  classes = read_of p (λ g. g.class) o n b (ap (λ (g : SeenPage). g.class) b.here);
-  takes = λ q. as_much (page_at n q).takes (page_at o q).takes
-      (read_of p (λ g. g.takes) o n b (ap (λ (g : SeenPage). g.takes) b.here) q);
-  met = λ q. as_much (page_at n q).met (page_at o q).met (read_of p (λ g. g.met) o n b
-      (ap (λ (g : SeenPage). g.met) b.here) q);
-  bell_takes = let e = b.takes in omega arith;
-  bell_met = let e = b.met in omega arith;
-}
+collecting_reads p o n b = record { through = through_reads p o n b; arm = b.arm }
 
 -- one page less is armed
 count_others : (f g : ℕ → Bool) (p n : ℕ) → n ≤ p → ((q : ℕ) → q ≢ p → g q ≡ f q) → count_below g n ≡ count_below f n
@@ -139,16 +71,16 @@ armed_few v = count_few (λ p. (page_at v p).armed) v.count
 
 -- after so many pages were read from the bell
 pub record Following (turn : ℕ) (o n : Paged) : Type 0 where
-  pub through : Collecting o n
+  pub collects : Collecting o n
   pub takes : n.bell.takes ≡ o.bell.takes
   pub few : turn + armed_pages n ≤ o.count
 
 pub following_none : (o : Paged) → Following 0 o o
-following_none o = record { through = collecting_none o; takes = refl; few = let l = armed_few o in omega arith }
+following_none o = record { collects = collecting_none o; takes = refl; few = let l = armed_few o in omega arith }
 
 pub following_more : (turn p : ℕ) (o n m : Paged) → Following turn o n → BellReads p n m → Following (turn + 1) o m
 following_more turn p o n m f b = record {
-  through = collecting_more o n m f.through (collecting_reads p n m b);
+  collects = collecting_more o n m f.collects (collecting_reads p n m b);
   takes = b.takes ∙ f.takes;
   few = let e = armed_less p n m b in let l = f.few in omega arith;
 }
@@ -160,9 +92,9 @@ weaken (Some s) a b d l h = omega arith
 
 pub followed_to : (turn : ℕ) (o n m : Paged) → Following turn o n → BellStops n m → BellFollowed o m
 followed_to turn o n m f b = record {
-  through = collecting_more o n m f.through (collecting_stops n m b);
+  collects = collecting_more o n m f.collects (collecting_stops n m b);
   takes = b.takes ∙ f.takes;
-  waits = weaken m.bell.cursor o.bell.met n.bell.met m.bell.met f.through.bell_met b.waits;
+  waits = weaken m.bell.cursor o.bell.met n.bell.met m.bell.met f.collects.through.bell_met b.waits;
 }
 
 pub never_past : {A : Type 0} (turn : ℕ) (o n : Paged) → Following turn o n → o.count + 1 ≤ turn → A
@@ -173,7 +105,7 @@ emptied_first : (c : Option ℕ) (a b m n : ℕ) → CursorStands c → MatchOpt
 emptied_first None a b m n s h = absurd s
 emptied_first (Some x) a b m n s h = h
 
-pub bell_waits : (o m : Paged) → BellFollowed o m → CursorStands m.bell.cursor → BellEmptied o m
+pub bell_waits : (o m : Paged) → BellFollowed o m → CursorStands m.bell.cursor → BellDone o m
 bell_waits o m f s = emptied_first m.bell.cursor o.bell.takes m.bell.takes o.bell.met m.bell.met s f.waits
 
 emptied_then : (c : Option ℕ) (a b m k n : ℕ) → a < b → m ≤ k → MatchOption c (Unit {0}) (λ _. k < n)
@@ -181,34 +113,15 @@ emptied_then : (c : Option ℕ) (a b m k n : ℕ) → a < b → m ≤ k → Matc
 emptied_then None a b m k n l e h = l
 emptied_then (Some x) a b m k n l e h = omega arith
 
-pub bell_emptied : (o m t n : Paged) → BellFollowed o m → BellTakes m t → BellFollowed t n → BellEmptied o n
+pub bell_emptied : (o m t n : Paged) → BellFollowed o m → BellTakes m t → BellFollowed t n → BellDone o n
 bell_emptied o m t n f b h = emptied_then n.bell.cursor o.bell.takes n.bell.takes o.bell.met t.bell.met n.bell.met
     (let x = f.takes in let y = b.takes in let z = h.takes in omega arith)
-    (let x = f.through.bell_met in let y = b.met in omega arith) h.waits
+    (let x = f.collects.through.bell_met in let y = b.met in omega arith) h.waits
 
 -- ---- the pages
 
-pub works_of : (p : ℕ) {B : Type 0} (R : B → B → Type 0) (f : SeenPage → B) (o n : Paged) → WorksOn p o n
-    → ((b : B) → R b b) → R (f (page_at o p)) (f (page_at n p)) → (q : ℕ) → R (f (page_at o q)) (f (page_at n q))
-works_of p R f o n w same e q = ⊎_elim (λ (is : q ≡ p). subst (λ z. R (f (page_at o z)) (f (page_at n z))) (sym is) e)
-    (λ (ne : q ≢ p). subst (λ z. R (f (page_at o q)) z) (ap f (sym (w.others q ne))) (same (f (page_at o q))))
-    (cases_eq q p)
-
-pub collecting_works : (p : ℕ) (o n : Paged) → WorksOn p o n → n.owner.view.own.trail ≡ n.owner.view.own.trail
-    → EmptiesPage p o n → Collecting o n
-collecting_works p o n w e h = record {
-  aside = w.aside;
-  put = w.put;
-  arm = h.arm;
-  log = w.log;
-  shard = w.shard;
-  count = w.count;
-  classes = works_of p (λ a b. b ≡ a) (λ g. g.class) o n w (λ b. refl) w.class;
-  takes = works_of p (λ a b. a ≤ b) (λ g. g.takes) o n w (λ b. omega arith) w.takes;
-  met = works_of p (λ a b. a ≤ b) (λ g. g.met) o n w (λ b. omega arith) w.met;
-  bell_takes = as_much n.bell.takes o.bell.takes (ap (λ (b : SeenBell). b.takes) w.bell);
-  bell_met = as_much n.bell.met o.bell.met (ap (λ (b : SeenBell). b.met) w.bell);
-}
+pub collecting_works : (p : ℕ) (o n : Paged) → EmptiesPage p o n → Collecting o n
+collecting_works p o n h = record { through = through_works p o n h.works; arm = h.arm }
 
 -- the cursor is followed and waits
 pub empties_waiting : (p : ℕ) (o n : Paged) → CursorStops p o n → CursorStands (page_at n p).cursor → EmptiesPage p o n
@@ -243,12 +156,12 @@ empties_taken p o m t n s k h =
 
 -- the first pages were emptied
 pub record Emptying (page : ℕ) (o n : Paged) : Type 0 where
-  pub through : Collecting o n
+  pub collects : Collecting o n
   pub bell : n.bell ≡ o.bell
   pub pages : (p : ℕ) → p < page → PageEmptied (page_at o p) (page_at n p)
 
 pub emptying_none : (o : Paged) → Emptying 0 o o
-emptying_none o = record { through = collecting_none o; bell = refl; pages = λ p l. absurd (omega arith) }
+emptying_none o = record { collects = collecting_none o; bell = refl; pages = λ p l. absurd (omega arith) }
 
 emptied_after : (g h k : SeenPage) → g.met ≤ h.met → g.takes ≤ h.takes → PageEmptied h k → PageEmptied g k
 emptied_after g h k m t e = record {
@@ -259,11 +172,11 @@ emptied_after g h k m t e = record {
 
 pub emptying_more : (page : ℕ) (o n m : Paged) → Emptying page o n → EmptiesPage page n m → Emptying (page + 1) o m
 emptying_more page o n m f e = record {
-  through = collecting_more o n m f.through (collecting_works page n m e.works refl e);
+  collects = collecting_more o n m f.collects (collecting_works page n m e);
   bell = e.works.bell ∙ f.bell;
   pages = λ p l. ⊎_elim
       (λ (is : p ≡ page). subst (λ z. PageEmptied (page_at o z) (page_at m z)) (sym is)
-      (emptied_after (page_at o page) (page_at n page) (page_at m page) (f.through.met page) (f.through.takes page)
+      (emptied_after (page_at o page) (page_at n page) (page_at m page) (f.collects.through.met page) (f.collects.through.takes page)
       e.emptied))
       (λ (ne : p ≢ page). subst (PageEmptied (page_at o p)) (sym (e.works.others p ne))
       (f.pages p (more p page (let z = l in omega arith) (λ is. ne (sym is)))))
@@ -272,10 +185,10 @@ emptying_more page o n m f e = record {
 
 pub pages_emptied : (page : ℕ) (o n : Paged) → Emptying page o n → o.count ≤ page → PagesEmptied o n
 pages_emptied page o n f l = record {
-  through = f.through;
+  collects = f.collects;
   bell = f.bell;
   pages = λ p k. f.pages p
-      (let e = f.through.count in omega arith);
+      (let e = f.collects.through.count in omega arith);
 }
 
 -- ---- why it waits
@@ -292,9 +205,9 @@ bell_taken : (c : Option ℕ) (a b m n : ℕ) → c ≡ None → MatchOption c (
 bell_taken None a b m n s h = h
 bell_taken (Some x) a b m n s h = absurd (subst CursorStands s tt)
 
-pub waiting : (o m n : Paged) → Collecting o m → BellEmptied o m → PagesEmptied m n → NotAtRest n → Waiting o n
+pub waiting : (o m n : Paged) → Collecting o m → BellDone o m → PagesEmptied m n → NotAtRest n → Waiting o n
 waiting o m n g b e w = record {
-  through = collecting_more o m n g e.through;
+  collects = collecting_more o m n g e.collects;
   why = ⊎_elim
       (λ (s : CursorStands n.bell.cursor). inl (
         s,
@@ -315,12 +228,12 @@ waiting o m n g b e w = record {
   page none p l (inl s) = inl (
     s,
     met_since (page_at n p).cursor (page_at o p).met (page_at m p).met (page_at n p).met s
-        (g.met p) (e.pages p l).waits,
+        (g.through.met p) (e.pages p l).waits,
   )
   page none p l (inr t) = inr (
     none,
     t.1,
-    (let a = g.takes p in let z = (e.pages p l).taken t.0 t.1 in omega arith),
+    (let a = g.through.takes p in let z = (e.pages p l).taken t.0 t.1 in omega arith),
     subst (λ (z : SeenBell). o.bell.takes < z.takes) (sym e.bell)
         (bell_taken m.bell.cursor o.bell.takes m.bell.takes o.bell.met m.bell.met
         (sym (ap (λ (z : SeenBell). z.cursor) e.bell) ∙ none) b),
@@ -387,7 +300,7 @@ putting_none p o = record {
 
 pub putting_more : (turn p : ℕ) (o m n : Paged) → Putting turn p o m → PutsOne p m n → Putting (turn + 1) p o n
 putting_more turn p o m n g h = record {
-  aside = aside_more g.aside h.aside;
+  aside = aside_then g.aside h.aside;
   bell = h.bell ∙ g.bell;
   log = h.log ∙ g.log;
   shard = h.shard ∙ g.shard;
@@ -441,7 +354,7 @@ returning_none o a = record {
 pub returning_more : (page : ℕ) (o m n : Paged) → Returning page o m → page < o.count → PutsBack page m n
     → Returning (page + 1) o n
 returning_more page o m n g l h = record {
-  aside = aside_more g.aside h.aside;
+  aside = aside_then g.aside h.aside;
   log = h.log ∙ g.log;
   shard = h.shard ∙ g.shard;
   count = h.count ∙ g.count;
@@ -490,8 +403,8 @@ left_after o m w a log h = record {
 
 pub leaves : (o m n t : Paged) (w : Caller) → Collecting o m → PagesEmptied m n → PutsAllBack n t → ShardLeft t.owner w
     → ShardLeft o.owner w
-leaves o m n t w g e b h = left_after o t w (aside_more g.aside (aside_more e.through.aside b.aside))
-    (b.log ∙ (e.through.log ∙ g.log)) h
+leaves o m n t w g e b h = left_after o t w (aside_then g.through.aside (aside_then e.collects.through.aside b.aside))
+    (b.log ∙ (e.collects.through.log ∙ g.through.log)) h
 
 pub rests_more : (v : Paged) (page : ℕ) → ((p : ℕ) → p < page → AtRest (page_at v p)) → AtRest (page_at v page)
     → (p : ℕ) → p < page + 1 → AtRest (page_at v p)

@@ -1,4 +1,5 @@
 pub mod Sides
+pub mod Works
 pub mod Sorting
 pub mod Searching
 pub mod Hearing

@@ -14,7 +14,8 @@ use Rattle.sh_value.specs.declared.refusal.Refusal.{Refusal}
 use Rattle.sh_value.specs.declared.refusal.Refusal.TheVariants as refusal
 use Rattle.sh_pass.specs.Owners.{SeenPage, IsKeyIn}
 use Rattle.sh_shard.specs.Pages.{Paged, page_at, NothingMine, GivesClass}
-use Rattle.sh_shard.specs.Shards.{Sharded, SortedPages, Added, WorksThroughout, NoRoom, IsSpare}
+use Rattle.sh_shard.specs.Works.{WorksThroughout}
+use Rattle.sh_shard.specs.Shards.{Sharded, SortedPages, Added, NoRoom, IsSpare}
 use Rattle.sh_shard.specs.Shards.{IsBlank, NoneSpare, NoneOpenedBlank, IsLowest, IsNextFor, PreparesPage}
 use Rattle.sh_shard.specs.Shards.{PrepareServes, InsertsElsewhere, InsertServes, IsQuick}
 use Rattle.sh_shard.specs.Searches.{Tried}

@@ -19,43 +19,22 @@ use Rattle.sh_shape.specs.Classes.{slots}
 use Rattle.sh_pass.specs.Owners.{SeenPage, Aside, IsKeyIn}
 use Rattle.sh_shard.specs.Pages.{Paged, page_at, seen_class, WorksOn, PageDone, PageInserts, NothingMine, WhollyMine}
 use Rattle.sh_shard.specs.Pages.{GivesClass}
-use Rattle.sh_shard.specs.Shards.{Sharded, SortedPages, FullPage, Added, NoneLeft, WorksThroughout, IsBlank}
+use Rattle.sh_shard.specs.Shards.{Sharded, SortedPages, FullPage, Added, NoneLeft, IsBlank}
 use Rattle.sh_shard.specs.Shards.{NoneOpenedBlank, IsLowest}
+use Rattle.sh_shard.specs.Works.{WorksThroughout}
 use Rattle.sh_shard.specs.Searches.{WorkedSince, Settles, Searched, Searching, Tried}
-use Rattle.sh_shard.proofs.Sides.{aside_none, aside_then}
+use Rattle.sh_shard.proofs.Sides.{aside_then}
+use Rattle.sh_shard.proofs.Works.{through_none, through_more, through_works}
 
 -- ---- work on pages, one after the other
 
 pub since_none : (o : Paged) → WorkedSince o o
-since_none o = record {
-  aside = aside_none o.owner;
-  put = refl;
-  bell = refl;
-  log = refl;
-  shard = refl;
-  count = refl;
-  classes = λ q. refl;
-  takes = λ q. omega arith;
-  met = λ q. omega arith;
-}
+since_none o = record { through = through_none o; bell = refl }
 
 pub since_works : (p : ℕ) (o n m : Paged) → WorkedSince o n → WorksOn p n m → WorkedSince o m
 since_works p o n m s w = record {
-  aside = aside_then s.aside w.aside;
-  put = w.put ∙ s.put;
+  through = through_more o n m s.through (through_works p n m w);
   bell = w.bell ∙ s.bell;
-  log = w.log ∙ s.log;
-  shard = w.shard ∙ s.shard;
-  count = w.count ∙ s.count;
-  classes = λ q. ⊎_elim (λ (e : q ≡ p). subst (λ z. (page_at m z).class ≡ (page_at o z).class) (sym e)
-      (w.class ∙ s.classes p)) (λ (ne : q ≢ p). ap (λ (g : SeenPage). g.class) (w.others q ne) ∙ s.classes q)
-      (cases_eq q p);
-  takes = λ q. ⊎_elim (λ (e : q ≡ p). subst (λ z. (page_at o z).takes ≤ (page_at m z).takes) (sym e)
-      (omega (arith, s.takes p, w.takes))) (λ (ne : q ≢ p). subst (λ (z : SeenPage). (page_at o q).takes ≤ z.takes)
-      (sym (w.others q ne)) (s.takes q)) (cases_eq q p);
-  met = λ q. ⊎_elim (λ (e : q ≡ p). subst (λ z. (page_at o z).met ≤ (page_at m z).met) (sym e)
-      (omega (arith, s.met p, w.met))) (λ (ne : q ≢ p). subst (λ (z : SeenPage). (page_at o q).met ≤ z.met)
-      (sym (w.others q ne)) (s.met q)) (cases_eq q p);
 }
 
 pub weaken_armed : (c : Option ℕ) (A : Type 0) (a b d : ℕ) → a ≤ b → MatchOption c A (λ _. b < d)
@@ -64,7 +43,7 @@ weaken_armed None A a b d l h = h
 weaken_armed (Some s) A a b d l h = omega arith
 
 done_here : (p : ℕ) (o n m : Paged) → WorkedSince o n → PageDone n m p → PageDone o m p
-done_here p o n m s d = record { mine = d.mine; waits = weaken_armed (page_at m p).cursor _ _ _ _ (s.met p) d.waits }
+done_here p o n m s d = record { mine = d.mine; waits = weaken_armed (page_at m p).cursor _ _ _ _ (s.through.met p) d.waits }
 
 -- a page that nothing touched since stays done
 pub done_still : (o n m : Paged) (r : ℕ) → page_at m r ≡ page_at n r → PageDone o n r → PageDone o m r
@@ -236,15 +215,19 @@ settled_opened c p o n s = ⊎_elim (λ (b : n.queues ≡ at_back c p o.queues).
 pub added_here : (p key : ℕ) (value : List ℕ) (o n : Paged) → PageInserts p value key o n → Added value key o n
 added_here p key value o n i = record { aside = i.aside; put = i.put; log = i.log; shard = i.shard; count = i.count }
 
-pub added : (p key : ℕ) (value : List ℕ) (o n m : Paged) → WorkedSince o n → PageInserts p value key n m
+pub added_since : (key : ℕ) (value : List ℕ) (o n m : Paged) → WorksThroughout o n → Added value key n m
     → Added value key o m
-added p key value o n m s i = record {
+added_since key value o n m s i = record {
   aside = aside_then s.aside i.aside;
   put = i.put ∙ s.put;
   log = i.log ∙ (λ j. s.log j ++ Known (entry.Insert (s.aside.same.pass j) key value) ∷ []);
   shard = i.shard ∙ s.shard;
   count = i.count ∙ s.count;
 }
+
+pub added : (p key : ℕ) (value : List ℕ) (o n m : Paged) → WorkedSince o n → PageInserts p value key n m
+    → Added value key o m
+added p key value o n m s i = added_since key value o n m s.through (added_here p key value n m i)
 
 -- in a page that was given a class
 pub added_given : (p c q key : ℕ) (value : List ℕ) (o n m : Paged) → GivesClass p c o n → PageInserts q value key n m
@@ -255,16 +238,6 @@ added_given p c q key value o n m g i = record {
   log = i.log ∙ (λ j. g.log j ++ Known (entry.Insert (g.aside.same.pass j) key value) ∷ []);
   shard = i.shard ∙ g.shard;
   count = i.count ∙ g.count;
-}
-
-pub added_since : (key : ℕ) (value : List ℕ) (o n m : Paged) → WorksThroughout o n → Added value key n m
-    → Added value key o m
-added_since key value o n m s i = record {
-  aside = aside_then s.aside i.aside;
-  put = i.put ∙ s.put;
-  log = i.log ∙ (λ j. s.log j ++ Known (entry.Insert (s.aside.same.pass j) key value) ∷ []);
-  shard = i.shard ∙ s.shard;
-  count = i.count ∙ s.count;
 }
 
 -- a key of the shard is one of the same shard before

@@ -5,40 +5,11 @@ use Rattle.sh_queue.specs.Numbers.{has_number}
 use Rattle.sh_queue.specs.Queues.{class_queue}
 use Rattle.sh_pass.specs.Owners.{SeenPage, SeenBell}
 use Rattle.sh_shard.specs.Pages.{Paged, page_at, PageDone, BellTakes}
-use Rattle.sh_shard.specs.Shards.{Sharded, SortedPages, Added, WorksThroughout, BellDone}
-use Rattle.sh_shard.specs.Searches.{WorkedSince, Searched, Hears, BellWaits, RingsOut, Tried}
-use Rattle.sh_shard.proofs.Sides.{aside_then}
+use Rattle.sh_shard.specs.Shards.{Sharded, SortedPages, Added}
+use Rattle.sh_shard.specs.Works.{WorksThroughout, BellDone}
+use Rattle.sh_shard.specs.Searches.{Searched, Hears, BellWaits, RingsOut, Tried}
+use Rattle.sh_shard.proofs.Works.{through_more, through_takes}
 use Rattle.sh_shard.proofs.Searching.{weaken_armed, done_still, added_since}
-
-pub through_more : (o n m : Paged) → WorksThroughout o n → WorksThroughout n m → WorksThroughout o m
-through_more o n m a b = record {
-  aside = aside_then a.aside b.aside;
-  put = b.put ∙ a.put;
-  log = b.log ∙ a.log;
-  shard = b.shard ∙ a.shard;
-  count = b.count ∙ a.count;
-  classes = λ q. b.classes q ∙ a.classes q;
-  takes = λ q. omega (arith, a.takes q, b.takes q);
-  met = λ q. omega (arith, a.met q, b.met q);
-  bell_takes = omega (arith, a.bell_takes, b.bell_takes);
-  bell_met = omega (arith, a.bell_met, b.bell_met);
-}
-
-pub through_since : (o n : Paged) → WorkedSince o n → WorksThroughout o n
-through_since o n s = record {
-  aside = s.aside;
-  put = s.put;
-  log = s.log;
-  shard = s.shard;
-  count = s.count;
-  classes =
-      s.classes;
-  takes = s.takes;
-  met = s.met;
-  bell_takes = let e = ap (λ (b : SeenBell). b.takes) s.bell
-      in omega arith;
-  bell_met = let e = ap (λ (b : SeenBell). b.met) s.bell in omega arith;
-}
 
 through_hears : (c : ℕ) (read : Bool) (o n : Sharded) → Hears c read o n → WorksThroughout o.pages n.pages
 through_hears c read o n h = record {
@@ -52,24 +23,6 @@ through_hears c read o n h = record {
   met = λ q. omega (arith, h.page_met q);
   bell_takes = omega (arith, h.takes);
   bell_met = h.met;
-}
-
-through_takes : (o n : Paged) → BellTakes o n → WorksThroughout o n
-through_takes o n t = record {
-  aside = t.aside;
-  put = t.put;
-  log = t.log;
-  shard = t.shard;
-  count = t.count;
-  classes = λ
-      q. ap (λ (g : SeenPage). g.class) (t.pages q);
-  takes = λ q. omega
-      (arith, ap (λ (g : SeenPage). g.takes) (t.pages q));
-  met = λ q. omega
-      (arith, ap (λ (g : SeenPage). g.met) (t.pages q));
-  bell_takes = omega (arith, t.takes);
-  bell_met = omega
-      (arith, t.met);
 }
 
 -- a link that was not written is met at once
@@ -122,8 +75,8 @@ done_since p o n m s d = record { mine = d.mine; waits = weaken_armed (page_at m
 pub tried_once : (c : ℕ) (o n m : Sharded) → Searched c o n → SortedPages n.pages n.queues → RingsOut c false n m
     → Tried c o m
 tried_once c o n m s k r = record {
-  through = through_more o.pages n.pages m.pages (through_since o.pages n.pages s.since) r.through;
-  bell = bell_since o.pages n.pages m.pages (through_since o.pages n.pages s.since) r.bell;
+  through = through_more o.pages n.pages m.pages s.since.through r.through;
+  bell = bell_since o.pages n.pages m.pages s.since.through r.bell;
   done = λ p h. let there = r.queue refl p h in done_still o.pages n.pages m.pages p
       (r.pages refl p (k.classes c p there)) (s.done p there);
 }
@@ -132,10 +85,10 @@ tried_once c o n m s k r = record {
 pub tried_twice : (c : ℕ) (read : Bool) (o n m z : Sharded) → Searched c o n → RingsOut c read n m → Searched c m z
     → Tried c o z
 tried_twice c read o n m z s r t =
-    let before = through_more o.pages n.pages m.pages (through_since o.pages n.pages s.since) r.through in record {
-      through = through_more o.pages m.pages z.pages before (through_since m.pages z.pages t.since);
+    let before = through_more o.pages n.pages m.pages s.since.through r.through in record {
+      through = through_more o.pages m.pages z.pages before t.since.through;
       bell = let d : BellDone o.pages m.pages = bell_since o.pages n.pages m.pages
-          (through_since o.pages n.pages s.since) r.bell in
+          s.since.through r.bell in
           let P : SeenBell → Type 0 = λ b. MatchOption b.cursor (o.pages.bell.takes < b.takes)
           (λ _. o.pages.bell.met < b.met) in subst P (sym t.since.bell) d;
       done = λ p h. done_since p o.pages m.pages z.pages before (t.done p h);
@@ -147,4 +100,4 @@ pub looked_again : (c : ℕ) (value : List ℕ) (read : Bool) (o n m z : Sharded
     → MatchOption r (Tried c o z) (λ key. Added value key o.pages z.pages)
 looked_again c value read o n m z None s k t = tried_twice c read o n m z s k t
 looked_again c value read o n m z (Some key) s k t = added_since key value o.pages m.pages z.pages
-    (through_more o.pages n.pages m.pages (through_since o.pages n.pages s.since) k.through) t
+    (through_more o.pages n.pages m.pages s.since.through k.through) t

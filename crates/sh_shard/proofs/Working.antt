@@ -25,6 +25,7 @@ use Rattle.sh_pass.specs.Owners.{page_rung, page_without, page_given, IsKeyIn, b
 use Rattle.sh_shard.specs.Pages.{Paged, shard_page, page_at, count_below, own_slots, NothingMine, WorksOn, TakesPage}
 use Rattle.sh_shard.specs.Pages.{CursorMoves, CursorStops, CollectsPage, GuardsPage, PageDone, PageInserts, GivesClass}
 use Rattle.sh_shard.specs.Pages.{BellTakes, BellStops, BellReads}
+use Rattle.sh_shard.proofs.Sides.{aside_none, aside_then}
 use Rattle.sh_shard.proofs.Keeping.{page_of, here_at, others_at, all_at}
 
 -- what a contract sees of pages
@@ -63,29 +64,6 @@ count_more f s (suc n) l none = go (n == s) refl (λ k. count_more f s n k none)
 
 -- ---- work
 
-pub aside_none : (v : Caller) → Aside v v
-aside_none v = record {
-  heap = refl;
-  same = record { shape = refl; pass = refl; told = refl; orders = refl };
-  owned =
-      refl;
-  holds = refl;
-}
-
-pub aside_more : {u v w : Caller} → Aside u v → Aside v w → Aside u w
-aside_more g h = record {
-  heap = h.heap ∙ g.heap;
-  same = record {
-    shape = h.same.shape ∙ g.same.shape;
-    pass = h.same.pass ∙ g.same.pass;
-    told = h.same.told
-        ∙ g.same.told;
-    orders = h.same.orders ∙ g.same.orders;
-  };
-  owned = h.owned ∙ g.owned;
-  holds = h.holds ∙ g.holds;
-}
-
 pub works_none : (p : ℕ) (o : Paged) → WorksOn p o o
 works_none p o = record {
   aside = aside_none o.owner;
@@ -102,7 +80,7 @@ works_none p o = record {
 
 pub works_more : (p : ℕ) (o m n : Paged) → WorksOn p o m → WorksOn p m n → WorksOn p o n
 works_more p o m n g h = record {
-  aside = aside_more g.aside h.aside;
+  aside = aside_then g.aside h.aside;
   put = h.put ∙ g.put;
   bell = h.bell ∙ g.bell;
   log = h.log ∙ g.log;
@@ -371,7 +349,7 @@ inserted layout p shard k k' s key value v w acts bells on put size = record {
 pub inserts_after : (p key : ℕ) (value : List ℕ) (o m n : Paged) → WorksOn p o m → PageInserts p value key m n
     → PageInserts p value key o n
 inserts_after p key value o m n g h = record {
-  aside = aside_more g.aside h.aside;
+  aside = aside_then g.aside h.aside;
   put = h.put ∙ g.put;
   bell = h.bell ∙ g.bell;
   log = h.log ∙ (λ i. g.log i ++ Known (entry.Insert (g.aside.same.pass i) key value) ∷ []);

@@ -5,24 +5,12 @@ use Rattle.sh_pass.specs.Passes.{Caller}
 use Rattle.sh_pass.specs.Owners.{SeenPage, Aside, HasNothing, NonePut}
 use Rattle.sh_shard.specs.Pages.{Paged, page_at, own_slots, CursorStands, NothingMine, WaitsSince, WorksOn, NoArming}
 use Rattle.sh_shard.specs.Pages.{ShardLeft}
+use Rattle.sh_shard.specs.Works.{WorksThroughout}
 
--- work on pages and on the bell, which adds nothing to the log, puts nothing and arms nothing
+-- work on pages and on the bell that arms nothing
 pub record Collecting (o n : Paged) : Type 0 where
-  pub aside : Aside o.owner n.owner
-  pub put : NonePut o.owner n.owner
+  pub through : WorksThroughout o n
   pub arm : NoArming o n
-  pub log : n.owner.view.own.log ≡ o.owner.view.own.log
-  pub shard : n.shard ≡ o.shard
-  pub count : n.count ≡ o.count
-  pub classes : (q : ℕ) → (page_at n q).class ≡ (page_at o q).class
-  pub takes : (q : ℕ) → (page_at o q).takes ≤ (page_at n q).takes
-  pub met : (q : ℕ) → (page_at o q).met ≤ (page_at n q).met
-  pub bell_takes : o.bell.takes ≤ n.bell.takes
-  pub bell_met : o.bell.met ≤ n.bell.met
-
--- the bell was taken and followed to its end, or a link of it was not written, in this work
-abbrev pub BellEmptied : Paged → Paged → Type 0
-BellEmptied o n = MatchOption n.bell.cursor (o.bell.takes < n.bell.takes) (λ _. o.bell.met < n.bell.met)
 
 -- where a cursor stands, a link was not written, and where the page is armed still, what was put on it was taken, in
 -- this work
@@ -38,13 +26,13 @@ pub record EmptiesPage (p : ℕ) (o n : Paged) : Type 0 where
 
 -- the bell was followed to its end, or to a link that was not written
 pub record BellFollowed (o n : Paged) : Type 0 where
-  pub through : Collecting o n
+  pub collects : Collecting o n
   pub takes : n.bell.takes ≡ o.bell.takes
   pub waits : MatchOption n.bell.cursor (Unit {0}) (λ _. o.bell.met < n.bell.met)
 
 -- each page was emptied, and the bell is as it was
 pub record PagesEmptied (o n : Paged) : Type 0 where
-  pub through : Collecting o n
+  pub collects : Collecting o n
   pub bell : n.bell ≡ o.bell
   pub pages : (p : ℕ) → p < n.count → PageEmptied (page_at o p) (page_at n p)
 
@@ -74,7 +62,7 @@ RestsNot o n = (CursorStands n.bell.cursor × (o.bell.met < n.bell.met))
 
 -- leaving waits for others: nothing was put, nothing armed, and no page changed its class
 pub record Waiting (o n : Paged) : Type 0 where
-  pub through : Collecting o n
+  pub collects : Collecting o n
   pub why : RestsNot o n
 
 -- a slot of page p was put on the page's stack

@@ -1,5 +1,6 @@
 pub mod Pages
 pub mod Kept
+pub mod Works
 pub mod Leaving
 pub mod Shards
 pub mod Searches

@@ -6,19 +6,13 @@ use Rattle.sh_queue.specs.Numbers.{has_number}
 use Rattle.sh_queue.specs.Queues.{class_queue, at_back, among_full}
 use Rattle.sh_pass.specs.Owners.{Aside, NonePut}
 use Rattle.sh_shard.specs.Pages.{Paged, page_at, PageDone, BellReads}
-use Rattle.sh_shard.specs.Shards.{Sharded, WorksThroughout, BellDone}
+use Rattle.sh_shard.specs.Works.{WorksThroughout, BellDone}
+use Rattle.sh_shard.specs.Shards.{Sharded}
 
--- work on pages that adds nothing to the log, puts nothing and changes no page's class; the bell is as it was
+-- work on pages alone: the bell is as it was
 pub record WorkedSince (o n : Paged) : Type 0 where
-  pub aside : Aside o.owner n.owner
-  pub put : NonePut o.owner n.owner
+  pub through : WorksThroughout o n
   pub bell : n.bell ≡ o.bell
-  pub log : n.owner.view.own.log ≡ o.owner.view.own.log
-  pub shard : n.shard ≡ o.shard
-  pub count : n.count ≡ o.count
-  pub classes : (q : ℕ) → (page_at n q).class ≡ (page_at o q).class
-  pub takes : (q : ℕ) → (page_at o q).takes ≤ (page_at n q).takes
-  pub met : (q : ℕ) → (page_at o q).met ≤ (page_at n q).met
 
 -- a page was tried in vain, and went to the back or to the full queue
 pub record Settles (c p : ℕ) (o n : Sharded) : Type 0 where

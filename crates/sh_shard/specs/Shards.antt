@@ -16,6 +16,7 @@ use Rattle.sh_pass.specs.Growing.{SameTale}
 use Rattle.sh_pass.specs.Owners.{SeenPage, Aside, NonePut, IsKeyIn, own_body}
 use Rattle.sh_shard.specs.Pages.{Paged, page_at, seen_class, NothingMine, WhollyMine, GivesClass, PageDone, TakesSteps}
 use Rattle.sh_shard.specs.Pages.{AdoptsShard, AdoptRefused, ShardLeft}
+use Rattle.sh_shard.specs.Works.{WorksThroughout, BellDone}
 use Rattle.sh_shard.specs.Leaving.{Waiting}
 
 pub record Sharded : Type 0 where
@@ -53,23 +54,6 @@ pub record StaysOwner (layout : Layout) (o n : Sharded) : Type 0 where
   pub same : SameTale o.pages.owner.view n.pages.owner.view
 
 -- ---- what an insert does
-
--- work on pages and on the bell that adds nothing to the log, puts nothing and changes no page's class
-pub record WorksThroughout (o n : Paged) : Type 0 where
-  pub aside : Aside o.owner n.owner
-  pub put : NonePut o.owner n.owner
-  pub log : n.owner.view.own.log ≡ o.owner.view.own.log
-  pub shard : n.shard ≡ o.shard
-  pub count : n.count ≡ o.count
-  pub classes : (q : ℕ) → (page_at n q).class ≡ (page_at o q).class
-  pub takes : (q : ℕ) → (page_at o q).takes ≤ (page_at n q).takes
-  pub met : (q : ℕ) → (page_at o q).met ≤ (page_at n q).met
-  pub bell_takes : o.bell.takes ≤ n.bell.takes
-  pub bell_met : o.bell.met ≤ n.bell.met
-
--- the bell was taken and followed to its end, or a link of it was not written, in this work
-abbrev pub BellDone : Paged → Paged → Type 0
-BellDone o n = MatchOption n.bell.cursor (o.bell.takes < n.bell.takes) (λ _. o.bell.met < n.bell.met)
 
 -- nothing of class c is left in any page of the class, and the bell is done
 pub record NoneLeft (c : ℕ) (o n : Paged) : Type 0 where

@@ -1,7 +1,8 @@
 // Leaving the shard: what others put is collected, what the owner has is put back, and the shard is given up.
 ghost use Rattle.std.specs.Prelude.{◌≡◌, ℕ, ◌<◌, ◌⊎◌, None, MatchBool, Result, true, false};
 ghost use Rattle.sh_pass.specs.Owners.{HasNothing, heap_page as number_of};
-ghost use Rattle.sh_shard.specs.Leaving.{LeaveDoes, Collecting, BellFollowed, BellEmptied, EmptiesPage, PagesEmptied};
+ghost use Rattle.sh_shard.specs.Works.{BellDone};
+ghost use Rattle.sh_shard.specs.Leaving.{LeaveDoes, Collecting, BellFollowed, EmptiesPage, PagesEmptied};
 ghost use Rattle.sh_shard.specs.Leaving.{AtRest, AllAtRest, NotAtRest, PutsOne, PutsBack, PutsAllBack};
 ghost use Rattle.sh_shard.specs.Pages.{page_at, shard_page, CursorStands, NothingMine, ShardLeft};
 
@@ -29,7 +30,7 @@ impl<'a, L: KeyLayout> Pages<'a, L> {
     // Follows the bell, takes it where it is at its end, and follows.
     fn empty_bell(&mut self)
         ensures through { Collecting self.old self.new }
-        ensures bell { BellEmptied self.old self.new }
+        ensures bell { BellDone self.old self.new }
     {
         self.follow_rings();
         if self.has_rings() {

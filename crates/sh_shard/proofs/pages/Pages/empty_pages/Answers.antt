@@ -7,7 +7,7 @@ loop-page-init g c = emptying_none c.args.self.now
 
 pub empty_page-requires : goal.empty_page-requires
 empty_page-requires g c = let e = c.count-page-end.ensures.count in let z = c.loop-page-test.true
-    in let s = c.loop-page.invariant.through.count in omega arith
+    in let s = c.loop-page.invariant.collects.through.count in omega arith
 
 pub loop-page-preserved : goal.loop-page-preserved
 loop-page-preserved g c = emptying_more c.loop-page.page c.args.self.now c.loop-page.self c.empty_page.new.self

@@ -1,0 +1,21 @@
+-- Work on many pages and on the bell: what an insert, a prepare and a leave do before they put anything.
+use Rattle.std.specs.Prelude.{◌≡◌, ℕ, ◌<◌, ◌≤◌, MatchOption}
+use Rattle.sh_pass.specs.Owners.{Aside, NonePut}
+use Rattle.sh_shard.specs.Pages.{Paged, page_at}
+
+-- work on pages and on the bell that adds nothing to the log, puts nothing and changes no page's class
+pub record WorksThroughout (o n : Paged) : Type 0 where
+  pub aside : Aside o.owner n.owner
+  pub put : NonePut o.owner n.owner
+  pub log : n.owner.view.own.log ≡ o.owner.view.own.log
+  pub shard : n.shard ≡ o.shard
+  pub count : n.count ≡ o.count
+  pub classes : (q : ℕ) → (page_at n q).class ≡ (page_at o q).class
+  pub takes : (q : ℕ) → (page_at o q).takes ≤ (page_at n q).takes
+  pub met : (q : ℕ) → (page_at o q).met ≤ (page_at n q).met
+  pub bell_takes : o.bell.takes ≤ n.bell.takes
+  pub bell_met : o.bell.met ≤ n.bell.met
+
+-- the bell was taken and followed to its end, or a link of it was not written, in this work
+abbrev pub BellDone : Paged → Paged → Type 0
+BellDone o n = MatchOption n.bell.cursor (o.bell.takes < n.bell.takes) (λ _. o.bell.met < n.bell.met)
