@@ -1,5 +1,7 @@
 //! Whole runs over memory: worked scripts and faults.
+mod broken;
 mod ends;
+mod forged;
 mod hands;
 mod heap;
 mod refused;
@@ -7,6 +9,7 @@ mod sizes;
 mod step_ends;
 mod steps;
 mod threads;
+mod worked;
 mod workers;
 
 use crate::{Mode, replay_alone};
@@ -176,45 +179,6 @@ fn faults_write_nothing(rt: HostRuntime) -> Result<(), Fail> {
         let mut out = Vec::new(rt.alloc());
         assert_eq!(rt; plain(rt.alloc(), script, &mut out), Err(fault), "{script}");
         assert!(rt; out.is_empty(), "{script}");
-    }
-    Ok(())
-}
-
-/// What the first script gives where memory for the entry of its insert is refused.
-const REFUSED_OUTPUT: &str =
-    "0 adopt ok\n0 insert refused 8 Memory\n0 get unbound\n0 read unbound\n";
-
-// With `rt try --test --fail-alloc N` the N-th allocation is refused, here in one of the runs at most.
-#[test]
-fn refused_memory_is_a_fault_or_a_reply(rt: HostRuntime) {
-    let mut refused = false;
-    for _ in 0..3 {
-        let mut out = Vec::new(rt.alloc());
-        let result = plain(rt.alloc(), FIRST, &mut out);
-        if result == Ok(()) && out.as_slice() == FIRST_OUTPUT.as_bytes() {
-            continue;
-        }
-        assert!(rt; !refused);
-        refused = true;
-        match result {
-            Ok(()) => assert_eq!(rt; out.as_slice(), REFUSED_OUTPUT.as_bytes()),
-            // Memory that is refused to the writer is a failed write.
-            Err(fault) => {
-                assert!(rt; fault == Fault::Memory || fault == Fault::Io);
-                assert!(rt; out.is_empty());
-            }
-        }
-    }
-}
-
-// With `rt try --test --fail-alloc N`, for each N at which the insert asks for memory, which is 16 and 17, the run
-// goes on to its end: the refused insert is answered, and its name is unbound from then on.
-#[test]
-fn an_insert_refused_for_memory_is_answered(rt: HostRuntime) -> Result<(), Fail> {
-    let mut out = Vec::with_capacity(rt.alloc(), 128)?;
-    assert_eq!(rt; plain(rt.alloc(), FIRST, &mut out), Ok(()));
-    if out.as_slice() != FIRST_OUTPUT.as_bytes() {
-        assert_eq!(rt; out.as_slice(), REFUSED_OUTPUT.as_bytes());
     }
     Ok(())
 }

@@ -1,10 +1,14 @@
-//! Ends that fail once and then go on, and writers that take little at a time.
-use super::{FIRST, FIRST_OUTPUT};
-use crate::{Mode, replay_alone};
+//! Ends that fail once and then go on, and ends that move few bytes at a time, in each mode.
+use super::worked::{EACH_MODE, Worked};
+use crate::{Mode, replay, replay_alone};
 use sh_script::Fault;
+use std::alloc::Global;
 use std::io;
 use std::io::{Read, Write};
+use std::process::Abort;
+use std::sync::Wait;
 use std::test::Fail;
+use std::thread::Threads;
 
 /// A reader that gives at most so many bytes a read. After so many reads one fails, and those behind it go on.
 #[derive(Drop)]
@@ -70,24 +74,102 @@ impl Write for Writing {
     }
 }
 
+/// The script is read by at most so many bytes a read, of which one fails, and nothing is written.
+fn fails_at_read<R: Threads + Wait + Sync + Abort>(
+    rt: &R,
+    alloc: Global,
+    worked: Worked,
+    most: usize,
+    left: usize,
+) {
+    let mode = worked.mode;
+    let mut reader = Reading {
+        rest: worked.script.as_bytes(),
+        most,
+        left: left as u64,
+    };
+    let mut out = Vec::new(alloc);
+    let ended = replay(rt, alloc, &mut reader, &mut out, mode, true);
+    assert_eq!(rt; ended, Err(Fault::Io), "{mode:?} {most} {left}");
+    assert!(rt; out.is_empty(), "{mode:?} {most} {left}");
+    // None is read after the one that fails.
+    let read = most.saturating_mul(left).min(worked.script.len());
+    assert_eq!(rt; reader.rest.len(), worked.script.len().saturating_sub(read));
+}
+
+/// The output is written by at most so many bytes a write, of which one fails, and a beginning of it has gone out.
+fn fails_at_write<R: Threads + Wait + Sync + Abort>(
+    rt: &R,
+    alloc: Global,
+    worked: Worked,
+    most: usize,
+    left: usize,
+    failure: Failure,
+) {
+    let mode = worked.mode;
+    let mut writer = Writing {
+        taken: Vec::new(alloc),
+        most,
+        grows: 0,
+        left: left as u64,
+        failure,
+    };
+    let mut script = worked.script.as_bytes();
+    let ended = replay(rt, alloc, &mut script, &mut writer, mode, true);
+    assert_eq!(rt; ended, Err(Fault::Io), "{mode:?} {most} {left} {failure:?}");
+    assert!(rt;
+        worked
+            .output
+            .as_bytes()
+            .starts_with(writer.taken.as_slice()),
+        "{mode:?} {most} {left} {failure:?}"
+    );
+    // None is written after the one that fails.
+    assert_eq!(rt; writer.taken.len(), most.saturating_mul(left));
+}
+
+/// By ends that do not fail, and move at most so many bytes each time, the whole output goes out.
+fn goes_out_whole<R: Threads + Wait + Sync + Abort>(
+    rt: &R,
+    alloc: Global,
+    worked: Worked,
+    most: usize,
+) {
+    let mode = worked.mode;
+    let mut reader = Reading {
+        rest: worked.script.as_bytes(),
+        most,
+        left: u64::MAX,
+    };
+    let mut writer = Writing {
+        taken: Vec::new(alloc),
+        most,
+        grows: 0,
+        left: u64::MAX,
+        failure: Failure::Error,
+    };
+    let ended = replay(rt, alloc, &mut reader, &mut writer, mode, true);
+    assert_eq!(rt; ended, Ok(()), "{mode:?} {most}");
+    assert_eq!(rt;
+        writer.taken.as_slice(),
+        worked.output.as_bytes(),
+        "{mode:?} {most}"
+    );
+}
+
+// All at once, a few bytes at a time, and byte by byte.
+const MOST: [usize; 3] = [1000, 7, 1];
+
 #[test]
 fn a_read_that_fails_once_ends_the_run(rt: HostRuntime) -> Result<(), Fail> {
-    // The script has 56 bytes, so that one byte a read makes 56 reads, and one more that gives none.
-    for left in 0..58 {
-        let mut reader = Reading {
-            rest: FIRST.as_bytes(),
-            most: 1,
-            left,
-        };
-        let mut out = Vec::new(rt.alloc());
-        let result = replay_alone(rt.alloc(), &mut reader, &mut out, Mode::Plain, false);
-        if left < 57 {
-            assert_eq!(rt; result, Err(Fault::Io), "{left}");
-            assert!(rt; out.is_empty(), "{left}");
-            assert_eq!(rt; reader.rest.len() as u64 + left, 56);
-        } else {
-            assert_eq!(rt; result, Ok(()));
-            assert_eq!(rt; out.as_slice(), FIRST_OUTPUT.as_bytes());
+    for worked in EACH_MODE {
+        for most in MOST {
+            // The last read gives no byte.
+            let reads = worked.script.len().div_ceil(most).saturating_add(1);
+            for left in 0..reads {
+                fails_at_read(&rt, rt.alloc(), worked, most, left);
+            }
+            goes_out_whole(&rt, rt.alloc(), worked, most);
         }
     }
     Ok(())
@@ -95,29 +177,15 @@ fn a_read_that_fails_once_ends_the_run(rt: HostRuntime) -> Result<(), Fail> {
 
 #[test]
 fn a_write_that_fails_once_ends_the_run(rt: HostRuntime) -> Result<(), Fail> {
-    // The output has 45 bytes, written by one byte a write.
-    for left in 0..46 {
-        for failure in [Failure::Error, Failure::TakesNone] {
-            let mut writer = Writing {
-                taken: Vec::new(rt.alloc()),
-                most: 1,
-                grows: 0,
-                left,
-                failure,
-            };
-            let mut script = FIRST.as_bytes();
-            let result = replay_alone(rt.alloc(), &mut script, &mut writer, Mode::Plain, true);
-            if left < 45 {
-                assert_eq!(rt; result, Err(Fault::Io), "{left} {failure:?}");
-                assert!(rt;
-                    FIRST_OUTPUT.as_bytes().starts_with(writer.taken.as_slice()),
-                    "{left} {failure:?}"
-                );
-                assert_eq!(rt; writer.taken.len() as u64, left);
-            } else {
-                assert_eq!(rt; result, Ok(()));
-                assert_eq!(rt; writer.taken.as_slice(), FIRST_OUTPUT.as_bytes());
+    for worked in EACH_MODE {
+        for most in MOST {
+            let writes = worked.output.len().div_ceil(most);
+            for left in 0..writes {
+                for failure in [Failure::Error, Failure::TakesNone] {
+                    fails_at_write(&rt, rt.alloc(), worked, most, left, failure);
+                }
             }
+            goes_out_whole(&rt, rt.alloc(), worked, most);
         }
     }
     Ok(())

@@ -1,6 +1,6 @@
 //! Scripts of more than one read, of as many bytes as a script may have, and of more.
 use super::ends::Reading;
-use crate::{Mode, replay_alone};
+use crate::{Mode, replay};
 use sh_script::{Cause, Fault};
 use std::alloc::{AllocError, Global};
 use std::test::Fail;
@@ -13,7 +13,10 @@ const HEADER: &str = "heap tiny 1 1 2\n;........................................
 
 const CALLS: &str = "0 adopt 0\n0 insert a 7\n1 get a\n1 read a\n;......................\n";
 
-const CALLS_OUTPUT: &str = "0 adopt ok\n0 insert 4096\n1 get ok\n1 read 1 7\n";
+const REPLIES: &str = "0 adopt ok\n0 insert 4096\n1 get ok\n1 read 1 7\n";
+
+const REPLIES_AND_ACCOUNTS: &str = "0 adopt ok\n0 insert 4096\n1 get ok\n1 read 1 7\n\
+    page 0.0 class 0 live 1 marked 0 retired 0 mine 0 hand 0 queued 47\n";
 
 const EVENTS: &str = "0 Adopt 0\n0 Read 0.0\n0 SetClass 0.0 7\n0 Fill 0.0.0\n0 Publish\n;.\n";
 
@@ -32,8 +35,10 @@ fn script_of(alloc: Global, pieces: usize, last: &str) -> Result<String, AllocEr
 }
 
 /// The modes, with the last lines of a script of each and what these give.
-const WORKED: [(Mode, &str, &str); 2] = [
-    (Mode::Plain, CALLS, CALLS_OUTPUT),
+const WORKED: [(Mode, &str, &str); 4] = [
+    (Mode::Plain, CALLS, REPLIES),
+    (Mode::Heap, CALLS, REPLIES_AND_ACCOUNTS),
+    (Mode::Threads, CALLS, REPLIES_AND_ACCOUNTS),
     (Mode::Steps, EVENTS, EVENTS_OUTPUT),
 ];
 
@@ -52,7 +57,7 @@ fn a_script_of_several_reads_is_run(rt: HostRuntime) -> Result<(), Fail> {
                     left: u64::MAX,
                 };
                 let mut out = Vec::new(rt.alloc());
-                let result = replay_alone(rt.alloc(), &mut reader, &mut out, mode, true);
+                let result = replay(&rt, rt.alloc(), &mut reader, &mut out, mode, true);
                 assert_eq!(rt; result, Ok(()));
                 assert_eq!(rt; out.as_slice(), output.as_bytes());
                 assert!(rt; reader.rest.is_empty());
@@ -69,7 +74,7 @@ fn a_script_of_the_limit_is_run_and_one_byte_more_is_a_fault(rt: HostRuntime) ->
         assert_eq!(rt; script.len(), 1_048_576);
         let mut reader = script.as_bytes();
         let mut out = Vec::new(rt.alloc());
-        let result = replay_alone(rt.alloc(), &mut reader, &mut out, mode, true);
+        let result = replay(&rt, rt.alloc(), &mut reader, &mut out, mode, true);
         assert_eq!(rt; result, Ok(()));
         assert_eq!(rt; out.as_slice(), output.as_bytes());
 
@@ -79,7 +84,7 @@ fn a_script_of_the_limit_is_run_and_one_byte_more_is_a_fault(rt: HostRuntime) ->
             script.push_str("\n")?;
             let mut reader = script.as_bytes();
             let mut out = Vec::new(rt.alloc());
-            let result = replay_alone(rt.alloc(), &mut reader, &mut out, mode, true);
+            let result = replay(&rt, rt.alloc(), &mut reader, &mut out, mode, true);
             assert_eq!(rt; result, size);
             assert!(rt; out.is_empty());
             assert_eq!(rt; reader.len(), unread);

@@ -1,4 +1,4 @@
-//! Mode steps: keys with a tag, scripts that are none of events, and refused memory.
+//! Mode steps: keys with a tag, and scripts that are none of events.
 use super::steps::{expect, steps};
 use crate::{Mode, replay_alone};
 use sh_script::{Cause, Fault};
@@ -66,35 +66,4 @@ fn each_mode_has_scripts_of_its_own(rt: HostRuntime) {
         Err(Fault::BadShape)
     );
     assert!(rt; out.is_empty());
-}
-
-/// A script that fills a slot, gets it and removes it, and its output.
-const WHOLE: &str =
-    "heap tiny 1 1 2\n0 Adopt 0\n0 Read 0.0\n0 SetClass 0.0 7\n0 Fill 0.0.0 5\n0 Fill\n0 Publish\n1 Enter get 4096\n\
-    1 Read 4096 0\n0 Enter remove 4096\n0 Mark\n0 Drop\n1 Drop 4096\n1 Finish\n1 Put\n1 Tie\n0 Take 0.0\n\
-    0 Follow 0.0\n";
-
-const WHOLE_OUTPUT: &str =
-    "0 Adopt moved\n0 Read moved\n0 SetClass moved\n0 Fill moved\n0 Fill moved\n0 Publish Insert 4096 1 5\n\
-    1 Enter Got 4096 1 5\n1 Read moved\n0 Enter moved\n0 Mark Removed 4096\n0 Drop moved\n1 Drop Released 4096\n\
-    1 Finish moved\n1 Put moved\n1 Tie moved\n0 Take moved\n0 Follow moved\n\
-    page 0.0 class 7 live 0 marked 0 retired 0 mine 3 hand 0 queued 0\n";
-
-// With `rt try --test --fail-alloc N` the N-th allocation is refused, here in one of the runs at most.
-#[test]
-fn refused_memory_ends_a_run_of_steps(rt: HostRuntime) {
-    let mut refused = false;
-    for _ in 0..3 {
-        let mut out = Vec::new(rt.alloc());
-        let result = steps(rt.alloc(), WHOLE, true, &mut out);
-        if result == Ok(()) {
-            assert_eq!(rt; out.as_slice(), WHOLE_OUTPUT.as_bytes());
-            continue;
-        }
-        assert!(rt; !refused);
-        refused = true;
-        // Memory that is refused to the writer is a failed write.
-        assert!(rt; result == Err(Fault::Memory) || result == Err(Fault::Io));
-        assert!(rt; out.is_empty());
-    }
 }
