@@ -1,6 +1,6 @@
 //! Keys that nobody was answered, by all the modes of calls.
 use crate::{Mode, replay};
-use std::alloc::{AllocError, Global};
+use std::alloc::Global;
 use std::process::Abort;
 use std::sync::Wait;
 use std::test::Fail;
