@@ -1,0 +1,104 @@
+//! What may be so of a heap.
+use sh_accounts::page;
+use sh_core::{Accounts, World};
+use sh_history::Entry;
+use sh_key::Tiny;
+use sh_step::Part;
+
+/// What may be so of a heap. Its pages are the first ones of their shards.
+#[derive(Drop, Debug)]
+pub enum Fact {
+    /// The log has this entry.
+    Logged(Entry),
+    /// The shard's page has this class.
+    Class(u32, u32),
+    /// So many slots of the shard's page are live.
+    Live(u32, u32),
+    /// So many slots of the shard's page are the owner's.
+    Mine(u32, u32),
+    /// So many slots of the shard's page are queued.
+    Queued(u32, u32),
+    /// So many slots of the shard's page are retired.
+    Retired(u32, u32),
+    /// The pass owns this shard.
+    Owns(u32, u64),
+    /// Whether the pass has armed the heap's first page.
+    Armed(u32, bool),
+    /// The pass has this cursor on the heap's first page.
+    Cursor(u32, Option<u64>),
+    /// The word of this number is this.
+    Word(usize, u64),
+}
+
+// The accounts of the shard's first page, if it has a class.
+fn accounts(world: &World<Tiny>, shard: u32) -> Option<Accounts> {
+    match page(world, shard, 0) {
+        Some(accounts) if accounts.class.is_some() => Some(accounts),
+        _ => None,
+    }
+}
+
+// The class of the shard's first page.
+fn class(world: &World<Tiny>, shard: u32) -> Option<u32> {
+    accounts(world, shard)?.class
+}
+
+// The part of a pass.
+fn part(world: &World<Tiny>, pass: u32) -> Option<&Part> {
+    world.parts().get(pass as usize)
+}
+
+impl Fact {
+    // Whether the accounts are so.
+    fn is_so_of_page(&self, accounts: &Accounts) -> bool {
+        match self {
+            Fact::Live(_, count) => accounts.live == *count,
+            Fact::Mine(_, count) => accounts.mine == *count,
+            Fact::Queued(_, count) => accounts.queued == *count,
+            Fact::Retired(_, count) => accounts.retired == *count,
+            _ => false,
+        }
+    }
+
+    // Whether the pass's part is so.
+    fn is_so_of_part(&self, part: &Part) -> bool {
+        match self {
+            Fact::Owns(_, shard) => part.owned() == Some(*shard),
+            Fact::Armed(_, armed) => part.has_armed(0) == *armed,
+            Fact::Cursor(_, cursor) => part.cursor(0) == *cursor,
+            _ => false,
+        }
+    }
+
+    /// Whether it is so.
+    pub fn is_so(&self, world: &World<Tiny>) -> bool {
+        match self {
+            Fact::Logged(entry) => world.log().contains(entry),
+            Fact::Class(shard, number) => class(world, *shard) == Some(*number),
+            Fact::Live(shard, _)
+            | Fact::Mine(shard, _)
+            | Fact::Queued(shard, _)
+            | Fact::Retired(shard, _) => match accounts(world, *shard) {
+                Some(accounts) => self.is_so_of_page(&accounts),
+                None => false,
+            },
+            Fact::Owns(pass, _) | Fact::Armed(pass, _) | Fact::Cursor(pass, _) => {
+                match part(world, *pass) {
+                    Some(part) => self.is_so_of_part(part),
+                    None => false,
+                }
+            }
+            Fact::Word(number, word) => world.words().get(*number) == Some(word),
+        }
+    }
+}
+
+/// Whether all of these are so.
+pub fn are_so(facts: &[Fact], world: &World<Tiny>) -> bool {
+    for fact in facts {
+        if !fact.is_so(world) {
+            return false;
+        }
+    }
+    true
+}

@@ -1,0 +1,113 @@
+use super::{FIRST, SECOND, opened, three_passes, walked};
+use crate::facts::Fact;
+use crate::steps::{PAGE, Steps, WIDEST, slot};
+use sh_shape::Shape;
+use sh_step::{PageName, SlotName};
+use std::test::Fail;
+
+// The head word of the first page.
+const HEAD: usize = 1;
+
+// The bell of a heap of one shard, which has eight pages.
+const BELL: usize = 1561;
+
+// What a bell says on which the first page is.
+const RUNG: u64 = 1;
+
+// Of two that free into an armed page the one that puts first rings, so it makes eight steps and the other six. Of the
+// orders of eight steps and six steps 2289 have the fifth one of the eight before the fifth one of the six.
+#[test]
+fn one_of_two_frees_rings(rt: HostRuntime) -> Result<(), Fail> {
+    let before = opened(rt.alloc(), 2)?.arms(0, PAGE, 0)?;
+    let then = Steps::new(rt.alloc())
+        .removes(1, FIRST)?
+        .removes(2, SECOND)?;
+    let walked = three_passes(&rt, rt.alloc(), before, then)?;
+    assert_eq!(rt; walked.orders(), 4578);
+    assert_eq!(rt; walked.orders_with(&[Fact::Word(BELL, RUNG)]), 4578);
+    Ok(())
+}
+
+// A free into a page that was armed before it puts rings: one order. Where it puts first, arming takes the slot, and
+// following it twice finds the link once it is stored: in three of four orders.
+#[test]
+fn arming_beside_a_free(rt: HostRuntime) -> Result<(), Fail> {
+    let before = opened(rt.alloc(), 1)?.empties(1, FIRST)?;
+    let then = Steps::new(rt.alloc()).arms(0, PAGE, 2)?.gives_back(1)?;
+    let walked = three_passes(&rt, rt.alloc(), before, then)?;
+    assert_eq!(rt; walked.orders(), 5);
+    assert_eq!(rt; walked.orders_with(&[Fact::Word(BELL, RUNG)]), 1);
+    assert_eq!(rt; walked.orders_with(&[Fact::Mine(0, 3)]), 3);
+    assert_eq!(rt; walked.orders_with(&[Fact::Cursor(0, Some(0))]), 1);
+    Ok(())
+}
+
+// A removal into an armed page, an owner that answers its bell and collects, and a visitor. The owner finds the slot
+// with the ring or without it, and one that collects before the ring has the page armed until it answers the bell.
+#[test]
+fn a_removal_beside_an_owner_that_answers_and_collects(rt: HostRuntime) -> Result<(), Fail> {
+    let before = opened(rt.alloc(), 1)?.arms(0, PAGE, 0)?;
+    let then = Steps::new(rt.alloc())
+        .answers(0, 2)?
+        .collects(0, PAGE, 2)?
+        .removes(1, FIRST)?
+        .gets(2, FIRST)?
+        .releases(2, FIRST)?;
+    let walked = three_passes(&rt, rt.alloc(), before, then)?;
+    let with_ring = walked.orders_with(&[Fact::Mine(0, 3), Fact::Armed(0, false)]);
+    let without_ring = walked.orders_with(&[Fact::Mine(0, 3), Fact::Armed(0, true)]);
+    let unseen = walked.orders_with(&[Fact::Mine(0, 2), Fact::Cursor(0, None)]);
+    assert!(rt; with_ring > 0 && without_ring > 0 && unseen > 0);
+    Ok(())
+}
+
+// Two frees beside an owner that answers the bell and arms the page again: the page waits for no ring that does not
+// come, since in each end the owner can leave once it has answered.
+#[test]
+fn two_frees_beside_an_owner_that_arms_again(rt: HostRuntime) -> Result<(), Fail> {
+    let before = opened(rt.alloc(), 2)?.arms(0, PAGE, 0)?;
+    let then = Steps::new(rt.alloc())
+        .answers(0, 1)?
+        .arms(0, PAGE, 2)?
+        .removes(1, FIRST)?
+        .removes(2, SECOND)?;
+    let walked = three_passes(&rt, rt.alloc(), before, then)?;
+    let armed_again = [Fact::Armed(0, true), Fact::Word(HEAD, 1), Fact::Mine(0, 3)];
+    assert!(rt; walked.orders_with(&armed_again) > 0);
+    Ok(())
+}
+
+// Two owners each remove the other's value, and then answer their bells and collect. Who takes its page last finds its
+// slot there, since the other had removed before it took its own: so there is no order in which both lack one.
+#[test]
+fn two_owners_free_each_others_values(rt: HostRuntime) -> Result<(), Fail> {
+    let other = PageName { shard: 1, page: 0 };
+    let there = SlotName {
+        shard: 1,
+        page: 0,
+        slot: 0,
+    };
+    // The key of that slot: a shard more.
+    let key = FIRST + 1024;
+    let before = Steps::new(rt.alloc())
+        .opens(0, 0, WIDEST)?
+        .opens(1, 1, WIDEST)?
+        .inserts(0, slot(0), 5)?
+        .inserts(1, there, 6)?
+        .arms(0, PAGE, 0)?
+        .arms(1, other, 0)?;
+    let then = Steps::new(rt.alloc())
+        .removes(0, key)?
+        .answers(0, 1)?
+        .collects(0, PAGE, 1)?
+        .removes(1, FIRST)?
+        .answers(1, 1)?
+        .collects(1, other, 1)?;
+    let walked = walked(&rt, rt.alloc(), Shape::new(2, 1, 2)?, before, then)?;
+    assert!(rt; walked.orders_with(&[Fact::Mine(0, 3), Fact::Mine(1, 3)]) > 0);
+    assert_eq!(rt;
+        walked.orders_with(&[Fact::Mine(0, 2), Fact::Mine(1, 2)]),
+        0
+    );
+    Ok(())
+}

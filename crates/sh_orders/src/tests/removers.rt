@@ -1,0 +1,80 @@
+use super::{FIRST, FIRST_AGAIN, FIRST_AT_LAST, opened, three_passes};
+use crate::facts::Fact;
+use crate::steps::{Steps, slot};
+use sh_history::Entry;
+use std::test::Fail;
+
+// Of two that remove one key one is answered that it did, and the other that it is gone. By hand there are 21 orders
+// in which the first one marks first: 6 where both entered before that mark, and 15 where the other entered later.
+#[test]
+fn one_of_two_removers_removes(rt: HostRuntime) -> Result<(), Fail> {
+    let before = opened(rt.alloc(), 1)?;
+    let then = Steps::new(rt.alloc()).removes(1, FIRST)?.removes(2, FIRST)?;
+    let walked = three_passes(&rt, rt.alloc(), before, then)?;
+    assert_eq!(rt; walked.orders(), 42);
+    for (remover, other) in [(1, 2), (2, 1)] {
+        let facts = [
+            Fact::Logged(Entry::Removed(remover, FIRST)),
+            Fact::Logged(Entry::Gone(other, FIRST)),
+        ];
+        assert_eq!(rt; walked.orders_with(&facts), 21);
+    }
+    Ok(())
+}
+
+// Whoever is the last on a slot that is marked frees it: the owner for itself, another onto the page.
+#[test]
+fn the_last_of_three_visitors_frees(rt: HostRuntime) -> Result<(), Fail> {
+    let before = opened(rt.alloc(), 1)?;
+    let then = Steps::new(rt.alloc())
+        .gets(0, FIRST)?
+        .releases(0, FIRST)?
+        .removes(1, FIRST)?
+        .gets(2, FIRST)?
+        .releases(2, FIRST)?;
+    let walked = three_passes(&rt, rt.alloc(), before, then)?;
+    let mine = walked.orders_with(&[Fact::Mine(0, 3)]);
+    let queued = walked.orders_with(&[Fact::Mine(0, 2), Fact::Queued(0, 1)]);
+    assert!(rt; mine > 0 && queued > 0);
+    assert_eq!(rt; walked.orders(), mine.saturating_add(queued));
+    Ok(())
+}
+
+// A visitor that found its key gone may be the last one on the slot in the generation after.
+#[test]
+fn a_late_visitor_frees_the_next_generation(rt: HostRuntime) -> Result<(), Fail> {
+    let before = opened(rt.alloc(), 1)?;
+    let then = Steps::new(rt.alloc())
+        .removes(0, FIRST)?
+        .inserts(0, slot(0), 6)?
+        .removes(0, FIRST_AGAIN)?
+        .gets(1, FIRST)?
+        .releases(1, FIRST)?;
+    let walked = three_passes(&rt, rt.alloc(), before, then)?;
+    let late = walked.orders_with(&[
+        Fact::Logged(Entry::Gone(1, FIRST)),
+        Fact::Logged(Entry::Removed(0, FIRST_AGAIN)),
+        Fact::Queued(0, 1),
+    ]);
+    assert!(rt; late > 0);
+    Ok(())
+}
+
+// A slot whose last generation ends is nobody's, whoever was the last one on it.
+#[test]
+fn a_last_generation_retires(rt: HostRuntime) -> Result<(), Fail> {
+    let before = opened(rt.alloc(), 1)?
+        .removes(0, FIRST)?
+        .inserts(0, slot(0), 6)?
+        .removes(0, FIRST_AGAIN)?
+        .inserts(0, slot(0), 7)?;
+    let then = Steps::new(rt.alloc())
+        .removes(0, FIRST_AT_LAST)?
+        .removes(1, FIRST_AT_LAST)?
+        .gets(2, FIRST_AT_LAST)?
+        .releases(2, FIRST_AT_LAST)?;
+    let walked = three_passes(&rt, rt.alloc(), before, then)?;
+    let retired = walked.orders_with(&[Fact::Retired(0, 1), Fact::Mine(0, 2)]);
+    assert_eq!(rt; retired, walked.orders());
+    Ok(())
+}

@@ -1,0 +1,38 @@
+use super::{FIRST, SECOND, opened, three_passes};
+use crate::facts::Fact;
+use crate::steps::{PAGE, Steps};
+use std::test::Fail;
+
+// Two frees go on independently of each other where nobody arms and nobody collects: six steps and six steps can be
+// ordered in 924 ways.
+#[test]
+fn two_frees_do_not_wait_for_each_other(rt: HostRuntime) -> Result<(), Fail> {
+    let before = opened(rt.alloc(), 2)?;
+    let then = Steps::new(rt.alloc())
+        .removes(1, FIRST)?
+        .removes(2, SECOND)?;
+    let walked = three_passes(&rt, rt.alloc(), before, then)?;
+    assert_eq!(rt; walked.orders(), 924);
+    assert_eq!(rt;
+        walked.orders_with(&[Fact::Mine(0, 1), Fact::Queued(0, 2)]),
+        924
+    );
+    Ok(())
+}
+
+// Two passes put a slot each and tie it, while the owner takes the page and follows it twice. By hand: it takes before
+// both puts in 6 orders, between them in 58, after both in 48; and in 20 of those each link is stored as it is read.
+#[test]
+fn two_frees_under_a_follow(rt: HostRuntime) -> Result<(), Fail> {
+    let before = opened(rt.alloc(), 2)?
+        .empties(1, FIRST)?
+        .empties(2, SECOND)?;
+    let then = Steps::new(rt.alloc())
+        .collects(0, PAGE, 2)?
+        .gives_back(1)?
+        .gives_back(2)?;
+    let walked = three_passes(&rt, rt.alloc(), before, then)?;
+    assert_eq!(rt; walked.orders(), 112);
+    assert_eq!(rt; walked.orders_with(&[Fact::Mine(0, 3)]), 20);
+    Ok(())
+}

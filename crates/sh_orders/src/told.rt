@@ -1,0 +1,97 @@
+//! What a state is, as a text.
+use crate::moment::Moment;
+use crate::program::Program;
+use sh_history::Entry;
+use sh_slots::Spot;
+use sh_step::Part;
+use std::alloc::{AllocError, Global};
+use std::fmt::Write;
+
+// How many words a page has.
+const PAGE_WORDS: usize = 195;
+
+// The class word of a page without a class, which is its first word.
+const BLANK: u64 = 0;
+
+// How many slots a page has places for.
+const SLOTS: u64 = 48;
+
+// The words that are not as they were when the heap opened.
+fn tell_words(text: &mut String, words: &[u64], opening: &[u64]) -> Result<(), AllocError> {
+    for (number, (word, first)) in words.iter().zip(opening).enumerate() {
+        if word != first {
+            write!(text, " {number}: {word}")?;
+        }
+    }
+    Ok(())
+}
+
+// What a part has of a page.
+fn tell_page(text: &mut String, part: &Part, page: u64) -> Result<(), AllocError> {
+    let class = part.class_noted(page);
+    let cursor = part.cursor(page);
+    let armed = part.has_armed(page);
+    write!(text, " page {page} {class:?} {cursor:?} {armed} mine")?;
+    for slot in 0..SLOTS {
+        if part.has_mine(Spot { page, slot }) {
+            write!(text, " {slot}")?;
+        }
+    }
+    Ok(())
+}
+
+// What a part has of a key.
+fn tell_key(text: &mut String, part: &Part, key: u64) -> Result<(), AllocError> {
+    let held = part.has_hold(key);
+    let width = part.width_of(key);
+    let length = part.length_of(key);
+    write!(text, " key {key} {held} {width:?} {length:?}")
+}
+
+// What a part has, of the pages with a class and of the keys that the log knows.
+fn tell_part(
+    text: &mut String,
+    part: &Part,
+    words: &[u64],
+    log: &[Entry],
+) -> Result<(), AllocError> {
+    let hand = part.hand();
+    let owned = part.owned();
+    let bell = part.bell_cursor();
+    let holds = part.hold_count();
+    write!(text, "\n{hand:?} {owned:?} {bell:?} {holds}")?;
+    for (page, words) in words.chunks_exact(PAGE_WORDS).enumerate() {
+        if words.first() != Some(&BLANK) {
+            tell_page(text, part, page as u64)?;
+        }
+    }
+    for entry in log {
+        if let Entry::Insert(_, key, _) = entry {
+            tell_key(text, part, *key)?;
+        }
+    }
+    Ok(())
+}
+
+/// All of a state that a later step or check looks at: which event each pass does next, the words, what the parts
+/// have, and the whole log. So two states with one text have the same continuations, and the same ends.
+pub fn told(
+    alloc: Global,
+    program: &Program,
+    opening: &[u64],
+    moment: &Moment,
+) -> Result<String, AllocError> {
+    let world = &moment.world;
+    let mut text = String::new(alloc);
+    for pass in 0..program.shape.passes() {
+        let next = moment.next(program, pass);
+        write!(text, "{next:?} ")?;
+    }
+    tell_words(&mut text, world.words(), opening)?;
+    for part in world.parts() {
+        tell_part(&mut text, part, world.words(), world.log())?;
+    }
+    let log = world.log();
+    write!(text, "\n{log:?}")?;
+    Ok(text)
+}
