@@ -22,8 +22,8 @@ pub enum Fact {
     Retired(u32, u32),
     /// The pass owns this shard.
     Owns(u32, u64),
-    /// Whether the pass has armed the heap's first page.
-    Armed(u32, bool),
+    /// Whether the pass has armed the page of this number.
+    Armed(u32, u64, bool),
     /// The pass has this cursor on the heap's first page.
     Cursor(u32, Option<u64>),
     /// The word of this number is this.
@@ -64,7 +64,7 @@ impl Fact {
     fn is_so_of_part(&self, part: &Part) -> bool {
         match self {
             Fact::Owns(_, shard) => part.owned() == Some(*shard),
-            Fact::Armed(_, armed) => part.has_armed(0) == *armed,
+            Fact::Armed(_, page, armed) => part.has_armed(*page) == *armed,
             Fact::Cursor(_, cursor) => part.cursor(0) == *cursor,
             _ => false,
         }
@@ -82,7 +82,7 @@ impl Fact {
                 Some(accounts) => self.is_so_of_page(&accounts),
                 None => false,
             },
-            Fact::Owns(pass, _) | Fact::Armed(pass, _) | Fact::Cursor(pass, _) => {
+            Fact::Owns(pass, _) | Fact::Armed(pass, _, _) | Fact::Cursor(pass, _) => {
                 match part(world, *pass) {
                     Some(part) => self.is_so_of_part(part),
                     None => false,

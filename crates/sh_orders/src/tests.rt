@@ -13,15 +13,14 @@ use std::alloc::Global;
 use std::process::Abort;
 use std::test::Fail;
 
-// The keys of the first slots of a heap's first page, in their first generation.
+// The key of the first slot of a heap's first page, in its first generation.
 const FIRST: u64 = 4096;
 
+// The key of the slot after it.
 const SECOND: u64 = 4097;
 
-// The keys of the first slot in its next generations.
-const FIRST_AGAIN: u64 = 8192;
-
-const FIRST_AT_LAST: u64 = 12288;
+// How much greater the key of a slot is in its next generation.
+const GENERATION: u64 = 4096;
 
 // Pass 0 owns the shard, and its first page has this many values of one word, in its first slots, of three.
 fn opened(alloc: Global, values: u64) -> Result<Steps, Fail> {

@@ -1,8 +1,8 @@
-use super::{FIRST, SECOND, opened, three_passes, walked};
+use super::{FIRST, GENERATION, SECOND, opened, three_passes, walked};
 use crate::facts::Fact;
 use crate::steps::{PAGE, Steps, WIDEST, slot};
 use sh_shape::Shape;
-use sh_step::{PageName, SlotName};
+use sh_step::{Action, PageName, SlotName};
 use std::test::Fail;
 
 // The head word of the first page.
@@ -54,8 +54,8 @@ fn a_removal_beside_an_owner_that_answers_and_collects(rt: HostRuntime) -> Resul
         .gets(2, FIRST)?
         .releases(2, FIRST)?;
     let walked = three_passes(&rt, rt.alloc(), before, then)?;
-    let with_ring = walked.orders_with(&[Fact::Mine(0, 3), Fact::Armed(0, false)]);
-    let without_ring = walked.orders_with(&[Fact::Mine(0, 3), Fact::Armed(0, true)]);
+    let with_ring = walked.orders_with(&[Fact::Mine(0, 3), Fact::Armed(0, 0, false)]);
+    let without_ring = walked.orders_with(&[Fact::Mine(0, 3), Fact::Armed(0, 0, true)]);
     let unseen = walked.orders_with(&[Fact::Mine(0, 2), Fact::Cursor(0, None)]);
     assert!(rt; with_ring > 0 && without_ring > 0 && unseen > 0);
     Ok(())
@@ -72,8 +72,64 @@ fn two_frees_beside_an_owner_that_arms_again(rt: HostRuntime) -> Result<(), Fail
         .removes(1, FIRST)?
         .removes(2, SECOND)?;
     let walked = three_passes(&rt, rt.alloc(), before, then)?;
-    let armed_again = [Fact::Armed(0, true), Fact::Word(HEAD, 1), Fact::Mine(0, 3)];
+    let armed_again = [
+        Fact::Armed(0, 0, true),
+        Fact::Word(HEAD, 1),
+        Fact::Mine(0, 3),
+    ];
     assert!(rt; walked.orders_with(&armed_again) > 0);
+    Ok(())
+}
+
+// The second page.
+const SECOND_PAGE: PageName = PageName { shard: 0, page: 1 };
+
+// The key of its first slot: a page more.
+const THERE: u64 = FIRST + 64;
+
+// The first slot of a page is filled and freed by a pass, which rings; the owner hears it, collects the slot, fills it
+// again and arms the page again.
+fn freed_once(before: Steps, pass: u32, page: PageName, key: u64) -> Result<Steps, Fail> {
+    let slot = SlotName {
+        shard: page.shard,
+        page: page.page,
+        slot: 0,
+    };
+    before
+        .inserts(0, slot, 5)?
+        .arms(0, page, 0)?
+        .removes(pass, key)?
+        .answers(0, 1)?
+        .collects(0, page, 1)?
+        .inserts(0, slot, 6)?
+        .arms(0, page, 0)
+}
+
+// Two passes each ring for a page, while the owner takes the bell and follows it twice. Both pages were on the bell
+// before. The bell is a stack of pages, so there are as many orders as for two frees under a follow.
+#[test]
+fn two_rings_under_a_follow(rt: HostRuntime) -> Result<(), Fail> {
+    let opened = Steps::new(rt.alloc())
+        .opens(0, 0, WIDEST)?
+        .does(0, Action::ReadPage(SECOND_PAGE))?
+        .does(0, Action::SetClass(SECOND_PAGE, WIDEST))?;
+    let once = freed_once(opened, 1, PAGE, FIRST)?;
+    let twice = freed_once(once, 2, SECOND_PAGE, THERE)?;
+    let before = twice
+        .empties(1, FIRST + GENERATION)?
+        .does(1, Action::Put)?
+        .does(1, Action::Tie)?
+        .empties(2, THERE + GENERATION)?
+        .does(2, Action::Put)?
+        .does(2, Action::Tie)?;
+    let then = Steps::new(rt.alloc())
+        .answers(0, 2)?
+        .gives_back(1)?
+        .gives_back(2)?;
+    let walked = three_passes(&rt, rt.alloc(), before, then)?;
+    assert_eq!(rt; walked.orders(), 112);
+    let heard = [Fact::Armed(0, 0, false), Fact::Armed(0, 1, false)];
+    assert_eq!(rt; walked.orders_with(&heard), 20);
     Ok(())
 }
 

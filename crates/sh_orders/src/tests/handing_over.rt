@@ -49,3 +49,24 @@ fn one_of_two_adopters_owns(rt: HostRuntime) -> Result<(), Fail> {
     );
     Ok(())
 }
+
+// An owner whose value is removed while another visits it leaves where the visitor frees the slot. Where it frees the
+// slot itself it has a slot of its own, and keeps the shard.
+#[test]
+fn an_owner_with_a_slot_of_its_own_stays(rt: HostRuntime) -> Result<(), Fail> {
+    let before = opened(rt.alloc(), 1)?.puts(0, slot(1))?.puts(0, slot(2))?;
+    let then = Steps::new(rt.alloc())
+        .removes(0, FIRST)?
+        .does(0, Action::Leave)?
+        .gets(1, FIRST)?
+        .releases(1, FIRST)?
+        .adopts(2, 0)?
+        .collects(2, PAGE, 3)?;
+    let walked = three_passes(&rt, rt.alloc(), before, then)?;
+    let stayed = walked.orders_with(&[Fact::Owns(0, 0)]);
+    let with_its_slot = walked.orders_with(&[Fact::Owns(0, 0), Fact::Mine(0, 1)]);
+    assert_eq!(rt; stayed, with_its_slot);
+    let left = walked.orders_with(&[Fact::Owns(2, 0)]);
+    assert!(rt; stayed > 0 && left > 0);
+    Ok(())
+}

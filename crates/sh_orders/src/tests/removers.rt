@@ -1,4 +1,4 @@
-use super::{FIRST, FIRST_AGAIN, FIRST_AT_LAST, opened, three_passes};
+use super::{FIRST, GENERATION, opened, three_passes};
 use crate::facts::Fact;
 use crate::steps::{Steps, slot};
 use sh_history::Entry;
@@ -43,17 +43,18 @@ fn the_last_of_three_visitors_frees(rt: HostRuntime) -> Result<(), Fail> {
 // A visitor that found its key gone may be the last one on the slot in the generation after.
 #[test]
 fn a_late_visitor_frees_the_next_generation(rt: HostRuntime) -> Result<(), Fail> {
+    let second = FIRST + GENERATION;
     let before = opened(rt.alloc(), 1)?;
     let then = Steps::new(rt.alloc())
         .removes(0, FIRST)?
         .inserts(0, slot(0), 6)?
-        .removes(0, FIRST_AGAIN)?
+        .removes(0, second)?
         .gets(1, FIRST)?
         .releases(1, FIRST)?;
     let walked = three_passes(&rt, rt.alloc(), before, then)?;
     let late = walked.orders_with(&[
         Fact::Logged(Entry::Gone(1, FIRST)),
-        Fact::Logged(Entry::Removed(0, FIRST_AGAIN)),
+        Fact::Logged(Entry::Removed(0, second)),
         Fact::Queued(0, 1),
     ]);
     assert!(rt; late > 0);
@@ -63,16 +64,18 @@ fn a_late_visitor_frees_the_next_generation(rt: HostRuntime) -> Result<(), Fail>
 // A slot whose last generation ends is nobody's, whoever was the last one on it.
 #[test]
 fn a_last_generation_retires(rt: HostRuntime) -> Result<(), Fail> {
+    let second = FIRST + GENERATION;
+    let last = second + GENERATION;
     let before = opened(rt.alloc(), 1)?
         .removes(0, FIRST)?
         .inserts(0, slot(0), 6)?
-        .removes(0, FIRST_AGAIN)?
+        .removes(0, second)?
         .inserts(0, slot(0), 7)?;
     let then = Steps::new(rt.alloc())
-        .removes(0, FIRST_AT_LAST)?
-        .removes(1, FIRST_AT_LAST)?
-        .gets(2, FIRST_AT_LAST)?
-        .releases(2, FIRST_AT_LAST)?;
+        .removes(0, last)?
+        .removes(1, last)?
+        .gets(2, last)?
+        .releases(2, last)?;
     let walked = three_passes(&rt, rt.alloc(), before, then)?;
     let retired = walked.orders_with(&[Fact::Retired(0, 1), Fact::Mine(0, 2)]);
     assert_eq!(rt; retired, walked.orders());

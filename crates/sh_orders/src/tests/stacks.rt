@@ -1,6 +1,6 @@
-use super::{FIRST, SECOND, opened, three_passes};
+use super::{FIRST, GENERATION, SECOND, opened, three_passes};
 use crate::facts::Fact;
-use crate::steps::{PAGE, Steps};
+use crate::steps::{PAGE, Steps, slot};
 use std::test::Fail;
 
 // Two frees go on independently of each other where nobody arms and nobody collects: six steps and six steps can be
@@ -34,5 +34,23 @@ fn two_frees_under_a_follow(rt: HostRuntime) -> Result<(), Fail> {
     let walked = three_passes(&rt, rt.alloc(), before, then)?;
     assert_eq!(rt; walked.orders(), 112);
     assert_eq!(rt; walked.orders_with(&[Fact::Mine(0, 3)]), 20);
+    Ok(())
+}
+
+// A slot that was put and collected before is put again, on top of another, while the owner collects: what its link
+// said before is not read again. By hand there are seven orders: three in which the owner takes before the put, and
+// four in which it takes later, two of which have the link stored before it is read first.
+#[test]
+fn a_slot_is_put_again_under_a_follow(rt: HostRuntime) -> Result<(), Fail> {
+    let before = opened(rt.alloc(), 2)?
+        .removes(1, FIRST)?
+        .collects(0, PAGE, 1)?
+        .inserts(0, slot(0), 6)?
+        .removes(2, SECOND)?
+        .empties(1, FIRST + GENERATION)?;
+    let then = Steps::new(rt.alloc()).collects(0, PAGE, 2)?.gives_back(1)?;
+    let walked = three_passes(&rt, rt.alloc(), before, then)?;
+    assert_eq!(rt; walked.orders(), 7);
+    assert_eq!(rt; walked.orders_with(&[Fact::Mine(0, 3)]), 2);
     Ok(())
 }
