@@ -1,6 +1,6 @@
 //! Where a program stands.
 use crate::program::Program;
-use sh_core::{Outcome, World};
+use sh_core::World;
 use sh_key::Tiny;
 use sh_step::enabled;
 use std::alloc::Global;

@@ -73,8 +73,9 @@ fn tell_part(
     Ok(())
 }
 
-/// All of a state that a later step or check looks at: which event each pass does next, the words, what the parts
-/// have, and the whole log. So two states with one text have the same continuations, and the same ends.
+/// All of a state that a later step or check looks at: which event each pass does next, the words, what the parts have,
+/// and the whole log. So two states with one text go on in the same ways, to the same ends. The order in the lists of a
+/// part is left out, and so are the words of a value that it read: no condition looks at them.
 pub fn told(
     alloc: Global,
     program: &Program,

@@ -1,7 +1,6 @@
 use super::{FIRST, opened, three_passes};
 use crate::facts::Fact;
 use crate::steps::{PAGE, Steps, WIDEST, slot};
-use sh_history::Entry;
 use sh_step::Action;
 use std::test::Fail;
 
