@@ -1,0 +1,159 @@
+//! Turns by hand: a removal, a get or a release of which each step is a turn of its own, so that others go on between.
+use crate::actor::{Actor, Task};
+use crate::board::Board;
+use crate::counts::Count;
+use crate::dice::Dice;
+use crate::fault::Wrong;
+use crate::home::Home;
+use crate::line::{Span, Told};
+use crate::lone::Lone;
+use crate::record::Record;
+use crate::stopped::Stopped;
+use sh_key::KeyLayout;
+use sh_step::Action;
+use sh_value::Hold;
+
+/// Begins something by hand.
+pub fn begin<'a, L: KeyLayout, H: Home>(
+    lone: Lone<'a, L, H>,
+    record: &mut Record,
+    board: &Board,
+    dice: &mut Dice,
+) -> Actor<'a, L, H> {
+    record.counts.one(Count::Begun);
+    let stopped = lone.begin();
+    let key = board.look(dice.word());
+    match (dice.below(8), key) {
+        (0, Some(key)) => get(stopped, record, board, key),
+        (1..4, _) => release(stopped, record, board),
+        (_, Some(key)) => remove(stopped, record, board, key),
+        _ => end(stopped, record),
+    }
+}
+
+// Does a step, and answers when it was done; none where it was not.
+fn act<L: KeyLayout, H: Home>(
+    stopped: &mut Stopped<'_, L, H>,
+    record: &mut Record,
+    board: &Board,
+    action: &Action,
+) -> Option<Span> {
+    let begin = board.moment();
+    if !stopped.act(action) {
+        return None;
+    }
+    record.counts.one(Count::Acts);
+    Some(board.since(begin))
+}
+
+// Enters the slot of a key, to get it. Where the pass can be had again at once, it has a hold; else it was refused, as
+// gone or as crowded, which a caller by hand is not told.
+fn get<'a, L: KeyLayout, H: Home>(
+    mut stopped: Stopped<'a, L, H>,
+    record: &mut Record,
+    board: &Board,
+    key: u64,
+) -> Actor<'a, L, H> {
+    let Some(span) = act(&mut stopped, record, board, &Action::EnterGet(key)) else {
+        if !record.is_full() {
+            record.find(Wrong::Refused(record.pass, "a get by hand", "it was not done"));
+        }
+        return end(stopped, record);
+    };
+    match stopped.end() {
+        Ok(lone) => {
+            record.got(Hold { key }, span);
+            Actor::Lone(lone)
+        }
+        Err(stopped) => Actor::Stopped(stopped, Task::Ending),
+    }
+}
+
+// Gives back the first of its holds.
+fn release<'a, L: KeyLayout, H: Home>(
+    mut stopped: Stopped<'a, L, H>,
+    record: &mut Record,
+    board: &Board,
+) -> Actor<'a, L, H> {
+    let Some(held) = record.hold(0) else {
+        return end(stopped, record);
+    };
+    let key = held.hold.key;
+    match act(&mut stopped, record, board, &Action::DropHold(key)) {
+        Some(span) => {
+            record.counts.one(Count::Releases);
+            record.tell(key, span, Told::Released);
+            record.forget(0);
+        }
+        None => record.find(Wrong::Refused(record.pass, "a release by hand", "it was not done")),
+    }
+    Actor::Stopped(stopped, Task::Ending)
+}
+
+// Enters the slot of a key, to remove it.
+fn remove<'a, L: KeyLayout, H: Home>(
+    mut stopped: Stopped<'a, L, H>,
+    record: &mut Record,
+    board: &Board,
+    key: u64,
+) -> Actor<'a, L, H> {
+    match act(&mut stopped, record, board, &Action::EnterRemove(key)) {
+        Some(span) => Actor::Stopped(stopped, Task::Removing(key, span)),
+        None => {
+            record.find(Wrong::Refused(record.pass, "a remove by hand", "it was not done"));
+            end(stopped, record)
+        }
+    }
+}
+
+// Marks the slot that it entered to remove its key. Where there is nothing to mark, the key was gone as it entered.
+fn mark<L: KeyLayout, H: Home>(
+    stopped: &mut Stopped<'_, L, H>,
+    record: &mut Record,
+    board: &Board,
+    key: u64,
+    entered: Span,
+) {
+    match act(stopped, record, board, &Action::Mark) {
+        Some(span) => {
+            record.counts.one(Count::Marks);
+            record.tell(key, span, Told::Marked);
+        }
+        None => {
+            record.counts.one(Count::Gones);
+            record.tell(key, entered, Told::Gone);
+        }
+    }
+}
+
+// The pass again, where nothing is left to do.
+fn end<'a, L: KeyLayout, H: Home>(
+    stopped: Stopped<'a, L, H>,
+    record: &mut Record,
+) -> Actor<'a, L, H> {
+    match stopped.end() {
+        Ok(lone) => Actor::Lone(lone),
+        Err(stopped) => {
+            record.find(Wrong::Endless(record.pass));
+            Actor::Stopped(stopped, Task::Ending)
+        }
+    }
+}
+
+/// Does the next step of what was begun.
+pub fn go_on<'a, L: KeyLayout, H: Home>(
+    mut stopped: Stopped<'a, L, H>,
+    task: Task,
+    record: &mut Record,
+    board: &Board,
+) -> Actor<'a, L, H> {
+    if let Task::Removing(key, entered) = task {
+        mark(&mut stopped, record, board, key, entered);
+        return Actor::Stopped(stopped, Task::Ending);
+    }
+    if stopped.go_on() {
+        record.counts.one(Count::Acts);
+        return Actor::Stopped(stopped, Task::Ending);
+    }
+    end(stopped, record)
+}

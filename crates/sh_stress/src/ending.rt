@@ -1,0 +1,177 @@
+//! The end of a round: all that was begun is ended, all passes meet, and what they were answered is judged.
+ghost use Rattle.std.specs.Prelude.{};
+
+use crate::board::Board;
+use crate::counts::{Count, Counts};
+use crate::crew::Crew;
+use crate::dice::Dice;
+use crate::fault::{Fault, Wrong};
+use crate::home::Home;
+use crate::judge::judged;
+use crate::line::Line;
+use crate::lone::Lone;
+use crate::record::Record;
+use crate::tally::{Tally, agrees};
+use crate::worker::Worker;
+use sh_gather::{Whole, whole};
+use sh_key::KeyLayout;
+use sh_shape::Shape;
+use std::alloc::Global;
+
+// All passes of all threads.
+fn all_workers<'a, L: KeyLayout, H: Home>(
+    alloc: Global,
+    crews: Vec<Crew<'a, L, H>>,
+) -> Result<Vec<Worker<'a, L, H>>, Fault> {
+    let mut all = Vec::new(alloc);
+    for crew in crews {
+        let Crew { workers, dice: _ } = crew;
+        for worker in workers {
+            if all.push(worker).is_err() {
+                return Err(Fault::Memory);
+            }
+        }
+    }
+    Ok(all)
+}
+
+// Ends what was begun by hand, gives most holds back, and leaves each shard.
+fn settle<L: KeyLayout, H: Home>(workers: &mut [Worker<'_, L, H>], board: &Board, dice: &mut Dice) {
+    for worker in workers.iter_mut() {
+        worker.end_by_hand(board);
+    }
+    for worker in workers.iter_mut() {
+        worker.release_most(board, dice);
+    }
+    for worker in workers.iter_mut() {
+        worker.retire();
+    }
+}
+
+// Takes the logs of a pass to those of the others, and its counts. Its fault is the round's.
+fn take_in(record: Record, counts: &mut Counts, lines: &mut Vec<Line>) -> Result<(), Fault> {
+    if let Some(fault) = record.fault() {
+        return Err(fault);
+    }
+    counts.take_in(&record.counts);
+    for line in record.into_lines() {
+        if lines.push(line).is_err() {
+            return Err(Fault::Memory);
+        }
+    }
+    Ok(())
+}
+
+// The pass that carries the tale of all passes, with the lines of all their logs.
+fn met<'a, L: KeyLayout, H: Home>(
+    alloc: Global,
+    workers: Vec<Worker<'a, L, H>>,
+    counts: &mut Counts,
+) -> Result<(Lone<'a, L, H>, Vec<Line>), Fault> {
+    let mut lines = Vec::new(alloc);
+    let mut carrier: Option<Lone<'a, L, H>> = None;
+    for worker in workers {
+        let (lone, record) = worker.finish();
+        take_in(record, counts, &mut lines)?;
+        let Some(lone) = lone else {
+            return Err(Fault::Wrong(Wrong::Apart));
+        };
+        carrier = Some(match carrier {
+            Some(carrier) => carrier.join(lone),
+            None => lone,
+        });
+    }
+    match carrier {
+        Some(carrier) => Ok((carrier, lines)),
+        None => Err(Fault::Wrong(Wrong::Apart)),
+    }
+}
+
+// Judges the lines key by key, and counts the slot of each key.
+fn judge_all<L: KeyLayout>(
+    alloc: Global,
+    shape: &Shape,
+    lines: &[Line],
+    counts: &mut Counts,
+) -> Result<Tally, Fault> {
+    let mut tally = Tally::new(alloc, shape)?;
+    let mut rest = lines;
+    for _ in 0..lines.len() {
+        let Some(first) = rest.first() else {
+            break;
+        };
+        let key = first.key;
+        let end = rest
+            .iter()
+            .position(|line| line.key != key)
+            .unwrap_or(rest.len());
+        let history = judged(alloc, key, &rest[..end], shape.passes(), L::GUARD_MAX)?;
+        tally.add::<L>(key, history.as_slice())?;
+        counts.one(Count::Keys);
+        counts.add(Count::Entries, history.len() as u64);
+        rest = &rest[end..];
+    }
+    Ok(tally)
+}
+
+// Compares the accounts of a page with what the answers say of it.
+fn audit_page<L: KeyLayout>(
+    whole: &mut Whole<'_, L>,
+    tally: &Tally,
+    shard: u32,
+    page: u32,
+    counts: &mut Counts,
+) -> Result<(), Fault> {
+    let wrong = Fault::Wrong(Wrong::Accounts(shard, page));
+    let (Some(accounts), Some(expected)) = (whole.accounts(shard, page), tally.of(shard, page))
+    else {
+        return Err(wrong);
+    };
+    if !agrees(&accounts, expected) {
+        return Err(wrong);
+    }
+    if accounts.class.is_some() {
+        counts.one(Count::Pages);
+    }
+    counts.add(Count::Live, u64::from(accounts.live));
+    counts.add(Count::Marked, u64::from(accounts.marked));
+    counts.add(Count::Retired, u64::from(accounts.retired));
+    counts.add(Count::Queued, u64::from(accounts.queued));
+    Ok(())
+}
+
+// Compares the accounts of each page with what the answers say of it.
+fn audit<L: KeyLayout>(
+    whole: &mut Whole<'_, L>,
+    shape: &Shape,
+    tally: &Tally,
+    counts: &mut Counts,
+) -> Result<(), Fault> {
+    for shard in 0..shape.shards() {
+        for page in 0..shape.pages() {
+            audit_page(whole, tally, shard, page, counts)?;
+        }
+    }
+    Ok(())
+}
+
+/// Ends a round, and answers how often what was answered.
+pub fn ended<L: KeyLayout, H: Home>(
+    alloc: Global,
+    shape: &Shape,
+    board: &Board,
+    crews: Vec<Crew<'_, L, H>>,
+    dice: &mut Dice,
+) -> Result<Counts, Fault> {
+    let mut workers = all_workers(alloc, crews)?;
+    settle(workers.as_mut_slice(), board, dice);
+    let mut counts = Counts::new();
+    let (carrier, mut lines) = met(alloc, workers, &mut counts)?;
+    let Ok(mut whole) = whole(carrier.into_pass()) else {
+        return Err(Fault::Wrong(Wrong::Apart));
+    };
+    lines.sort_by_key(|line| line.key)?;
+    let tally = judge_all::<L>(alloc, shape, lines.as_slice(), &mut counts)?;
+    audit(&mut whole, shape, &tally, &mut counts)?;
+    Ok(counts)
+}

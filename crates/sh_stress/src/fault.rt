@@ -1,0 +1,48 @@
+//! What a run may find.
+use thiserror::Error;
+
+/// Something that no heap may do.
+#[derive(Clone, Copy, Debug, PartialEq, Eq, Error)]
+pub enum Wrong {
+    /// A call was refused for a reason that cannot be.
+    #[error("pass {0} was refused {1}, as {2}, which cannot be")]
+    Refused(u32, &'static str, &'static str),
+    /// The words that were read belong to no one value.
+    #[error("pass {0} read a torn value under key {1}")]
+    Torn(u32, u64),
+    /// A value changed while it was held.
+    #[error("the value under key {1} changed while pass {0} held it")]
+    Changed(u32, u64),
+    /// What a pass began by hand does not come to an end.
+    #[error("what pass {0} began by hand does not end")]
+    Endless(u32),
+    /// An owner cannot leave, though no other caller has begun anything.
+    #[error("pass {0} waits to leave its shard, though nobody has begun a free")]
+    Waits(u32),
+    /// The answers on a key have no order that is legal and keeps to the moments at which they were given.
+    #[error("no order of the answers on key {0} is legal")]
+    NoOrder(u64),
+    /// A key was answered that is none of the layout.
+    #[error("{0} was inserted and is no key")]
+    NoKey(u64),
+    /// Not all passes met.
+    #[error("not all passes met")]
+    Apart,
+    /// The accounts of a page are not those of the answers.
+    #[error("the accounts of page {0}.{1} are wrong")]
+    Accounts(u32, u32),
+}
+
+/// Why a round ended early.
+#[derive(Clone, Copy, Debug, PartialEq, Eq, Error)]
+pub enum Fault {
+    /// Something wrong was found.
+    #[error("{0}")]
+    Wrong(Wrong),
+    /// Memory was refused.
+    #[error("memory was refused")]
+    Memory,
+    /// A write failed.
+    #[error("a write failed")]
+    Io,
+}

@@ -1,0 +1,112 @@
+//! What all passes were answered, judged key by key.
+//!
+//! Each rule of a legal history speaks of one key alone. So the history of all passes is legal exactly where, for each
+//! key, the answers on it are.
+ghost use Rattle.std.specs.Prelude.{IfOk};
+ghost use Rattle.sh_history.specs.History.{Legal};
+
+use crate::fault::{Fault, Wrong};
+use crate::line::{Line, Told};
+use crate::order;
+use crate::order::Course;
+use crate::point::Point;
+use sh_history::{Entry, check};
+use sh_value::Value;
+use std::alloc::{AllocError, Global};
+
+/// An answer and its point in time.
+#[derive(Clone, Copy, Debug)]
+struct Placed {
+    point: Point,
+    place: usize,
+}
+
+impl From<AllocError> for Fault {
+    fn from(_: AllocError) -> Fault {
+        Fault::Memory
+    }
+}
+
+// The value that the key was inserted with. Where there is none, `check` refuses all that needs one.
+fn value_inserted(lines: &[Line]) -> Value {
+    for line in lines {
+        if let Told::Inserted(value) = &line.told {
+            return value.copy();
+        }
+    }
+    crate::pattern::value(0, 0)
+}
+
+// The entry that a line stands for.
+fn entry(line: &Line, is_remover: bool, issued: &Value) -> Entry {
+    match &line.told {
+        Told::Inserted(value) => Entry::Insert(line.pass, line.key, value.copy()),
+        Told::Got(Some(value)) => Entry::Got(line.pass, line.key, value.copy()),
+        Told::Got(None) => Entry::Got(line.pass, line.key, issued.copy()),
+        Told::Gone => Entry::Gone(line.pass, line.key),
+        Told::Crowded => Entry::Crowded(line.pass, line.key),
+        Told::Removed => Entry::Removed(line.pass, line.key),
+        Told::Marked if is_remover => Entry::Removed(line.pass, line.key),
+        Told::Marked => Entry::Gone(line.pass, line.key),
+        Told::Released => Entry::Released(line.pass, line.key),
+    }
+}
+
+// The lines in the order of their points. None where a point lies outside the time of its call.
+fn in_order(
+    alloc: Global,
+    lines: &[Line],
+    course: Course,
+) -> Result<Option<Vec<Placed>>, AllocError> {
+    let mut all = Vec::new(alloc);
+    for (place, line) in lines.iter().enumerate() {
+        let point = order::point(lines, place, line, course);
+        if !point.is_within(line.span) {
+            return Ok(None);
+        }
+        all.push(Placed { point, place })?;
+    }
+    all.sort_by_key(|placed| placed.point)?;
+    Ok(Some(all))
+}
+
+// The entries that these lines stand for, in this order.
+fn history(
+    alloc: Global,
+    lines: &[Line],
+    placed: &[Placed],
+    course: Course,
+) -> Result<Vec<Entry>, AllocError> {
+    let issued = value_inserted(lines);
+    let mut entries = Vec::new(alloc);
+    for at in placed {
+        let is_remover = course
+            .removed
+            .is_some_and(|(remover, _)| remover == at.place);
+        if let Some(line) = lines.get(at.place) {
+            entries.push(entry(line, is_remover, &issued))?;
+        }
+    }
+    Ok(entries)
+}
+
+/// The history of a key, by all lines on it: an order that keeps to the times of their calls, in which they are legal.
+pub fn judged(
+    alloc: Global,
+    key: u64,
+    lines: &[Line],
+    passes: u32,
+    guard_max: u32,
+) -> Result<Vec<Entry>, Fault>
+    ensures { IfOk result (λ history. Legal passes guard_max history.items) }
+{
+    let course = order::decide(lines);
+    let Some(placed) = in_order(alloc, lines, course)? else {
+        return Err(Fault::Wrong(Wrong::NoOrder(key)));
+    };
+    let entries = history(alloc, lines, placed.as_slice(), course)?;
+    match check(entries.as_slice(), passes, guard_max) {
+        Ok(()) => Ok(entries),
+        Err(_) => Err(Fault::Wrong(Wrong::NoOrder(key))),
+    }
+}

@@ -1,0 +1,60 @@
+//! Turns on keys.
+use crate::board::Board;
+use crate::dice::Dice;
+use crate::record::Record;
+use crate::turn::Turn;
+use crate::user::User;
+use crate::using;
+use sh_key::{KeyLayout, Parts};
+
+// The number of one of the holds, if there is one.
+fn some_hold(record: &Record, dice: &mut Dice) -> Option<u64> {
+    let holds = record.holds();
+    if holds == 0 {
+        return None;
+    }
+    Some(dice.below(holds))
+}
+
+// The key of the value that may stand next in the slot of this key, or, for the last one, in the next slot.
+fn next_key<L: KeyLayout>(key: u64) -> u64 {
+    let Some(parts) = L::unpack(key) else {
+        return key;
+    };
+    let next = Parts {
+        generation: parts.generation.saturating_add(1),
+        ..parts
+    };
+    if L::in_range(next) {
+        L::pack(next)
+    } else {
+        key.wrapping_add(1)
+    }
+}
+
+/// Does a turn on keys. Others do nothing.
+pub fn take_turn<L: KeyLayout, U: User>(
+    user: &mut U,
+    record: &mut Record,
+    board: &Board,
+    dice: &mut Dice,
+    turn: Turn,
+) {
+    let key = board.look(dice.word());
+    let held = some_hold(record, dice);
+    match (turn, key, held) {
+        (Turn::Get, Some(key), _) => using::get(user, record, board, key, false),
+        (Turn::Guess, Some(key), _) => {
+            using::get(user, record, board, next_key::<L>(key), true);
+        }
+        (Turn::Remove, Some(key), _) => using::remove(user, record, board, key),
+        (Turn::Read, _, Some(number)) => using::read(user, record, number),
+        (Turn::Release, _, Some(number)) => using::release(user, record, board, number),
+        (Turn::RemoveHeld, _, Some(number)) => {
+            if let Some(held) = record.hold(number) {
+                using::remove(user, record, board, held.hold.key);
+            }
+        }
+        _ => {}
+    }
+}

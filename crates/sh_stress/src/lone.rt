@@ -1,0 +1,75 @@
+//! A pass that owns no shard.
+use crate::home::Home;
+use crate::owner::Owner;
+use crate::stopped::Stopped;
+use crate::user::User;
+use sh_key::KeyLayout;
+use sh_pass::Pass;
+use sh_shard::Shard;
+use sh_value::{Hold, Refusal, Value};
+use std::alloc::Global;
+use std::marker::PhantomData;
+
+/// A pass of the heap that `H` names.
+#[derive(Drop)]
+pub struct Lone<'a, L: KeyLayout, H: Home> {
+    pass: Pass<'a, L>,
+    home: PhantomData<H>,
+    ghost at_home: { H.heap ≡ Some pass.heap },
+}
+
+impl<'a, L: KeyLayout, H: Home> Lone<'a, L, H> {
+    /// The pass.
+    pub fn new(pass: Pass<'a, L>) -> Self
+        requires { H.heap ≡ Some pass.heap }
+    {
+        Lone {
+            pass,
+            home: PhantomData,
+        }
+    }
+
+    /// The pass again.
+    pub fn into_pass(self) -> Pass<'a, L>
+        ensures { H.heap ≡ Some result.heap }
+    {
+        let Lone { pass, home: _ } = self;
+        pass
+    }
+
+    /// Becomes the owner of a shard.
+    pub fn adopt(self, alloc: Global, shard: u64) -> Result<Owner<'a, L, H>, (Self, Refusal)> {
+        match Shard::adopt(alloc, self.into_pass(), shard) {
+            Ok(shard) => Ok(Owner::new(shard)),
+            Err((pass, refusal)) => Err((Lone::new(pass), refusal)),
+        }
+    }
+
+    /// Goes on by hand.
+    pub fn begin(self) -> Stopped<'a, L, H> {
+        Stopped::new(self.into_pass().begin())
+    }
+
+    /// Two passes meet: the first one now carries both tales.
+    pub fn join(self, other: Self) -> Self {
+        Lone::new(sh_gather::join(self.into_pass(), other.into_pass()))
+    }
+}
+
+impl<L: KeyLayout, H: Home> User for Lone<'_, L, H> {
+    fn get(&mut self, key: u64) -> Result<Hold, Refusal> {
+        self.pass.get(key)
+    }
+
+    fn read(&mut self, hold: Hold) -> Result<Value, Refusal> {
+        self.pass.read(hold)
+    }
+
+    fn remove(&mut self, key: u64) -> Result<(), Refusal> {
+        self.pass.remove(key)
+    }
+
+    fn release(&mut self, hold: Hold) -> Result<(), Refusal> {
+        self.pass.release(hold)
+    }
+}

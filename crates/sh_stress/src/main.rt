@@ -1,0 +1,82 @@
+//! The program `sh_stress`: threads work on heaps of the library, each by its own random choices, and what they were
+//! answered is judged. It is also the longer example of how the library is used, on its public calls alone.
+//!
+//! A run is rounds. In a round a heap is opened (`round`), and each thread takes turns with a few passes (`crew`,
+//! `worker`): they get, read, remove and release keys that others left on a board (`using`), adopt and leave shards and
+//! insert (`owning`), and stop in the middle of removals (`by_hand`). Then all is ended, the passes meet, and the heap
+//! is whole (`ending`): the answers are put in an order that is a legal history (`order`, `judge`), and the accounts of
+//! each page are those of that history (`tally`).
+#![tactic(auto)]
+
+mod actor;
+mod board;
+mod by_hand;
+mod counts;
+mod crew;
+mod dice;
+mod ending;
+mod fault;
+mod home;
+mod judge;
+mod keys;
+mod line;
+mod lone;
+mod options;
+mod order;
+mod owner;
+mod owning;
+mod pattern;
+mod point;
+mod program;
+mod record;
+mod round;
+mod stopped;
+mod tally;
+mod turn;
+mod user;
+mod using;
+mod worker;
+
+use std::alloc::{AllocError, Global};
+use std::io;
+use std::io::{ErrorKind, Write};
+use std::process::ExitCode;
+use std::thread::Threads;
+
+fn texts(alloc: Global, words: &[String]) -> Result<Vec<&str>, AllocError> {
+    let mut texts = Vec::new(alloc);
+    for word in words {
+        texts.push(word.as_str())?;
+    }
+    Ok(texts)
+}
+
+fn start<T: Threads + Sync>(rt: &HostRuntime, threads: &T) -> io::Result<u8> {
+    let alloc = rt.alloc();
+    let words: Vec<String> = std::env::args(rt)?.collect(alloc)?;
+    let words = texts(alloc, words.as_slice())?;
+    Ok(program::run(
+        threads,
+        alloc,
+        words.as_slice(),
+        &mut rt.stdout(),
+        &mut rt.stderr(),
+    ))
+}
+
+fn main(rt: HostRuntime) -> ExitCode {
+    match start(&rt, &rt) {
+        Ok(status) => ExitCode::from(status),
+        Err(error) => {
+            let _ = writeln!(
+                &mut rt.stderr(),
+                "sh_stress: the command line cannot be had"
+            );
+            ExitCode::from(if error.kind() == ErrorKind::OutOfMemory {
+                3
+            } else {
+                2
+            })
+        }
+    }
+}

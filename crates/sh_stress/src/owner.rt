@@ -1,0 +1,60 @@
+//! A pass that owns a shard.
+use crate::home::Home;
+use crate::lone::Lone;
+use crate::user::User;
+use sh_key::KeyLayout;
+use sh_shard::Shard;
+use sh_value::{Hold, Refusal, Value};
+use std::marker::PhantomData;
+
+/// A shard of the heap that `H` names.
+#[derive(Drop)]
+pub struct Owner<'a, L: KeyLayout, H: Home> {
+    shard: Shard<'a, L>,
+    home: PhantomData<H>,
+    ghost at_home: { H.heap ≡ Some shard.pages.owner.heap },
+}
+
+impl<'a, L: KeyLayout, H: Home> Owner<'a, L, H> {
+    /// The owner of this shard.
+    pub fn new(shard: Shard<'a, L>) -> Self
+        requires { H.heap ≡ Some shard.pages.owner.heap }
+    {
+        Owner {
+            shard,
+            home: PhantomData,
+        }
+    }
+
+    /// Stores a value in the shard.
+    pub fn insert(&mut self, value: &Value) -> Result<u64, Refusal> {
+        self.shard.insert(value)
+    }
+
+    /// Leaves the shard.
+    pub fn leave(self) -> Result<Lone<'a, L, H>, (Self, Refusal)> {
+        let Owner { shard, home: _ } = self;
+        match shard.leave() {
+            Ok(pass) => Ok(Lone::new(pass)),
+            Err((shard, refusal)) => Err((Owner::new(shard), refusal)),
+        }
+    }
+}
+
+impl<L: KeyLayout, H: Home> User for Owner<'_, L, H> {
+    fn get(&mut self, key: u64) -> Result<Hold, Refusal> {
+        self.shard.get(key)
+    }
+
+    fn read(&mut self, hold: Hold) -> Result<Value, Refusal> {
+        self.shard.read(hold)
+    }
+
+    fn remove(&mut self, key: u64) -> Result<(), Refusal> {
+        self.shard.remove(key)
+    }
+
+    fn release(&mut self, hold: Hold) -> Result<(), Refusal> {
+        self.shard.release(hold)
+    }
+}

@@ -1,0 +1,43 @@
+//! Values of which each word tells which value it belongs to.
+ghost use Rattle.std.specs.Prelude.{◌≤◌};
+
+use sh_value::Value;
+
+// An odd number with many bits, so that words of different values differ.
+const SPREAD: u64 = 0x9e37_79b9_7f4a_7c15;
+
+// The word of the value with this serial number that stands at a place behind the first.
+fn word(serial: u64, place: u64) -> u64 {
+    serial
+        .wrapping_add(place)
+        .wrapping_mul(SPREAD)
+        .rotate_left(29)
+}
+
+/// The value with this serial number, of so many words.
+pub fn value(serial: u64, len: usize) -> Value
+    requires { len ≤ 16 }
+{
+    let mut words = [serial; 16];
+    for place in 1..16u64 {
+        words[place as usize] = word(serial, place);
+    }
+    match Value::new(&words[..len]) {
+        Ok(value) => value,
+        Err(_) => unreachable!(),
+    }
+}
+
+/// Whether all words belong to one value.
+pub fn is_whole(value: &Value) -> bool {
+    let words = value.words();
+    let Some(serial) = words.first() else {
+        return true;
+    };
+    let serial = *serial;
+    words
+        .iter()
+        .enumerate()
+        .skip(1)
+        .all(|(place, found)| *found == word(serial, place as u64))
+}

@@ -1,0 +1,72 @@
+//! Points in time at which answers may have been decided.
+use crate::line::Span;
+
+/// Just before or just after a moment.
+#[derive(Clone, Copy, Debug, PartialEq, Eq, PartialOrd, Ord)]
+pub enum Edge {
+    /// Before it.
+    Before,
+    /// After it.
+    After,
+}
+
+/// In which order answers on one key stand that are decided at one edge of a moment.
+#[derive(Clone, Copy, Debug, PartialEq, Eq, PartialOrd, Ord)]
+pub enum Rank {
+    /// A key is gone that is yet to be inserted.
+    Early,
+    /// An insert.
+    Insert,
+    /// A get.
+    Get,
+    /// A get that is refused as crowded.
+    Crowded,
+    /// A removal.
+    Remove,
+    /// A key is gone that was removed.
+    Late,
+    /// A release.
+    Release,
+}
+
+/// A point between two moments. Points are ordered as they come.
+#[derive(Clone, Copy, Debug, PartialEq, Eq, PartialOrd, Ord)]
+pub struct Point {
+    moment: u64,
+    edge: Edge,
+    rank: Rank,
+}
+
+impl Point {
+    /// Just before a moment.
+    pub fn before(moment: u64, rank: Rank) -> Point {
+        Point {
+            moment,
+            edge: Edge::Before,
+            rank,
+        }
+    }
+
+    /// Just after a moment.
+    pub fn after(moment: u64, rank: Rank) -> Point {
+        Point {
+            moment,
+            edge: Edge::After,
+            rank,
+        }
+    }
+
+    /// The same point, for an answer of another rank.
+    pub fn with(self, rank: Rank) -> Point {
+        Point { rank, ..self }
+    }
+
+    /// Whether it lies in the time of a call.
+    pub fn is_within(self, span: Span) -> bool {
+        let after_begin = self.moment > span.begin
+            || (self.moment == span.begin && self.edge == Edge::After);
+        let before_end = self.moment < span.end
+            || (self.moment == span.end && self.edge == Edge::Before);
+        after_begin && before_end
+    }
+}

@@ -1,0 +1,110 @@
+//! The whole program, over the words of a command line and two writers.
+use crate::counts::{Count, Counts};
+use crate::dice::Dice;
+use crate::fault::Fault;
+use crate::options::{Options, read_options};
+use crate::round::{Plan, play};
+use clap::Error;
+use clap::error::ErrorKind;
+use sh_key::{Tiny, Wide};
+use std::alloc::Global;
+use std::io::Write;
+use std::thread::Threads;
+
+// After how many rounds progress is told.
+const ROUNDS_TOLD: u64 = 100;
+
+// Shows why clap gave no options, and gives the exit status.
+fn show<W: Write, E: Write>(error: &Error, output: &mut W, errors: &mut E) -> u8 {
+    if error.kind() == ErrorKind::OutOfMemory {
+        return 3;
+    }
+    if error.use_stderr() {
+        let _ = write!(errors, "{error}");
+        return 2;
+    }
+    match write!(output, "{error}") {
+        Ok(()) => 0,
+        Err(_) => 3,
+    }
+}
+
+// The plan of a round.
+fn plan(options: &Options, dice: &mut Dice) -> Plan {
+    Plan {
+        threads: options.threads,
+        passes: options.passes,
+        shards: 1 + dice.below(3) as u32,
+        segments: 1 + dice.below(2) as u32,
+        steps: options.steps,
+    }
+}
+
+// Plays the round of this number: with a layout of which slots have few generations and holds, and with one of which
+// they have many, in turn.
+fn play_one<R: Threads + Sync>(
+    rt: &R,
+    alloc: Global,
+    options: &Options,
+    round: u64,
+    dice: &mut Dice,
+) -> Result<Counts, Fault> {
+    let plan = plan(options, dice);
+    if round % 2 == 0 {
+        play::<Tiny, R>(rt, alloc, &plan, dice)
+    } else {
+        play::<Wide, R>(rt, alloc, &plan, dice)
+    }
+}
+
+// Plays all rounds.
+fn play_all<E: Write, R: Threads + Sync>(
+    rt: &R,
+    alloc: Global,
+    options: &Options,
+    errors: &mut E,
+) -> Result<Counts, (u64, Fault)> {
+    let mut dice = Dice::new(options.seed);
+    let mut counts = Counts::new();
+    for round in 0..options.rounds {
+        let more = play_one(rt, alloc, options, round, &mut dice).map_err(|fault| (round, fault))?;
+        counts.take_in(&more);
+        if round % ROUNDS_TOLD == ROUNDS_TOLD - 1 {
+            let judged = counts.of(Count::Entries);
+            let _ = writeln!(errors, "{} rounds, {judged} answers judged", round + 1);
+        }
+    }
+    Ok(counts)
+}
+
+// Says what was found in which round, and gives the exit status.
+fn report<E: Write>(options: &Options, round: u64, fault: Fault, errors: &mut E) -> u8 {
+    let seed = options.seed;
+    let _ = writeln!(errors, "sh_stress: seed {seed}, round {round}: {fault}");
+    match fault {
+        Fault::Wrong(_) => 1,
+        Fault::Memory | Fault::Io => 3,
+    }
+}
+
+/// Runs the program, and gives the exit status: 0 where nothing was found, 1 where something was, 2 for a mistake in the
+/// words, and 3 where memory or a write failed. The first word is the program's name.
+pub fn run<W: Write, E: Write, R: Threads + Sync>(
+    rt: &R,
+    alloc: Global,
+    words: &[&str],
+    output: &mut W,
+    errors: &mut E,
+) -> u8 {
+    let options = match read_options(alloc, words) {
+        Ok(options) => options,
+        Err(error) => return show(&error, output, errors),
+    };
+    match play_all(rt, alloc, &options, errors) {
+        Ok(counts) => match write!(output, "rounds {}\n{counts}", options.rounds) {
+            Ok(()) => 0,
+            Err(_) => report(&options, options.rounds, Fault::Io, errors),
+        },
+        Err((round, fault)) => report(&options, round, fault, errors),
+    }
+}

@@ -1,0 +1,140 @@
+//! What is kept of a pass: what it was answered, what it holds, and what was found wrong.
+use crate::counts::{Count, Counts};
+use crate::fault::{Fault, Wrong};
+use crate::line::{Line, Span, Told};
+use crate::pattern;
+use sh_value::{Hold, Refusal, Value};
+use std::alloc::Global;
+
+/// A hold, and the line of the log that tells of it.
+#[derive(Clone, Copy, Debug, PartialEq, Eq)]
+pub struct Held {
+    /// The hold.
+    pub hold: Hold,
+    line: usize,
+}
+
+/// How many holds a pass may have.
+const HOLDS: usize = 16;
+
+/// The log of a pass, with its holds, its counts, and the first fault that it met.
+#[derive(Drop)]
+pub struct Record {
+    /// The number of the pass.
+    pub pass: u32,
+    /// How often it was answered what.
+    pub counts: Counts,
+    lines: Vec<Line>,
+    holds: Vec<Held>,
+    fault: Option<Fault>,
+}
+
+impl Record {
+    /// Of a pass that has done nothing.
+    pub fn new(alloc: Global, pass: u32) -> Record {
+        Record {
+            pass,
+            counts: Counts::new(),
+            lines: Vec::new(alloc),
+            holds: Vec::new(alloc),
+            fault: None,
+        }
+    }
+
+    /// Notes a fault. The first one stays.
+    pub fn fail(&mut self, fault: Fault) {
+        if self.fault.is_none() {
+            self.fault = Some(fault);
+        }
+    }
+
+    /// Notes something wrong.
+    pub fn find(&mut self, wrong: Wrong) {
+        self.fail(Fault::Wrong(wrong));
+    }
+
+    /// Notes a refusal that cannot be, or that memory was refused.
+    pub fn refused(&mut self, call: &'static str, refusal: Refusal) {
+        match refusal {
+            Refusal::Memory => self.fail(Fault::Memory),
+            _ => self.find(Wrong::Refused(self.pass, call, refusal.name())),
+        }
+    }
+
+    /// The first fault, if there was one.
+    pub fn fault(&self) -> Option<Fault> {
+        self.fault
+    }
+
+    /// Adds a line to the log.
+    pub fn tell(&mut self, key: u64, span: Span, told: Told) {
+        let line = Line {
+            pass: self.pass,
+            key,
+            span,
+            told,
+        };
+        if self.lines.push(line).is_err() {
+            self.fail(Fault::Memory);
+        }
+    }
+
+    /// Notes a hold that was got.
+    pub fn got(&mut self, hold: Hold, span: Span) {
+        let held = Held {
+            hold,
+            line: self.lines.len(),
+        };
+        self.counts.one(Count::Gets);
+        self.tell(hold.key, span, Told::Got(None));
+        if self.holds.push(held).is_err() {
+            self.fail(Fault::Memory);
+        }
+    }
+
+    /// Whether it has as many holds as a pass may have.
+    pub fn is_full(&self) -> bool {
+        self.holds.len() >= HOLDS
+    }
+
+    /// How many holds it has.
+    pub fn holds(&self) -> u64 {
+        self.holds.len() as u64
+    }
+
+    /// One of its holds.
+    pub fn hold(&self, number: u64) -> Option<Held> {
+        self.holds.get(number as usize).copied()
+    }
+
+    /// Forgets one of its holds.
+    pub fn forget(&mut self, number: u64) {
+        if number < self.holds.len() as u64 {
+            self.holds.swap_remove(number as usize);
+        }
+    }
+
+    /// Notes a value that was read: all its words belong to one value, and it is the one that was read before.
+    pub fn read(&mut self, held: Held, value: Value) {
+        self.counts.one(Count::Reads);
+        let key = held.hold.key;
+        if !pattern::is_whole(&value) {
+            self.find(Wrong::Torn(self.pass, key));
+            return;
+        }
+        let Some(line) = self.lines.get_mut(held.line) else {
+            return;
+        };
+        match &line.told {
+            Told::Got(Some(before)) if *before != value => {
+                self.find(Wrong::Changed(self.pass, key));
+            }
+            _ => line.told = Told::Got(Some(value)),
+        }
+    }
+
+    /// The lines of the log.
+    pub fn into_lines(self) -> Vec<Line> {
+        self.lines
+    }
+}

@@ -1,0 +1,59 @@
+//! A pass that goes on by hand, one step at a time.
+use crate::home::Home;
+use crate::lone::Lone;
+use sh_key::KeyLayout;
+use sh_pass::Busy;
+use sh_step::Action;
+use std::marker::PhantomData;
+
+/// A pass of the heap that `H` names, between two steps.
+#[derive(Drop)]
+pub struct Stopped<'a, L: KeyLayout, H: Home> {
+    busy: Busy<'a, L>,
+    home: PhantomData<H>,
+    ghost at_home: { H.heap ≡ Some busy.heap },
+}
+
+impl<'a, L: KeyLayout, H: Home> Stopped<'a, L, H> {
+    /// The pass, to step by hand.
+    pub fn new(busy: Busy<'a, L>) -> Self
+        requires { H.heap ≡ Some busy.heap }
+    {
+        Stopped {
+            busy,
+            home: PhantomData,
+        }
+    }
+
+    /// Does one step: whether its condition held.
+    pub fn act(&mut self, action: &Action) -> bool {
+        self.busy.act(action)
+    }
+
+    /// Does the next step of what ends a removal, a release or a refused get. False where nothing is left to do.
+    pub fn go_on(&mut self) -> bool {
+        let steps = [
+            Action::Drop,
+            Action::Finish,
+            Action::Put,
+            Action::Tie,
+            Action::Ring,
+            Action::RingTie,
+        ];
+        for action in &steps {
+            if self.act(action) {
+                return true;
+            }
+        }
+        false
+    }
+
+    /// The pass again, where it has begun nothing that it has yet to end.
+    pub fn end(self) -> Result<Lone<'a, L, H>, Self> {
+        let Stopped { busy, home: _ } = self;
+        match busy.end() {
+            Ok(pass) => Ok(Lone::new(pass)),
+            Err(busy) => Err(Stopped::new(busy)),
+        }
+    }
+}

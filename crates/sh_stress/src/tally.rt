@@ -1,0 +1,107 @@
+//! What the answers say of the pages.
+use crate::fault::{Fault, Wrong};
+use sh_core::Accounts;
+use sh_history::Entry;
+use sh_history::look::{holds_on, is_removed, value_of};
+use sh_key::{KeyLayout, Parts};
+use sh_shape::{Shape, slots};
+use std::alloc::{AllocError, Global};
+
+/// How many slots of a page must be of a kind.
+#[derive(Clone, Copy, Debug, PartialEq, Eq)]
+pub struct PageTally {
+    /// With a value that was inserted and not removed.
+    pub live: u64,
+    /// With a value that was removed and is held.
+    pub marked: u64,
+    /// Of which the last value was removed and is not held.
+    pub retired: u64,
+}
+
+/// The tallies of all pages of a heap.
+#[derive(Drop)]
+pub struct Tally {
+    pages: Vec<PageTally>,
+    pages_of_shard: u32,
+}
+
+impl Tally {
+    /// Of a heap in which nothing was inserted.
+    pub fn new(alloc: Global, shape: &Shape) -> Result<Tally, AllocError> {
+        let none = PageTally {
+            live: 0,
+            marked: 0,
+            retired: 0,
+        };
+        let mut pages = Vec::new(alloc);
+        for _ in 0..u64::from(shape.shards()) * u64::from(shape.pages()) {
+            pages.push(none)?;
+        }
+        Ok(Tally {
+            pages,
+            pages_of_shard: shape.pages(),
+        })
+    }
+
+    // Where a page stands.
+    fn place(&self, shard: u32, page: u32) -> usize {
+        (u64::from(shard) * u64::from(self.pages_of_shard) + u64::from(page)) as usize
+    }
+
+    /// Counts the slot of a key, by the history of the key.
+    pub fn add<L: KeyLayout>(&mut self, key: u64, history: &[Entry]) -> Result<(), Fault> {
+        if value_of(history, key).is_none() {
+            return Ok(());
+        }
+        let Some(parts) = L::unpack(key) else {
+            return Err(Fault::Wrong(Wrong::NoKey(key)));
+        };
+        let place = self.place(parts.shard, parts.page);
+        let Some(page) = self.pages.get_mut(place) else {
+            return Err(Fault::Wrong(Wrong::NoKey(key)));
+        };
+        count::<L>(
+            page,
+            parts,
+            is_removed(history, key),
+            holds_on(history, key),
+        );
+        Ok(())
+    }
+
+    /// The tally of a page.
+    pub fn of(&self, shard: u32, page: u32) -> Option<PageTally> {
+        self.pages.get(self.place(shard, page)).copied()
+    }
+}
+
+// Counts the slot of a key of which this is known. A slot whose value was removed and is not held is empty, but for one
+// that has had its last value.
+fn count<L: KeyLayout>(page: &mut PageTally, parts: Parts, removed: bool, holds: usize) {
+    if !removed {
+        page.live = page.live.saturating_add(1);
+    } else if holds > 0 {
+        page.marked = page.marked.saturating_add(1);
+    } else if parts.generation == L::GEN_MAX {
+        page.retired = page.retired.saturating_add(1);
+    }
+}
+
+/// Whether the accounts of a page are those of its tally, add up to the slots of its class, and nothing of it is an
+/// owner's or in a hand.
+pub fn agrees(accounts: &Accounts, tally: PageTally) -> bool {
+    let sum = u64::from(accounts.live)
+        + u64::from(accounts.marked)
+        + u64::from(accounts.retired)
+        + u64::from(accounts.queued);
+    let all = match accounts.class {
+        Some(class) if class < 8 => u64::from(slots(class)),
+        _ => 0,
+    };
+    u64::from(accounts.live) == tally.live
+        && u64::from(accounts.marked) == tally.marked
+        && u64::from(accounts.retired) == tally.retired
+        && accounts.mine == 0
+        && accounts.hand == 0
+        && sum == all
+}

@@ -1,0 +1,75 @@
+//! Calls on keys, with what is noted of their answers.
+use crate::board::Board;
+use crate::counts::Count;
+use crate::line::Told;
+use crate::record::Record;
+use crate::user::User;
+use sh_value::Refusal;
+
+/// Takes a hold on a number, which may be no key where it was guessed.
+pub fn get<U: User>(user: &mut U, record: &mut Record, board: &Board, key: u64, guessed: bool) {
+    let begin = board.moment();
+    let answer = user.get(key);
+    let span = board.since(begin);
+    match answer {
+        Ok(hold) => record.got(hold, span),
+        Err(Refusal::BadKey) if guessed => record.counts.one(Count::BadKeys),
+        Err(Refusal::Gone) => {
+            record.counts.one(Count::Gones);
+            record.tell(key, span, Told::Gone);
+        }
+        Err(Refusal::Crowded) => {
+            record.counts.one(Count::Crowdeds);
+            record.tell(key, span, Told::Crowded);
+        }
+        Err(Refusal::HoldsFull) if record.is_full() => record.counts.one(Count::HoldsFulls),
+        Err(refusal) => record.refused("a get", refusal),
+    }
+}
+
+/// Removes a key.
+pub fn remove<U: User>(user: &mut U, record: &mut Record, board: &Board, key: u64) {
+    let begin = board.moment();
+    let answer = user.remove(key);
+    let span = board.since(begin);
+    match answer {
+        Ok(()) => {
+            record.counts.one(Count::Removes);
+            record.tell(key, span, Told::Removed);
+        }
+        Err(Refusal::Gone) => {
+            record.counts.one(Count::Gones);
+            record.tell(key, span, Told::Gone);
+        }
+        Err(refusal) => record.refused("a remove", refusal),
+    }
+}
+
+/// Reads what one of its holds is on.
+pub fn read<U: User>(user: &mut U, record: &mut Record, number: u64) {
+    let Some(held) = record.hold(number) else {
+        return;
+    };
+    match user.read(held.hold) {
+        Ok(value) => record.read(held, value),
+        Err(refusal) => record.refused("a read", refusal),
+    }
+}
+
+/// Gives one of its holds back.
+pub fn release<U: User>(user: &mut U, record: &mut Record, board: &Board, number: u64) {
+    let Some(held) = record.hold(number) else {
+        return;
+    };
+    let begin = board.moment();
+    let answer = user.release(held.hold);
+    let span = board.since(begin);
+    match answer {
+        Ok(()) => {
+            record.counts.one(Count::Releases);
+            record.tell(held.hold.key, span, Told::Released);
+            record.forget(number);
+        }
+        Err(refusal) => record.refused("a release", refusal),
+    }
+}

@@ -1,0 +1,161 @@
+//! A pass, with what is kept of it.
+use crate::actor::Actor;
+use crate::board::Board;
+use crate::counts::Count;
+use crate::dice::Dice;
+use crate::fault::Wrong;
+use crate::home::Home;
+use crate::lone::Lone;
+use crate::owner::Owner;
+use crate::record::Record;
+use crate::turn::Turn;
+use crate::{by_hand, keys, owning, turn, using};
+use sh_key::KeyLayout;
+use std::alloc::Global;
+use std::mem;
+
+// As many steps as something begun by hand has, and its end.
+const STEPS_BY_HAND: u32 = 9;
+
+/// A pass that takes turns.
+#[derive(Drop)]
+pub struct Worker<'a, L: KeyLayout, H: Home> {
+    actor: Actor<'a, L, H>,
+    record: Record,
+    shards: u64,
+    alloc: Global,
+}
+
+impl<'a, L: KeyLayout, H: Home> Worker<'a, L, H> {
+    /// A pass that has done nothing, in a heap of so many shards.
+    pub fn new(alloc: Global, lone: Lone<'a, L, H>, number: u32, shards: u64) -> Self
+        requires { 0 < shards }
+    {
+        Worker {
+            actor: Actor::Lone(lone),
+            record: Record::new(alloc, number),
+            shards,
+            alloc,
+        }
+    }
+
+    /// What is kept of it.
+    pub fn record(&self) -> &Record {
+        &self.record
+    }
+
+    // The turn of a pass that owns no shard.
+    fn lone_turn(
+        &mut self,
+        mut lone: Lone<'a, L, H>,
+        board: &Board,
+        dice: &mut Dice,
+    ) -> Actor<'a, L, H> {
+        match turn::of_lone(dice) {
+            Turn::Adopt => {
+                let shard = dice.below(self.shards.max(1));
+                owning::adopt(self.alloc, lone, &mut self.record, shard)
+            }
+            Turn::Begin => by_hand::begin(lone, &mut self.record, board, dice),
+            turn => {
+                keys::take_turn::<L, _>(&mut lone, &mut self.record, board, dice, turn);
+                Actor::Lone(lone)
+            }
+        }
+    }
+
+    // The turn of an owner.
+    fn owner_turn(
+        &mut self,
+        mut owner: Owner<'a, L, H>,
+        board: &Board,
+        dice: &mut Dice,
+    ) -> Actor<'a, L, H> {
+        match turn::of_owner(dice) {
+            Turn::Leave => owning::leave(owner, &mut self.record),
+            Turn::Insert => {
+                owning::insert(&mut owner, &mut self.record, board, dice);
+                Actor::Owner(owner)
+            }
+            turn => {
+                keys::take_turn::<L, _>(&mut owner, &mut self.record, board, dice, turn);
+                Actor::Owner(owner)
+            }
+        }
+    }
+
+    /// Takes a turn.
+    pub fn turn(&mut self, board: &Board, dice: &mut Dice) {
+        self.actor = match mem::replace(&mut self.actor, Actor::Moving) {
+            Actor::Lone(lone) => self.lone_turn(lone, board, dice),
+            Actor::Owner(owner) => self.owner_turn(owner, board, dice),
+            Actor::Stopped(stopped, task) => {
+                if dice.once_in(2) {
+                    self.record.counts.one(Count::Stands);
+                    Actor::Stopped(stopped, task)
+                } else {
+                    by_hand::go_on(stopped, task, &mut self.record, board)
+                }
+            }
+            Actor::Moving => Actor::Moving,
+        };
+    }
+
+    /// Ends what it began by hand.
+    pub fn end_by_hand(&mut self, board: &Board) {
+        for _ in 0..STEPS_BY_HAND {
+            self.actor = match mem::replace(&mut self.actor, Actor::Moving) {
+                Actor::Stopped(stopped, task) => {
+                    by_hand::go_on(stopped, task, &mut self.record, board)
+                }
+                actor => actor,
+            };
+        }
+        if let Actor::Stopped(_, _) = &self.actor {
+            self.record.find(Wrong::Endless(self.record.pass));
+        }
+    }
+
+    // Gives back one of its holds.
+    fn release(&mut self, board: &Board, number: u64) {
+        match &mut self.actor {
+            Actor::Lone(lone) => using::release(lone, &mut self.record, board, number),
+            Actor::Owner(owner) => using::release(owner, &mut self.record, board, number),
+            _ => {}
+        }
+    }
+
+    /// Gives back its holds, but for a few.
+    pub fn release_most(&mut self, board: &Board, dice: &mut Dice) {
+        for number in (0..self.record.holds()).rev() {
+            if !dice.once_in(8) {
+                self.release(board, number);
+            }
+        }
+    }
+
+    /// Leaves its shard, if it has one. Nobody has begun anything, so that nothing is waited for.
+    pub fn retire(&mut self) {
+        self.actor = match mem::replace(&mut self.actor, Actor::Moving) {
+            Actor::Owner(owner) => owning::leave(owner, &mut self.record),
+            actor => actor,
+        };
+        if let Actor::Owner(_) = &self.actor {
+            self.record.find(Wrong::Waits(self.record.pass));
+        }
+    }
+
+    /// The pass, where it owns nothing and has begun nothing, with what is kept of it.
+    pub fn finish(self) -> (Option<Lone<'a, L, H>>, Record) {
+        let Worker {
+            actor,
+            record,
+            shards: _,
+            alloc: _,
+        } = self;
+        match actor {
+            Actor::Lone(lone) => (Some(lone), record),
+            _ => (None, record),
+        }
+    }
+}
