@@ -3,7 +3,7 @@ use crate::actor::{Actor, Task};
 use crate::board::Board;
 use crate::counts::Count;
 use crate::dice::Dice;
-use crate::fault::Wrong;
+use crate::fault::Call;
 use crate::home::Home;
 use crate::line::{Span, Told};
 use crate::lone::Lone;
@@ -56,7 +56,7 @@ fn get<'a, L: KeyLayout, H: Home>(
 ) -> Actor<'a, L, H> {
     let Some(span) = act(&mut stopped, record, board, &Action::EnterGet(key)) else {
         if !record.is_full() {
-            record.find(Wrong::Refused(record.pass, "a get by hand", "it was not done"));
+            record.unbegun(Call::Get);
         }
         return end(stopped, record);
     };
@@ -85,7 +85,7 @@ fn release<'a, L: KeyLayout, H: Home>(
             record.tell(key, span, Told::Released);
             record.forget(0);
         }
-        None => record.find(Wrong::Refused(record.pass, "a release by hand", "it was not done")),
+        None => record.unbegun(Call::Release),
     }
     Actor::Stopped(stopped, Task::Ending)
 }
@@ -100,7 +100,7 @@ fn remove<'a, L: KeyLayout, H: Home>(
     match act(&mut stopped, record, board, &Action::EnterRemove(key)) {
         Some(span) => Actor::Stopped(stopped, Task::Removing(key, span)),
         None => {
-            record.find(Wrong::Refused(record.pass, "a remove by hand", "it was not done"));
+            record.unbegun(Call::Remove);
             end(stopped, record)
         }
     }
@@ -134,7 +134,7 @@ fn end<'a, L: KeyLayout, H: Home>(
     match stopped.end() {
         Ok(lone) => Actor::Lone(lone),
         Err(stopped) => {
-            record.find(Wrong::Endless(record.pass));
+            record.endless();
             Actor::Stopped(stopped, Task::Ending)
         }
     }

@@ -1,9 +1,6 @@
 //! The end of a round: all that was begun is ended, all passes meet, and what they were answered is judged.
-ghost use Rattle.std.specs.Prelude.{};
-
 use crate::board::Board;
 use crate::counts::{Count, Counts};
-use crate::crew::Crew;
 use crate::dice::Dice;
 use crate::fault::{Fault, Wrong};
 use crate::home::Home;
@@ -11,29 +8,12 @@ use crate::judge::judged;
 use crate::line::Line;
 use crate::lone::Lone;
 use crate::record::Record;
-use crate::tally::{Tally, agrees};
+use crate::tally::{Tally, agrees, is_filled};
 use crate::worker::Worker;
 use sh_gather::{Whole, whole};
 use sh_key::KeyLayout;
-use sh_shape::Shape;
+use sh_shape::{Shape, class_of};
 use std::alloc::Global;
-
-// All passes of all threads.
-fn all_workers<'a, L: KeyLayout, H: Home>(
-    alloc: Global,
-    crews: Vec<Crew<'a, L, H>>,
-) -> Result<Vec<Worker<'a, L, H>>, Fault> {
-    let mut all = Vec::new(alloc);
-    for crew in crews {
-        let Crew { workers, dice: _ } = crew;
-        for worker in workers {
-            if all.push(worker).is_err() {
-                return Err(Fault::Memory);
-            }
-        }
-    }
-    Ok(all)
-}
 
 // Ends what was begun by hand, gives most holds back, and leaves each shard.
 fn settle<L: KeyLayout, H: Home>(workers: &mut [Worker<'_, L, H>], board: &Board, dice: &mut Dice) {
@@ -46,6 +26,20 @@ fn settle<L: KeyLayout, H: Home>(workers: &mut [Worker<'_, L, H>], board: &Board
     for worker in workers.iter_mut() {
         worker.retire();
     }
+}
+
+// Fills each shard with values of some length, and answers their class.
+fn fill<L: KeyLayout, H: Home>(
+    workers: &mut [Worker<'_, L, H>],
+    board: &Board,
+    dice: &mut Dice,
+) -> u32 {
+    let len = dice.below(17) as usize;
+    if let Some(worker) = workers.first_mut() {
+        worker.fill(board, len);
+        worker.retire();
+    }
+    class_of(len).unwrap_or(0)
 }
 
 // Takes the logs of a pass to those of the others, and its counts. Its fault is the round's.
@@ -118,10 +112,11 @@ fn judge_all<L: KeyLayout>(
 fn audit_page<L: KeyLayout>(
     whole: &mut Whole<'_, L>,
     tally: &Tally,
-    shard: u32,
-    page: u32,
+    class: u32,
+    name: (u32, u32),
     counts: &mut Counts,
 ) -> Result<(), Fault> {
+    let (shard, page) = name;
     let wrong = Fault::Wrong(Wrong::Accounts(shard, page));
     let (Some(accounts), Some(expected)) = (whole.accounts(shard, page), tally.of(shard, page))
     else {
@@ -130,9 +125,10 @@ fn audit_page<L: KeyLayout>(
     if !agrees(&accounts, expected) {
         return Err(wrong);
     }
-    if accounts.class.is_some() {
-        counts.one(Count::Pages);
+    if !is_filled(&accounts, class) {
+        return Err(Fault::Wrong(Wrong::Room(shard, page)));
     }
+    counts.one(Count::Pages);
     counts.add(Count::Live, u64::from(accounts.live));
     counts.add(Count::Marked, u64::from(accounts.marked));
     counts.add(Count::Retired, u64::from(accounts.retired));
@@ -145,11 +141,12 @@ fn audit<L: KeyLayout>(
     whole: &mut Whole<'_, L>,
     shape: &Shape,
     tally: &Tally,
+    class: u32,
     counts: &mut Counts,
 ) -> Result<(), Fault> {
     for shard in 0..shape.shards() {
         for page in 0..shape.pages() {
-            audit_page(whole, tally, shard, page, counts)?;
+            audit_page(whole, tally, class, (shard, page), counts)?;
         }
     }
     Ok(())
@@ -158,20 +155,20 @@ fn audit<L: KeyLayout>(
 /// Ends a round, and answers how often what was answered.
 pub fn ended<L: KeyLayout, H: Home>(
     alloc: Global,
-    shape: &Shape,
     board: &Board,
-    crews: Vec<Crew<'_, L, H>>,
+    mut workers: Vec<Worker<'_, L, H>>,
     dice: &mut Dice,
 ) -> Result<Counts, Fault> {
-    let mut workers = all_workers(alloc, crews)?;
     settle(workers.as_mut_slice(), board, dice);
+    let class = fill(workers.as_mut_slice(), board, dice);
     let mut counts = Counts::new();
     let (carrier, mut lines) = met(alloc, workers, &mut counts)?;
     let Ok(mut whole) = whole(carrier.into_pass()) else {
         return Err(Fault::Wrong(Wrong::Apart));
     };
+    let shape = *whole.shape();
     lines.sort_by_key(|line| line.key)?;
-    let tally = judge_all::<L>(alloc, shape, lines.as_slice(), &mut counts)?;
-    audit(&mut whole, shape, &tally, &mut counts)?;
+    let tally = judge_all::<L>(alloc, &shape, lines.as_slice(), &mut counts)?;
+    audit(&mut whole, &shape, &tally, class, &mut counts)?;
     Ok(counts)
 }

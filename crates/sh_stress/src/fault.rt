@@ -1,12 +1,37 @@
 //! What a run may find.
+use sh_value::Refusal;
 use thiserror::Error;
+
+/// What was asked of the heap.
+#[derive(Clone, Copy, Debug, PartialEq, Eq)]
+pub enum Call {
+    /// A heap, with its passes.
+    Open,
+    /// A hold.
+    Get,
+    /// The value of a hold.
+    Read,
+    /// The end of a key.
+    Remove,
+    /// The end of a hold.
+    Release,
+    /// A shard.
+    Adopt,
+    /// A key for a value.
+    Insert,
+    /// The end of owning a shard.
+    Leave,
+}
 
 /// Something that no heap may do.
 #[derive(Clone, Copy, Debug, PartialEq, Eq, Error)]
 pub enum Wrong {
     /// A call was refused for a reason that cannot be.
-    #[error("pass {0} was refused {1}, as {2}, which cannot be")]
-    Refused(u32, &'static str, &'static str),
+    #[error("pass {0} was refused {1:?} as {2:?}, which cannot be")]
+    Refused(u32, Call, Refusal),
+    /// A first step by hand was not done, though nothing stood against it.
+    #[error("pass {0} could not begin {1:?} by hand")]
+    Unbegun(u32, Call),
     /// The words that were read belong to no one value.
     #[error("pass {0} read a torn value under key {1}")]
     Torn(u32, u64),
@@ -28,6 +53,9 @@ pub enum Wrong {
     /// Not all passes met.
     #[error("not all passes met")]
     Apart,
+    /// A page has a slot, or may be had, where the owner of its shard was answered that the shard is full.
+    #[error("page {0}.{1} has room in a shard that was full")]
+    Room(u32, u32),
     /// The accounts of a page are not those of the answers.
     #[error("the accounts of page {0}.{1} are wrong")]
     Accounts(u32, u32),

@@ -1,4 +1,6 @@
 //! A pass that owns no shard.
+ghost use Rattle.std.specs.Prelude.{◌≡◌, Some};
+
 use crate::home::Home;
 use crate::owner::Owner;
 use crate::stopped::Stopped;

@@ -32,6 +32,8 @@ mod record;
 mod round;
 mod stopped;
 mod tally;
+#[cfg(test)]
+mod tests;
 mod turn;
 mod user;
 mod using;

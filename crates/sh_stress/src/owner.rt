@@ -1,4 +1,6 @@
 //! A pass that owns a shard.
+ghost use Rattle.std.specs.Prelude.{◌≡◌, Some};
+
 use crate::home::Home;
 use crate::lone::Lone;
 use crate::user::User;

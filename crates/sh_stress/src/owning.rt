@@ -1,8 +1,11 @@
 //! Turns of owners: shards change hands, and values come into them.
+ghost use Rattle.std.specs.Prelude.{◌≤◌};
+
 use crate::actor::Actor;
 use crate::board::Board;
 use crate::counts::Count;
 use crate::dice::Dice;
+use crate::fault::Call;
 use crate::home::Home;
 use crate::line::Told;
 use crate::lone::Lone;
@@ -12,6 +15,9 @@ use crate::{pattern, using};
 use sh_key::KeyLayout;
 use sh_value::Refusal;
 use std::alloc::Global;
+
+// As many slots as the two segments of a shard may have.
+const MOST_SLOTS: u32 = 768;
 
 /// Tries to adopt a shard.
 pub fn adopt<'a, L: KeyLayout, H: Home>(
@@ -28,7 +34,7 @@ pub fn adopt<'a, L: KeyLayout, H: Home>(
         Err((lone, refusal)) => {
             match refusal {
                 Refusal::Taken => record.counts.one(Count::Takens),
-                _ => record.refused("an adoption", refusal),
+                _ => record.refused(Call::Adopt, refusal),
             }
             Actor::Lone(lone)
         }
@@ -48,9 +54,39 @@ pub fn leave<'a, L: KeyLayout, H: Home>(
         Err((owner, refusal)) => {
             match refusal {
                 Refusal::Waiting => record.counts.one(Count::Waitings),
-                _ => record.refused("leaving", refusal),
+                _ => record.refused(Call::Leave, refusal),
             }
             Actor::Owner(owner)
+        }
+    }
+}
+
+// Inserts a value of so many words, and answers its key; none where it was refused.
+fn put<L: KeyLayout, H: Home>(
+    owner: &mut Owner<'_, L, H>,
+    record: &mut Record,
+    board: &Board,
+    len: usize,
+) -> Option<u64>
+    requires { len ≤ 16 }
+{
+    let begin = board.moment();
+    let value = pattern::value(begin, len);
+    let answer = owner.insert(&value);
+    let span = board.since(begin);
+    match answer {
+        Ok(key) => {
+            record.counts.one(Count::Inserts);
+            record.tell(key, span, Told::Inserted(value));
+            Some(key)
+        }
+        Err(Refusal::Full) => {
+            record.counts.one(Count::Fulls);
+            None
+        }
+        Err(refusal) => {
+            record.refused(Call::Insert, refusal);
+            None
         }
     }
 }
@@ -62,19 +98,34 @@ pub fn insert<L: KeyLayout, H: Home>(
     board: &Board,
     dice: &mut Dice,
 ) {
-    let begin = board.moment();
-    let value = pattern::value(begin, dice.below(17) as usize);
-    let answer = owner.insert(&value);
-    let span = board.since(begin);
-    match answer {
-        Ok(key) => {
-            record.counts.one(Count::Inserts);
-            record.tell(key, span, Told::Inserted(value));
-            if let Some(old) = board.leave(dice.word(), key) {
-                using::remove(owner, record, board, old);
-            }
-        }
-        Err(Refusal::Full) => record.counts.one(Count::Fulls),
-        Err(refusal) => record.refused("an insert", refusal),
+    let len = dice.below(17) as usize;
+    let Some(key) = put(owner, record, board, len) else {
+        return;
+    };
+    if let Some(old) = board.leave(dice.word(), key) {
+        using::remove(owner, record, board, old);
     }
+}
+
+/// Adopts a shard that nobody owns, inserts values of so many words until it is full, and leaves it.
+pub fn fill<'a, L: KeyLayout, H: Home>(
+    alloc: Global,
+    lone: Lone<'a, L, H>,
+    record: &mut Record,
+    board: &Board,
+    shard: u64,
+    len: usize,
+) -> Actor<'a, L, H>
+    requires { len ≤ 16 }
+{
+    let Actor::Owner(mut owner) = adopt(alloc, lone, record, shard) else {
+        record.refused(Call::Adopt, Refusal::Taken);
+        return Actor::Moving;
+    };
+    for _ in 0..MOST_SLOTS {
+        if put(&mut owner, record, board, len).is_none() {
+            break;
+        }
+    }
+    leave(owner, record)
 }

@@ -1,6 +1,6 @@
 //! What is kept of a pass: what it was answered, what it holds, and what was found wrong.
 use crate::counts::{Count, Counts};
-use crate::fault::{Fault, Wrong};
+use crate::fault::{Call, Fault, Wrong};
 use crate::line::{Line, Span, Told};
 use crate::pattern;
 use sh_value::{Hold, Refusal, Value};
@@ -54,11 +54,26 @@ impl Record {
     }
 
     /// Notes a refusal that cannot be, or that memory was refused.
-    pub fn refused(&mut self, call: &'static str, refusal: Refusal) {
+    pub fn refused(&mut self, call: Call, refusal: Refusal) {
         match refusal {
             Refusal::Memory => self.fail(Fault::Memory),
-            _ => self.find(Wrong::Refused(self.pass, call, refusal.name())),
+            _ => self.find(Wrong::Refused(self.pass, call, refusal)),
         }
+    }
+
+    /// Notes that something could not be begun by hand.
+    pub fn unbegun(&mut self, call: Call) {
+        self.find(Wrong::Unbegun(self.pass, call));
+    }
+
+    /// Notes that what was begun by hand does not end.
+    pub fn endless(&mut self) {
+        self.find(Wrong::Endless(self.pass));
+    }
+
+    /// Notes that leaving a shard was refused though nobody had begun anything.
+    pub fn waits(&mut self) {
+        self.find(Wrong::Waits(self.pass));
     }
 
     /// The first fault, if there was one.

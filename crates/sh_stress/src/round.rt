@@ -1,19 +1,18 @@
 //! A round: a heap of its own, on which threads work, until all is joined and judged.
-ghost use Rattle.std.specs.Prelude.{◌≡◌, ◌<◌, Some};
+ghost use Rattle.std.specs.Prelude.{◌≡◌, Some};
 ghost use Rattle.std.specs.List.{All};
 ghost use Rattle.sh_pass.specs.Passes.{Caller};
 
 use crate::board::Board;
 use crate::counts::Counts;
-use crate::crew::Crew;
 use crate::dice::Dice;
-use crate::ending;
-use crate::fault::{Fault, Wrong};
+use crate::fault::{Call, Fault, Wrong};
 use crate::home::Home;
 use crate::lone::Lone;
 use crate::worker::Worker;
+use crate::{crew, ending};
 use sh_key::KeyLayout;
-use sh_pass::{Heap, Pass};
+use sh_pass::{Heap, Pass, Seats};
 use sh_shape::Shape;
 use sh_value::Refusal;
 use std::alloc::Global;
@@ -40,12 +39,12 @@ pub struct Plan {
 fn unopened(refusal: Refusal) -> Fault {
     match refusal {
         Refusal::Memory => Fault::Memory,
-        _ => Fault::Wrong(Wrong::Refused(0, "a heap", refusal.name())),
+        _ => Fault::Wrong(Wrong::Refused(0, Call::Open, refusal)),
     }
 }
 
 // The passes, which are of the heap that `H` names.
-fn at_home<'a, L: KeyLayout, H: Home>(
+fn named<'a, L: KeyLayout, H: Home>(
     alloc: Global,
     passes: Vec<Pass<'a, L>>,
 ) -> Result<Vec<Lone<'a, L, H>>, Fault>
@@ -53,67 +52,71 @@ fn at_home<'a, L: KeyLayout, H: Home>(
 {
     let mut lones = Vec::new(alloc);
     for pass in passes {
-        let lone = Lone::new(pass);
-        if lones.push(lone).is_err() {
+        if lones.push(Lone::new(pass)).is_err() {
             return Err(Fault::Memory);
         }
     }
     Ok(lones)
 }
 
-// The passes, so many a thread.
-fn crews<'a, L: KeyLayout, H: Home>(
+// All passes of the heap that `H` names.
+fn at_home<'a, L: KeyLayout, H: Home>(
+    alloc: Global,
+    heap: &'a Heap<L>,
+    seats: Seats<L>,
+) -> Result<Vec<Lone<'a, L, H>>, Fault>
+    requires home { H.heap ≡ Some heap.now }
+    requires seats { seats ≡ heap.now }
+{
+    match heap.passes(alloc, seats) {
+        Ok(passes) => named(alloc, passes),
+        Err((_, refusal)) => Err(unopened(refusal)),
+    }
+}
+
+// The passes, which have done nothing.
+fn workers<'a, L: KeyLayout, H: Home>(
     alloc: Global,
     plan: &Plan,
     lones: Vec<Lone<'a, L, H>>,
-    dice: &mut Dice,
-) -> Result<Vec<Crew<'a, L, H>>, Fault> {
-    let mut crews: Vec<Crew<'a, L, H>> = Vec::new(alloc);
-    for (number, lone) in lones.into_iter().enumerate() {
-        let worker = Worker::new(alloc, lone, number as u32, u64::from(plan.shards));
-        if number as u64 % u64::from(plan.passes.max(1)) == 0 {
-            let crew = Crew {
-                workers: Vec::new(alloc),
-                dice: Dice::new(dice.word()),
-            };
-            if crews.push(crew).is_err() {
-                return Err(Fault::Memory);
-            }
-        }
-        if let Some(crew) = crews.last_mut()
-            && crew.workers.push(worker).is_err()
-        {
+) -> Result<Vec<Worker<'a, L, H>>, Fault> {
+    let mut workers = Vec::new(alloc);
+    for (number, lone) in (0..u32::MAX).zip(lones) {
+        let worker = Worker::new(alloc, lone, number, u64::from(plan.shards));
+        if workers.push(worker).is_err() {
             return Err(Fault::Memory);
         }
     }
-    Ok(crews)
+    Ok(workers)
 }
 
-// The round of these passes.
+// A round on the heap that `H` names.
 fn worked<'a, L: KeyLayout + Send, H: Home + Send + Sync, R: Threads + Sync>(
     rt: &R,
     alloc: Global,
     plan: &Plan,
-    shape: &Shape,
-    passes: Vec<Pass<'a, L>>,
+    heap: &'a Heap<L>,
+    seats: Seats<L>,
     dice: &mut Dice,
 ) -> Result<Counts, Fault>
-    requires { All (λ (p : Caller). H.heap ≡ Some p.heap) passes.items }
+    requires home { H.heap ≡ Some heap.now }
+    requires seats { seats ≡ heap.now }
 {
     let board = Board::new(alloc)?;
-    let lones: Vec<Lone<'a, L, H>> = at_home(alloc, passes)?;
-    let mut crews = crews(alloc, plan, lones, dice)?;
-    let threads = crews.len();
-    if threads > 0 {
-        let steps = plan.steps;
-        thread::for_each_mut(
-            rt,
-            crews.as_mut_slice(),
-            threads,
-            &|_, crew: &mut Crew<'_, L, H>| crew.run(&board, steps),
-        );
-    }
-    ending::ended(alloc, shape, &board, crews, dice)
+    let lones: Vec<Lone<'a, L, H>> = at_home(alloc, heap, seats)?;
+    let mut workers = workers(alloc, plan, lones)?;
+    let steps = plan.steps;
+    let seed = dice.word();
+    thread::for_each_chunk_mut(
+        rt,
+        workers.as_mut_slice(),
+        plan.passes.max(1) as usize,
+        &|start: usize, part: &mut [Worker<'_, L, H>]| {
+            let mut dice = Dice::new(seed.wrapping_add(start as u64));
+            crew::run(part, &board, &mut dice, steps);
+        },
+    );
+    ending::ended(alloc, &board, workers, dice)
 }
 
 /// Plays a round, and answers how often what was answered.
@@ -124,11 +127,12 @@ pub fn play<L: KeyLayout + Send, R: Threads + Sync>(
     dice: &mut Dice,
 ) -> Result<Counts, Fault> {
     let passes = plan.threads.saturating_mul(plan.passes);
-    let shape = Shape::new(plan.shards, plan.segments, passes).map_err(unopened)?;
-    let (heap, seats) = Heap::<L>::open(alloc, shape).map_err(unopened)?;
-    let passes = match heap.passes(alloc, seats) {
-        Ok(passes) => passes,
-        Err((_, refusal)) => return Err(unopened(refusal)),
+    let shape = match Shape::new(plan.shards, plan.segments, passes) {
+        Ok(shape) => shape,
+        Err(refusal) => return Err(unopened(refusal)),
     };
-    worked::<L, Brand, R>(rt, alloc, plan, &shape, passes, dice)
+    match Heap::<L>::open(alloc, shape) {
+        Ok((heap, seats)) => worked::<L, Brand, R>(rt, alloc, plan, &heap, seats, dice),
+        Err(refusal) => Err(unopened(refusal)),
+    }
 }

@@ -1,4 +1,6 @@
 //! A pass that goes on by hand, one step at a time.
+ghost use Rattle.std.specs.Prelude.{◌≡◌, Some};
+
 use crate::home::Home;
 use crate::lone::Lone;
 use sh_key::KeyLayout;

@@ -34,7 +34,7 @@ impl Tally {
             retired: 0,
         };
         let mut pages = Vec::new(alloc);
-        for _ in 0..u64::from(shape.shards()) * u64::from(shape.pages()) {
+        for _ in 0..u64::from(shape.shards()).saturating_mul(u64::from(shape.pages())) {
             pages.push(none)?;
         }
         Ok(Tally {
@@ -45,7 +45,9 @@ impl Tally {
 
     // Where a page stands.
     fn place(&self, shard: u32, page: u32) -> usize {
-        (u64::from(shard) * u64::from(self.pages_of_shard) + u64::from(page)) as usize
+        u64::from(shard)
+            .saturating_mul(u64::from(self.pages_of_shard))
+            .saturating_add(u64::from(page)) as usize
     }
 
     /// Counts the slot of a key, by the history of the key.
@@ -84,6 +86,15 @@ fn count<L: KeyLayout>(page: &mut PageTally, parts: Parts, removed: bool, holds:
         page.marked = page.marked.saturating_add(1);
     } else if parts.generation == L::GEN_MAX {
         page.retired = page.retired.saturating_add(1);
+    }
+}
+
+/// Whether a page of a shard that was full for this class has no room for it: it has a class, and where that is the same
+/// no slot is left. A page of another class may have slots that its owner has yet to collect.
+pub fn is_filled(accounts: &Accounts, class: u32) -> bool {
+    match accounts.class {
+        None => false,
+        Some(own) => own != class || accounts.queued == 0,
     }
 }
 

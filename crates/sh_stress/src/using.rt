@@ -1,6 +1,7 @@
 //! Calls on keys, with what is noted of their answers.
 use crate::board::Board;
 use crate::counts::Count;
+use crate::fault::Call;
 use crate::line::Told;
 use crate::record::Record;
 use crate::user::User;
@@ -23,7 +24,7 @@ pub fn get<U: User>(user: &mut U, record: &mut Record, board: &Board, key: u64, 
             record.tell(key, span, Told::Crowded);
         }
         Err(Refusal::HoldsFull) if record.is_full() => record.counts.one(Count::HoldsFulls),
-        Err(refusal) => record.refused("a get", refusal),
+        Err(refusal) => record.refused(Call::Get, refusal),
     }
 }
 
@@ -41,7 +42,7 @@ pub fn remove<U: User>(user: &mut U, record: &mut Record, board: &Board, key: u6
             record.counts.one(Count::Gones);
             record.tell(key, span, Told::Gone);
         }
-        Err(refusal) => record.refused("a remove", refusal),
+        Err(refusal) => record.refused(Call::Remove, refusal),
     }
 }
 
@@ -52,7 +53,7 @@ pub fn read<U: User>(user: &mut U, record: &mut Record, number: u64) {
     };
     match user.read(held.hold) {
         Ok(value) => record.read(held, value),
-        Err(refusal) => record.refused("a read", refusal),
+        Err(refusal) => record.refused(Call::Read, refusal),
     }
 }
 
@@ -70,6 +71,6 @@ pub fn release<U: User>(user: &mut U, record: &mut Record, board: &Board, number
             record.tell(held.hold.key, span, Told::Released);
             record.forget(number);
         }
-        Err(refusal) => record.refused("a release", refusal),
+        Err(refusal) => record.refused(Call::Release, refusal),
     }
 }

@@ -1,9 +1,10 @@
 //! A pass, with what is kept of it.
+ghost use Rattle.std.specs.Prelude.{◌≤◌};
+
 use crate::actor::Actor;
 use crate::board::Board;
 use crate::counts::Count;
 use crate::dice::Dice;
-use crate::fault::Wrong;
 use crate::home::Home;
 use crate::lone::Lone;
 use crate::owner::Owner;
@@ -28,9 +29,7 @@ pub struct Worker<'a, L: KeyLayout, H: Home> {
 
 impl<'a, L: KeyLayout, H: Home> Worker<'a, L, H> {
     /// A pass that has done nothing, in a heap of so many shards.
-    pub fn new(alloc: Global, lone: Lone<'a, L, H>, number: u32, shards: u64) -> Self
-        requires { 0 < shards }
-    {
+    pub fn new(alloc: Global, lone: Lone<'a, L, H>, number: u32, shards: u64) -> Self {
         Worker {
             actor: Actor::Lone(lone),
             record: Record::new(alloc, number),
@@ -112,7 +111,7 @@ impl<'a, L: KeyLayout, H: Home> Worker<'a, L, H> {
             };
         }
         if let Actor::Stopped(_, _) = &self.actor {
-            self.record.find(Wrong::Endless(self.record.pass));
+            self.record.endless();
         }
     }
 
@@ -128,7 +127,7 @@ impl<'a, L: KeyLayout, H: Home> Worker<'a, L, H> {
     /// Gives back its holds, but for a few.
     pub fn release_most(&mut self, board: &Board, dice: &mut Dice) {
         for number in (0..self.record.holds()).rev() {
-            if !dice.once_in(8) {
+            if !dice.once_in(3) {
                 self.release(board, number);
             }
         }
@@ -141,7 +140,21 @@ impl<'a, L: KeyLayout, H: Home> Worker<'a, L, H> {
             actor => actor,
         };
         if let Actor::Owner(_) = &self.actor {
-            self.record.find(Wrong::Waits(self.record.pass));
+            self.record.waits();
+        }
+    }
+
+    /// Fills each shard, of which nobody owns one, with values of so many words.
+    pub fn fill(&mut self, board: &Board, len: usize)
+        requires { len ≤ 16 }
+    {
+        for shard in 0..self.shards {
+            self.actor = match mem::replace(&mut self.actor, Actor::Moving) {
+                Actor::Lone(lone) => {
+                    owning::fill(self.alloc, lone, &mut self.record, board, shard, len)
+                }
+                actor => actor,
+            };
         }
     }
 
