@@ -1,0 +1,112 @@
+//! The words that threads share, and where each stands: 195 a page, then two for each shard, as in the heap.
+use std::sync::atomic::AtomicU64;
+
+pub const SLOTS: usize = 48;
+pub const PAGE_WORDS: usize = 195;
+
+const WIDTHS: [usize; 8] = [1, 2, 3, 4, 6, 8, 12, 16];
+const SLOTS_OF: [usize; 8] = [48, 24, 16, 12, 8, 6, 4, 3];
+
+pub const PRESENT: u64 = 1 << 30;
+pub const MARKED: u64 = 1 << 31;
+/// The flags of a state word.
+pub const FLAGS: u64 = PRESENT | MARKED;
+/// The count of a state word.
+pub const COUNT: u64 = PRESENT - 1;
+/// One generation of a state word.
+pub const GENERATION: u64 = 1 << 32;
+
+pub fn class_of(len: usize) -> usize {
+    WIDTHS.iter().position(|width| len <= *width).expect("at most 16 words")
+}
+
+pub fn width(class: usize) -> usize {
+    WIDTHS[class]
+}
+
+pub fn slots(class: usize) -> usize {
+    SLOTS_OF[class]
+}
+
+/// A slot of a page; pages are numbered over the whole heap.
+#[derive(Clone, Copy)]
+pub struct Spot {
+    pub page: usize,
+    pub slot: usize,
+}
+
+/// All words of a heap with so many shards of so many pages.
+pub struct Words {
+    words: Box<[AtomicU64]>,
+    pub shards: usize,
+    pub pages: usize,
+}
+
+impl Words {
+    pub fn new(shards: usize, pages: usize) -> Self {
+        let total = shards * pages * PAGE_WORDS;
+        let at_opening = |i: usize| match i % PAGE_WORDS {
+            3..=50 if i < total => GENERATION,
+            _ => 0,
+        };
+        let words = (0..total + 2 * shards).map(|i| AtomicU64::new(at_opening(i))).collect();
+        Words { words, shards, pages }
+    }
+
+    fn in_page(&self, page: usize, offset: usize) -> &AtomicU64 {
+        &self.words[page * PAGE_WORDS + offset]
+    }
+
+    pub fn class(&self, page: usize) -> &AtomicU64 {
+        self.in_page(page, 0)
+    }
+
+    pub fn head(&self, page: usize) -> &AtomicU64 {
+        self.in_page(page, 1)
+    }
+
+    pub fn page_link(&self, page: usize) -> &AtomicU64 {
+        self.in_page(page, 2)
+    }
+
+    pub fn state(&self, spot: Spot) -> &AtomicU64 {
+        self.in_page(spot.page, 3 + spot.slot)
+    }
+
+    pub fn link(&self, spot: Spot) -> &AtomicU64 {
+        self.in_page(spot.page, 51 + spot.slot)
+    }
+
+    pub fn length(&self, spot: Spot) -> &AtomicU64 {
+        self.in_page(spot.page, 99 + spot.slot)
+    }
+
+    pub fn payload(&self, page: usize, i: usize) -> &AtomicU64 {
+        self.in_page(page, 147 + i)
+    }
+
+    pub fn owner(&self, shard: usize) -> &AtomicU64 {
+        &self.words[self.shards * self.pages * PAGE_WORDS + 2 * shard]
+    }
+
+    pub fn bell(&self, shard: usize) -> &AtomicU64 {
+        &self.words[self.shards * self.pages * PAGE_WORDS + 2 * shard + 1]
+    }
+
+    /// The key of a slot in a generation.
+    pub fn key(&self, spot: Spot, generation: u64) -> u64 {
+        let (shard, page) = (spot.page / self.pages, spot.page % self.pages);
+        ((((generation << 8) + shard as u64) << 16) + page as u64) * 64 + spot.slot as u64
+    }
+
+    /// The slot and the generation that a key names.
+    pub fn place(&self, key: u64) -> Option<(Spot, u64)> {
+        let slot = (key & 63) as usize;
+        let page = ((key >> 6) & 0xffff) as usize;
+        let shard = ((key >> 22) & 0xff) as usize;
+        if slot >= SLOTS || page >= self.pages || shard >= self.shards {
+            return None;
+        }
+        Some((Spot { page: shard * self.pages + page, slot }, key >> 30))
+    }
+}

@@ -1,0 +1,56 @@
+//! What may keep a measurement from being taken.
+use sh_value::Refusal;
+use std::alloc::{AllocError, AllocFailed};
+use std::io;
+
+/// Why nothing was measured.
+#[derive(Clone, Copy, Debug, PartialEq, Eq)]
+pub enum Fault {
+    /// The heap refused a call.
+    Refused(Refusal),
+    /// Memory ran out.
+    Memory,
+    /// The clock could not be read, or the output not written.
+    Io,
+    /// A thread waited for another for too long.
+    Late,
+    /// The values do not fit one heap of the layout.
+    TooMany,
+}
+
+impl From<Refusal> for Fault {
+    fn from(refusal: Refusal) -> Fault {
+        Fault::Refused(refusal)
+    }
+}
+
+impl From<AllocError> for Fault {
+    fn from(_error: AllocError) -> Fault {
+        Fault::Memory
+    }
+}
+
+impl<T: Drop> From<AllocFailed<T>> for Fault {
+    fn from(_error: AllocFailed<T>) -> Fault {
+        Fault::Memory
+    }
+}
+
+impl From<io::Error> for Fault {
+    fn from(_error: io::Error) -> Fault {
+        Fault::Io
+    }
+}
+
+impl Fault {
+    /// What is said of it.
+    pub fn text(&self) -> &'static str {
+        match self {
+            Fault::Refused(refusal) => refusal.name(),
+            Fault::Memory => "memory ran out",
+            Fault::Io => "the clock or the output failed",
+            Fault::Late => "a thread waited for too long",
+            Fault::TooMany => "the values do not fit one heap",
+        }
+    }
+}

@@ -1,0 +1,45 @@
+//! Where threads wait for each other, by looking again and again: a thread that sleeps would wake up late.
+use crate::fault::Fault;
+use std::hint::spin_loop;
+use std::sync::atomic::{AtomicU64, Ordering};
+
+/// How often a thread looks before it gives up. At some ten nanoseconds a look this is seconds.
+pub const LOOKS: u64 = 400_000_000;
+
+/// The threads start once all of them have come here.
+pub struct Gate {
+    arrived: AtomicU64,
+    threads: u64,
+}
+
+impl Drop for Gate {
+    fn drop(self) {
+        let Gate {
+            arrived,
+            threads: _,
+        } = self;
+        arrived.into_inner();
+    }
+}
+
+impl Gate {
+    /// A gate for this many threads.
+    pub fn new(threads: u64) -> Self {
+        Gate {
+            arrived: AtomicU64::new(0),
+            threads,
+        }
+    }
+
+    /// Waits until all threads have come. `Late` where one stays away.
+    pub fn pass(&self) -> Result<(), Fault> {
+        self.arrived.fetch_add(1, Ordering::SeqCst);
+        for _look in 0..LOOKS {
+            if self.arrived.load(Ordering::SeqCst) >= self.threads {
+                return Ok(());
+            }
+            spin_loop();
+        }
+        Err(Fault::Late)
+    }
+}

@@ -1,0 +1,165 @@
+//! Workloads of passes that own nothing: get and release, and get, read and release.
+use crate::fault::Fault;
+use crate::gate::Gate;
+use crate::lots::{Job, Lot, filled_lots, standing};
+use crate::options::Options;
+use crate::outcome::Outcome;
+use crate::parting::{taken, together};
+use crate::plan::{Demand, plan_for};
+use crate::samples::Samples;
+use crate::workload::Workload;
+use sh_key::KeyLayout;
+use sh_pass::{Heap, Pass};
+use sh_value::{Refusal, Value};
+use std::alloc::{AllocError, Global};
+use std::rt::Clock;
+use std::thread;
+use std::thread::Threads;
+use std::time::Instant;
+
+// Takes a hold on each key and gives it back. Answers the sum of the keys held.
+fn get_each<L: KeyLayout>(pass: &mut Pass<'_, L>, keys: &[u64]) -> Result<u64, Refusal> {
+    let mut sum = 0u64;
+    for key in keys {
+        let hold = pass.get(*key)?;
+        sum = sum.wrapping_add(hold.key);
+        pass.release(hold)?;
+    }
+    Ok(sum)
+}
+
+// The sum of the words of a value.
+fn sum_of(value: &Value) -> u64 {
+    let mut sum = 0u64;
+    for word in value.words() {
+        sum = sum.wrapping_add(*word);
+    }
+    sum
+}
+
+// Reads the value of each key under a hold. Answers the sum of the words.
+fn read_each<L: KeyLayout>(pass: &mut Pass<'_, L>, keys: &[u64]) -> Result<u64, Refusal> {
+    let mut sum = 0u64;
+    for key in keys {
+        let hold = pass.get(*key)?;
+        let value = pass.read(hold)?;
+        pass.release(hold)?;
+        sum = sum.wrapping_add(sum_of(&value));
+    }
+    Ok(sum)
+}
+
+fn use_each<L: KeyLayout>(
+    pass: &mut Pass<'_, L>,
+    keys: &[u64],
+    workload: Workload,
+) -> Result<u64, Refusal> {
+    match workload {
+        Workload::Read => read_each(pass, keys),
+        _ => get_each(pass, keys),
+    }
+}
+
+// The measured operations: rounds through all keys, and a last one through some.
+fn rounds<L: KeyLayout>(
+    pass: &mut Pass<'_, L>,
+    walk: &[u64],
+    options: &Options,
+) -> Result<u64, Refusal> {
+    if walk.is_empty() {
+        return Ok(0);
+    }
+    let mut sum = 0u64;
+    for _round in 0..options.operations / walk.len() {
+        sum = sum.wrapping_add(use_each(pass, walk, options.workload)?);
+    }
+    let rest = &walk[..options.operations % walk.len()];
+    Ok(sum.wrapping_add(use_each(pass, rest, options.workload)?))
+}
+
+// What one thread does: it goes through the keys of the walk, over and over.
+fn work<L: KeyLayout>(
+    rt: &impl Clock,
+    gate: &Gate,
+    options: &Options,
+    walk: &[u64],
+    mut pass: Pass<'_, L>,
+) -> Result<Outcome, Fault> {
+    use_each(&mut pass, walk, options.workload)?;
+    gate.pass()?;
+    let start = Instant::now(rt)?;
+    let sum = rounds(&mut pass, walk, options)?;
+    Ok(Outcome::of(start.elapsed(rt)?, options.operations, sum))
+}
+
+// The keys of all lots, each once, in the order in which they are gone through.
+fn walk_of<L: KeyLayout>(alloc: Global, lots: &[Lot<'_, L>]) -> Result<Vec<u64>, AllocError> {
+    let mut walk = Vec::new(alloc);
+    for lot in lots {
+        for place in lot.order.as_slice() {
+            if let Some(key) = lot.keys.get(*place) {
+                walk.push(*key)?;
+            }
+        }
+    }
+    Ok(walk)
+}
+
+// A round through few keys goes through them again and again, until it is as long as this.
+const SHORTEST_WALK: usize = 1000;
+
+fn lengthen(walk: &mut Vec<u64>) -> Result<(), AllocError> {
+    let missing = SHORTEST_WALK.saturating_sub(walk.len());
+    for place in 0..missing {
+        if let Some(key) = walk.get(place).copied() {
+            walk.push(key)?;
+        }
+    }
+    Ok(())
+}
+
+// How many of the values of all lots stand as they were inserted.
+fn all_standing<L: KeyLayout>(lots: &mut [Lot<'_, L>], samples: &Samples) -> Result<u64, Fault> {
+    let mut found = 0u64;
+    for lot in lots.iter_mut() {
+        found = found.saturating_add(standing(lot, samples)?);
+    }
+    Ok(found)
+}
+
+fn demand(options: &Options) -> Demand {
+    Demand {
+        owners: 1,
+        others: options.threads,
+        passes: options.passes,
+        lengths: options.lengths,
+        values: options.live,
+    }
+}
+
+/// Measures passes that use the values of one owner, which stands by.
+pub fn measure<L: KeyLayout + Send + Sync, R: Threads + Clock + Sync>(
+    rt: &R,
+    alloc: Global,
+    options: &Options,
+) -> Result<Outcome, Fault> {
+    let plan = plan_for::<L>(&demand(options))?;
+    let (heap, seats) = Heap::<L>::open(alloc, plan.shape)?;
+    let mut passes = heap.passes(alloc, seats).map_err(|(_, why)| why)?;
+    let owners = taken(alloc, &mut passes, plan.shards)?;
+    let users = taken(alloc, &mut passes, options.threads)?;
+    let samples = Samples::new(alloc, options.lengths)?;
+    let job = Job {
+        passes: owners,
+        first_shard: 0,
+    };
+    let mut lots = filled_lots(alloc, job, &samples, options.live)?;
+    let mut walk = walk_of(alloc, lots.as_slice())?;
+    lengthen(&mut walk)?;
+    let gate = Gate::new(options.threads as u64);
+    let (gate, keys) = (&gate, walk.as_slice());
+    let done = thread::map_vec(rt, users, &|pass| work(rt, gate, options, keys, pass))?;
+    let mut outcome = together(done.as_slice())?;
+    outcome.standing = all_standing(lots.as_mut_slice(), &samples)?;
+    Ok(outcome)
+}

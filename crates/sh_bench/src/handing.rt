@@ -1,0 +1,174 @@
+//! The workload of producers and consumers: an owner inserts, and a pass in another thread removes.
+use crate::fault::Fault;
+use crate::gate::{Gate, LOOKS};
+use crate::options::Options;
+use crate::outcome::Outcome;
+use crate::parting::together;
+use crate::plan::{Demand, plan_for};
+use crate::ring::Ring;
+use crate::samples::Samples;
+use sh_key::KeyLayout;
+use sh_pass::{Heap, Pass};
+use sh_shard::Shard;
+use sh_value::{Refusal, Value};
+use std::alloc::{AllocError, Global};
+use std::rt::Clock;
+use std::thread;
+use std::thread::Threads;
+use std::time::Instant;
+
+// How many values a producer's shard has room for at least: a few times those that are on their way.
+const ROOM: usize = 4096;
+
+// What a thread of a pair is.
+#[derive(Clone, Copy)]
+enum Side {
+    // It owns the shard with this number, and inserts.
+    Producer(u64),
+    // It removes.
+    Consumer,
+}
+
+// What a thread of a pair begins with.
+#[derive(Drop)]
+struct Job<'a, L: KeyLayout> {
+    pass: Pass<'a, L>,
+    ring: &'a Ring,
+    side: Side,
+}
+
+// Inserts a value, and where the shard is full waits until something was freed.
+fn insert_in_time<L: KeyLayout>(owner: &mut Shard<'_, L>, value: &Value) -> Result<u64, Fault> {
+    for _look in 0..LOOKS {
+        match owner.insert(value) {
+            Ok(key) => return Ok(key),
+            Err(Refusal::Full) => {}
+            Err(refusal) => return Err(Fault::Refused(refusal)),
+        }
+    }
+    Err(Fault::Late)
+}
+
+fn produce<L: KeyLayout>(
+    owner: &mut Shard<'_, L>,
+    ring: &Ring,
+    samples: &Samples,
+    operations: usize,
+) -> Result<(), Fault> {
+    for number in 0..operations {
+        let key = insert_in_time(owner, samples.at(number))?;
+        ring.put(number, key)?;
+    }
+    Ok(())
+}
+
+fn consume<L: KeyLayout>(
+    pass: &mut Pass<'_, L>,
+    ring: &Ring,
+    operations: usize,
+) -> Result<(), Fault> {
+    for number in 0..operations {
+        let key = ring.take(number)?;
+        pass.remove(key)?;
+    }
+    Ok(())
+}
+
+fn produce_all<L: KeyLayout>(
+    rt: &impl Clock,
+    alloc: Global,
+    gate: &Gate,
+    options: &Options,
+    pass: Pass<'_, L>,
+    ring: &Ring,
+    shard: u64,
+) -> Result<Outcome, Fault> {
+    let samples = Samples::new(alloc, options.lengths)?;
+    let mut owner = Shard::adopt(alloc, pass, shard).map_err(|(_, why)| why)?;
+    gate.pass()?;
+    let start = Instant::now(rt)?;
+    produce(&mut owner, ring, &samples, options.operations)?;
+    Ok(Outcome::of(start.elapsed(rt)?, options.operations, 0))
+}
+
+fn consume_all<L: KeyLayout>(
+    rt: &impl Clock,
+    gate: &Gate,
+    options: &Options,
+    mut pass: Pass<'_, L>,
+    ring: &Ring,
+) -> Result<Outcome, Fault> {
+    gate.pass()?;
+    let start = Instant::now(rt)?;
+    consume(&mut pass, ring, options.operations)?;
+    Ok(Outcome::of(start.elapsed(rt)?, 0, 0))
+}
+
+// What one thread of a pair does.
+fn work<L: KeyLayout>(
+    rt: &impl Clock,
+    alloc: Global,
+    gate: &Gate,
+    options: &Options,
+    job: Job<'_, L>,
+) -> Result<Outcome, Fault> {
+    match job.side {
+        Side::Producer(shard) => produce_all(rt, alloc, gate, options, job.pass, job.ring, shard),
+        Side::Consumer => consume_all(rt, gate, options, job.pass, job.ring),
+    }
+}
+
+// The jobs of each pair: one for its producer and one for its consumer.
+fn jobs<'a, L: KeyLayout>(
+    alloc: Global,
+    passes: &mut Vec<Pass<'a, L>>,
+    rings: &'a [Ring],
+) -> Result<Vec<Job<'a, L>>, AllocError> {
+    let mut jobs = Vec::new(alloc);
+    for (pair, ring) in rings.iter().enumerate() {
+        for side in [Side::Producer(pair as u64), Side::Consumer] {
+            if let Some(pass) = passes.pop() {
+                jobs.push(Job { pass, ring, side })?;
+            }
+        }
+    }
+    Ok(jobs)
+}
+
+fn rings(alloc: Global, pairs: usize) -> Result<Vec<Ring>, AllocError> {
+    let mut rings = Vec::new(alloc);
+    for _pair in 0..pairs {
+        rings.push(Ring::new(alloc)?)?;
+    }
+    Ok(rings)
+}
+
+fn demand(options: &Options) -> Demand {
+    Demand {
+        owners: options.threads,
+        others: options.threads,
+        passes: options.passes,
+        lengths: options.lengths,
+        values: ROOM,
+    }
+}
+
+/// Measures pairs of threads, of which one inserts and the other removes. `TooMany` where a producer needs more than one
+/// shard.
+pub fn measure<L: KeyLayout + Send + Sync, R: Threads + Clock + Sync>(
+    rt: &R,
+    alloc: Global,
+    options: &Options,
+) -> Result<Outcome, Fault> {
+    let plan = plan_for::<L>(&demand(options))?;
+    if plan.shards > 1 {
+        return Err(Fault::TooMany);
+    }
+    let rings = rings(alloc, options.threads)?;
+    let (heap, seats) = Heap::<L>::open(alloc, plan.shape)?;
+    let mut passes = heap.passes(alloc, seats).map_err(|(_, why)| why)?;
+    let jobs = jobs(alloc, &mut passes, rings.as_slice())?;
+    let gate = &Gate::new(2 * options.threads as u64);
+    let done = thread::map_vec(rt, jobs, &|job| work(rt, alloc, gate, options, job))?;
+    together(done.as_slice())
+}

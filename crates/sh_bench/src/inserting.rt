@@ -1,0 +1,188 @@
+//! Workloads of owners: insert, remove, and both in turn.
+ghost use Rattle.std.specs.Prelude.{◌≡◌, ◌≤◌, ◌<◌};
+
+use crate::fault::Fault;
+use crate::gate::Gate;
+use crate::lots::{Job, Lot, filled_lots, insert_each, remove_each, share, standing};
+use crate::options::Options;
+use crate::outcome::{NOTHING, Outcome};
+use crate::parting::{taken, together};
+use crate::plan::{Demand, plan_for};
+use crate::samples::Samples;
+use crate::workload::Workload;
+use sh_key::KeyLayout;
+use sh_pass::{Heap, Pass};
+use sh_value::Refusal;
+use std::alloc::{AllocError, Global};
+use std::rt::Clock;
+use std::thread;
+use std::thread::Threads;
+use std::time::Instant;
+
+// So many values are inserted, and then removed.
+const BATCH: usize = 1000;
+
+// Inserts as many values as there are keys, and removes them; one of the two is measured.
+fn one_batch<L: KeyLayout>(
+    rt: &impl Clock,
+    lot: &mut Lot<'_, L>,
+    samples: &Samples,
+    keys: &mut [u64],
+    workload: Workload,
+) -> Result<Outcome, Fault> {
+    let start = Instant::now(rt)?;
+    let sum = insert_each(&mut lot.owner, samples, keys)?;
+    let middle = Instant::now(rt)?;
+    remove_each(&mut lot.owner, keys)?;
+    let end = Instant::now(rt)?;
+    let spent = match workload {
+        Workload::Remove => end.duration_since(middle),
+        _ => middle.duration_since(start),
+    };
+    Ok(Outcome::of(spent, keys.len(), sum))
+}
+
+// The measured operations, in batches.
+fn batches<L: KeyLayout>(
+    rt: &impl Clock,
+    lot: &mut Lot<'_, L>,
+    samples: &Samples,
+    operations: usize,
+    workload: Workload,
+) -> Result<Outcome, Fault> {
+    let mut keys = [0u64; BATCH];
+    one_batch(rt, lot, samples, &mut keys, workload)?;
+    let mut outcome = NOTHING;
+    for _batch in 0..operations / BATCH {
+        outcome = outcome.then(one_batch(rt, lot, samples, &mut keys, workload)?);
+    }
+    let rest = &mut keys[..operations % BATCH];
+    Ok(outcome.then(one_batch(rt, lot, samples, rest, workload)?))
+}
+
+// Goes through the places, in each of which a value is removed and another of its length inserted.
+fn churn_each<L: KeyLayout>(
+    lot: &mut Lot<'_, L>,
+    samples: &Samples,
+    turns: usize,
+) -> Result<u64, Refusal> {
+    let mut sum = 0u64;
+    for place in lot.order.iter().take(turns) {
+        if let Some(key) = lot.keys.get_mut(*place) {
+            lot.owner.remove(*key)?;
+            *key = lot.owner.insert(samples.at(*place))?;
+            sum = sum.wrapping_add(*key);
+        }
+    }
+    Ok(sum)
+}
+
+// The measured operations: rounds through all places, and a last one through some.
+fn churn_rounds<L: KeyLayout>(
+    lot: &mut Lot<'_, L>,
+    samples: &Samples,
+    operations: usize,
+) -> Result<u64, Refusal> {
+    let places = lot.order.len();
+    if places == 0 {
+        return Ok(0);
+    }
+    let mut sum = 0u64;
+    for _round in 0..operations / places {
+        sum = sum.wrapping_add(churn_each(lot, samples, places)?);
+    }
+    Ok(sum.wrapping_add(churn_each(lot, samples, operations % places)?))
+}
+
+fn churn<L: KeyLayout>(
+    rt: &impl Clock,
+    lot: &mut Lot<'_, L>,
+    samples: &Samples,
+    operations: usize,
+) -> Result<Outcome, Fault> {
+    churn_each(lot, samples, BATCH)?;
+    let start = Instant::now(rt)?;
+    let sum = churn_rounds(lot, samples, operations)?;
+    Ok(Outcome::of(start.elapsed(rt)?, operations, sum))
+}
+
+fn measure_lot<L: KeyLayout>(
+    rt: &impl Clock,
+    options: &Options,
+    lot: &mut Lot<'_, L>,
+    samples: &Samples,
+    operations: usize,
+) -> Result<Outcome, Fault> {
+    let mut outcome = match options.workload {
+        Workload::Churn => churn(rt, lot, samples, operations)?,
+        workload => batches(rt, lot, samples, operations, workload)?,
+    };
+    outcome.standing = standing(lot, samples)?;
+    Ok(outcome)
+}
+
+// What one thread of owners does: its shards have their turns one after the other.
+fn work<L: KeyLayout>(
+    rt: &impl Clock,
+    alloc: Global,
+    gate: &Gate,
+    options: &Options,
+    job: Job<'_, L>,
+) -> Result<Outcome, Fault> {
+    let samples = Samples::new(alloc, options.lengths)?;
+    let mut lots = filled_lots(alloc, job, &samples, options.live)?;
+    gate.pass()?;
+    let parts = lots.len();
+    let mut outcome = NOTHING;
+    for (number, lot) in lots.iter_mut().enumerate() {
+        let operations = share(options.operations, parts, number);
+        outcome = outcome.then(measure_lot(rt, options, lot, &samples, operations)?);
+    }
+    Ok(outcome)
+}
+
+// The jobs of the threads, each with passes for so many shards.
+fn jobs<'a, L: KeyLayout>(
+    alloc: Global,
+    passes: &mut Vec<Pass<'a, L>>,
+    threads: usize,
+    shards: usize,
+) -> Result<Vec<Job<'a, L>>, AllocError> {
+    let mut jobs = Vec::new(alloc);
+    for thread in 0..threads {
+        jobs.push(Job {
+            passes: taken(alloc, passes, shards)?,
+            first_shard: (thread as u64).wrapping_mul(shards as u64),
+        })?;
+    }
+    Ok(jobs)
+}
+
+fn demand(options: &Options) -> Demand {
+    let batch = match options.workload {
+        Workload::Churn => 0,
+        _ => BATCH,
+    };
+    Demand {
+        owners: options.threads,
+        others: 0,
+        passes: options.passes,
+        lengths: options.lengths,
+        values: options.live + batch,
+    }
+}
+
+/// Measures owners, each in a thread of its own.
+pub fn measure<L: KeyLayout + Send + Sync, R: Threads + Clock + Sync>(
+    rt: &R,
+    alloc: Global,
+    options: &Options,
+) -> Result<Outcome, Fault> {
+    let plan = plan_for::<L>(&demand(options))?;
+    let (heap, seats) = Heap::<L>::open(alloc, plan.shape)?;
+    let mut passes = heap.passes(alloc, seats).map_err(|(_, why)| why)?;
+    let jobs = jobs(alloc, &mut passes, options.threads, plan.shards)?;
+    let gate = &Gate::new(options.threads as u64);
+    let done = thread::map_vec(rt, jobs, &|job| work(rt, alloc, gate, options, job))?;
+    together(done.as_slice())
+}

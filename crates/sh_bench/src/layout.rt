@@ -1,0 +1,34 @@
+//! The layouts of keys that are measured. `Tiny` is not: its slots are spent after three values each.
+ghost use Rattle.std.specs.Prelude.{◌≡◌, IfSome, IfNone};
+ghost use Rattle.sh_bench.specs.Names.{IsNoLayout, layout_name};
+
+/// Which layout the keys have.
+#[derive(Clone, Copy, Debug, PartialEq, Eq)]
+pub enum Layout {
+    /// Keys of `sh_key::Wide`.
+    Wide,
+    /// Keys of `sh_key::Tagged`.
+    Tagged,
+}
+
+/// How a layout is written.
+pub fn name(layout: Layout) -> &'static str
+    ensures { result.now ≡ layout_name layout }
+{
+    match layout {
+        Layout::Wide => "wide",
+        Layout::Tagged => "tagged",
+    }
+}
+
+/// The layout that is written so.
+pub fn layout_named(word: &str) -> Option<Layout>
+    ensures some { IfSome result (λ l. word.now ≡ layout_name l) }
+    ensures none { IfNone result (IsNoLayout word.now) }
+{
+    match word {
+        "wide" => Some(Layout::Wide),
+        "tagged" => Some(Layout::Tagged),
+        _ => None,
+    }
+}

@@ -1,0 +1,130 @@
+//! Owners with the values that they keep.
+ghost use Rattle.std.specs.Prelude.{◌≡◌, ◌≤◌, ◌<◌, All, IfOk};
+
+use crate::fault::Fault;
+use crate::samples::Samples;
+use sh_key::KeyLayout;
+use sh_pass::Pass;
+use sh_shard::Shard;
+use sh_value::Refusal;
+use std::alloc::{AllocError, Global};
+
+/// An owner, the keys of the values that it keeps, and an order in which it goes through them.
+#[derive(Drop)]
+pub struct Lot<'a, L: KeyLayout> {
+    pub owner: Shard<'a, L>,
+    pub keys: Vec<u64>,
+    pub order: Vec<usize>,
+}
+
+/// What a thread of owners begins with: its passes, and the first of the shards that they adopt.
+#[derive(Drop)]
+pub struct Job<'a, L: KeyLayout> {
+    pub passes: Vec<Pass<'a, L>>,
+    pub first_shard: u64,
+}
+
+// A large prime: the walk over a list in steps of it comes to each place once, unless the list has a multiple of it.
+const STRIDE: usize = 7919;
+
+/// A mixed order of so many places.
+pub fn mixed_order(alloc: Global, places: usize) -> Result<Vec<usize>, AllocError> {
+    let mut order = Vec::new(alloc);
+    let mut place = 0;
+    for _turn in 0..places {
+        order.push(place)?;
+        place = after(place, places);
+    }
+    Ok(order)
+}
+
+// The place that comes after this one.
+fn after(place: usize, places: usize) -> usize {
+    if places == 0 {
+        return 0;
+    }
+    (place % places).wrapping_add(STRIDE) % places
+}
+
+/// Inserts the values of the first places, one for each key that is asked for.
+pub fn insert_each<L: KeyLayout>(
+    owner: &mut Shard<'_, L>,
+    samples: &Samples,
+    keys: &mut [u64],
+) -> Result<u64, Refusal> {
+    let mut sum = 0u64;
+    for (place, key) in keys.iter_mut().enumerate() {
+        *key = owner.insert(samples.at(place))?;
+        sum = sum.wrapping_add(*key);
+    }
+    Ok(sum)
+}
+
+/// Removes each of the keys.
+pub fn remove_each<L: KeyLayout>(owner: &mut Shard<'_, L>, keys: &[u64]) -> Result<(), Refusal> {
+    for key in keys {
+        owner.remove(*key)?;
+    }
+    Ok(())
+}
+
+/// Adopts a shard and fills it with so many values.
+pub fn filled_lot<'a, L: KeyLayout>(
+    alloc: Global,
+    pass: Pass<'a, L>,
+    shard: u64,
+    samples: &Samples,
+    values: usize,
+) -> Result<Lot<'a, L>, Fault> {
+    let mut keys = vec![in alloc; 0u64; values]?;
+    let order = mixed_order(alloc, values)?;
+    let mut owner = Shard::adopt(alloc, pass, shard).map_err(|(_, why)| why)?;
+    insert_each(&mut owner, samples, keys.as_mut_slice())?;
+    Ok(Lot { owner, keys, order })
+}
+
+/// Adopts a shard for each pass of the job, and fills them with so many values in all.
+pub fn filled_lots<'a, L: KeyLayout>(
+    alloc: Global,
+    job: Job<'a, L>,
+    samples: &Samples,
+    values: usize,
+) -> Result<Vec<Lot<'a, L>>, Fault> {
+    let parts = job.passes.len();
+    let mut lots = Vec::new(alloc);
+    let mut shard = job.first_shard;
+    for pass in job.passes {
+        let share = share(values, parts, lots.len());
+        lots.push(filled_lot(alloc, pass, shard, samples, share)?)?;
+        shard = shard.wrapping_add(1);
+    }
+    Ok(lots)
+}
+
+/// The share that the part with this number has of a whole: all shares together are the whole.
+pub fn share(whole: usize, parts: usize, number: usize) -> usize
+    ensures { result ≤ whole }
+{
+    if parts == 0 {
+        return 0;
+    }
+    let least = whole / parts;
+    if number < whole % parts {
+        least + 1
+    } else {
+        least
+    }
+}
+
+/// How many of the values stand as they were inserted.
+pub fn standing<L: KeyLayout>(lot: &mut Lot<'_, L>, samples: &Samples) -> Result<u64, Refusal> {
+    let mut found = 0u64;
+    for (place, key) in lot.keys.iter().enumerate() {
+        let hold = lot.owner.get(*key)?;
+        if lot.owner.read(hold)? == *samples.at(place) {
+            found = found.saturating_add(1);
+        }
+        lot.owner.release(hold)?;
+    }
+    Ok(found)
+}

@@ -1,0 +1,62 @@
+//! The program `sh_bench WORKLOAD`: it measures what calls of the library cost.
+//!
+//! What is the same in each run with the same words, counts and checks, is written to the standard output, and times to
+//! the standard error. What is set up before and looked at afterwards is not in the times. This file joins the process
+//! to `program`.
+#![tactic(auto)]
+
+mod adopting;
+mod fault;
+mod gate;
+mod getting;
+mod handing;
+mod inserting;
+mod layout;
+mod lots;
+mod options;
+mod outcome;
+mod parting;
+mod plan;
+mod program;
+mod ring;
+mod samples;
+#[cfg(test)]
+mod tests;
+mod workload;
+
+use std::alloc::{AllocError, Global};
+use std::io;
+use std::process::ExitCode;
+use std::rt::Clock;
+use std::thread::Threads;
+
+fn texts(alloc: Global, words: &[String]) -> Result<Vec<&str>, AllocError> {
+    let mut texts = Vec::new(alloc);
+    for word in words {
+        texts.push(word.as_str())?;
+    }
+    Ok(texts)
+}
+
+fn start<T: Threads + Clock + Sync>(rt: &HostRuntime, threads: &T) -> io::Result<u8> {
+    let alloc = rt.alloc();
+    let words: Vec<String> = std::env::args(rt)?.collect(alloc)?;
+    let words = texts(alloc, words.as_slice())?;
+    Ok(program::run(
+        threads,
+        alloc,
+        words.as_slice(),
+        &mut rt.stdout(),
+        &mut rt.stderr(),
+    ))
+}
+
+fn main(rt: HostRuntime) -> ExitCode {
+    match start(&rt, &rt) {
+        Ok(status) => ExitCode::from(status),
+        Err(_) => {
+            let _ = eprintln!(rt; "sh_bench: the words could not be read");
+            ExitCode::from(3)
+        }
+    }
+}

@@ -1,0 +1,84 @@
+//! How large a heap a workload needs.
+ghost use Rattle.std.specs.Prelude.{◌≤◌};
+
+use crate::fault::Fault;
+use crate::samples::Lengths;
+use sh_key::KeyLayout;
+use sh_shape::{Shape, classes, fits};
+
+/// The shape of the heap, and how many shards each owner's thread has, one after the other: one, unless its values need
+/// more pages than a shard has.
+#[derive(Clone, Copy)]
+pub struct Plan {
+    pub shape: Shape,
+    pub shards: usize,
+}
+
+/// How many owners a workload has, how many other passes, and how many values each owner keeps.
+#[derive(Clone, Copy)]
+pub struct Demand {
+    pub owners: usize,
+    pub others: usize,
+    pub passes: usize,
+    pub lengths: Lengths,
+    pub values: usize,
+    ghost few_owners: { owners ≤ 16 },
+    ghost few_others: { others ≤ 16 },
+    ghost few_passes: { passes ≤ 64 },
+    ghost few_values: { values ≤ 200000 },
+}
+
+// As many shards as a thread's values are parted among at most.
+const MOST_SHARDS: usize = 16;
+
+// The pages that this many values of so many words fill.
+fn pages_of(words: usize, values: usize) -> usize {
+    match classes::class_of(words) {
+        Some(class) => values.div_ceil(classes::slots(class) as usize),
+        None => 0,
+    }
+}
+
+// The pages that values of all lengths fill, of which each length has this many.
+fn pages_of_mixed(each: usize) -> usize {
+    let mut pages = 0usize;
+    for words in 1..17 {
+        pages = pages.saturating_add(pages_of(words, each));
+    }
+    pages
+}
+
+// The pages that these values fill.
+fn pages(lengths: Lengths, values: usize) -> usize {
+    match lengths {
+        Lengths::Each(words) => pages_of(words, values),
+        Lengths::Mixed => pages_of_mixed(values / 16 + 1),
+    }
+}
+
+// The plan in which each owner's thread has this many shards, if there is one.
+fn plan_with<L: KeyLayout>(demand: &Demand, shards: usize) -> Option<Plan>
+    requires some { 1 ≤ shards }
+    requires few { shards ≤ 16 }
+{
+    let pages = pages(demand.lengths, demand.values / shards + 16);
+    let owners = demand.owners * shards;
+    let passes = demand.passes.max(owners + demand.others);
+    let segments = u32::try_from(pages / 8 + 1).ok()?;
+    let shape = Shape::new(owners as u32, segments, passes as u32).ok()?;
+    if fits::<L>(&shape) {
+        Some(Plan { shape, shards })
+    } else {
+        None
+    }
+}
+
+/// The plan with the fewest shards. `TooMany` where there is none.
+pub fn plan_for<L: KeyLayout>(demand: &Demand) -> Result<Plan, Fault> {
+    for shards in 1..MOST_SHARDS + 1 {
+        if let Some(plan) = plan_with::<L>(demand, shards) {
+            return Ok(plan);
+        }
+    }
+    Err(Fault::TooMany)
+}

@@ -1,0 +1,67 @@
+//! The values that are stored.
+ghost use Rattle.std.specs.Prelude.{◌≡◌, ◌≤◌, ◌+◌, vec_len, IfOk};
+
+use crate::fault::Fault;
+use sh_value::Value;
+use std::alloc::Global;
+
+/// How long values are.
+#[derive(Clone, Copy, Debug, PartialEq, Eq)]
+pub enum Lengths {
+    /// All have this many words.
+    Each(usize),
+    /// Each length from 1 to 16 words comes as often as the others.
+    Mixed,
+}
+
+impl Lengths {
+    /// How many words the value at a place has, at most 16.
+    pub fn at(self, place: usize) -> usize
+        ensures { result ≤ 16 }
+    {
+        match self {
+            Lengths::Each(words) => words.min(16),
+            Lengths::Mixed => place % 16 + 1,
+        }
+    }
+}
+
+/// Sixteen values: the one at place n of a list is the one at n % 16 here.
+#[derive(Drop)]
+pub struct Samples {
+    values: Vec<Value>,
+    ghost sixteen: { vec_len values ≡ 16 },
+}
+
+// The value at a place, of 16 in a row: its words count up from 16 times the place.
+fn sample(lengths: Lengths, place: usize) -> Result<Value, Fault> {
+    let mut words = [0u64; 16];
+    for (k, word) in words.iter_mut().enumerate() {
+        *word = (place % 16 * 16 + k % 16) as u64;
+    }
+    Ok(Value::new(&words[..lengths.at(place)])?)
+}
+
+fn sixteen(alloc: Global, lengths: Lengths) -> Result<Vec<Value>, Fault>
+    ensures { IfOk result (λ values. vec_len values ≡ 16) }
+{
+    let mut values = Vec::new(alloc);
+    for place in 0..16usize {
+        values.push(sample(lengths, place)?)?;
+    }
+    Ok(values)
+}
+
+impl Samples {
+    /// The values with these lengths.
+    pub fn new(alloc: Global, lengths: Lengths) -> Result<Self, Fault> {
+        Ok(Samples {
+            values: sixteen(alloc, lengths)?,
+        })
+    }
+
+    /// The value at a place of a list.
+    pub fn at(&self, place: usize) -> &Value {
+        &self.values[place % 16]
+    }
+}

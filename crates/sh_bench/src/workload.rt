@@ -1,0 +1,58 @@
+//! What is measured.
+ghost use Rattle.std.specs.Prelude.{◌≡◌, IfSome, IfNone};
+ghost use Rattle.sh_bench.specs.Names.{IsNoWorkload, workload_name};
+
+/// What the threads do, over and over.
+#[derive(Clone, Copy, Debug, PartialEq, Eq)]
+pub enum Workload {
+    /// A pass gets a key and releases it.
+    Get,
+    /// A pass gets a key, reads its value and releases it.
+    Read,
+    /// An owner inserts.
+    Insert,
+    /// An owner removes what it inserted.
+    Remove,
+    /// An owner removes one of its values and inserts another in its place.
+    Churn,
+    /// An owner inserts, and a pass in another thread removes.
+    Hand,
+    /// A pass adopts a shard.
+    Adopt,
+    /// An owner leaves its shard.
+    Leave,
+}
+
+/// How a workload is written.
+pub fn name(workload: Workload) -> &'static str
+    ensures { result.now ≡ workload_name workload }
+{
+    match workload {
+        Workload::Get => "get",
+        Workload::Read => "read",
+        Workload::Insert => "insert",
+        Workload::Remove => "remove",
+        Workload::Churn => "churn",
+        Workload::Hand => "hand",
+        Workload::Adopt => "adopt",
+        Workload::Leave => "leave",
+    }
+}
+
+/// The workload that is written so.
+pub fn workload_named(word: &str) -> Option<Workload>
+    ensures some { IfSome result (λ w. word.now ≡ workload_name w) }
+    ensures none { IfNone result (IsNoWorkload word.now) }
+{
+    match word {
+        "get" => Some(Workload::Get),
+        "read" => Some(Workload::Read),
+        "insert" => Some(Workload::Insert),
+        "remove" => Some(Workload::Remove),
+        "churn" => Some(Workload::Churn),
+        "hand" => Some(Workload::Hand),
+        "adopt" => Some(Workload::Adopt),
+        "leave" => Some(Workload::Leave),
+        _ => None,
+    }
+}
