@@ -22,6 +22,7 @@ pub(crate) fn find(held: &[u64], key: u64) -> Option<usize>
 }
 
 /// Takes a hold on a key.
+#[inline(always)]
 pub(crate) fn get_key<L: KeyLayout>(
     table: &HeapTable<L>,
     seat: &mut Token,
@@ -56,6 +57,7 @@ pub(crate) fn get_key<L: KeyLayout>(
 }
 
 /// Removes a key.
+#[inline(always)]
 pub(crate) fn remove_key<L: KeyLayout>(
     table: &HeapTable<L>,
     seat: &mut Token,
@@ -82,6 +84,7 @@ pub(crate) fn remove_key<L: KeyLayout>(
 }
 
 /// Gives one hold on a key back.
+#[inline(always)]
 pub(crate) fn release_key<L: KeyLayout>(
     table: &HeapTable<L>,
     seat: &mut Token,
@@ -110,6 +113,7 @@ pub(crate) fn release_key<L: KeyLayout>(
 }
 
 /// The value of a key that the pass holds.
+#[inline(always)]
 pub(crate) fn read_key<L: KeyLayout>(
     table: &HeapTable<L>,
     seat: &mut Token,
