@@ -1,5 +1,5 @@
-//! Measures the library's heap beside `sharded_slab`, a `Mutex` over `slab`, and the heap's steps as bare atomics: all in
-//! one run, in turn. Prints tables of ratios. `README.md` says how it is run.
+//! Measures the library's heap beside `sharded_slab`, a `Mutex` over `slab`, and the heap's steps as bare atomics: all
+//! in one run, in turn. Prints a table of ratios and one of growth. `README.md` says how it is run.
 mod changing;
 mod gate;
 mod model;
@@ -15,7 +15,6 @@ mod sharded;
 mod table;
 mod workloads;
 
-use row::Row;
 use std::process::ExitCode;
 
 const PROGRAM: &str = concat!(env!("CARGO_MANIFEST_DIR"), "/../crates/sh_bench/out/sh_bench");
@@ -23,17 +22,25 @@ const PROGRAM: &str = concat!(env!("CARGO_MANIFEST_DIR"), "/../crates/sh_bench/o
 /// Medians are of so many rounds, if nothing else is said.
 const ROUNDS: usize = 7;
 
-fn print_table(title: &str, rows: Vec<Row>, rounds: usize) -> Result<(), String> {
-    println!("\n{title}\n\n{}", table::head());
-    for row in rows {
+fn print_ratios(rounds: usize) -> Result<(), String> {
+    println!("{}", table::HEAD);
+    for row in rows::ratios() {
         println!("{}", table::measure(PROGRAM, row, rounds)?.text());
     }
     Ok(())
 }
 
+fn print_growth(rounds: usize) -> Result<(), String> {
+    println!("\n{}", table::GROWTH_HEAD);
+    for row in rows::growth() {
+        println!("{}", table::growth_line(PROGRAM, row, rounds)?);
+    }
+    Ok(())
+}
+
 fn print_tables(rounds: usize) -> Result<(), String> {
-    print_table("Ratios, below 1 where the heap is faster", rows::ratios(), rounds)?;
-    print_table("Growth", rows::growth(), rounds)
+    print_ratios(rounds)?;
+    print_growth(rounds)
 }
 
 fn rounds() -> Result<usize, String> {

@@ -40,11 +40,20 @@ pub struct Row {
     pub live: usize,
     pub freed: usize,
     pub passes: usize,
+    pub aims: Aims,
+}
+
+/// The ratios to `sharded_slab` and to bare atomics that the heap was designed for.
+#[derive(Clone, Copy, Debug, Default)]
+pub struct Aims {
+    pub sharded: Option<f64>,
+    pub model: Option<f64>,
 }
 
 impl Row {
     pub fn new(workload: Workload, threads: usize, operations: usize) -> Self {
-        Row { workload, threads, operations, lengths: Lengths::Each(1), live: 1, freed: 0, passes: 1 }
+        let lengths = Lengths::Each(1);
+        Row { workload, threads, operations, lengths, live: 1, freed: 0, passes: 1, aims: Aims::default() }
     }
 
     pub fn lengths(self, lengths: Lengths) -> Self {
@@ -61,6 +70,19 @@ impl Row {
 
     pub fn passes(self, passes: usize) -> Self {
         Row { passes, ..self }
+    }
+
+    pub fn aims(self, sharded: f64, model: f64) -> Self {
+        Row { aims: Aims { sharded: Some(sharded), model: Some(model) }, ..self }
+    }
+
+    pub fn aim_at_model(self, model: f64) -> Self {
+        Row { aims: Aims { sharded: None, model: Some(model) }, ..self }
+    }
+
+    /// How many pages have values or free slots, where these have one word.
+    pub fn pages(&self) -> usize {
+        (self.live + self.freed).div_ceil(48)
     }
 
     /// The words of the command line of `sh_bench`.
@@ -89,15 +111,17 @@ impl Row {
             Lengths::Mixed => "1 to 16 words".to_string(),
         };
         match self.workload {
+            Workload::Get if self.passes > 1 => format!("get + release, one key, {} passes", self.passes),
             Workload::Get if self.live == 1 => "get + release, one key".to_string(),
             Workload::Get => format!("get + release, {} keys", self.live),
             Workload::Read => format!("get + read + release, {words}"),
+            Workload::Insert if self.live > 1 => format!("insert, {words}, beside {} others", self.live),
             Workload::Insert => format!("insert, {words}"),
             Workload::Remove => format!("remove by the owner, {words}"),
             Workload::Churn => format!("churn, {} live, {words}", self.live * self.threads),
             Workload::Hand => format!("producer and consumer, {words}"),
-            Workload::Adopt => format!("adopt, {} pages", self.live.div_ceil(48)),
-            Workload::Leave => format!("leave, {} pages, {} slots put", (self.live + self.freed).div_ceil(48), self.freed),
+            Workload::Adopt => format!("adopt, {} pages", self.pages()),
+            Workload::Leave => format!("leave, {} pages, {} slots put", self.pages(), self.freed),
         }
     }
 

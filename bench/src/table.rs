@@ -90,22 +90,36 @@ pub fn measure(program: &str, row: Row, rounds: usize) -> Result<Line, String> {
     Ok(Line { row, ours, sharded, locked, model })
 }
 
-fn ratio(ours: f64, rival: Option<f64>) -> String {
-    rival.map_or("none".to_string(), |rival| format!("{:.2}", ours / rival))
+// A ratio, and behind it what was aimed at.
+fn ratio(ours: f64, rival: Option<f64>, aim: Option<f64>) -> String {
+    let behind = aim.map_or(String::new(), |aim| format!(" ({aim})"));
+    rival.map_or("none".to_string(), |rival| format!("{:.2}{behind}", ours / rival))
 }
 
 /// The head of the table of ratios.
-pub fn head() -> String {
-    let names = "| Workload | Threads | ns | to `sharded_slab` | to `Mutex` and `slab` | to bare atomics |";
-    format!("{names}\n|---|---|---|---|---|---|")
+pub const HEAD: &str = "\
+| Workload | Threads | ns | to `sharded_slab` (aim) | to `Mutex` and `slab` | to bare atomics (aim) |
+|---|---|---|---|---|---|";
+
+/// The head of the table of growth.
+pub const GROWTH_HEAD: &str = "\
+| Workload | ns |
+|---|---|";
+
+/// The line of the table of growth: the median of ours.
+pub fn growth_line(program: &str, row: Row, rounds: usize) -> Result<String, String> {
+    let times: Result<Vec<f64>, String> = (0..rounds).map(|_| ours::measure(program, &row)).collect();
+    let time = median(times?).ok_or("there was no round")?;
+    Ok(format!("| {} | {time:.1} |", row.title()))
 }
 
 impl Line {
     /// The line of the table of ratios.
     pub fn text(&self) -> String {
         let (title, threads) = (self.row.title(), self.row.running());
-        let (sharded, locked) = (ratio(self.ours, self.sharded), ratio(self.ours, self.locked));
-        let model = ratio(self.ours, Some(self.model));
+        let sharded = ratio(self.ours, self.sharded, self.row.aims.sharded);
+        let locked = ratio(self.ours, self.locked, None);
+        let model = ratio(self.ours, Some(self.model), self.row.aims.model);
         format!("| {title} | {threads} | {:.1} | {sharded} | {locked} | {model} |", self.ours)
     }
 }

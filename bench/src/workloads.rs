@@ -54,11 +54,21 @@ fn rounds<H: Rival>(rival: &H, walk: &[u64], row: &Row) {
     black_box(use_each(rival, &walk[..row.operations % walk.len()], row.workload));
 }
 
+// A round through few keys goes through them again and again, until it is as long as this.
+const SHORTEST_WALK: usize = 1000;
+
+fn lengthen(walk: &mut Vec<u64>) {
+    for place in 0..SHORTEST_WALK.saturating_sub(walk.len()) {
+        walk.push(walk[place]);
+    }
+}
+
 fn getting<H: Rival>(rival: &H, row: &Row) -> Duration {
     let mut owner = rival.owner(0);
     let mut keys = vec![0; row.live];
     insert_each(rival, &mut owner, &Samples::new(row.lengths), &mut keys);
-    let walk: Vec<u64> = mixed_order(row.live).iter().map(|place| keys[*place]).cycle().take(row.live.max(1000)).collect();
+    let mut walk: Vec<u64> = mixed_order(row.live).iter().map(|place| keys[*place]).collect();
+    lengthen(&mut walk);
     let walk = walk.as_slice();
     let job = |gate: &Gate| {
         use_each(rival, walk, row.workload);
@@ -71,7 +81,13 @@ fn getting<H: Rival>(rival: &H, row: &Row) -> Duration {
 }
 
 // Inserts a batch and removes it; one of the two is measured.
-fn one_batch<H: Rival>(rival: &H, owner: &mut H::Owner<'_>, samples: &Samples, keys: &mut [u64], row: &Row) -> Duration {
+fn one_batch<H: Rival>(
+    rival: &H,
+    owner: &mut H::Owner<'_>,
+    samples: &Samples,
+    keys: &mut [u64],
+    row: &Row,
+) -> Duration {
     let start = Instant::now();
     insert_each(rival, owner, samples, keys);
     let middle = Instant::now();
@@ -85,7 +101,8 @@ fn one_batch<H: Rival>(rival: &H, owner: &mut H::Owner<'_>, samples: &Samples, k
 fn batches<H: Rival>(rival: &H, owner: &mut H::Owner<'_>, samples: &Samples, row: &Row) -> Duration {
     let mut keys = [0; BATCH];
     one_batch(rival, owner, samples, &mut keys, row);
-    let whole: Duration = (0..row.operations / BATCH).map(|_| one_batch(rival, owner, samples, &mut keys, row)).sum();
+    let mut batch = |_| one_batch(rival, owner, samples, &mut keys, row);
+    let whole: Duration = (0..row.operations / BATCH).map(&mut batch).sum();
     whole + one_batch(rival, owner, samples, &mut keys[..row.operations % BATCH], row)
 }
 

@@ -128,6 +128,7 @@ fn demand(options: &Options) -> Demand {
         passes: options.passes,
         lengths: options.lengths,
         values: options.live + options.freed,
+        more: 0,
     }
 }
 

@@ -134,6 +134,7 @@ fn demand(options: &Options) -> Demand {
         passes: options.passes,
         lengths: options.lengths,
         values: options.live,
+        more: 0,
     }
 }
 

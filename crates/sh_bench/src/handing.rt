@@ -150,11 +150,12 @@ fn demand(options: &Options) -> Demand {
         passes: options.passes,
         lengths: options.lengths,
         values: ROOM,
+        more: 0,
     }
 }
 
-/// Measures pairs of threads, of which one inserts and the other removes. `TooMany` where a producer needs more than one
-/// shard.
+/// Measures pairs of threads, of which one inserts and the other removes. `TooMany` where a producer needs more than
+/// one shard.
 pub fn measure<L: KeyLayout + Send + Sync, R: Threads + Clock + Sync>(
     rt: &R,
     alloc: Global,

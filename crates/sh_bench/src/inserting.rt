@@ -159,7 +159,7 @@ fn jobs<'a, L: KeyLayout>(
 }
 
 fn demand(options: &Options) -> Demand {
-    let batch = match options.workload {
+    let more = match options.workload {
         Workload::Churn => 0,
         _ => BATCH,
     };
@@ -168,7 +168,8 @@ fn demand(options: &Options) -> Demand {
         others: 0,
         passes: options.passes,
         lengths: options.lengths,
-        values: options.live + batch,
+        values: options.live,
+        more,
     }
 }
 

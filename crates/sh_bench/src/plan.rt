@@ -14,7 +14,8 @@ pub struct Plan {
     pub shards: usize,
 }
 
-/// How many owners a workload has, how many other passes, and how many values each owner keeps.
+/// How many owners a workload has, how many other passes, how many values each owner keeps, and how many more it has now
+/// and then in one shard.
 #[derive(Clone, Copy)]
 pub struct Demand {
     pub owners: usize,
@@ -22,10 +23,12 @@ pub struct Demand {
     pub passes: usize,
     pub lengths: Lengths,
     pub values: usize,
+    pub more: usize,
     ghost few_owners: { owners ≤ 16 },
     ghost few_others: { others ≤ 16 },
     ghost few_passes: { passes ≤ 64 },
     ghost few_values: { values ≤ 200000 },
+    ghost few_more: { more ≤ 200000 },
 }
 
 // As many shards as a thread's values are parted among at most.
@@ -61,7 +64,7 @@ fn plan_with<L: KeyLayout>(demand: &Demand, shards: usize) -> Option<Plan>
     requires some { 1 ≤ shards }
     requires few { shards ≤ 16 }
 {
-    let pages = pages(demand.lengths, demand.values / shards + 16);
+    let pages = pages(demand.lengths, demand.values / shards + demand.more + 16);
     let owners = demand.owners * shards;
     let passes = demand.passes.max(owners + demand.others);
     let segments = u32::try_from(pages / 8 + 1).ok()?;
