@@ -1,5 +1,5 @@
 //! Values: at most 16 words.
-ghost use Rattle.std.specs.Prelude.{◌≡◌, ◌<◌, ◌≤◌, IfOk, IfErr, length, List, ◌∷◌, ℕ};
+ghost use Rattle.std.specs.Prelude.{◌≡◌, ◌+◌, ◌<◌, ◌≤◌, IfOk, IfErr, length, List, [], ◌∷◌, ◌++◌, ℕ};
 
 use crate::Refusal;
 use arrayvec::ArrayVec;
@@ -31,6 +31,24 @@ impl Value {
             Ok(words) => Ok(Value { words }),
             Err(_) => Err(Refusal::TooLong),
         }
+    }
+
+    /// The value with no words.
+    pub fn empty() -> Value
+        ensures { result ≡ [] }
+    {
+        Value {
+            words: ArrayVec::new(),
+        }
+    }
+
+    /// Puts a word behind the others, of which there are at most 15.
+    pub fn push(&mut self, word: u64)
+        requires { length self.old < 16 }
+        ensures words { self.new ≡ self.old ++ word ∷ [] }
+        ensures len { length self.new ≡ length self.old + 1 }
+    {
+        self.words.push(word);
     }
 
     /// The words, in order: at most 16.
@@ -77,8 +95,11 @@ mod tests {
         assert_eq!(rt; whole.words(), &words[..16]);
         assert_eq!(rt; whole.copy(), whole);
         assert_eq!(rt; Value::new(&words), Err(Refusal::TooLong));
-        let empty = Value::new(&[]).expect(&rt, "no word fits");
+        let mut empty = Value::new(&[]).expect(&rt, "no word fits");
         assert_eq!(rt; empty.words().len(), 0);
+        assert_eq!(rt; empty, Value::empty());
+        empty.push(7);
+        assert_eq!(rt; empty.words(), [7].as_slice());
         let rest = Value::new(&[5, 6]).expect(&rt, "two words fit");
         assert_eq!(rt; Value::prefixed(1, &rest).words(), [1, 5, 6].as_slice());
         Ok(())
