@@ -14,8 +14,8 @@ pub struct Plan {
     pub shards: usize,
 }
 
-/// How many owners a workload has, how many other passes, how many values each owner keeps, and how many more it has now
-/// and then in one shard.
+/// How many owners a workload has, how many other passes, how many values each owner keeps, and how many more it has
+/// now and then in one shard.
 #[derive(Clone, Copy)]
 pub struct Demand {
     pub owners: usize,
