@@ -64,6 +64,6 @@ pub fn ratios() -> Vec<Row> {
 pub fn growth() -> Vec<Row> {
     let inserts = [100, 1000, 10_000, 96_000].map(|live| Row::new(Workload::Insert, 1, 200_000).live(live));
     let gets = [2, 4, 16, 64].map(|passes| Row::new(Workload::Get, 1, 1_000_000).passes(passes));
-    let changes = [1, 16, 128, 1024].map(|pages| changing(pages, 0));
+    let changes = [1, 16, 128, 1000].map(|pages| changing(pages, 0));
     [inserts.to_vec(), gets.to_vec(), changes.concat()].concat()
 }
