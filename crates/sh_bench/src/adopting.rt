@@ -1,5 +1,4 @@
 //! Workloads in which a shard changes hands: adopt and leave.
-ghost use Rattle.std.specs.Prelude.{◌≡◌, ◌≤◌};
 
 use crate::fault::Fault;
 use crate::gate::Gate;

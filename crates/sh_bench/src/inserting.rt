@@ -1,5 +1,5 @@
 //! Workloads of owners: insert, remove, and both in turn.
-ghost use Rattle.std.specs.Prelude.{◌≡◌, ◌≤◌, ◌<◌};
+ghost use Rattle.std.specs.Prelude.{◌<◌};
 
 use crate::fault::Fault;
 use crate::gate::Gate;

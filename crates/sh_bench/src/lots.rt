@@ -1,5 +1,5 @@
 //! Owners with the values that they keep.
-ghost use Rattle.std.specs.Prelude.{◌≡◌, ◌≤◌, ◌<◌, All, IfOk};
+ghost use Rattle.std.specs.Prelude.{◌≤◌, ◌<◌, All};
 
 use crate::fault::Fault;
 use crate::samples::Samples;
