@@ -447,9 +447,9 @@ module _ (layout : Layout) (o : Sharded) (owned : o.pages.owner.view.own.body.ow
             t.aside.same,
       )
   insert_answers c words (Err refusal.Memory) n h = (
-    part_unchanged n.pages.owner h.log h.aside.owned,
+    part_unchanged n.pages.owner h.0.log h.0.aside.owned,
     same_of layout
-        o.pages.owner n.pages.owner h.aside.heap h.aside.same,
+        o.pages.owner n.pages.owner h.0.aside.heap h.0.aside.same,
   )
   insert_answers c words (Err _) n h = absurd h
 

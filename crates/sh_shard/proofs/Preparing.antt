@@ -124,7 +124,7 @@ module _ (layout : Layout) (c : ℕ) (value : List ℕ) where
   pub elsewhere_refused : (o n : Sharded) (r : Refusal) → PrepareServes c o (Err r) n
       → InsertsElsewhere layout c value o (Err r) n
   elsewhere_refused o n refusal.Full k = k
-  elsewhere_refused o n refusal.Memory k = k.0
+  elsewhere_refused o n refusal.Memory k = k
   elsewhere_refused o n refusal.BadKey k = absurd k
   elsewhere_refused o n refusal.Gone k = absurd k
   elsewhere_refused o n refusal.Crowded k = absurd k
@@ -173,7 +173,7 @@ module _ (layout : Layout) (c : ℕ) (value : List ℕ) where
         suc_is : (d : ℕ) → d ≡ c → suc d ≡ c + 1
         suc_is d is = omega arith
   served_after o n m class t sorted once (Err refusal.Memory) k = subst
-      (λ (z : Sharded). WorksThroughout o.pages z.pages) (sym k) t.through
+      (λ (z : Sharded). WorksThroughout o.pages z.pages × (z.queues.unopened ≢ 0)) (sym k.0) (t.through, k.1)
   served_after o n m class t sorted once (Err refusal.BadKey) k = absurd k
   served_after o n m class t sorted once (Err refusal.Gone) k = absurd k
   served_after o n m class t sorted once (Err refusal.Crowded) k = absurd k

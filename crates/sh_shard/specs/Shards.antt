@@ -124,12 +124,13 @@ pub record Added (value : List ℕ) (key : ℕ) (o n : Paged) : Type 0 where
   pub shard : n.shard ≡ o.shard
   pub count : n.count ≡ o.count
 
--- an insert of a value of class c: it joins the log, or there is no room, or a segment's growth was refused
+-- an insert of a value of class c: it joins the log, or there is no room, or the growth of a segment, which is
+-- unopened still, was refused
 abbrev pub InsertServes : Layout → ℕ → List ℕ → Sharded → Result ℕ Refusal → Sharded → Type 0
 InsertServes layout c value o (Ok key) n = Added value key o.pages n.pages
     × IsKeyIn layout o.pages.owner o.pages.shard key
 InsertServes layout c value o (Err refusal.Full) n = NoRoom c o n
-InsertServes layout c value o (Err refusal.Memory) n = WorksThroughout o.pages n.pages
+InsertServes layout c value o (Err refusal.Memory) n = WorksThroughout o.pages n.pages × (n.queues.unopened ≢ 0)
 InsertServes layout c value o (Err _) n = ⊥
 
 -- an insert of a value of class c into a page that had another class or none: there is none where the value could go,
@@ -138,7 +139,7 @@ abbrev pub InsertsElsewhere : Layout → ℕ → List ℕ → Sharded → Result
 InsertsElsewhere layout c value o (Ok key) n = Added value key o.pages n.pages
     × IsKeyIn layout o.pages.owner o.pages.shard key
 InsertsElsewhere layout c value o (Err refusal.Full) n = (n ≡ o) × NoPageFor c o
-InsertsElsewhere layout c value o (Err refusal.Memory) n = n ≡ o
+InsertsElsewhere layout c value o (Err refusal.Memory) n = (n ≡ o) × (o.queues.unopened ≢ 0)
 InsertsElsewhere layout c value o (Err _) n = ⊥
 
 -- the class of a value
