@@ -1,8 +1,8 @@
 // The calls of a pass, whether it owns a shard or not. Each answers also the slot of its shard that came to be its own.
-ghost use Rattle.std.specs.Prelude.{◌≡◌, ◌==◌, None, position};
+ghost use Rattle.std.specs.Prelude.{◌≡◌, ◌==◌, None, position, []};
 ghost use Rattle.sh_slots.specs.declared.hand.Hand.TheVariants.{Idle};
 ghost use Rattle.sh_table.specs.Seats.{IsSeat};
-ghost use Rattle.sh_pass.specs.Passes.{GetDoes, ReadDoes, RemoveDoes, ReleaseDoes, HoldsKept, caller_of};
+ghost use Rattle.sh_pass.specs.Passes.{GetDoes, ReadIntoDoes, RemoveDoes, ReleaseDoes, HoldsKept, caller_of};
 ghost use Rattle.sh_pass.specs.Owners.{CallLeaves};
 
 use crate::entering::{get_at, release_at, remove_at};
@@ -108,24 +108,28 @@ pub(crate) fn release_key<L: KeyLayout>(
         unreachable!()
     };
     let slot = release_at(table, seat, key, name, owned);
-    held.remove(at);
+    // Their order means nothing, so none but the last one moves.
+    held.swap_remove(at);
     (Ok(()), slot)
 }
 
-/// The value of a key that the pass holds.
+/// Reads the value of a key that the pass holds into an empty one. The call of a pass that answers it wraps it, once: a
+/// value that is answered is copied by each call on its way.
 #[inline(always)]
 pub(crate) fn read_key<L: KeyLayout>(
     table: &HeapTable<L>,
     seat: &mut Token,
     held: &ArrayVec<u64, 16>,
     key: u64,
-) -> Result<Value, Refusal>
+    value: &mut Value,
+) -> Result<(), Refusal>
     requires seat { IsSeat L.layout table.now seat.old }
     requires idle { seat.old.me.0.own.body.hand ≡ Idle }
     requires kept { HoldsKept held.now.items seat.old.me.0.own.body.holds }
+    requires empty { value.old ≡ [] }
     ensures seat { IsSeat L.layout table.now seat.new }
     ensures kept { seat.new.me.0.own.body.holds ≡ seat.old.me.0.own.body.holds }
-    ensures does { ReadDoes key (caller_of seat.old) result (caller_of seat.new) }
+    ensures does { ReadIntoDoes key (caller_of seat.old) result value.new (caller_of seat.new) }
     ensures leaves { CallLeaves L.layout None (caller_of seat.old) (caller_of seat.new) }
 {
     let Some(_at) = find(held.as_slice(), key) else {
@@ -134,5 +138,6 @@ pub(crate) fn read_key<L: KeyLayout>(
     let Some(name) = place_of_key::<L>(table.shape(), key) else {
         unreachable!()
     };
-    Ok(read_at(table, seat, key, name))
+    read_at(table, seat, key, name, value);
+    Ok(())
 }

@@ -1,8 +1,8 @@
 //! The calls of an owner: those of a pass, each with the slot of its shard that came to be its own.
-ghost use Rattle.std.specs.Prelude.{◌≡◌, None};
+ghost use Rattle.std.specs.Prelude.{◌≡◌, None, []};
 ghost use Rattle.sh_slots.specs.declared.hand.Hand.TheVariants.{Idle};
 ghost use Rattle.sh_table.specs.Tales.{ViewStands};
-ghost use Rattle.sh_pass.specs.Passes.{GetDoes, ReadDoes, RemoveDoes, ReleaseDoes};
+ghost use Rattle.sh_pass.specs.Passes.{GetDoes, ReadDoes, ReadIntoDoes, RemoveDoes, ReleaseDoes};
 ghost use Rattle.sh_pass.specs.Owners.{CallLeaves, own_body};
 
 use crate::calls::{get_key, read_key, release_key, remove_key};
@@ -60,7 +60,22 @@ impl<'a, L: KeyLayout> Owner<'a, L> {
         ensures leaves { CallLeaves L.layout None self.old self.new }
         ensures stands { ViewStands L.layout self.new.view }
     {
+        let mut value = Value::empty();
+        self.read_into(hold, &mut value)?;
+        Ok(value)
+    }
+
+    /// Reads the value of a key that the owner holds into an empty one, which is not copied on its way. Refused as
+    /// `NotHeld`, exactly where it has no hold on the key.
+    #[inline(always)]
+    pub fn read_into(&mut self, hold: Hold, value: &mut Value) -> Result<(), Refusal>
+        requires idle { (own_body self.old).hand ≡ Idle }
+        requires empty { value.old ≡ [] }
+        ensures does { ReadIntoDoes hold.key self.old result value.new self.new }
+        ensures leaves { CallLeaves L.layout None self.old self.new }
+        ensures stands { ViewStands L.layout self.new.view }
+    {
         let heap = self.heap;
-        read_key(&heap.table, &mut self.seat, &self.held, hold.key)
+        read_key(&heap.table, &mut self.seat, &self.held, hold.key, value)
     }
 }

@@ -1,8 +1,8 @@
 //! What a pass is, apart from the heap that it steps on.
-ghost use Rattle.std.specs.Prelude.{◌≡◌};
+ghost use Rattle.std.specs.Prelude.{◌≡◌, []};
 ghost use Rattle.sh_slots.specs.declared.hand.Hand.TheVariants.{Idle};
 ghost use Rattle.sh_table.specs.Tales.{ViewStands};
-ghost use Rattle.sh_pass.specs.Passes.{GetDoes, ReadDoes, RemoveDoes, ReleaseDoes, IsAtRest};
+ghost use Rattle.sh_pass.specs.Passes.{GetDoes, ReadDoes, ReadIntoDoes, RemoveDoes, ReleaseDoes, IsAtRest};
 
 use crate::calls::{get_key, read_key, release_key, remove_key};
 use crate::heap::Heap;
@@ -93,6 +93,26 @@ impl<L: KeyLayout> PassState<L> {
         ensures same { self.new.heap ≡ self.old.heap }
         ensures idle { self.new.view.own.body.hand ≡ Idle }
     {
-        read_key(&heap.table, &mut self.seat, &self.held, hold.key)
+        let mut value = Value::empty();
+        self.read_into(heap, hold, &mut value)?;
+        Ok(value)
+    }
+
+    // Reads the value of a key that the pass holds into an empty one.
+    #[inline(always)]
+    pub(crate) fn read_into(
+        &mut self,
+        heap: &Heap<L>,
+        hold: Hold,
+        value: &mut Value,
+    ) -> Result<(), Refusal>
+        requires heap { self.old.heap ≡ heap.now }
+        requires empty { value.old ≡ [] }
+        ensures does { ReadIntoDoes hold.key self.old result value.new self.new }
+        ensures stands { ViewStands L.layout self.new.view }
+        ensures same { self.new.heap ≡ self.old.heap }
+        ensures idle { self.new.view.own.body.hand ≡ Idle }
+    {
+        read_key(&heap.table, &mut self.seat, &self.held, hold.key, value)
     }
 }

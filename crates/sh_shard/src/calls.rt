@@ -1,6 +1,6 @@
 // The four calls of a pass, for an owner: a slot of its shard that it freed itself comes to its page's lists.
-ghost use Rattle.std.specs.Prelude.{◌≡◌, ◌+◌, ◌*◌, ◌≤◌, None, length};
-ghost use Rattle.sh_pass.specs.Passes.{GetDoes, ReadDoes, RemoveDoes, ReleaseDoes};
+ghost use Rattle.std.specs.Prelude.{◌≡◌, ◌+◌, ◌*◌, ◌≤◌, None, length, []};
+ghost use Rattle.sh_pass.specs.Passes.{GetDoes, ReadIntoDoes, RemoveDoes, ReleaseDoes};
 ghost use Rattle.sh_shard.specs.Kept.{MayCome, Came};
 ghost use Rattle.sh_shard.specs.Pages.{SlotComes};
 
@@ -36,12 +36,14 @@ impl<'a, L: KeyLayout> Pages<'a, L> {
         (answer, page)
     }
 
-    /// The value of a key that the owner holds. Refused as `NotHeld`.
-    pub(crate) fn read(&mut self, hold: Hold) -> Result<Value, Refusal>
-        ensures does { ReadDoes hold.key self.old.owner result self.new.owner }
+    /// Reads the value of a key that the owner holds into an empty one. Refused as `NotHeld`.
+    #[inline(always)]
+    pub(crate) fn read_into(&mut self, hold: Hold, value: &mut Value) -> Result<(), Refusal>
+        requires empty { value.old ≡ [] }
+        ensures does { ReadIntoDoes hold.key self.old.owner result value.new self.new.owner }
         ensures came { SlotComes None self.old self.new }
     {
-        self.owner.read(hold)
+        self.owner.read_into(hold, value)
     }
 
     /// Removes a key. Refused as `BadKey` or `Gone`. Answers also the page to which a slot came.

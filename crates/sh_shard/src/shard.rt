@@ -70,9 +70,11 @@ impl<'a, L: KeyLayout> Shard<'a, L> {
         ensures stays { StaysOwner L.layout self.old self.new }
     {
         let _queues = &self.queues;
-        let answer = self.pages.read(hold);
+        let mut value = Value::empty();
+        let answer = self.pages.read_into(hold, &mut value);
         self.standing();
-        answer
+        answer?;
+        Ok(value)
     }
 
     /// Removes a key. Refused as `BadKey` or `Gone`.

@@ -1,7 +1,7 @@
-use Rattle.std.proofs.Common.{◌≡◌, ◌∙◌, ℕ, List, refl, ap, sym, subst}
+use Rattle.std.proofs.Common.{◌≡◌, ◌∙◌, ◌+◌, ◌==◌, ℕ, List, length, Some, position, remove, refl, ap, sym, subst}
 use Rattle.sh_step.specs.declared.body.Body.{Body}
 use Rattle.sh_pass.specs.Passes.{HoldsKept, caller_of, heap_of}
-use Rattle.sh_pass.proofs.HeldLaws.{hold_found, no_hold, held_named, kept_less, adds_of, same_home}
+use Rattle.sh_pass.proofs.HeldLaws.{hold_found, no_hold, held_named, found_has, kept_less, kept_swapped, adds_of, same_home}
 use Rattle.sh_pass.proofs.OwnCalls.{leaves_grown}
 use Rattle.sh_pass.proofs.calls.release_key.Goals as goal
 
@@ -29,8 +29,17 @@ returns-clause-kept g c =
     let f = hold_found held _ c.args.seat.now.me.0.own.body.holds c.args.key c.in-Some.at _ c.requires.kept.holds
     c.as_slice.ensures.value c.find.ensures c.in-Some.is in
     let P : List ℕ → Type 0 = λ xs. HoldsKept xs c.release_at-slot.new.seat.me.0.own.body.holds in
-    subst P (f.2 ∙ sym c.remove.ensures.items) (kept_less c.args.key held c.args.seat.now.me.0.own.body.holds _
-    c.requires.kept f.0 (ap (λ (p : Body). p.holds) c.release_at-slot.ensures.grows.body))
+    let less : HoldsKept (remove held c.in-Some.at) c.release_at-slot.new.seat.me.0.own.body.holds = subst P f.2
+    (kept_less c.args.key held c.args.seat.now.me.0.own.body.holds _ c.requires.kept f.0
+    (ap (λ (p : Body). p.holds) c.release_at-slot.ensures.grows.body)) in
+    let len = c.swap_remove.ensures.len in
+    let at : position (λ k. k == c.args.key) held ≡ Some c.in-Some.at = ap
+    (λ (xs : List ℕ). position (λ k. k == c.args.key) xs) (sym c.as_slice.ensures.value)
+    ∙ (sym c.find.ensures ∙ c.in-Some.is) in
+    let here = (found_has c.args.key c.in-Some.at held at).1 in
+    let Q : List ℕ → Type 0 = λ xs. length xs + 1 ≡ length held in
+    subst P (sym c.swap_remove.ensures.items) (kept_swapped held _ c.in-Some.at c.swap_remove.result here
+    (subst Q c.swap_remove.ensures.items len) less)
 
 pub returns-clause-does : goal.returns-clause-does
 returns-clause-does g c =
