@@ -97,8 +97,8 @@ pub record Begins (mode : Mode) (accounts : Bool) (text : List ℕ) (old new : O
   pub is_output : IsOutput mode accounts text output ⊎ IsWaiting mode text output
   pub written : WroteBeginning old new output
 
--- What a run that ends with a fault has written: all replies where an owner could not leave; where an end failed, nothing
--- or a beginning of an output, and never a whole one; and else nothing.
+-- What a run that ends with a fault has written: all replies where an owner could not leave; where an end failed,
+-- nothing or a beginning of an output, and never a whole one; and else nothing.
 abbrev pub Stops : Mode → (accounts : Bool) → List ℕ → Fault → Option (List ℕ) → Option (List ℕ) → Type 0
 Stops mode accounts text fault.Waiting old new = WritesReplies mode text old new
 Stops mode accounts text fault.Io old new = Keeps old new ⊎ Begins mode accounts text old new

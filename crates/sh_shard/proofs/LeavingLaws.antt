@@ -15,7 +15,8 @@ use Rattle.sh_shard.specs.Works.{BellDone}
 use Rattle.sh_shard.specs.Leaving.{Collecting, BellFollowed, PageEmptied, EmptiesPage, PagesEmptied}
 use Rattle.sh_shard.specs.Leaving.{AtRest, AllAtRest, NotAtRest, Waiting, PutsOne, PutsBack, PutsAllBack}
 use Rattle.sh_shard.proofs.Sides.{aside_none, aside_then}
-use Rattle.sh_shard.proofs.Works.{through_none, through_more, through_takes, through_stops, through_reads, through_works}
+use Rattle.sh_shard.proofs.Works.{through_none, through_more, through_takes, through_stops, through_reads}
+use Rattle.sh_shard.proofs.Works.{through_works}
 use Rattle.sh_shard.proofs.Working.{works_more, count_few}
 
 pub collecting_none : (o : Paged) → Collecting o o
@@ -176,8 +177,8 @@ emptying_more page o n m f e = record {
   bell = e.works.bell ∙ f.bell;
   pages = λ p l. ⊎_elim
       (λ (is : p ≡ page). subst (λ z. PageEmptied (page_at o z) (page_at m z)) (sym is)
-      (emptied_after (page_at o page) (page_at n page) (page_at m page) (f.collects.through.met page) (f.collects.through.takes page)
-      e.emptied))
+      (emptied_after (page_at o page) (page_at n page) (page_at m page) (f.collects.through.met page)
+      (f.collects.through.takes page) e.emptied))
       (λ (ne : p ≢ page). subst (PageEmptied (page_at o p)) (sym (e.works.others p ne))
       (f.pages p (more p page (let z = l in omega arith) (λ is. ne (sym is)))))
       (cases_eq p page);

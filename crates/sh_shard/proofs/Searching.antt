@@ -43,7 +43,10 @@ weaken_armed None A a b d l h = h
 weaken_armed (Some s) A a b d l h = omega arith
 
 done_here : (p : ℕ) (o n m : Paged) → WorkedSince o n → PageDone n m p → PageDone o m p
-done_here p o n m s d = record { mine = d.mine; waits = weaken_armed (page_at m p).cursor _ _ _ _ (s.through.met p) d.waits }
+done_here p o n m s d = record {
+  mine = d.mine;
+  waits = weaken_armed (page_at m p).cursor _ _ _ _ (s.through.met p) d.waits;
+}
 
 -- a page that nothing touched since stays done
 pub done_still : (o n m : Paged) (r : ℕ) → page_at m r ≡ page_at n r → PageDone o n r → PageDone o m r

@@ -1,7 +1,8 @@
 use Rattle.std.proofs.Common.{◌≡◌, ◌∙◌, ◌+◌, ◌==◌, ℕ, List, length, Some, position, remove, refl, ap, sym, subst}
 use Rattle.sh_step.specs.declared.body.Body.{Body}
 use Rattle.sh_pass.specs.Passes.{HoldsKept, caller_of, heap_of}
-use Rattle.sh_pass.proofs.HeldLaws.{hold_found, no_hold, held_named, found_has, kept_less, kept_swapped, adds_of, same_home}
+use Rattle.sh_pass.proofs.HeldLaws.{hold_found, no_hold, held_named, found_has, kept_less, kept_swapped}
+use Rattle.sh_pass.proofs.HeldLaws.{adds_of, same_home}
 use Rattle.sh_pass.proofs.OwnCalls.{leaves_grown}
 use Rattle.sh_pass.proofs.calls.release_key.Goals as goal
 
