@@ -1,9 +1,9 @@
 //! What a pass is between its turns.
 use crate::home::Home;
-use crate::line::Span;
 use crate::lone::Lone;
 use crate::owner::Owner;
 use crate::stopped::Stopped;
+use sh_judge::line::Span;
 use sh_key::KeyLayout;
 
 /// What is left to do by hand.

@@ -1,7 +1,7 @@
 //! What threads share: recent keys, a clock, and whether to stop.
-ghost use Rattle.std.specs.Prelude.{◌<◌};
+ghost use Rattle.std.specs.Prelude.{◌≡◌, ◌<◌, ◌==◌, if◌then◌else◌};
 
-use crate::line::Span;
+use sh_judge::line::Span;
 use std::alloc::{AllocError, Global};
 use std::sync::atomic::{AtomicBool, AtomicU64, Ordering};
 
@@ -20,7 +20,9 @@ pub struct Board {
     stop: AtomicBool,
 }
 
-fn found(key: u64) -> Option<u64> {
+fn found(key: u64) -> Option<u64>
+    ensures { result ≡ (if key == NO_KEY then None else Some key) }
+{
     if key == NO_KEY { None } else { Some(key) }
 }
 
@@ -44,7 +46,9 @@ impl Board {
     }
 
     /// How long a call took that began at this moment and has ended.
-    pub fn since(&self, begin: u64) -> Span {
+    pub fn since(&self, begin: u64) -> Span
+        ensures { result.begin ≡ begin }
+    {
         Span {
             begin,
             end: self.moment(),

@@ -1,14 +1,14 @@
 //! Turns by hand: a removal, a get or a release of which each step is a turn of its own, so that others go on between.
 use crate::actor::{Actor, Task};
 use crate::board::Board;
-use crate::counts::Count;
 use crate::dice::Dice;
-use crate::fault::Call;
 use crate::home::Home;
-use crate::line::{Span, Told};
 use crate::lone::Lone;
-use crate::record::Record;
 use crate::stopped::Stopped;
+use sh_judge::counts::Count;
+use sh_judge::fault::Call;
+use sh_judge::line::{Span, Told};
+use sh_judge::record::Record;
 use sh_key::KeyLayout;
 use sh_step::Action;
 use sh_value::Hold;

@@ -1,16 +1,16 @@
 //! The end of a round: all that was begun is ended, all passes meet, and what they were answered is judged.
 use crate::board::Board;
-use crate::counts::{Count, Counts};
 use crate::dice::Dice;
-use crate::fault::{Fault, Wrong};
 use crate::home::Home;
-use crate::judge::judged;
-use crate::line::Line;
 use crate::lone::Lone;
-use crate::record::Record;
-use crate::tally::{Tally, agrees, is_filled};
 use crate::worker::Worker;
 use sh_gather::{Whole, whole};
+use sh_judge::counts::{Count, Counts};
+use sh_judge::fault::{Fault, Wrong};
+use sh_judge::judge::judged;
+use sh_judge::line::Line;
+use sh_judge::record::Record;
+use sh_judge::tally::{Tally, agrees, is_filled};
 use sh_key::KeyLayout;
 use sh_shape::{Shape, class_of};
 use std::alloc::Global;

@@ -1,10 +1,10 @@
 //! Turns on keys.
 use crate::board::Board;
 use crate::dice::Dice;
-use crate::record::Record;
 use crate::turn::Turn;
 use crate::user::User;
 use crate::using;
+use sh_judge::record::Record;
 use sh_key::{KeyLayout, Parts};
 
 // The number of one of the holds, if there is one.

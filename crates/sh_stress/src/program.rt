@@ -1,11 +1,11 @@
 //! The whole program, over the words of a command line and two writers.
-use crate::counts::{Count, Counts};
 use crate::dice::Dice;
-use crate::fault::Fault;
 use crate::options::{Options, read_options};
 use crate::round::{Plan, play};
 use clap::Error;
 use clap::error::ErrorKind;
+use sh_judge::counts::{Count, Counts};
+use sh_judge::fault::Fault;
 use sh_key::{Tiny, Wide};
 use std::alloc::Global;
 use std::io::Write;

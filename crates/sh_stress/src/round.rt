@@ -4,13 +4,13 @@ ghost use Rattle.std.specs.List.{All};
 ghost use Rattle.sh_pass.specs.Passes.{Caller};
 
 use crate::board::Board;
-use crate::counts::Counts;
 use crate::dice::Dice;
-use crate::fault::{Call, Fault, Wrong};
 use crate::home::Home;
 use crate::lone::Lone;
 use crate::worker::Worker;
 use crate::{crew, ending};
+use sh_judge::counts::Counts;
+use sh_judge::fault::{Call, Fault, Wrong};
 use sh_key::KeyLayout;
 use sh_pass::{Heap, Pass, Seats};
 use sh_shape::Shape;

@@ -1,10 +1,10 @@
 //! Calls on keys, with what is noted of their answers.
 use crate::board::Board;
-use crate::counts::Count;
-use crate::fault::Call;
-use crate::line::Told;
-use crate::record::Record;
 use crate::user::User;
+use sh_judge::counts::Count;
+use sh_judge::fault::Call;
+use sh_judge::line::Told;
+use sh_judge::record::Record;
 use sh_value::Refusal;
 
 /// Takes a hold on a number, which may be no key where it was guessed.

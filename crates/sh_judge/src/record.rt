@@ -1,4 +1,8 @@
 //! What is kept of a pass: what it was answered, what it holds, and what was found wrong.
+ghost use Rattle.std.specs.Prelude.{◌≡◌, ◌+◌, ◌<◌, ◌≤◌, ◌↔◌, [], IsTrue, vec_len, slice_get};
+ghost use Rattle.sh_judge.specs.Pattern.{IsPattern};
+ghost use Rattle.sh_judge.specs.Records.{refusal_fault, first_fault, IsTold};
+
 use crate::counts::{Count, Counts};
 use crate::fault::{Call, Fault, Wrong};
 use crate::line::{Line, Span, Told};
@@ -31,7 +35,12 @@ pub struct Record {
 
 impl Record {
     /// Of a pass that has done nothing.
-    pub fn new(alloc: Global, pass: u32) -> Record {
+    pub fn new(alloc: Global, pass: u32) -> Record
+        ensures pass { result.pass ≡ pass }
+        ensures no_lines { result.lines.items ≡ [] }
+        ensures no_holds { result.holds.items ≡ [] }
+        ensures no_fault { result.fault ≡ None }
+    {
         Record {
             pass,
             counts: Counts::new(),
@@ -42,19 +51,26 @@ impl Record {
     }
 
     /// Notes a fault. The first one stays.
-    pub fn fail(&mut self, fault: Fault) {
+    pub fn fail(&mut self, fault: Fault)
+        ensures { self.new ≡ record self.old { fault = first_fault self.old fault } }
+    {
         if self.fault.is_none() {
             self.fault = Some(fault);
         }
     }
 
     /// Notes something wrong.
-    pub fn find(&mut self, wrong: Wrong) {
+    pub fn find(&mut self, wrong: Wrong)
+        ensures { self.new ≡ record self.old { fault = first_fault self.old (Fault.Wrong wrong) } }
+    {
         self.fail(Fault::Wrong(wrong));
     }
 
     /// Notes a refusal that cannot be, or that memory was refused.
-    pub fn refused(&mut self, call: Call, refusal: Refusal) {
+    pub fn refused(&mut self, call: Call, refusal: Refusal)
+        ensures { let fault = refusal_fault self.old.pass call refusal in
+            self.new ≡ record self.old { fault = first_fault self.old fault } }
+    {
         match refusal {
             Refusal::Memory => self.fail(Fault::Memory),
             _ => self.find(Wrong::Refused(self.pass, call, refusal)),
@@ -62,27 +78,41 @@ impl Record {
     }
 
     /// Notes that something could not be begun by hand.
-    pub fn unbegun(&mut self, call: Call) {
+    pub fn unbegun(&mut self, call: Call)
+        ensures { let fault = Fault.Wrong (Wrong.Unbegun self.old.pass call) in
+            self.new ≡ record self.old { fault = first_fault self.old fault } }
+    {
         self.find(Wrong::Unbegun(self.pass, call));
     }
 
     /// Notes that what was begun by hand does not end.
-    pub fn endless(&mut self) {
+    pub fn endless(&mut self)
+        ensures { let fault = Fault.Wrong (Wrong.Endless self.old.pass) in
+            self.new ≡ record self.old { fault = first_fault self.old fault } }
+    {
         self.find(Wrong::Endless(self.pass));
     }
 
     /// Notes that leaving a shard was refused though nobody had begun anything.
-    pub fn waits(&mut self) {
+    pub fn waits(&mut self)
+        ensures { let fault = Fault.Wrong (Wrong.Waits self.old.pass) in
+            self.new ≡ record self.old { fault = first_fault self.old fault } }
+    {
         self.find(Wrong::Waits(self.pass));
     }
 
     /// The first fault, if there was one.
-    pub fn fault(&self) -> Option<Fault> {
+    pub fn fault(&self) -> Option<Fault>
+        ensures { result ≡ self.now.fault }
+    {
         self.fault
     }
 
     /// Adds a line to the log.
-    pub fn tell(&mut self, key: u64, span: Span, told: Told) {
+    pub fn tell(&mut self, key: u64, span: Span, told: Told)
+        ensures { IsTold self.old self.new
+            (record { pass = self.old.pass; key = key; span = span; told = told }) }
+    {
         let line = Line {
             pass: self.pass,
             key,
@@ -108,29 +138,42 @@ impl Record {
     }
 
     /// Whether it has as many holds as a pass may have.
-    pub fn is_full(&self) -> bool {
+    pub fn is_full(&self) -> bool
+        ensures { IsTrue result ↔ (16 ≤ vec_len self.now.holds) }
+    {
         self.holds.len() >= HOLDS
     }
 
     /// How many holds it has.
-    pub fn holds(&self) -> u64 {
+    pub fn holds(&self) -> u64
+        ensures { result ≡ vec_len self.now.holds }
+    {
         self.holds.len() as u64
     }
 
     /// One of its holds.
-    pub fn hold(&self, number: u64) -> Option<Held> {
+    pub fn hold(&self, number: u64) -> Option<Held>
+        ensures { result ≡ slice_get self.now.holds.items number }
+    {
         self.holds.get(number as usize).copied()
     }
 
     /// Forgets one of its holds.
-    pub fn forget(&mut self, number: u64) {
+    pub fn forget(&mut self, number: u64)
+        ensures fewer { number < vec_len self.old.holds → vec_len self.new.holds + 1 ≡ vec_len self.old.holds }
+        ensures lines { self.new.lines ≡ self.old.lines }
+        ensures fault { self.new.fault ≡ self.old.fault }
+    {
         if number < self.holds.len() as u64 {
             self.holds.swap_remove(number as usize);
         }
     }
 
     /// Notes a value that was read: all its words belong to one value, and it is the one that was read before.
-    pub fn read(&mut self, held: Held, value: Value) {
+    pub fn read(&mut self, held: Held, value: Value)
+        ensures { ¬ IsPattern value
+            → self.new.fault ≡ first_fault self.old (Fault.Wrong (Wrong.Torn self.old.pass held.hold.key)) }
+    {
         self.counts.one(Count::Reads);
         let key = held.hold.key;
         if !pattern::is_whole(&value) {
@@ -149,7 +192,9 @@ impl Record {
     }
 
     /// The lines of the log.
-    pub fn into_lines(self) -> Vec<Line> {
+    pub fn into_lines(self) -> Vec<Line>
+        ensures { result ≡ self.lines }
+    {
         self.lines
     }
 }

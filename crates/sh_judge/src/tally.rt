@@ -1,4 +1,9 @@
 //! What the answers say of the pages.
+ghost use Rattle.std.specs.Prelude.{◌≡◌, ◌==◌, ◌↔◌, IsTrue, OnOk, OnErr, IsSome, slice_get};
+ghost use Rattle.sh_history.specs.History.{value_of};
+ghost use Rattle.sh_judge.specs.Pages.{IsAsTallied, HasNoRoom, with_slot};
+ghost use Rattle.sh_judge.specs.Tallies.{page_place, CountsSlot};
+
 use crate::fault::{Fault, Wrong};
 use sh_core::Accounts;
 use sh_history::Entry;
@@ -44,14 +49,22 @@ impl Tally {
     }
 
     // Where a page stands.
-    fn place(&self, shard: u32, page: u32) -> usize {
+    fn place(&self, shard: u32, page: u32) -> usize
+        ensures { result ≡ page_place self.now shard page }
+    {
         u64::from(shard)
             .saturating_mul(u64::from(self.pages_of_shard))
             .saturating_add(u64::from(page)) as usize
     }
 
     /// Counts the slot of a key, by the history of the key.
-    pub fn add<L: KeyLayout>(&mut self, key: u64, history: &[Entry]) -> Result<(), Fault> {
+    pub fn add<L: KeyLayout>(&mut self, key: u64, history: &[Entry]) -> Result<(), Fault>
+        // Of a key that was not inserted there is no slot.
+        ensures not_issued { value_of history.now key ≡ None → self.new ≡ self.old }
+        ensures issued { OnOk result
+            (IsSome (value_of history.now key) → CountsSlot L.layout self.old self.new key history.now) }
+        ensures err { OnErr result (self.new ≡ self.old) }
+    {
         if value_of(history, key).is_none() {
             return Ok(());
         }
@@ -72,14 +85,18 @@ impl Tally {
     }
 
     /// The tally of a page.
-    pub fn of(&self, shard: u32, page: u32) -> Option<PageTally> {
+    pub fn of(&self, shard: u32, page: u32) -> Option<PageTally>
+        ensures { result ≡ slice_get self.now.pages.items (page_place self.now shard page) }
+    {
         self.pages.get(self.place(shard, page)).copied()
     }
 }
 
 // Counts the slot of a key of which this is known. A slot whose value was removed and is not held is empty, but for one
 // that has had its last value.
-fn count<L: KeyLayout>(page: &mut PageTally, parts: Parts, removed: bool, holds: usize) {
+fn count<L: KeyLayout>(page: &mut PageTally, parts: Parts, removed: bool, holds: usize)
+    ensures { page.new ≡ with_slot removed holds (parts.generation == L.layout.gen_max) page.old }
+{
     if !removed {
         page.live = page.live.saturating_add(1);
     } else if holds > 0 {
@@ -91,7 +108,9 @@ fn count<L: KeyLayout>(page: &mut PageTally, parts: Parts, removed: bool, holds:
 
 /// Whether a page of a shard that was full for this class has no room for it: it has a class, and where that is the same
 /// no slot is left. A page of another class may have slots that its owner has yet to collect.
-pub fn is_filled(accounts: &Accounts, class: u32) -> bool {
+pub fn is_filled(accounts: &Accounts, class: u32) -> bool
+    ensures { IsTrue result ↔ HasNoRoom accounts.now class }
+{
     match accounts.class {
         None => false,
         Some(own) => own != class || accounts.queued == 0,
@@ -100,7 +119,9 @@ pub fn is_filled(accounts: &Accounts, class: u32) -> bool {
 
 /// Whether the accounts of a page are those of its tally, add up to the slots of its class, and nothing of it is an
 /// owner's or in a hand.
-pub fn agrees(accounts: &Accounts, tally: PageTally) -> bool {
+pub fn agrees(accounts: &Accounts, tally: PageTally) -> bool
+    ensures { IsTrue result ↔ IsAsTallied accounts.now tally }
+{
     let sum = u64::from(accounts.live)
         + u64::from(accounts.marked)
         + u64::from(accounts.retired)

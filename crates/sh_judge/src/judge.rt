@@ -2,8 +2,10 @@
 //!
 //! Each rule of a legal history speaks of one key alone. So the history of all passes is legal exactly where, for each
 //! key, the answers on it are.
-ghost use Rattle.std.specs.Prelude.{IfOk};
+ghost use Rattle.std.specs.Prelude.{◌≡◌, IfOk, IfSome, map};
 ghost use Rattle.sh_history.specs.History.{Legal};
+ghost use Rattle.sh_judge.specs.Histories.{entry_of_line, IsHistoryOf};
+ghost use Rattle.sh_judge.specs.Orders.{entry_of_placed, IsInOrder};
 
 use crate::fault::{Fault, Wrong};
 use crate::line::{Line, Told};
@@ -14,11 +16,12 @@ use sh_history::{Entry, check};
 use sh_value::Value;
 use std::alloc::{AllocError, Global};
 
-/// An answer and its point in time.
+/// A line and its point in time, and whether it is the one that removed the key.
 #[derive(Clone, Copy, Debug)]
-struct Placed {
+struct Placed<'a> {
     point: Point,
-    place: usize,
+    line: &'a Line,
+    is_remover: bool,
 }
 
 impl From<AllocError> for Fault {
@@ -38,7 +41,9 @@ fn value_inserted(lines: &[Line]) -> Value {
 }
 
 // The entry that a line stands for.
-fn entry(line: &Line, is_remover: bool, issued: &Value) -> Entry {
+fn entry(line: &Line, is_remover: bool, issued: &Value) -> Entry
+    ensures { result ≡ entry_of_line is_remover issued.now line.now }
+{
     match &line.told {
         Told::Inserted(value) => Entry::Insert(line.pass, line.key, value.copy()),
         Told::Got(Some(value)) => Entry::Got(line.pass, line.key, value.copy()),
@@ -53,39 +58,37 @@ fn entry(line: &Line, is_remover: bool, issued: &Value) -> Entry {
 }
 
 // The lines in the order of their points. None where a point lies outside the time of its call.
-fn in_order(
+fn in_order<'a>(
     alloc: Global,
-    lines: &[Line],
+    lines: &'a [Line],
     course: Course,
-) -> Result<Option<Vec<Placed>>, AllocError> {
+) -> Result<Option<Vec<Placed<'a>>>, AllocError>
+    ensures { IfOk result (λ order. IfSome order (λ placed. IsInOrder lines.now placed.items)) }
+{
     let mut all = Vec::new(alloc);
     for (place, line) in lines.iter().enumerate() {
         let point = order::point(lines, place, line, course);
         if !point.is_within(line.span) {
             return Ok(None);
         }
-        all.push(Placed { point, place })?;
+        let is_remover = course.removed.is_some_and(|(remover, _)| remover == place);
+        all.push(Placed {
+            point,
+            line,
+            is_remover,
+        })?;
     }
     all.sort_by_key(|placed| placed.point)?;
     Ok(Some(all))
 }
 
 // The entries that these lines stand for, in this order.
-fn history(
-    alloc: Global,
-    lines: &[Line],
-    placed: &[Placed],
-    course: Course,
-) -> Result<Vec<Entry>, AllocError> {
-    let issued = value_inserted(lines);
+fn history(alloc: Global, placed: &[Placed], issued: &Value) -> Result<Vec<Entry>, AllocError>
+    ensures { IfOk result (λ entries. entries.items ≡ map (entry_of_placed issued.now) placed.now) }
+{
     let mut entries = Vec::new(alloc);
     for at in placed {
-        let is_remover = course
-            .removed
-            .is_some_and(|(remover, _)| remover == at.place);
-        if let Some(line) = lines.get(at.place) {
-            entries.push(entry(line, is_remover, &issued))?;
-        }
+        entries.push(entry(at.line, at.is_remover, issued))?;
     }
     Ok(entries)
 }
@@ -98,13 +101,15 @@ pub fn judged(
     passes: u32,
     guard_max: u32,
 ) -> Result<Vec<Entry>, Fault>
-    ensures { IfOk result (λ history. Legal passes guard_max history.items) }
+    ensures legal { IfOk result (λ history. Legal passes guard_max history.items) }
+    ensures told { IfOk result (λ history. IsHistoryOf lines.now history.items) }
 {
     let course = order::decide(lines);
     let Some(placed) = in_order(alloc, lines, course)? else {
         return Err(Fault::Wrong(Wrong::NoOrder(key)));
     };
-    let entries = history(alloc, lines, placed.as_slice(), course)?;
+    let issued = value_inserted(lines);
+    let entries = history(alloc, placed.as_slice(), &issued)?;
     match check(entries.as_slice(), passes, guard_max) {
         Ok(()) => Ok(entries),
         Err(_) => Err(Fault::Wrong(Wrong::NoOrder(key))),

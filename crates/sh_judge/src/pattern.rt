@@ -1,5 +1,6 @@
 //! Values of which each word tells which value it belongs to.
-ghost use Rattle.std.specs.Prelude.{◌≤◌};
+ghost use Rattle.std.specs.Prelude.{◌≡◌, ◌≤◌, ◌↔◌, IsTrue, length};
+ghost use Rattle.sh_judge.specs.Pattern.{mixed_word, IsPatternOf, IsPattern};
 
 use sh_value::Value;
 
@@ -7,7 +8,10 @@ use sh_value::Value;
 const SPREAD: u64 = 0x9e37_79b9_7f4a_7c15;
 
 // The word of the value with this serial number that stands at a place behind the first.
-fn word(serial: u64, place: u64) -> u64 {
+#[tactic(auto, unfolding(crate::specs::Pattern::mixed_word))]
+fn word(serial: u64, place: u64) -> u64
+    ensures { result ≡ mixed_word serial place }
+{
     serial
         .wrapping_add(place)
         .wrapping_mul(SPREAD)
@@ -17,6 +21,8 @@ fn word(serial: u64, place: u64) -> u64 {
 /// The value with this serial number, of so many words.
 pub fn value(serial: u64, len: usize) -> Value
     requires { len ≤ 16 }
+    ensures len { length result ≡ len }
+    ensures words { IsPatternOf serial result }
 {
     let mut words = [serial; 16];
     for place in 1..16u64 {
@@ -29,15 +35,17 @@ pub fn value(serial: u64, len: usize) -> Value
 }
 
 /// Whether all words belong to one value.
-pub fn is_whole(value: &Value) -> bool {
+pub fn is_whole(value: &Value) -> bool
+    ensures { IsTrue result ↔ IsPattern value.now }
+{
     let words = value.words();
     let Some(serial) = words.first() else {
         return true;
     };
-    let serial = *serial;
-    words
-        .iter()
-        .enumerate()
-        .skip(1)
-        .all(|(place, found)| *found == word(serial, place as u64))
+    for place in 1..words.len() {
+        if words[place] != word(*serial, place as u64) {
+            return false;
+        }
+    }
+    true
 }

@@ -1,4 +1,7 @@
 //! Points in time at which answers may have been decided.
+ghost use Rattle.std.specs.Prelude.{◌≡◌, ◌↔◌, IsTrue};
+ghost use Rattle.sh_judge.specs.Points.{IsWithin};
+
 use crate::line::Span;
 
 /// Just before or just after a moment.
@@ -39,7 +42,9 @@ pub struct Point {
 
 impl Point {
     /// Just before a moment.
-    pub fn before(moment: u64, rank: Rank) -> Point {
+    pub fn before(moment: u64, rank: Rank) -> Point
+        ensures { result ≡ record { moment = moment; edge = Edge.Before; rank = rank } }
+    {
         Point {
             moment,
             edge: Edge::Before,
@@ -48,7 +53,9 @@ impl Point {
     }
 
     /// Just after a moment.
-    pub fn after(moment: u64, rank: Rank) -> Point {
+    pub fn after(moment: u64, rank: Rank) -> Point
+        ensures { result ≡ record { moment = moment; edge = Edge.After; rank = rank } }
+    {
         Point {
             moment,
             edge: Edge::After,
@@ -57,12 +64,16 @@ impl Point {
     }
 
     /// The same point, for an answer of another rank.
-    pub fn with(self, rank: Rank) -> Point {
+    pub fn with(self, rank: Rank) -> Point
+        ensures { result ≡ record self { rank = rank } }
+    {
         Point { rank, ..self }
     }
 
     /// Whether it lies in the time of a call.
-    pub fn is_within(self, span: Span) -> bool {
+    pub fn is_within(self, span: Span) -> bool
+        ensures { IsTrue result ↔ IsWithin self span }
+    {
         let after_begin = self.moment > span.begin
             || (self.moment == span.begin && self.edge == Edge::After);
         let before_end = self.moment < span.end

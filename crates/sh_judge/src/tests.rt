@@ -1,13 +1,9 @@
-//! What the judge finds, by examples, and that a round of one thread finds nothing.
-use crate::dice::Dice;
+//! What the judge finds, by examples.
 use crate::judge::judged;
 use crate::line::{Line, Span, Told};
-use crate::options::read_options;
 use crate::pattern;
-use crate::round::{Plan, play};
 use crate::tally::{PageTally, agrees};
 use sh_core::Accounts;
-use sh_key::Tiny;
 use sh_value::Value;
 use std::alloc::Global;
 use std::test::Fail;
@@ -178,27 +174,4 @@ fn accounts_must_add_up(rt: HostRuntime) {
         ..accounts
     };
     assert!(rt; !agrees(&in_hand, tally));
-}
-
-#[test]
-fn a_round_of_one_thread_finds_nothing(rt: HostRuntime) {
-    let plan = Plan {
-        threads: 1,
-        passes: 3,
-        shards: 2,
-        segments: 1,
-        steps: 300,
-    };
-    let mut dice = Dice::new(5);
-    assert!(rt; play::<Tiny, _>(&rt, rt.alloc(), &plan, &mut dice).is_ok());
-}
-
-#[test]
-fn options_have_defaults(rt: HostRuntime) -> Result<(), Fail> {
-    let options = read_options(rt.alloc(), &["sh_stress", "--seed", "9"])?;
-    assert_eq!(rt; options.seed, 9);
-    assert_eq!(rt; options.threads, 4);
-    assert!(rt; read_options(rt.alloc(), &["sh_stress", "--threads", "0"]).is_err());
-    assert!(rt; read_options(rt.alloc(), &["sh_stress", "more"]).is_err());
-    Ok(())
 }

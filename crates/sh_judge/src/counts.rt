@@ -1,4 +1,8 @@
 //! How often what was answered.
+ghost use Rattle.std.specs.Prelude.{◌≡◌};
+ghost use Rattle.sh_judge.specs.Counts.{number_of};
+ghost use Rattle.sh_judge.specs.declared.counts.Count.{Count};
+
 use std::fmt;
 
 /// What is counted.
@@ -67,7 +71,9 @@ pub struct Counts {
 
 impl Counts {
     /// Nothing was counted yet.
-    pub fn new() -> Counts {
+    pub fn new() -> Counts
+        ensures { (count : Count) → number_of result count ≡ 0 }
+    {
         Counts { numbers: [0; 25] }
     }
 
@@ -91,7 +97,9 @@ impl Counts {
     }
 
     /// How many.
-    pub fn of(&self, count: Count) -> u64 {
+    pub fn of(&self, count: Count) -> u64
+        ensures { result ≡ number_of self.now count }
+    {
         match self.numbers.get(count as usize) {
             Some(number) => *number,
             None => 0,
