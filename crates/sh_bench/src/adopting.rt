@@ -1,15 +1,17 @@
 //! Workloads in which a shard changes hands: adopt and leave.
+ghost use Rattle.std.specs.Prelude.{◌≡◌, IfOk};
 
-use crate::fault::Fault;
 use crate::gate::Gate;
 use crate::lots::{insert_each, remove_each};
-use crate::options::Options;
-use crate::outcome::{NOTHING, Outcome};
 use crate::parting::together;
-use crate::plan::{Demand, plan_for};
-use crate::samples::Samples;
-use crate::workload::Workload;
 use sh_key::KeyLayout;
+use sh_load::demand::Demand;
+use sh_load::fault::Fault;
+use sh_load::options::Options;
+use sh_load::outcome::{NOTHING, Outcome};
+use sh_load::plan::plan_for;
+use sh_load::samples::Samples;
+use sh_load::workload::Workload;
 use sh_pass::{Heap, Pass};
 use sh_shard::Shard;
 use std::alloc::{AllocError, Global};
@@ -34,7 +36,9 @@ fn hand_over<'a, L: KeyLayout>(
     job: Job<'a, L>,
     keys: &mut [u64],
     workload: Workload,
-) -> Result<(Job<'a, L>, Outcome), Fault> {
+) -> Result<(Job<'a, L>, Outcome), Fault>
+    ensures { IfOk result (λ done. done.1.operations ≡ 1) }
+{
     let Job { pass, shard } = job;
     let start = Instant::now(rt)?;
     let mut owner = Shard::adopt(alloc, pass, shard).map_err(|(_, why)| why)?;
@@ -72,7 +76,9 @@ fn work<L: KeyLayout>(
     gate: &Gate,
     options: &Options,
     job: Job<'_, L>,
-) -> Result<Outcome, Fault> {
+) -> Result<Outcome, Fault>
+    ensures { IfOk result (λ outcome. outcome.operations ≡ options.now.operations) }
+{
     let samples = Samples::new(alloc, options.lengths)?;
     let mut live = vec![in alloc; 0u64; options.live]?;
     let mut freed = vec![in alloc; 0u64; options.freed]?;

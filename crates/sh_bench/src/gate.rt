@@ -1,5 +1,7 @@
 //! Where threads wait for each other, by looking again and again: a thread that sleeps would wake up late.
-use crate::fault::Fault;
+ghost use Rattle.std.specs.Prelude.{◌≡◌, IfErr};
+
+use sh_load::fault::Fault;
 use std::hint::spin_loop;
 use std::sync::atomic::{AtomicU64, Ordering};
 
@@ -24,7 +26,9 @@ impl Drop for Gate {
 
 impl Gate {
     /// A gate for this many threads.
-    pub fn new(threads: u64) -> Self {
+    pub fn new(threads: u64) -> Self
+        ensures { result.threads ≡ threads }
+    {
         Gate {
             arrived: AtomicU64::new(0),
             threads,
@@ -32,7 +36,9 @@ impl Gate {
     }
 
     /// Waits until all threads have come. `Late` where one stays away.
-    pub fn pass(&self) -> Result<(), Fault> {
+    pub fn pass(&self) -> Result<(), Fault>
+        ensures { IfErr result (λ fault. fault ≡ Fault.Late) }
+    {
         self.arrived.fetch_add(1, Ordering::SeqCst);
         for _look in 0..LOOKS {
             if self.arrived.load(Ordering::SeqCst) >= self.threads {

@@ -1,14 +1,17 @@
 //! Workloads of passes that own nothing: get and release, and get, read and release.
-use crate::fault::Fault;
+ghost use Rattle.std.specs.Prelude.{◌≡◌, IfOk};
+
 use crate::gate::Gate;
 use crate::lots::{Job, Lot, filled_lots, standing};
-use crate::options::Options;
-use crate::outcome::Outcome;
 use crate::parting::{taken, together};
-use crate::plan::{Demand, plan_for};
-use crate::samples::Samples;
-use crate::workload::Workload;
 use sh_key::KeyLayout;
+use sh_load::demand::Demand;
+use sh_load::fault::Fault;
+use sh_load::options::Options;
+use sh_load::outcome::Outcome;
+use sh_load::plan::plan_for;
+use sh_load::samples::Samples;
+use sh_load::workload::Workload;
 use sh_pass::{Heap, Pass};
 use sh_value::{Refusal, Value};
 use std::alloc::{AllocError, Global};
@@ -84,7 +87,10 @@ fn work<L: KeyLayout>(
     options: &Options,
     walk: &[u64],
     mut pass: Pass<'_, L>,
-) -> Result<Outcome, Fault> {
+) -> Result<Outcome, Fault>
+    ensures operations { IfOk result (λ outcome. outcome.operations ≡ options.now.operations) }
+    ensures standing { IfOk result (λ outcome. outcome.standing ≡ 0) }
+{
     use_each(&mut pass, walk, options.workload)?;
     gate.pass()?;
     let start = Instant::now(rt)?;

@@ -1,13 +1,16 @@
 //! The workload of producers and consumers: an owner inserts, and a pass in another thread removes.
-use crate::fault::Fault;
+ghost use Rattle.std.specs.Prelude.{◌≡◌, IfOk};
+
 use crate::gate::{Gate, LOOKS};
-use crate::options::Options;
-use crate::outcome::Outcome;
 use crate::parting::together;
-use crate::plan::{Demand, plan_for};
 use crate::ring::Ring;
-use crate::samples::Samples;
 use sh_key::KeyLayout;
+use sh_load::demand::Demand;
+use sh_load::fault::Fault;
+use sh_load::options::Options;
+use sh_load::outcome::Outcome;
+use sh_load::plan::plan_for;
+use sh_load::samples::Samples;
 use sh_pass::{Heap, Pass};
 use sh_shard::Shard;
 use sh_value::{Refusal, Value};
@@ -82,7 +85,9 @@ fn produce_all<L: KeyLayout>(
     pass: Pass<'_, L>,
     ring: &Ring,
     shard: u64,
-) -> Result<Outcome, Fault> {
+) -> Result<Outcome, Fault>
+    ensures { IfOk result (λ outcome. outcome.operations ≡ options.now.operations) }
+{
     let samples = Samples::new(alloc, options.lengths)?;
     let mut owner = Shard::adopt(alloc, pass, shard).map_err(|(_, why)| why)?;
     gate.pass()?;
@@ -97,7 +102,9 @@ fn consume_all<L: KeyLayout>(
     options: &Options,
     mut pass: Pass<'_, L>,
     ring: &Ring,
-) -> Result<Outcome, Fault> {
+) -> Result<Outcome, Fault>
+    ensures { IfOk result (λ outcome. outcome.operations ≡ 0) }
+{
     gate.pass()?;
     let start = Instant::now(rt)?;
     consume(&mut pass, ring, options.operations)?;

@@ -1,16 +1,17 @@
 //! Workloads of owners: insert, remove, and both in turn.
-ghost use Rattle.std.specs.Prelude.{◌<◌};
+ghost use Rattle.std.specs.Prelude.{◌≡◌, ◌<◌, IfOk, length};
 
-use crate::fault::Fault;
 use crate::gate::Gate;
 use crate::lots::{Job, Lot, filled_lots, insert_each, remove_each, share, standing};
-use crate::options::Options;
-use crate::outcome::{NOTHING, Outcome};
 use crate::parting::{taken, together};
-use crate::plan::{Demand, plan_for};
-use crate::samples::Samples;
-use crate::workload::Workload;
 use sh_key::KeyLayout;
+use sh_load::demand::Demand;
+use sh_load::fault::Fault;
+use sh_load::options::Options;
+use sh_load::outcome::{NOTHING, Outcome};
+use sh_load::plan::plan_for;
+use sh_load::samples::Samples;
+use sh_load::workload::Workload;
 use sh_pass::{Heap, Pass};
 use sh_value::Refusal;
 use std::alloc::{AllocError, Global};
@@ -29,7 +30,10 @@ fn one_batch<L: KeyLayout>(
     samples: &Samples,
     keys: &mut [u64],
     workload: Workload,
-) -> Result<Outcome, Fault> {
+) -> Result<Outcome, Fault>
+    ensures operations { IfOk result (λ outcome. outcome.operations ≡ length keys.old) }
+    ensures standing { IfOk result (λ outcome. outcome.standing ≡ 0) }
+{
     let start = Instant::now(rt)?;
     let sum = insert_each(&mut lot.owner, samples, keys)?;
     let middle = Instant::now(rt)?;
@@ -49,7 +53,9 @@ fn batches<L: KeyLayout>(
     samples: &Samples,
     operations: usize,
     workload: Workload,
-) -> Result<Outcome, Fault> {
+) -> Result<Outcome, Fault>
+    ensures { IfOk result (λ outcome. outcome.operations ≡ operations) }
+{
     let mut keys = [0u64; BATCH];
     one_batch(rt, lot, samples, &mut keys, workload)?;
     let mut outcome = NOTHING;
@@ -99,7 +105,9 @@ fn churn<L: KeyLayout>(
     lot: &mut Lot<'_, L>,
     samples: &Samples,
     operations: usize,
-) -> Result<Outcome, Fault> {
+) -> Result<Outcome, Fault>
+    ensures { IfOk result (λ outcome. outcome.operations ≡ operations) }
+{
     churn_each(lot, samples, BATCH)?;
     let start = Instant::now(rt)?;
     let sum = churn_rounds(lot, samples, operations)?;
@@ -112,7 +120,9 @@ fn measure_lot<L: KeyLayout>(
     lot: &mut Lot<'_, L>,
     samples: &Samples,
     operations: usize,
-) -> Result<Outcome, Fault> {
+) -> Result<Outcome, Fault>
+    ensures { IfOk result (λ outcome. outcome.operations ≡ operations) }
+{
     let mut outcome = match options.workload {
         Workload::Churn => churn(rt, lot, samples, operations)?,
         workload => batches(rt, lot, samples, operations, workload)?,

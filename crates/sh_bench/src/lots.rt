@@ -1,9 +1,10 @@
 //! Owners with the values that they keep.
-ghost use Rattle.std.specs.Prelude.{◌≤◌, ◌<◌, All};
+ghost use Rattle.std.specs.Prelude.{◌≡◌, ◌≤◌, ◌<◌, All, IfOk, vec_len};
+ghost use Rattle.sh_bench.specs.Shares.{share_of, shares};
 
-use crate::fault::Fault;
-use crate::samples::Samples;
 use sh_key::KeyLayout;
+use sh_load::fault::Fault;
+use sh_load::samples::Samples;
 use sh_pass::Pass;
 use sh_shard::Shard;
 use sh_value::Refusal;
@@ -28,7 +29,10 @@ pub struct Job<'a, L: KeyLayout> {
 const STRIDE: usize = 7919;
 
 /// A mixed order of so many places.
-pub fn mixed_order(alloc: Global, places: usize) -> Result<Vec<usize>, AllocError> {
+pub fn mixed_order(alloc: Global, places: usize) -> Result<Vec<usize>, AllocError>
+    ensures count { IfOk result (λ order. vec_len order ≡ places) }
+    ensures within { IfOk result (λ order. All (λ place. place < places) order.items) }
+{
     let mut order = Vec::new(alloc);
     let mut place = 0;
     for _turn in 0..places {
@@ -39,7 +43,9 @@ pub fn mixed_order(alloc: Global, places: usize) -> Result<Vec<usize>, AllocErro
 }
 
 // The place that comes after this one.
-fn after(place: usize, places: usize) -> usize {
+fn after(place: usize, places: usize) -> usize
+    ensures { 0 < places → result < places }
+{
     if places == 0 {
         return 0;
     }
@@ -75,7 +81,11 @@ pub fn filled_lot<'a, L: KeyLayout>(
     shard: u64,
     samples: &Samples,
     values: usize,
-) -> Result<Lot<'a, L>, Fault> {
+) -> Result<Lot<'a, L>, Fault>
+    ensures keys { IfOk result (λ lot. vec_len lot.keys ≡ values) }
+    ensures order { IfOk result (λ lot. vec_len lot.order ≡ values) }
+    ensures places { IfOk result (λ lot. All (λ place. place < values) lot.order.items) }
+{
     let mut keys = vec![in alloc; 0u64; values]?;
     let order = mixed_order(alloc, values)?;
     let mut owner = Shard::adopt(alloc, pass, shard).map_err(|(_, why)| why)?;
@@ -89,7 +99,9 @@ pub fn filled_lots<'a, L: KeyLayout>(
     job: Job<'a, L>,
     samples: &Samples,
     values: usize,
-) -> Result<Vec<Lot<'a, L>>, Fault> {
+) -> Result<Vec<Lot<'a, L>>, Fault>
+    ensures { IfOk result (λ lots. vec_len lots ≡ vec_len job.entry.passes) }
+{
     let parts = job.passes.len();
     let mut lots = Vec::new(alloc);
     let mut shard = job.first_shard;
@@ -103,7 +115,10 @@ pub fn filled_lots<'a, L: KeyLayout>(
 
 /// The share that the part with this number has of a whole: all shares together are the whole.
 pub fn share(whole: usize, parts: usize, number: usize) -> usize
-    ensures { result ≤ whole }
+    ensures is { 0 < parts → result ≡ share_of whole parts number }
+    ensures all { 0 < parts → shares whole parts parts ≡ whole }
+    ensures none { parts ≡ 0 → result ≡ 0 }
+    ensures within { result ≤ whole }
 {
     if parts == 0 {
         return 0;
@@ -117,7 +132,9 @@ pub fn share(whole: usize, parts: usize, number: usize) -> usize
 }
 
 /// How many of the values stand as they were inserted.
-pub fn standing<L: KeyLayout>(lot: &mut Lot<'_, L>, samples: &Samples) -> Result<u64, Refusal> {
+pub fn standing<L: KeyLayout>(lot: &mut Lot<'_, L>, samples: &Samples) -> Result<u64, Refusal>
+    ensures { IfOk result (λ found. found ≤ vec_len lot.old.keys) }
+{
     let mut found = 0u64;
     for (place, key) in lot.keys.iter().enumerate() {
         let hold = lot.owner.get(*key)?;

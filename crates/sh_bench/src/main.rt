@@ -6,23 +6,14 @@
 #![tactic(auto)]
 
 mod adopting;
-mod fault;
 mod gate;
 mod getting;
 mod handing;
 mod inserting;
-mod layout;
 mod lots;
-mod options;
-mod outcome;
 mod parting;
-mod plan;
 mod program;
 mod ring;
-mod samples;
-#[cfg(test)]
-mod tests;
-mod workload;
 
 use std::alloc::{AllocError, Global};
 use std::io;

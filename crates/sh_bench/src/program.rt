@@ -1,12 +1,14 @@
 //! The whole program, over the words of a command line and two writers.
-use crate::fault::Fault;
-use crate::layout::Layout;
-use crate::options::{Options, options_of};
-use crate::outcome::Outcome;
-use crate::workload::Workload;
-use crate::{adopting, getting, handing, inserting, layout, workload};
+use crate::{adopting, getting, handing, inserting};
 use clap::Error;
 use sh_key::{KeyLayout, Tagged, Wide};
+use sh_load::command_line::options_of;
+use sh_load::fault::Fault;
+use sh_load::layout::Layout;
+use sh_load::options::Options;
+use sh_load::outcome::Outcome;
+use sh_load::workload::Workload;
+use sh_load::{layout, workload};
 use std::alloc::Global;
 use std::io;
 use std::io::Write;

@@ -1,8 +1,8 @@
 //! A ring of keys that one thread hands to another.
-ghost use Rattle.std.specs.Prelude.{◌≡◌, vec_len, IfOk};
+ghost use Rattle.std.specs.Prelude.{◌≡◌, ◌≢◌, vec_len, IfOk, IfErr};
 
-use crate::fault::Fault;
 use crate::gate::LOOKS;
+use sh_load::fault::Fault;
 use std::alloc::{AllocError, Global};
 use std::hint::spin_loop;
 use std::sync::atomic::{AtomicU64, Ordering};
@@ -37,7 +37,9 @@ impl Ring {
     }
 
     /// Hands over a key, the one with this number. `Late` where its place does not come free.
-    pub fn put(&self, number: usize, key: u64) -> Result<(), Fault> {
+    pub fn put(&self, number: usize, key: u64) -> Result<(), Fault>
+        ensures { IfErr result (λ fault. fault ≡ Fault.Late) }
+    {
         let word = &self.words[number % PLACES];
         for _look in 0..LOOKS {
             if word.load(Ordering::SeqCst) == 0 {
@@ -50,7 +52,10 @@ impl Ring {
     }
 
     /// Takes over the key with this number. `Late` where it does not come.
-    pub fn take(&self, number: usize) -> Result<u64, Fault> {
+    pub fn take(&self, number: usize) -> Result<u64, Fault>
+        ensures key { IfOk result (λ key. key ≢ 0) }
+        ensures late { IfErr result (λ fault. fault ≡ Fault.Late) }
+    {
         let word = &self.words[number % PLACES];
         for _look in 0..LOOKS {
             let key = word.load(Ordering::SeqCst);

@@ -1,6 +1,6 @@
 //! What is measured.
 ghost use Rattle.std.specs.Prelude.{◌≡◌, IfSome, IfNone};
-ghost use Rattle.sh_bench.specs.Names.{IsNoWorkload, workload_name};
+ghost use Rattle.sh_load.specs.Names.{IsNoWorkload, workload_name};
 
 /// What the threads do, over and over.
 #[derive(Clone, Copy, Debug, PartialEq, Eq)]

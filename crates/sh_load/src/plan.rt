@@ -1,6 +1,10 @@
 //! How large a heap a workload needs.
-ghost use Rattle.std.specs.Prelude.{◌≤◌};
+ghost use Rattle.std.specs.Prelude.{◌≡◌, ℕ, ◌*◌, ◌≤◌, IfOk, IfErr, MatchOption};
+ghost use Rattle.sh_shape.specs.Classes.{class_of, slots};
+ghost use Rattle.sh_load.specs.Plans.{HasNoPlan, IsPlanFor, IsPossible, filled_pages, filled_up_to, pages_filled};
+ghost use Rattle.sh_load.specs.Plans.{shape_for};
 
+use crate::demand::Demand;
 use crate::fault::Fault;
 use crate::samples::Lengths;
 use sh_key::KeyLayout;
@@ -14,28 +18,15 @@ pub struct Plan {
     pub shards: usize,
 }
 
-/// How many owners a workload has, how many other passes, how many values each owner keeps, and how many more it has
-/// now and then in one shard.
-#[derive(Clone, Copy)]
-pub struct Demand {
-    pub owners: usize,
-    pub others: usize,
-    pub passes: usize,
-    pub lengths: Lengths,
-    pub values: usize,
-    pub more: usize,
-    ghost few_owners: { owners ≤ 16 },
-    ghost few_others: { others ≤ 16 },
-    ghost few_passes: { passes ≤ 64 },
-    ghost few_values: { values ≤ 200000 },
-    ghost few_more: { more ≤ 200000 },
-}
-
 // As many shards as a thread's values are parted among at most.
 const MOST_SHARDS: usize = 16;
 
 // The pages that this many values of so many words fill.
-fn pages_of(words: usize, values: usize) -> usize {
+fn pages_of(words: usize, values: usize) -> usize
+    ensures is { result ≡ filled_pages words values }
+    ensures room { (class : ℕ) → class_of words ≡ Some class → values ≤ result * slots class }
+    ensures few { result ≤ values }
+{
     match classes::class_of(words) {
         Some(class) => values.div_ceil(classes::slots(class) as usize),
         None => 0,
@@ -43,7 +34,10 @@ fn pages_of(words: usize, values: usize) -> usize {
 }
 
 // The pages that values of all lengths fill, of which each length has this many.
-fn pages_of_mixed(each: usize) -> usize {
+fn pages_of_mixed(each: usize) -> usize
+    requires { each ≤ 1000000 }
+    ensures { result ≡ filled_up_to 16 each }
+{
     let mut pages = 0usize;
     for words in 1..17 {
         pages = pages.saturating_add(pages_of(words, each));
@@ -52,7 +46,10 @@ fn pages_of_mixed(each: usize) -> usize {
 }
 
 // The pages that these values fill.
-fn pages(lengths: Lengths, values: usize) -> usize {
+fn pages(lengths: Lengths, values: usize) -> usize
+    requires { values ≤ 1000000 }
+    ensures { result ≡ pages_filled lengths values }
+{
     match lengths {
         Lengths::Each(words) => pages_of(words, values),
         Lengths::Mixed => pages_of_mixed(values / 16 + 1),
@@ -63,6 +60,9 @@ fn pages(lengths: Lengths, values: usize) -> usize {
 fn plan_with<L: KeyLayout>(demand: &Demand, shards: usize) -> Option<Plan>
     requires some { 1 ≤ shards }
     requires few { shards ≤ 16 }
+    ensures { MatchOption result (IsPossible L.layout (shape_for demand.now shards) → ⊥)
+        (λ plan. (plan.shards ≡ shards) × (plan.shape ≡ shape_for demand.now shards)
+        × IsPossible L.layout plan.shape) }
 {
     let pages = pages(demand.lengths, demand.values / shards + demand.more + 16);
     let owners = demand.owners * shards;
@@ -77,7 +77,10 @@ fn plan_with<L: KeyLayout>(demand: &Demand, shards: usize) -> Option<Plan>
 }
 
 /// The plan with the fewest shards. `TooMany` where there is none.
-pub fn plan_for<L: KeyLayout>(demand: &Demand) -> Result<Plan, Fault> {
+pub fn plan_for<L: KeyLayout>(demand: &Demand) -> Result<Plan, Fault>
+    ensures plan { IfOk result (IsPlanFor L.layout demand.now) }
+    ensures none { IfErr result (λ fault. (fault ≡ Fault.TooMany) × HasNoPlan L.layout demand.now) }
+{
     for shards in 1..MOST_SHARDS + 1 {
         if let Some(plan) = plan_with::<L>(demand, shards) {
             return Ok(plan);

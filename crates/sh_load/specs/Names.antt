@@ -1,9 +1,9 @@
 -- How workloads and layouts are written.
 use Rattle.std.specs.Prelude.{◌≢◌, ℕ, List, codes}
-use Rattle.sh_bench.specs.declared.workload.Workload.{Workload}
-use Rattle.sh_bench.specs.declared.workload.Workload.TheVariants as workload
-use Rattle.sh_bench.specs.declared.layout.Layout.{Layout}
-use Rattle.sh_bench.specs.declared.layout.Layout.TheVariants as layout
+use Rattle.sh_load.specs.declared.workload.Workload.{Workload}
+use Rattle.sh_load.specs.declared.workload.Workload.TheVariants as workload
+use Rattle.sh_load.specs.declared.layout.Layout.{Layout}
+use Rattle.sh_load.specs.declared.layout.Layout.TheVariants as layout
 
 -- the name of a workload
 abbrev pub workload_name : Workload → List ℕ

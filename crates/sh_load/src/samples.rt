@@ -1,5 +1,7 @@
 //! The values that are stored.
-ghost use Rattle.std.specs.Prelude.{◌≡◌, ◌≤◌, ◌+◌, vec_len, IfOk};
+ghost use Rattle.std.specs.Prelude.{◌≡◌, ◌≤◌, ◌+◌, vec_len, IfOk, IfErr, IsOk};
+ghost use Rattle.sh_load.specs.Samples.{AreSamples, IsSample, length_at};
+ghost use Rattle.sh_load.specs.declared.samples.Lengths.{Lengths as AnyLengths};
 
 use crate::fault::Fault;
 use sh_value::Value;
@@ -17,7 +19,8 @@ pub enum Lengths {
 impl Lengths {
     /// How many words the value at a place has, at most 16.
     pub fn at(self, place: usize) -> usize
-        ensures { result ≤ 16 }
+        ensures is { result ≡ length_at self place }
+        ensures few { result ≤ 16 }
     {
         match self {
             Lengths::Each(words) => words.min(16),
@@ -34,7 +37,10 @@ pub struct Samples {
 }
 
 // The value at a place, of 16 in a row: its words count up from 16 times the place.
-fn sample(lengths: Lengths, place: usize) -> Result<Value, Fault> {
+fn sample(lengths: Lengths, place: usize) -> Result<Value, Fault>
+    ensures is { IfOk result (IsSample lengths place) }
+    ensures fits { IsOk result }
+{
     let mut words = [0u64; 16];
     for (k, word) in words.iter_mut().enumerate() {
         *word = (place % 16 * 16 + k % 16) as u64;
@@ -43,7 +49,9 @@ fn sample(lengths: Lengths, place: usize) -> Result<Value, Fault> {
 }
 
 fn sixteen(alloc: Global, lengths: Lengths) -> Result<Vec<Value>, Fault>
-    ensures { IfOk result (λ values. vec_len values ≡ 16) }
+    ensures count { IfOk result (λ values. vec_len values ≡ 16) }
+    ensures are { IfOk result (λ values. AreSamples lengths values.items) }
+    ensures memory { IfErr result (λ fault. fault ≡ Fault.Memory) }
 {
     let mut values = Vec::new(alloc);
     for place in 0..16usize {
@@ -54,14 +62,20 @@ fn sixteen(alloc: Global, lengths: Lengths) -> Result<Vec<Value>, Fault>
 
 impl Samples {
     /// The values with these lengths.
-    pub fn new(alloc: Global, lengths: Lengths) -> Result<Self, Fault> {
+    pub fn new(alloc: Global, lengths: Lengths) -> Result<Self, Fault>
+        ensures are { IfOk result (λ samples. AreSamples lengths samples.values.items) }
+        ensures memory { IfErr result (λ fault. fault ≡ Fault.Memory) }
+    {
         Ok(Samples {
             values: sixteen(alloc, lengths)?,
         })
     }
 
     /// The value at a place of a list.
-    pub fn at(&self, place: usize) -> &Value {
+    pub fn at(&self, place: usize) -> &Value
+        ensures { (lengths : AnyLengths) → AreSamples lengths self.now.values.items
+            → IsSample lengths place result.now }
+    {
         &self.values[place % 16]
     }
 }

@@ -1,4 +1,8 @@
 //! What may keep a measurement from being taken.
+ghost use Rattle.std.specs.Prelude.{◌≡◌};
+ghost use Rattle.sh_load.specs.Faults.{fault_text};
+ghost use Rattle.sh_load.specs.declared.fault.Fault.TheVariants as fault;
+
 use sh_value::Refusal;
 use std::alloc::{AllocError, AllocFailed};
 use std::io;
@@ -19,24 +23,32 @@ pub enum Fault {
 }
 
 impl From<Refusal> for Fault {
+    ghost from_gives = { λ refusal f. f ≡ fault.Refused refusal };
+
     fn from(refusal: Refusal) -> Fault {
         Fault::Refused(refusal)
     }
 }
 
 impl From<AllocError> for Fault {
+    ghost from_gives = { λ _ f. f ≡ fault.Memory };
+
     fn from(_error: AllocError) -> Fault {
         Fault::Memory
     }
 }
 
 impl<T: Drop> From<AllocFailed<T>> for Fault {
+    ghost from_gives = { λ _ f. f ≡ fault.Memory };
+
     fn from(_error: AllocFailed<T>) -> Fault {
         Fault::Memory
     }
 }
 
 impl From<io::Error> for Fault {
+    ghost from_gives = { λ _ f. f ≡ fault.Io };
+
     fn from(_error: io::Error) -> Fault {
         Fault::Io
     }
@@ -44,7 +56,9 @@ impl From<io::Error> for Fault {
 
 impl Fault {
     /// What is said of it.
-    pub fn text(&self) -> &'static str {
+    pub fn text(&self) -> &'static str
+        ensures { result.now ≡ fault_text self.now }
+    {
         match self {
             Fault::Refused(refusal) => refusal.name(),
             Fault::Memory => "memory ran out",

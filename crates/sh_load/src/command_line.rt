@@ -1,39 +1,16 @@
-//! The command line: what is measured, and how much of it.
-ghost use Rattle.std.specs.Prelude.{◌≤◌};
+//! The command line.
+ghost use Rattle.std.specs.Prelude.{◌≡◌, ◌≤◌, codes};
+ghost use Rattle.clap.specs.Words.{found_of, one_text};
+ghost use Rattle.sh_load.specs.CommandLine.{ReadsLengths, ReadsNumber, ReadsNumbers};
 
 use crate::layout::{Layout, layout_named};
+use crate::options::{MOST_VALUES, Options};
 use crate::samples::Lengths;
 use crate::workload::{Workload, workload_named};
 use crate::{layout, workload};
 use clap::builder::ValueParser;
 use clap::{Arg, ArgAction, ArgMatches, Command, Error};
 use std::alloc::{AllocError, Global};
-
-/// As many values as one heap holds at most: 2,048 pages of 48.
-pub const MOST_VALUES: u64 = 98_304;
-
-/// What is measured, and how much of it.
-#[derive(Drop)]
-pub struct Options {
-    pub workload: Workload,
-    pub layout: Layout,
-    /// In `hand` pairs of threads.
-    pub threads: usize,
-    /// How many operations each thread does.
-    pub operations: usize,
-    pub lengths: Lengths,
-    /// How many values stand: in `get` and `read` in all, else for each thread.
-    pub live: usize,
-    /// How many slots each leaver puts back.
-    pub freed: usize,
-    /// How many passes the heap has at least.
-    pub passes: usize,
-    ghost threads_within: { threads ≤ 16 },
-    ghost operations_within: { operations ≤ 1000000000 },
-    ghost live_within: { live ≤ 98304 },
-    ghost freed_within: { freed ≤ 98304 },
-    ghost passes_within: { passes ≤ 64 },
-}
 
 /// The end of the help.
 const AFTER_HELP: &str =
@@ -131,12 +108,16 @@ fn command<'a>(
 
 // The number of an option, which has a default and is within these bounds.
 fn number(matches: &ArgMatches<'_>, id: &str, most: u64) -> usize
-    ensures { result ≤ most }
+    ensures within { result ≤ most }
+    ensures reads { ReadsNumber (one_text (found_of matches.now) id.now) most result }
 {
     matches.get_one::<u64>(id).unwrap_or(0).min(most) as usize
 }
 
-fn lengths(matches: &ArgMatches<'_>) -> Lengths {
+fn lengths(matches: &ArgMatches<'_>) -> Lengths
+    ensures { ReadsLengths (one_text (found_of matches.now) (codes "mixed"))
+        (one_text (found_of matches.now) (codes "words")) result }
+{
     if matches.get_flag("mixed") {
         Lengths::Mixed
     } else {
@@ -144,7 +125,11 @@ fn lengths(matches: &ArgMatches<'_>) -> Lengths {
     }
 }
 
-fn chosen(matches: &ArgMatches<'_>, workload: Workload, layout: Layout) -> Options {
+fn chosen(matches: &ArgMatches<'_>, workload: Workload, layout: Layout) -> Options
+    ensures numbers { ReadsNumbers (one_text (found_of matches.now)) result }
+    ensures workload { result.workload ≡ workload }
+    ensures layout { result.layout ≡ layout }
+{
     Options {
         workload,
         layout,

@@ -1,4 +1,8 @@
 //! What a thread has measured.
+ghost use Rattle.std.specs.Prelude.{◌≡◌, ◌+◌, max};
+ghost use Rattle.std.specs.Duration.{as_nanos};
+ghost use Rattle.sh_load.specs.Outcomes.{CountsBoth, saturated};
+
 use std::time::Duration;
 
 /// The time that a thread spent, and what it has done and seen, which is the same in each run with the same options.
@@ -24,7 +28,10 @@ pub const NOTHING: Outcome = Outcome {
 
 impl Outcome {
     /// This many operations that took a time and answered a sum.
-    pub fn of(spent: Duration, operations: usize, sum: u64) -> Outcome {
+    pub fn of(spent: Duration, operations: usize, sum: u64) -> Outcome
+        ensures { result ≡ record
+            { nanoseconds = saturated (as_nanos spent); operations = operations; sum = sum; standing = 0 } }
+    {
         Outcome {
             nanoseconds: nanoseconds(spent),
             operations: operations as u64,
@@ -34,7 +41,10 @@ impl Outcome {
     }
 
     /// What one thread did, and then did.
-    pub fn then(self, next: Outcome) -> Outcome {
+    pub fn then(self, next: Outcome) -> Outcome
+        ensures counts { CountsBoth self next result }
+        ensures time { result.nanoseconds ≡ saturated (self.nanoseconds + next.nanoseconds) }
+    {
         Outcome {
             nanoseconds: self.nanoseconds.saturating_add(next.nanoseconds),
             ..self.beside(next)
@@ -42,7 +52,10 @@ impl Outcome {
     }
 
     /// What two threads did at the same time: of their times the longer counts.
-    pub fn beside(self, other: Outcome) -> Outcome {
+    pub fn beside(self, other: Outcome) -> Outcome
+        ensures counts { CountsBoth self other result }
+        ensures time { result.nanoseconds ≡ max self.nanoseconds other.nanoseconds }
+    {
         Outcome {
             nanoseconds: self.nanoseconds.max(other.nanoseconds),
             operations: self.operations.saturating_add(other.operations),
@@ -52,7 +65,9 @@ impl Outcome {
     }
 }
 
-fn nanoseconds(spent: Duration) -> u64 {
+fn nanoseconds(spent: Duration) -> u64
+    ensures { result ≡ saturated (as_nanos spent) }
+{
     spent
         .as_secs()
         .saturating_mul(1_000_000_000)

@@ -1,6 +1,6 @@
 //! The layouts of keys that are measured. `Tiny` is not: its slots are spent after three values each.
 ghost use Rattle.std.specs.Prelude.{◌≡◌, IfSome, IfNone};
-ghost use Rattle.sh_bench.specs.Names.{IsNoLayout, layout_name};
+ghost use Rattle.sh_load.specs.Names.{IsNoLayout, layout_name};
 
 /// Which layout the keys have.
 #[derive(Clone, Copy, Debug, PartialEq, Eq)]

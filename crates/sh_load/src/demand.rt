@@ -1,0 +1,21 @@
+//! What a workload asks of a heap.
+ghost use Rattle.std.specs.Prelude.{◌≤◌};
+
+use crate::samples::Lengths;
+
+/// How many owners a workload has, how many other passes, how many values each owner keeps, and how many more it has
+/// now and then in one shard.
+#[derive(Clone, Copy)]
+pub struct Demand {
+    pub owners: usize,
+    pub others: usize,
+    pub passes: usize,
+    pub lengths: Lengths,
+    pub values: usize,
+    pub more: usize,
+    ghost few_owners: { owners ≤ 16 },
+    ghost few_others: { others ≤ 16 },
+    ghost few_passes: { passes ≤ 64 },
+    ghost few_values: { values ≤ 200000 },
+    ghost few_more: { more ≤ 200000 },
+}

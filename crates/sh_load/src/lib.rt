@@ -1,0 +1,13 @@
+//! What a run of the bench is asked for, and what is made of what it measured: its command line, the workloads and
+//! layouts, the values that it stores, a shape with room for them, and the counts and times of its threads.
+#![tactic(auto)]
+
+pub mod command_line;
+pub mod demand;
+pub mod fault;
+pub mod layout;
+pub mod options;
+pub mod outcome;
+pub mod plan;
+pub mod samples;
+pub mod workload;
