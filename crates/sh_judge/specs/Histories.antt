@@ -18,8 +18,8 @@ entry_told is_remover issued pass key Removed = entry.Removed pass key
 entry_told is_remover issued pass key Marked = if is_remover then entry.Removed pass key else entry.Gone pass key
 entry_told is_remover issued pass key Released = entry.Released pass key
 
--- the entry that a line stands for. What a get gave that was never read is the value that was issued; who marked a key by
--- hand removed it, or found it removed
+-- the entry that a line stands for. What a get gave that was never read is the value that was issued; who marked a key
+-- by hand removed it, or found it removed
 abbrev pub entry_of_line : Bool → List ℕ → Line → Entry
 entry_of_line is_remover issued line = entry_told is_remover issued line.pass line.key line.told
 
@@ -27,8 +27,8 @@ entry_of_line is_remover issued line = entry_told is_remover issued line.pass li
 abbrev pub IsEntryOf : Line → Entry → Type 0
 IsEntryOf line e = (is_remover : Bool) × (issued : List ℕ) × (e ≡ entry_of_line is_remover issued line)
 
--- the history has an entry for each line, in an order that keeps to the times of the calls: none began only when one that
--- stands behind it had ended
+-- the history has an entry for each line, in an order that keeps to the times of the calls: none began only when one
+-- that stands behind it had ended
 pub record IsHistoryOf (lines : List Line) (history : List Entry) : Type 0 where
   pub ordered : List Line
   pub each_once : IsPermutation lines ordered

@@ -106,8 +106,8 @@ fn count<L: KeyLayout>(page: &mut PageTally, parts: Parts, removed: bool, holds:
     }
 }
 
-/// Whether a page of a shard that was full for this class has no room for it: it has a class, and where that is the same
-/// no slot is left. A page of another class may have slots that its owner has yet to collect.
+/// Whether a page of a shard that was full for this class has no room for it: it has a class, and where that is the
+/// same no slot is left. A page of another class may have slots that its owner has yet to collect.
 pub fn is_filled(accounts: &Accounts, class: u32) -> bool
     ensures { IsTrue result ↔ HasNoRoom accounts.now class }
 {

@@ -87,8 +87,8 @@ fn report<E: Write>(options: &Options, round: u64, fault: Fault, errors: &mut E)
     }
 }
 
-/// Runs the program, and gives the exit status: 0 where nothing was found, 1 where something was, 2 for a mistake in the
-/// words, and 3 where memory or a write failed. The first word is the program's name.
+/// Runs the program, and gives the exit status: 0 where nothing was found, 1 where something was, 2 for a mistake in
+/// the words, and 3 where memory or a write failed. The first word is the program's name.
 pub fn run<W: Write, E: Write, R: Threads + Sync>(
     rt: &R,
     alloc: Global,
