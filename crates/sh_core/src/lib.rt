@@ -13,8 +13,6 @@ mod moving;
 mod opening;
 pub mod outcome;
 pub mod refuted;
-#[cfg(test)]
-mod tests;
 pub mod world;
 
 pub use accounts::Accounts;

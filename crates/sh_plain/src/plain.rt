@@ -376,6 +376,3 @@ impl<L: KeyLayout> Store for PlainStore<L> {
         result
     }
 }
-
-#[cfg(test)]
-mod tests;

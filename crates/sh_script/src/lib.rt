@@ -18,8 +18,6 @@ mod numbers;
 mod place;
 mod reader;
 mod script;
-#[cfg(test)]
-mod tests;
 mod trouble;
 mod words;
 

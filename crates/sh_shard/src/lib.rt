@@ -19,8 +19,6 @@ mod search;
 pub mod shard;
 mod standing;
 mod store;
-#[cfg(test)]
-mod tests;
 mod using;
 
 pub use pages::Pages;

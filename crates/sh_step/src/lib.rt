@@ -22,8 +22,6 @@ pub mod part;
 mod slotted;
 pub mod step;
 mod steps;
-#[cfg(test)]
-mod tests;
 
 pub use action::{Action, Event, PageName, SlotName};
 pub use body::Body;

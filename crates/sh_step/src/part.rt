@@ -11,8 +11,6 @@ mod keyed;
 mod owners;
 mod paged;
 mod slotted;
-#[cfg(test)]
-mod tests;
 
 use crate::lists::{has_number, has_slots, has_spot, value_noted};
 use sh_slots::{Hand, Spot};

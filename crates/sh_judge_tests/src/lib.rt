@@ -1,0 +1,5 @@
+//! Tests of what judges the stress program.
+#![tactic(auto)]
+
+#[cfg(test)]
+mod tests;

@@ -1,0 +1,177 @@
+//! What the judge finds, by examples.
+use sh_core::Accounts;
+use sh_judge::judge::judged;
+use sh_judge::line::{Line, Span, Told};
+use sh_judge::pattern;
+use sh_judge::tally::{PageTally, agrees};
+use sh_value::Value;
+use std::alloc::Global;
+use std::test::Fail;
+
+fn line(pass: u32, begin: u64, end: u64, told: Told) -> Line {
+    Line {
+        pass,
+        key: 4_096,
+        span: Span { begin, end },
+        told,
+    }
+}
+
+fn inserted(begin: u64, end: u64) -> Line {
+    line(0, begin, end, Told::Inserted(pattern::value(7, 3)))
+}
+
+fn is_legal(alloc: Global, lines: &[Line]) -> bool {
+    judged(alloc, 4_096, lines, 3, 4).is_ok()
+}
+
+#[test]
+fn answers_in_their_order_are_legal(rt: HostRuntime) {
+    let lines = [
+        line(1, 1, 2, Told::Gone),
+        inserted(3, 4),
+        line(1, 5, 6, Told::Got(Some(pattern::value(7, 3)))),
+        line(2, 7, 8, Told::Removed),
+        line(1, 9, 10, Told::Released),
+        line(0, 11, 12, Told::Gone),
+    ];
+    assert!(rt; is_legal(rt.alloc(), &lines));
+}
+
+#[test]
+fn a_get_after_the_removal_is_found(rt: HostRuntime) {
+    let lines = [
+        inserted(1, 2),
+        line(2, 3, 4, Told::Removed),
+        line(1, 5, 6, Told::Got(None)),
+    ];
+    assert!(rt; !is_legal(rt.alloc(), &lines));
+}
+
+#[test]
+fn a_get_during_the_removal_is_legal(rt: HostRuntime) {
+    let lines = [
+        inserted(1, 2),
+        line(2, 3, 6, Told::Removed),
+        line(1, 4, 5, Told::Got(None)),
+    ];
+    assert!(rt; is_legal(rt.alloc(), &lines));
+}
+
+#[test]
+fn a_key_gone_too_early_is_found(rt: HostRuntime) {
+    let gone = [inserted(1, 2), line(1, 3, 4, Told::Gone)];
+    assert!(rt; !is_legal(rt.alloc(), &gone));
+    let early = [
+        inserted(1, 2),
+        line(1, 3, 4, Told::Gone),
+        line(2, 5, 6, Told::Removed),
+    ];
+    assert!(rt; !is_legal(rt.alloc(), &early));
+}
+
+#[test]
+fn another_value_is_found(rt: HostRuntime) {
+    let lines = [
+        inserted(1, 2),
+        line(1, 3, 4, Told::Got(Some(pattern::value(8, 3)))),
+    ];
+    assert!(rt; !is_legal(rt.alloc(), &lines));
+}
+
+#[test]
+fn two_removals_are_found(rt: HostRuntime) {
+    let lines = [
+        inserted(1, 2),
+        line(1, 3, 6, Told::Removed),
+        line(2, 4, 5, Told::Removed),
+    ];
+    assert!(rt; !is_legal(rt.alloc(), &lines));
+}
+
+// Two mark the key by hand, and one of them removes it: the one that may still do so when the key is got for the last
+// time.
+#[test]
+fn one_of_two_marks_removes(rt: HostRuntime) {
+    let legal = [
+        inserted(1, 2),
+        line(1, 3, 9, Told::Marked),
+        line(2, 8, 10, Told::Marked),
+        line(0, 4, 7, Told::Got(None)),
+    ];
+    assert!(rt; is_legal(rt.alloc(), &legal));
+    let too_late = [
+        inserted(1, 2),
+        line(1, 3, 4, Told::Marked),
+        line(2, 8, 10, Told::Marked),
+        line(0, 5, 7, Told::Got(None)),
+    ];
+    assert!(rt; !is_legal(rt.alloc(), &too_late));
+}
+
+#[test]
+fn a_release_without_a_hold_is_found(rt: HostRuntime) {
+    let lines = [inserted(1, 2), line(1, 3, 4, Told::Released)];
+    assert!(rt; !is_legal(rt.alloc(), &lines));
+}
+
+// A key may have 4 holds. With 3 passes there must be 2 at least, where another is crowded out.
+#[test]
+fn crowded_needs_holds(rt: HostRuntime) {
+    let lines = [
+        inserted(1, 2),
+        line(0, 3, 4, Told::Got(None)),
+        line(1, 5, 9, Told::Got(None)),
+        line(0, 6, 7, Told::Released),
+        line(2, 6, 8, Told::Crowded),
+    ];
+    assert!(rt; is_legal(rt.alloc(), &lines));
+    assert!(rt; !is_legal(rt.alloc(), &[inserted(1, 2), line(2, 6, 8, Told::Crowded)]));
+}
+
+#[test]
+fn torn_values_are_found(rt: HostRuntime) -> Result<(), Fail> {
+    for len in 0..17usize {
+        assert!(rt; pattern::is_whole(&pattern::value(41, len)));
+    }
+    let one = pattern::value(41, 2);
+    let other = pattern::value(42, 2);
+    let (Some(first), Some(second)) = (one.words().first(), other.words().last()) else {
+        return Err(Fail::from("two words"));
+    };
+    let Ok(torn) = Value::new(&[*first, *second]) else {
+        return Err(Fail::from("a value"));
+    };
+    assert!(rt; !pattern::is_whole(&torn));
+    Ok(())
+}
+
+#[test]
+fn accounts_must_add_up(rt: HostRuntime) {
+    let tally = PageTally {
+        live: 1,
+        marked: 1,
+        retired: 0,
+    };
+    let accounts = Accounts {
+        class: Some(7),
+        live: 1,
+        marked: 1,
+        retired: 0,
+        mine: 0,
+        hand: 0,
+        queued: 1,
+    };
+    assert!(rt; agrees(&accounts, tally));
+    let lost = Accounts {
+        queued: 0,
+        ..accounts
+    };
+    assert!(rt; !agrees(&lost, tally));
+    let in_hand = Accounts {
+        hand: 1,
+        queued: 0,
+        ..accounts
+    };
+    assert!(rt; !agrees(&in_hand, tally));
+}

@@ -1,0 +1,179 @@
+//! Keys that nobody was answered, on a fresh heap: every number around every edge of a layout. It is gone where it is a
+//! key of the heap, which is reckoned here from the number's digits, and else a bad key.
+use sh_key::{KeyLayout, Tagged, Tiny, Wide};
+use sh_pass::{Heap, Pass};
+use sh_shape::Shape;
+use sh_value::Refusal;
+use std::alloc::Global;
+use std::process::Abort;
+use std::test::Fail;
+
+/// What a number names, if it is a key.
+#[derive(Clone, Copy)]
+struct Digits {
+    generation: u64,
+    shard: u64,
+    page: u64,
+    slot: u64,
+}
+
+/// How the keys of a layout are written.
+trait Written {
+    /// The last generation.
+    const LAST: u64;
+
+    fn digits(number: u64) -> Digits;
+}
+
+impl Written for Tiny {
+    const LAST: u64 = 3;
+
+    fn digits(number: u64) -> Digits {
+        Digits {
+            generation: number / 4_096,
+            shard: number / 1_024 % 4,
+            page: number / 64 % 16,
+            slot: number % 64,
+        }
+    }
+}
+
+impl Written for Wide {
+    const LAST: u64 = 4_294_967_295;
+
+    fn digits(number: u64) -> Digits {
+        Digits {
+            generation: number / 16_777_216,
+            shard: number / 65_536 % 256,
+            page: number / 64 % 1_024,
+            slot: number % 64,
+        }
+    }
+}
+
+impl Written for Tagged {
+    const LAST: u64 = 4_294_967_295;
+
+    fn digits(number: u64) -> Digits {
+        Digits {
+            generation: number / 1_048_576,
+            shard: number / 16_384 % 64,
+            page: number / 64 % 256,
+            slot: number % 64,
+        }
+    }
+}
+
+/// Whether the number is a key of a heap of this many shards and pages.
+fn is_key<L: Written>(number: u64, shards: u64, pages: u64) -> bool {
+    let digits = L::digits(number);
+    (1..=L::LAST).contains(&digits.generation)
+        && digits.shard < shards
+        && digits.page < pages
+        && digits.slot < 48
+}
+
+/// Gets and removes so many numbers from the first on, and answers how many of them are keys.
+fn keys_among<L: KeyLayout + Written>(
+    rt: &impl Abort,
+    pass: &mut Pass<'_, L>,
+    first: u64,
+    count: u64,
+) -> u64 {
+    let shards = u64::from(pass.shape().shards());
+    let pages = u64::from(pass.shape().segments()).saturating_mul(8);
+    let mut keys = 0u64;
+    for i in 0..count {
+        let number = first.wrapping_add(i);
+        let is_key = is_key::<L>(number, shards, pages);
+        let refusal = if is_key {
+            Refusal::Gone
+        } else {
+            Refusal::BadKey
+        };
+        assert_eq!(rt; pass.get(number), Err(refusal), "{number}");
+        assert_eq!(rt; pass.remove(number), Err(refusal), "{number}");
+        keys = keys.saturating_add(u64::from(is_key));
+    }
+    keys
+}
+
+/// On a heap of this many shards and segments, of these numbers so many are keys: from the first, how many, the keys.
+fn expect<L: KeyLayout + Written>(
+    rt: &impl Abort,
+    alloc: Global,
+    shards: u32,
+    segments: u32,
+    tries: &[(u64, u64, u64)],
+) {
+    let shape = Shape::new(shards, segments, 1).expect(rt, "a shape");
+    let (heap, seats) = Heap::<L>::open(alloc, shape).expect(rt, "a heap");
+    let Ok(mut passes) = heap.passes(alloc, seats) else {
+        panic!(rt; "no passes")
+    };
+    let Some(mut pass) = passes.pop() else {
+        panic!(rt; "no pass")
+    };
+    for (first, count, keys) in tries {
+        assert_eq!(rt; keys_among(rt, &mut pass, *first, *count), *keys, "{first}");
+    }
+}
+
+// Three generations of 8 pages with 48 slots are 1,152 keys, and of 48 pages with 48 slots 6,912.
+#[test]
+fn forged_keys_of_tiny(rt: HostRuntime) -> Result<(), Fail> {
+    expect::<Tiny>(&rt, rt.alloc(), 1, 1, &[(0, 20_001, 1_152)]);
+    expect::<Tiny>(&rt, rt.alloc(), 3, 2, &[(0, 20_001, 6_912)]);
+    Ok(())
+}
+
+/// A hundred thousand numbers around an edge, of which so many are keys.
+const fn around(edge: u64, keys: u64) -> (u64, u64, u64) {
+    (edge.wrapping_sub(50_000), 100_000, keys)
+}
+
+// A heap of 3 shards has 16 pages of 48 slots in each, which are 768 keys in each generation. Of one generation to the
+// next it is 2^24, and of one shard to the next 2^16, so that the numbers around an edge reach one shard at most.
+#[test]
+fn forged_keys_of_wide(rt: HostRuntime) -> Result<(), Fail> {
+    let first = 16_777_216;
+    let shard = 65_536;
+    let end = 72_057_594_037_927_936;
+    let tries = [
+        around(0, 0),
+        around(first, 768),
+        around(first + shard, 768),
+        around(first + 2 * shard, 768),
+        around(first + 3 * shard, 0),
+        around(2 * first, 768),
+        // Bit 52 is one of the generation.
+        around(4_503_599_627_370_496, 768),
+        around(end - first, 768),
+        around(end, 0),
+        around(9_223_372_036_854_775_808, 0),
+    ];
+    expect::<Wide>(&rt, rt.alloc(), 3, 2, &tries);
+    Ok(())
+}
+
+// Of one generation to the next it is 2^20, and of one shard to the next 2^14, so that the numbers around an edge reach
+// all 3 shards. No key has a bit from the 52nd on.
+#[test]
+fn forged_keys_of_tagged(rt: HostRuntime) -> Result<(), Fail> {
+    let first = 1_048_576;
+    let end = 4_503_599_627_370_496;
+    let tries = [
+        around(0, 0),
+        around(first, 2_304),
+        around(2 * first, 2_304),
+        around(end - first, 2_304),
+        around(end, 0),
+        around(end + first, 0),
+        // Under the tags 1 and 255.
+        around(72_057_594_037_927_936 + first, 0),
+        around(18_374_686_479_671_623_680 + first, 0),
+        around(9_223_372_036_854_775_808, 0),
+    ];
+    expect::<Tagged>(&rt, rt.alloc(), 3, 2, &tries);
+    Ok(())
+}

@@ -1,0 +1,5 @@
+//! Tests of the plain store: worked calls, and refused memory.
+#![tactic(auto)]
+
+#[cfg(test)]
+mod tests;

@@ -1,0 +1,141 @@
+ghost use Rattle.std.specs.Prelude.{◌≡◌};
+
+use sh_key::Tiny;
+use sh_shape::Shape;
+use sh_slots::{Hand, Name, Reply, Spot};
+use sh_step::{Move, Part};
+use sh_value::Refusal;
+use std::process::Abort;
+use std::test::Fail;
+
+// A live slot of the first generation, with no count; marked with no count; and with one.
+const LIVE: u64 = 5368709120;
+
+const MARKED: u64 = 7516192768;
+
+const MARKED_ONE: u64 = 7516192769;
+
+const FIRST: Spot = Spot { page: 0, slot: 0 };
+
+const NAME: Name = Name {
+    page: 0,
+    slot: 0,
+    generation: 1,
+};
+
+fn one_shard(rt: &impl Abort) -> Shape
+    ensures { result ≡ record { shards = 1; segments = 1; passes = 1 } }
+{
+    Shape::new(1, 1, 1).expect(rt, "one shard of one segment is a shape")
+}
+
+#[test]
+fn a_hold_is_noted_where_the_value_is(rt: HostRuntime) -> Result<(), Fail> {
+    let shape = one_shard(&rt);
+    let mut part = Part::new(rt.alloc());
+    let entry = Move::EnterGet(4096, NAME);
+    match part.apply::<Tiny>(&shape, &entry, LIVE) {
+        Ok(reply) => {
+            assert_eq!(rt; reply, Some(Reply::Got(4096)));
+            assert!(rt; part.has_hold(4096));
+        }
+        Err(refusal) => {
+            assert_eq!(rt; refusal, Refusal::Memory);
+            assert!(rt; !part.has_hold(4096));
+        }
+    }
+    assert!(rt; part.is_idle());
+    Ok(())
+}
+
+#[test]
+fn an_entry_of_an_empty_slot_leaves_again(rt: HostRuntime) -> Result<(), Fail> {
+    let shape = one_shard(&rt);
+    let mut part = Part::new(rt.alloc());
+    let entry = Move::EnterGet(4096, NAME);
+    let reply = part
+        .apply::<Tiny>(&shape, &entry, 4294967296)
+        .expect(&rt, "nothing is noted");
+    assert_eq!(rt; reply, Some(Reply::Gone(4096)));
+    assert_eq!(rt; *part.hand(), Hand::Leaving(FIRST));
+    Ok(())
+}
+
+// Another pass came onto the slot: this one ends nothing. Then nobody is on it, and the shard is not this pass's own.
+#[test]
+#[tactic(auto, unfolding(sh_step::specs::Plans::keys_of, sh_step::specs::Plans::home, sh_step::specs::Plans::local, sh_word::specs::Fields::word_of))]
+fn a_generation_ends_where_nobody_is_on_the_slot(rt: HostRuntime) -> Result<(), Fail> {
+    let shape = one_shard(&rt);
+    let mut part = Part::new(rt.alloc());
+    let finish = Move::Finish(FIRST, 1);
+    part.apply::<Tiny>(&shape, &finish, MARKED_ONE)
+        .expect(&rt, "nothing is noted");
+    assert_eq!(rt; *part.hand(), Hand::Idle);
+    part.apply::<Tiny>(&shape, &finish, MARKED)
+        .expect(&rt, "nothing is noted");
+    assert_eq!(rt; *part.hand(), Hand::ToPut(FIRST));
+    part.apply::<Tiny>(&shape, &Move::Put(FIRST), 1)
+        .expect(&rt, "nothing is noted");
+    assert_eq!(rt; *part.hand(), Hand::Tying(FIRST, 1, true));
+    part.apply::<Tiny>(&shape, &Move::Tie(FIRST, 1, true), 0)
+        .expect(&rt, "nothing is noted");
+    assert_eq!(rt; *part.hand(), Hand::Ringing(0));
+    part.apply::<Tiny>(&shape, &Move::Ring(0), 0)
+        .expect(&rt, "nothing is noted");
+    assert_eq!(rt; *part.hand(), Hand::RingTying(0, 1));
+    Ok(())
+}
+
+// A page of class 7 has 3 slots. Each refusal of memory leaves the part as it was.
+#[test]
+fn an_owner_arms_and_follows_a_page(rt: HostRuntime) -> Result<(), Fail> {
+    let shape = one_shard(&rt);
+    let mut part = Part::new(rt.alloc());
+    part.apply::<Tiny>(&shape, &Move::Adopt(0), 0)
+        .expect(&rt, "nothing is noted");
+    assert_eq!(rt; part.owned(), Some(0));
+    if part
+        .apply::<Tiny>(&shape, &Move::SetClass(0, 7), 0)
+        .is_err()
+    {
+        assert_eq!(rt; part.class_noted(0), None);
+        assert!(rt; !part.has_mine(FIRST));
+        return Ok(());
+    }
+    assert_eq!(rt; part.class_noted(0), Some(8));
+    assert!(rt; part.has_all_mine(0, 3));
+    assert!(rt; !part.has_all_mine(0, 4));
+    part.apply::<Tiny>(&shape, &Move::PutSlot(FIRST), 0)
+        .expect(&rt, "nothing is noted");
+    assert!(rt; !part.has_mine(FIRST));
+    if part.apply::<Tiny>(&shape, &Move::Arm(0), 2).is_err() {
+        assert!(rt; !part.has_armed(0));
+        assert_eq!(rt; part.cursor(0), None);
+        return Ok(());
+    }
+    assert!(rt; part.has_armed(0));
+    assert_eq!(rt; part.cursor(0), Some(0));
+    let follow = Move::Follow(0, 0);
+    part.apply::<Tiny>(&shape, &follow, 0)
+        .expect(&rt, "nothing is noted");
+    assert_eq!(rt; part.cursor(0), Some(0));
+    assert!(rt; !part.has_mine(FIRST));
+    if part.apply::<Tiny>(&shape, &follow, 1).is_err() {
+        assert_eq!(rt; part.cursor(0), Some(0));
+        return Ok(());
+    }
+    assert_eq!(rt; part.cursor(0), None);
+    assert!(rt; part.has_mine(FIRST));
+    part.apply::<Tiny>(&shape, &Move::TakeBell(0), 1)
+        .expect(&rt, "nothing is noted");
+    assert_eq!(rt; part.bell_cursor(), Some(0));
+    let follow_bell = Move::FollowBell(0);
+    part.apply::<Tiny>(&shape, &follow_bell, 0)
+        .expect(&rt, "nothing is noted");
+    assert_eq!(rt; part.bell_cursor(), Some(0));
+    part.apply::<Tiny>(&shape, &follow_bell, 1)
+        .expect(&rt, "nothing is noted");
+    assert_eq!(rt; part.bell_cursor(), None);
+    assert!(rt; !part.has_armed(0));
+    Ok(())
+}
