@@ -3,6 +3,7 @@ ghost use Rattle.std.specs.Prelude.{◌≡◌, IfOk};
 
 use crate::gate::Gate;
 use crate::lots::{Job, Lot, filled_lots, standing};
+use crate::owners::passes_of;
 use crate::parting::{taken, together};
 use sh_key::KeyLayout;
 use sh_load::demand::Demand;
@@ -80,6 +81,21 @@ fn rounds<L: KeyLayout>(
     Ok(sum.wrapping_add(use_each(pass, rest, options.workload)?))
 }
 
+// The measured operations, with their time.
+fn rounds_timed<L: KeyLayout>(
+    rt: &impl Clock,
+    pass: &mut Pass<'_, L>,
+    walk: &[u64],
+    options: &Options,
+) -> Result<Outcome, Fault>
+    ensures operations { IfOk result (λ outcome. outcome.operations ≡ options.now.operations) }
+    ensures standing { IfOk result (λ outcome. outcome.standing ≡ 0) }
+{
+    let start = Instant::now(rt)?;
+    let sum = rounds(pass, walk, options)?;
+    Ok(Outcome::of(start.elapsed(rt)?, options.operations, sum))
+}
+
 // What one thread does: it goes through the keys of the walk, over and over.
 fn work<L: KeyLayout>(
     rt: &impl Clock,
@@ -93,9 +109,7 @@ fn work<L: KeyLayout>(
 {
     use_each(&mut pass, walk, options.workload)?;
     gate.pass()?;
-    let start = Instant::now(rt)?;
-    let sum = rounds(&mut pass, walk, options)?;
-    Ok(Outcome::of(start.elapsed(rt)?, options.operations, sum))
+    rounds_timed(rt, &mut pass, walk, options)
 }
 
 // The keys of all lots, each once, in the order in which they are gone through.
@@ -124,6 +138,13 @@ fn lengthen(walk: &mut Vec<u64>) -> Result<(), AllocError> {
     Ok(())
 }
 
+// The walk through all lots, which goes through them again where they are few.
+fn long_walk<L: KeyLayout>(alloc: Global, lots: &[Lot<'_, L>]) -> Result<Vec<u64>, AllocError> {
+    let mut walk = walk_of(alloc, lots)?;
+    lengthen(&mut walk)?;
+    Ok(walk)
+}
+
 // How many of the values of all lots stand as they were inserted.
 fn all_standing<L: KeyLayout>(lots: &mut [Lot<'_, L>], samples: &Samples) -> Result<u64, Fault> {
     let mut found = 0u64;
@@ -144,6 +165,61 @@ fn demand(options: &Options) -> Demand {
     }
 }
 
+// Measures passes that go through the keys of the walk, each in a thread of its own.
+fn measure_users<L: KeyLayout + Send + Sync, R: Threads + Clock + Sync>(
+    rt: &R,
+    options: &Options,
+    users: Vec<Pass<'_, L>>,
+    walk: &[u64],
+) -> Result<Outcome, Fault> {
+    let gate = &Gate::new(options.threads as u64);
+    let done = thread::map_vec(rt, users, &|pass| work(rt, gate, options, walk, pass))?;
+    together(done.as_slice())
+}
+
+// The lots of the owners of so many shards, which take the last passes.
+fn owned_lots<'a, L: KeyLayout>(
+    alloc: Global,
+    options: &Options,
+    passes: &mut Vec<Pass<'a, L>>,
+    shards: usize,
+    samples: &Samples,
+) -> Result<Vec<Lot<'a, L>>, Fault> {
+    let owners = Job {
+        passes: taken(alloc, passes, shards)?,
+        first_shard: 0,
+    };
+    filled_lots(alloc, owners, samples, options.live)
+}
+
+// Measures users of the values of the lots, which take the last passes.
+fn measure_lots<L: KeyLayout + Send + Sync, R: Threads + Clock + Sync>(
+    rt: &R,
+    alloc: Global,
+    options: &Options,
+    passes: &mut Vec<Pass<'_, L>>,
+    lots: &[Lot<'_, L>],
+) -> Result<Outcome, Fault> {
+    let walk = long_walk(alloc, lots)?;
+    let users = taken(alloc, passes, options.threads)?;
+    measure_users(rt, options, users, walk.as_slice())
+}
+
+// Measures with these passes: the last ones become owners of so many shards, and those before them use the values.
+fn measure_passes<L: KeyLayout + Send + Sync, R: Threads + Clock + Sync>(
+    rt: &R,
+    alloc: Global,
+    options: &Options,
+    passes: &mut Vec<Pass<'_, L>>,
+    shards: usize,
+) -> Result<Outcome, Fault> {
+    let samples = Samples::new(alloc, options.lengths)?;
+    let mut lots = owned_lots(alloc, options, passes, shards, &samples)?;
+    let mut outcome = measure_lots(rt, alloc, options, passes, lots.as_slice())?;
+    outcome.standing = all_standing(lots.as_mut_slice(), &samples)?;
+    Ok(outcome)
+}
+
 /// Measures passes that use the values of one owner, which stands by.
 pub fn measure<L: KeyLayout + Send + Sync, R: Threads + Clock + Sync>(
     rt: &R,
@@ -152,21 +228,6 @@ pub fn measure<L: KeyLayout + Send + Sync, R: Threads + Clock + Sync>(
 ) -> Result<Outcome, Fault> {
     let plan = plan_for::<L>(&demand(options))?;
     let (heap, seats) = Heap::<L>::open(alloc, plan.shape)?;
-    let mut passes = heap.passes(alloc, seats).map_err(|(_, why)| why)?;
-    let owners = taken(alloc, &mut passes, plan.shards)?;
-    let users = taken(alloc, &mut passes, options.threads)?;
-    let samples = Samples::new(alloc, options.lengths)?;
-    let job = Job {
-        passes: owners,
-        first_shard: 0,
-    };
-    let mut lots = filled_lots(alloc, job, &samples, options.live)?;
-    let mut walk = walk_of(alloc, lots.as_slice())?;
-    lengthen(&mut walk)?;
-    let gate = Gate::new(options.threads as u64);
-    let (gate, keys) = (&gate, walk.as_slice());
-    let done = thread::map_vec(rt, users, &|pass| work(rt, gate, options, keys, pass))?;
-    let mut outcome = together(done.as_slice())?;
-    outcome.standing = all_standing(lots.as_mut_slice(), &samples)?;
-    Ok(outcome)
+    let mut passes = passes_of(alloc, &heap, seats)?;
+    measure_passes(rt, alloc, options, &mut passes, plan.shards)
 }

@@ -2,6 +2,7 @@
 ghost use Rattle.std.specs.Prelude.{◌≡◌, IfOk};
 
 use crate::gate::{Gate, LOOKS};
+use crate::owners::{adopted, passes_of};
 use crate::parting::together;
 use crate::ring::Ring;
 use sh_key::KeyLayout;
@@ -12,6 +13,7 @@ use sh_load::outcome::Outcome;
 use sh_load::plan::plan_for;
 use sh_load::samples::Samples;
 use sh_pass::{Heap, Pass};
+use sh_shape::Shape;
 use sh_shard::Shard;
 use sh_value::{Refusal, Value};
 use std::alloc::{AllocError, Global};
@@ -77,6 +79,21 @@ fn consume<L: KeyLayout>(
     Ok(())
 }
 
+// The measured operations of a producer.
+fn produce_timed<L: KeyLayout>(
+    rt: &impl Clock,
+    owner: &mut Shard<'_, L>,
+    ring: &Ring,
+    samples: &Samples,
+    operations: usize,
+) -> Result<Outcome, Fault>
+    ensures { IfOk result (λ outcome. outcome.operations ≡ operations) }
+{
+    let start = Instant::now(rt)?;
+    produce(owner, ring, samples, operations)?;
+    Ok(Outcome::of(start.elapsed(rt)?, operations, 0))
+}
+
 fn produce_all<L: KeyLayout>(
     rt: &impl Clock,
     alloc: Global,
@@ -89,11 +106,9 @@ fn produce_all<L: KeyLayout>(
     ensures { IfOk result (λ outcome. outcome.operations ≡ options.now.operations) }
 {
     let samples = Samples::new(alloc, options.lengths)?;
-    let mut owner = Shard::adopt(alloc, pass, shard).map_err(|(_, why)| why)?;
+    let mut owner = adopted(alloc, pass, shard)?;
     gate.pass()?;
-    let start = Instant::now(rt)?;
-    produce(&mut owner, ring, &samples, options.operations)?;
-    Ok(Outcome::of(start.elapsed(rt)?, options.operations, 0))
+    produce_timed(rt, &mut owner, ring, &samples, options.operations)
 }
 
 fn consume_all<L: KeyLayout>(
@@ -161,6 +176,43 @@ fn demand(options: &Options) -> Demand {
     }
 }
 
+// Measures the jobs, each in a thread of its own.
+fn measure_jobs<L: KeyLayout + Send + Sync, R: Threads + Clock + Sync>(
+    rt: &R,
+    alloc: Global,
+    options: &Options,
+    jobs: Vec<Job<'_, L>>,
+) -> Result<Outcome, Fault> {
+    let gate = &Gate::new(2 * options.threads as u64);
+    let done = thread::map_vec(rt, jobs, &|job| work(rt, alloc, gate, options, job))?;
+    together(done.as_slice())
+}
+
+// Measures pairs of threads that have these passes, and a ring for each pair.
+fn measure_passes<'a, L: KeyLayout + Send + Sync, R: Threads + Clock + Sync>(
+    rt: &R,
+    alloc: Global,
+    options: &Options,
+    passes: &mut Vec<Pass<'a, L>>,
+    rings: &'a [Ring],
+) -> Result<Outcome, Fault> {
+    let jobs = jobs(alloc, passes, rings)?;
+    measure_jobs(rt, alloc, options, jobs)
+}
+
+// Measures pairs of threads on a heap of this shape, with a ring for each pair.
+fn measure_rings<L: KeyLayout + Send + Sync, R: Threads + Clock + Sync>(
+    rt: &R,
+    alloc: Global,
+    options: &Options,
+    shape: Shape,
+    rings: &[Ring],
+) -> Result<Outcome, Fault> {
+    let (heap, seats) = Heap::<L>::open(alloc, shape)?;
+    let mut passes = passes_of(alloc, &heap, seats)?;
+    measure_passes(rt, alloc, options, &mut passes, rings)
+}
+
 /// Measures pairs of threads, of which one inserts and the other removes. `TooMany` where a producer needs more than
 /// one shard.
 pub fn measure<L: KeyLayout + Send + Sync, R: Threads + Clock + Sync>(
@@ -173,10 +225,5 @@ pub fn measure<L: KeyLayout + Send + Sync, R: Threads + Clock + Sync>(
         return Err(Fault::TooMany);
     }
     let rings = rings(alloc, options.threads)?;
-    let (heap, seats) = Heap::<L>::open(alloc, plan.shape)?;
-    let mut passes = heap.passes(alloc, seats).map_err(|(_, why)| why)?;
-    let jobs = jobs(alloc, &mut passes, rings.as_slice())?;
-    let gate = &Gate::new(2 * options.threads as u64);
-    let done = thread::map_vec(rt, jobs, &|job| work(rt, alloc, gate, options, job))?;
-    together(done.as_slice())
+    measure_rings::<L, R>(rt, alloc, options, plan.shape, rings.as_slice())
 }

@@ -3,6 +3,7 @@ ghost use Rattle.std.specs.Prelude.{◌≡◌, ◌<◌, IfOk, length};
 
 use crate::gate::Gate;
 use crate::lots::{Job, Lot, filled_lots, insert_each, remove_each, share, standing};
+use crate::owners::passes_of;
 use crate::parting::{taken, together};
 use sh_key::KeyLayout;
 use sh_load::demand::Demand;
@@ -183,6 +184,30 @@ fn demand(options: &Options) -> Demand {
     }
 }
 
+// Measures the jobs, each in a thread of its own.
+fn measure_jobs<L: KeyLayout + Send + Sync, R: Threads + Clock + Sync>(
+    rt: &R,
+    alloc: Global,
+    options: &Options,
+    jobs: Vec<Job<'_, L>>,
+) -> Result<Outcome, Fault> {
+    let gate = &Gate::new(options.threads as u64);
+    let done = thread::map_vec(rt, jobs, &|job| work(rt, alloc, gate, options, job))?;
+    together(done.as_slice())
+}
+
+// Measures owners, each with so many shards, that these passes become.
+fn measure_passes<L: KeyLayout + Send + Sync, R: Threads + Clock + Sync>(
+    rt: &R,
+    alloc: Global,
+    options: &Options,
+    passes: &mut Vec<Pass<'_, L>>,
+    shards: usize,
+) -> Result<Outcome, Fault> {
+    let jobs = jobs(alloc, passes, options.threads, shards)?;
+    measure_jobs(rt, alloc, options, jobs)
+}
+
 /// Measures owners, each in a thread of its own.
 pub fn measure<L: KeyLayout + Send + Sync, R: Threads + Clock + Sync>(
     rt: &R,
@@ -191,9 +216,6 @@ pub fn measure<L: KeyLayout + Send + Sync, R: Threads + Clock + Sync>(
 ) -> Result<Outcome, Fault> {
     let plan = plan_for::<L>(&demand(options))?;
     let (heap, seats) = Heap::<L>::open(alloc, plan.shape)?;
-    let mut passes = heap.passes(alloc, seats).map_err(|(_, why)| why)?;
-    let jobs = jobs(alloc, &mut passes, options.threads, plan.shards)?;
-    let gate = &Gate::new(options.threads as u64);
-    let done = thread::map_vec(rt, jobs, &|job| work(rt, alloc, gate, options, job))?;
-    together(done.as_slice())
+    let mut passes = passes_of(alloc, &heap, seats)?;
+    measure_passes(rt, alloc, options, &mut passes, plan.shards)
 }

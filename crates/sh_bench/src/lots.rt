@@ -2,6 +2,7 @@
 ghost use Rattle.std.specs.Prelude.{◌≡◌, ◌≤◌, ◌<◌, All, IfOk, vec_len};
 ghost use Rattle.sh_bench.specs.Shares.{share_of, shares};
 
+use crate::owners::filled;
 use sh_key::KeyLayout;
 use sh_load::fault::Fault;
 use sh_load::samples::Samples;
@@ -88,8 +89,7 @@ pub fn filled_lot<'a, L: KeyLayout>(
 {
     let mut keys = vec![in alloc; 0u64; values]?;
     let order = mixed_order(alloc, values)?;
-    let mut owner = Shard::adopt(alloc, pass, shard).map_err(|(_, why)| why)?;
-    insert_each(&mut owner, samples, keys.as_mut_slice())?;
+    let owner = filled(alloc, pass, shard, samples, keys.as_mut_slice())?;
     Ok(Lot { owner, keys, order })
 }
 

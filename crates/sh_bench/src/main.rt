@@ -11,6 +11,7 @@ mod getting;
 mod handing;
 mod inserting;
 mod lots;
+mod owners;
 mod parting;
 mod program;
 mod ring;

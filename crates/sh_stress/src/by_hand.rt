@@ -1,11 +1,11 @@
 //! Turns by hand: a removal, a get or a release of which each step is a turn of its own, so that others go on between.
 use crate::actor::{Actor, Task};
 use crate::board::Board;
-use crate::dice::Dice;
 use crate::home::Home;
 use crate::lone::Lone;
 use crate::stopped::Stopped;
 use sh_judge::counts::Count;
+use sh_judge::dice::Dice;
 use sh_judge::fault::Call;
 use sh_judge::line::{Span, Told};
 use sh_judge::record::Record;

@@ -1,8 +1,8 @@
 //! The passes of one thread.
 use crate::board::Board;
-use crate::dice::Dice;
 use crate::home::Home;
 use crate::worker::Worker;
+use sh_judge::dice::Dice;
 use sh_key::KeyLayout;
 
 // One turn of one of the passes. False where something was found.

@@ -1,11 +1,11 @@
 //! The end of a round: all that was begun is ended, all passes meet, and what they were answered is judged.
 use crate::board::Board;
-use crate::dice::Dice;
 use crate::home::Home;
 use crate::lone::Lone;
 use crate::worker::Worker;
 use sh_gather::{Whole, whole};
 use sh_judge::counts::{Count, Counts};
+use sh_judge::dice::Dice;
 use sh_judge::fault::{Fault, Wrong};
 use sh_judge::judge::judged;
 use sh_judge::line::Line;

@@ -1,9 +1,9 @@
 //! Turns on keys.
 use crate::board::Board;
-use crate::dice::Dice;
 use crate::turn::Turn;
 use crate::user::User;
 use crate::using;
+use sh_judge::dice::Dice;
 use sh_judge::record::Record;
 use sh_key::{KeyLayout, Parts};
 

@@ -12,7 +12,6 @@ mod actor;
 mod board;
 mod by_hand;
 mod crew;
-mod dice;
 mod ending;
 mod home;
 mod keys;

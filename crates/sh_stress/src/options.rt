@@ -1,5 +1,6 @@
 //! The command line.
-use clap::{Arg, ArgAction, Command, Error, value_parser};
+use clap::builder::ValueParser;
+use clap::{Arg, ArgAction, Command, Error};
 use std::alloc::{AllocError, Global};
 
 /// What the command line asks for.
@@ -27,46 +28,65 @@ Exit status:
   2  the command line is wrong
   3  memory was refused, or a write failed";
 
+// An option that is a number from `least` to `most`.
+fn number_option<'a>(
+    alloc: Global,
+    id: &'a str,
+    least: u64,
+    most: u64,
+    usual: &'a str,
+    help: &'a str,
+) -> Arg<'a> {
+    Arg::new(alloc, id)
+        .long(id)
+        .action(ArgAction::Set)
+        .value_parser(ValueParser::Unsigned(least, most))
+        .default_value(usual)
+        .help(help)
+}
+
+// How many threads and passes there are.
+fn with_crew<'a>(alloc: Global, command: Command<'a>) -> Result<Command<'a>, AllocError> {
+    command
+        .arg(number_option(alloc, "threads", 1, 16, "4", "How many threads"))?
+        .arg(number_option(
+            alloc,
+            "passes",
+            1,
+            4,
+            "2",
+            "How many passes each thread has",
+        ))
+}
+
+// How much they do, and by which choices.
+fn with_work<'a>(alloc: Global, command: Command<'a>) -> Result<Command<'a>, AllocError> {
+    command
+        .arg(number_option(
+            alloc,
+            "steps",
+            0,
+            u64::MAX,
+            "2000",
+            "How many turns each thread takes in a round",
+        ))?
+        .arg(number_option(
+            alloc,
+            "rounds",
+            0,
+            u64::MAX,
+            "100",
+            "How many rounds, each on a heap of its own",
+        ))?
+        .arg(number_option(alloc, "seed", 0, u64::MAX, "1", "The seed of all choices"))
+}
+
 fn command<'a>(alloc: Global) -> Result<Command<'a>, AllocError> {
-    let threads = Arg::new(alloc, "threads")
-        .long("threads")
-        .action(ArgAction::Set)
-        .value_parser(value_parser!(u32).range(1..17))
-        .default_value("4")
-        .help("How many threads");
-    let passes = Arg::new(alloc, "passes")
-        .long("passes")
-        .action(ArgAction::Set)
-        .value_parser(value_parser!(u32).range(1..5))
-        .default_value("2")
-        .help("How many passes each thread has");
-    let steps = Arg::new(alloc, "steps")
-        .long("steps")
-        .action(ArgAction::Set)
-        .value_parser(value_parser!(u64))
-        .default_value("2000")
-        .help("How many turns each thread takes in a round");
-    let rounds = Arg::new(alloc, "rounds")
-        .long("rounds")
-        .action(ArgAction::Set)
-        .value_parser(value_parser!(u64))
-        .default_value("100")
-        .help("How many rounds, each on a heap of its own");
-    let seed = Arg::new(alloc, "seed")
-        .long("seed")
-        .action(ArgAction::Set)
-        .value_parser(value_parser!(u64))
-        .default_value("1")
-        .help("The seed of all choices");
-    Command::new(alloc, "sh_stress")
+    let start = Command::new(alloc, "sh_stress")
         .about("Works on heaps of the library in many threads, and judges what they answered")
         .version("0.1.0")
-        .after_help(AFTER_HELP)
-        .arg(threads)?
-        .arg(passes)?
-        .arg(steps)?
-        .arg(rounds)?
-        .arg(seed)
+        .after_help(AFTER_HELP);
+    with_work(alloc, with_crew(alloc, start)?)
 }
 
 /// What a command line asks for, whose first word is the program's name. An error is clap's.

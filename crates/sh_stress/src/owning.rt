@@ -3,12 +3,12 @@ ghost use Rattle.std.specs.Prelude.{◌≤◌};
 
 use crate::actor::Actor;
 use crate::board::Board;
-use crate::dice::Dice;
 use crate::home::Home;
 use crate::lone::Lone;
 use crate::owner::Owner;
 use crate::using;
 use sh_judge::counts::Count;
+use sh_judge::dice::Dice;
 use sh_judge::fault::Call;
 use sh_judge::line::Told;
 use sh_judge::pattern;

@@ -1,10 +1,10 @@
 //! The whole program, over the words of a command line and two writers.
-use crate::dice::Dice;
 use crate::options::{Options, read_options};
 use crate::round::{Plan, play};
 use clap::Error;
 use clap::error::ErrorKind;
 use sh_judge::counts::{Count, Counts};
+use sh_judge::dice::Dice;
 use sh_judge::fault::Fault;
 use sh_key::{Tiny, Wide};
 use std::alloc::Global;

@@ -4,12 +4,12 @@ ghost use Rattle.std.specs.List.{All};
 ghost use Rattle.sh_pass.specs.Passes.{Caller};
 
 use crate::board::Board;
-use crate::dice::Dice;
 use crate::home::Home;
 use crate::lone::Lone;
 use crate::worker::Worker;
 use crate::{crew, ending};
 use sh_judge::counts::Counts;
+use sh_judge::dice::Dice;
 use sh_judge::fault::{Call, Fault, Wrong};
 use sh_key::KeyLayout;
 use sh_pass::{Heap, Pass, Seats};

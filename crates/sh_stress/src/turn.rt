@@ -1,5 +1,5 @@
 //! What a pass does next.
-use crate::dice::Dice;
+use sh_judge::dice::Dice;
 
 /// A turn of a pass.
 #[derive(Clone, Copy, Debug, PartialEq, Eq)]

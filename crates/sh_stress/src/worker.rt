@@ -3,13 +3,13 @@ ghost use Rattle.std.specs.Prelude.{◌≤◌};
 
 use crate::actor::Actor;
 use crate::board::Board;
-use crate::dice::Dice;
 use crate::home::Home;
 use crate::lone::Lone;
 use crate::owner::Owner;
 use crate::turn::Turn;
 use crate::{by_hand, keys, owning, turn, using};
 use sh_judge::counts::Count;
+use sh_judge::dice::Dice;
 use sh_judge::record::Record;
 use sh_key::KeyLayout;
 use std::alloc::Global;
