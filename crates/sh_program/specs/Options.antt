@@ -8,8 +8,8 @@ use Rattle.clap.specs.declared.builder.action.ArgAction.TheVariants.{Set, SetTru
 use Rattle.clap.specs.declared.error.kind.ErrorKind.{ErrorKind}
 use Rattle.clap.specs.declared.error.kind.ErrorKind.TheVariants.{OutOfMemory}
 use Rattle.clap.specs.declared.builder.value_parser.ValueParser.TheVariants.{Names}
-use Rattle.sh_replay.specs.declared.mode.Mode.{Mode}
-use Rattle.sh_replay.specs.declared.mode.Mode.TheVariants.{Plain, Heap, Steps, Threads}
+use Rattle.sh_output.specs.declared.mode.Mode.{Mode}
+use Rattle.sh_output.specs.declared.mode.Mode.TheVariants.{Plain, Heap, Steps, Threads}
 
 -- how a mode is written
 abbrev pub mode_name : Mode → Text

@@ -1,9 +1,9 @@
 //! The whole program, over the words of a command line, a reader and two writers.
 ghost use Rattle.std.specs.Prelude.{◌≡◌, ◌≢◌, ◌⊎◌, ℕ, List, Some, map, take};
 ghost use Rattle.clap.specs.Words.{kind_of};
-ghost use Rattle.sh_replay.specs.Ends.{ReadsAtMostBytes};
-ghost use Rattle.shardheap.specs.Faults.{status_of};
-ghost use Rattle.shardheap.specs.Program.{EndsBy, EndsRefused, EndsRun, IsStatus};
+ghost use Rattle.sh_output.specs.Ends.{ReadsAtMostBytes};
+ghost use Rattle.sh_program.specs.Faults.{status_of};
+ghost use Rattle.sh_program.specs.Program.{EndsBy, EndsRefused, EndsRun, IsStatus};
 
 use crate::faults::{fault_line, status};
 use crate::options::options;

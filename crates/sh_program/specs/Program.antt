@@ -4,10 +4,11 @@ use Rattle.clap.specs.Words.{Text}
 use Rattle.clap.specs.declared.error.kind.ErrorKind.{ErrorKind}
 use Rattle.clap.specs.declared.error.kind.ErrorKind.TheVariants.{DisplayHelp, DisplayVersion, OutOfMemory}
 use Rattle.sh_script.specs.declared.fault.Fault.{Fault}
-use Rattle.sh_replay.specs.declared.mode.Mode.{Mode}
-use Rattle.sh_replay.specs.Output.{IsFaultOf, IsRunFault, IsScriptOf, WritesOutput, Stops}
-use Rattle.shardheap.specs.Faults.{status_of}
-use Rattle.shardheap.specs.Options.{IsRefused, CommandSays}
+use Rattle.sh_output.specs.declared.mode.Mode.{Mode}
+use Rattle.sh_output.specs.Faults.{IsFaultOf, IsRunFault, IsScriptOf}
+use Rattle.sh_replay.specs.Output.{WritesOutput, Stops}
+use Rattle.sh_program.specs.Faults.{status_of}
+use Rattle.sh_program.specs.Options.{IsRefused, CommandSays}
 
 -- the exit status where clap gave no options for this reason: 0 after help, or 3 where help could not be written; 3
 -- where memory ran out; and 2 after a mistake in the words

@@ -1,8 +1,8 @@
-use crate::faults::{FaultLine, fault_line, status};
-use crate::options::options;
-use crate::program::{report, run};
 use clap::error::ErrorKind;
-use sh_replay::Mode;
+use sh_output::Mode;
+use sh_program::faults::{FaultLine, fault_line, status};
+use sh_program::options::options;
+use sh_program::program::{report, run};
 use sh_script::{Cause, Fault};
 use std::io;
 use std::io::{Read, Write};
@@ -198,7 +198,8 @@ fn a_mistake_in_the_words_is_shown(rt: HostRuntime) -> Result<(), Fail> {
         ),
         (
             &["shardheap", "plan"],
-            "error: invalid value 'plan' for '<mode>'\n  [possible values: plain, heap, steps, threads]\n\n  tip: a similar value exists: 'plain'\n\nFor more information, try '--help'.\n",
+            "error: invalid value 'plan' for '<mode>'\n  [possible values: plain, heap, steps, threads]\n\n  \
+            tip: a similar value exists: 'plain'\n\nFor more information, try '--help'.\n",
         ),
     ];
     for (words, text) in table {

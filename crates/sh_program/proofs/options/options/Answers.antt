@@ -1,10 +1,10 @@
 use Rattle.std.proofs.Common.{◌≡◌, ◌∙◌, ap, sym, subst, map, List, Some, rules}
 use Rattle.std.proofs.lemmas.Result.{err_from_is_err_and}
 use Rattle.clap.specs.Words.{Text, app_of}
-use Rattle.shardheap.specs.Options.{IsNoMode, NameModes, command_line}
-use Rattle.shardheap.proofs.ModeLemmas.{mode_found}
-use Rattle.shardheap.proofs.CommandLine.{among, flag_is, free, no_fault, read_word, refused, rows_are, word_is}
-use Rattle.shardheap.proofs.options.options.Goals as goal
+use Rattle.sh_program.specs.Options.{IsNoMode, NameModes, command_line}
+use Rattle.sh_program.proofs.ModeLemmas.{mode_found}
+use Rattle.sh_program.proofs.CommandLine.{among, flag_is, free, no_fault, read_word, refused, rows_are, word_is}
+use Rattle.sh_program.proofs.options.options.Goals as goal
 
 pub returns-in_err-matches-clause-err : goal.returns-in_err-matches-clause-err
 returns-in_err-matches-clause-err c =

@@ -1,2 +1,3 @@
 pub mod ModeLemmas
 pub mod CommandLine
+pub mod ArgumentLemmas

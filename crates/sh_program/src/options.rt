@@ -1,10 +1,11 @@
 //! The command line: a mode, and whether accounts are wanted.
 ghost use Rattle.std.specs.Prelude.{◌≡◌, IfOk, IfErr, IfSome, IfNone, map};
-ghost use Rattle.clap.specs.Words.{app_of, kind_of};
-ghost use Rattle.shardheap.specs.Options.{IsNoMode, IsRefused, CommandSays, command_line, mode_name};
+ghost use Rattle.clap.specs.Words.{app_of, kind_of, rule_of};
+ghost use Rattle.sh_program.specs.Options.{IsNoMode, IsRefused, CommandSays, command_line, mode_name};
+ghost use Rattle.sh_program.specs.Options.{accounts_rule, mode_rule, program_app};
 
 use clap::{Arg, ArgAction, Command, Error};
-use sh_replay::Mode;
+use sh_output::Mode;
 use std::alloc::{AllocError, Global};
 
 /// The modes, in the order in which help lists them.
@@ -45,24 +46,43 @@ Exit status:
   2  the command line or the script is wrong
   3  memory was refused, an owner could not leave, or a read or a write failed";
 
-fn command<'a>(alloc: Global, modes: &'a [&'a str]) -> Result<Command<'a>, AllocError>
-    ensures { IfOk result (λ c. app_of c ≡ command_line modes.entry) }
+// The mode, which has to be given.
+fn mode_argument<'a>(alloc: Global, modes: &'a [&'a str]) -> Arg<'a>
+    ensures { rule_of result ≡ mode_rule modes.entry }
 {
-    let mode = Arg::new(alloc, "mode")
+    Arg::new(alloc, "mode")
         .required(true)
         .action(ArgAction::Set)
         .value_parser(modes)
-        .help("What runs the script");
-    let accounts = Arg::new(alloc, "accounts")
+        .help("What runs the script")
+}
+
+// The flag for accounts.
+fn accounts_argument<'a>(alloc: Global) -> Arg<'a>
+    ensures { rule_of result ≡ accounts_rule }
+{
+    Arg::new(alloc, "accounts")
         .long("accounts")
         .action(ArgAction::SetTrue)
-        .help("Adds a line on each page with a class, where the mode has pages");
+        .help("Adds a line on each page with a class, where the mode has pages")
+}
+
+// The program, with no argument yet.
+fn program<'a>(alloc: Global) -> Command<'a>
+    ensures { app_of result ≡ program_app }
+{
     Command::new(alloc, "shardheap")
         .about("Runs a script of the sharded heap from the standard input")
         .version("0.1.0")
         .after_help(AFTER_HELP)
-        .arg(mode)?
-        .arg(accounts)
+}
+
+fn command<'a>(alloc: Global, modes: &'a [&'a str]) -> Result<Command<'a>, AllocError>
+    ensures { IfOk result (λ c. app_of c ≡ command_line modes.entry) }
+{
+    program(alloc)
+        .arg(mode_argument(alloc, modes))?
+        .arg(accounts_argument(alloc))
 }
 
 /// The mode and the flag `--accounts` of a command line, whose first word is the program's name. An error is clap's:

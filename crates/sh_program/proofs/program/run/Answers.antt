@@ -1,5 +1,5 @@
 use Rattle.std.proofs.Common.{inr}
-use Rattle.shardheap.proofs.program.run.Goals as goal
+use Rattle.sh_program.proofs.program.run.Goals as goal
 
 pub returns-in-Err-replay-clause-ends : goal.returns-in-Err-replay-clause-ends
 returns-in-Err-replay-clause-ends g c text e =

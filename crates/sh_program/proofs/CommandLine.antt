@@ -14,9 +14,9 @@ use Rattle.clap.specs.declared.parser.matches.ArgMatches.{ArgMatches}
 use Rattle.clap.specs.declared.error.kind.ErrorKind.{ErrorKind}
 use Rattle.clap.specs.declared.error.kind.ErrorKind.TheVariants.{OutOfMemory}
 use Rattle.clap.proofs.WalkLemmas.{first_value-rows, one_text-rows}
-use Rattle.sh_replay.specs.declared.mode.Mode.{Mode}
-use Rattle.shardheap.specs.Options.{IsNoMode, IsRefused, NameModes, all_modes, flag_text, command_line, mode_word}
-use Rattle.shardheap.specs.Options.{mode_name}
+use Rattle.sh_output.specs.declared.mode.Mode.{Mode}
+use Rattle.sh_program.specs.Options.{IsNoMode, IsRefused, NameModes, all_modes, flag_text, command_line, mode_word}
+use Rattle.sh_program.specs.Options.{mode_name}
 
 simple_and_free : (modes : Bor (List (Bor Text))) → is_simple_and_free (command_line modes) ≡ true
 simple_and_free modes = refl

@@ -1,15 +1,15 @@
 //! What the program says of a fault, and what it ends with.
 ghost use Rattle.std.specs.Prelude.{◌≡◌};
-ghost use Rattle.shardheap.specs.Faults.{status_of};
+ghost use Rattle.sh_program.specs.Faults.{status_of};
 
 use arrayvec::ArrayString;
 use sh_script::Fault;
 use std::fmt;
 use std::fmt::Write;
 
-// As many bytes as the longest fault line has, and a newline: `shardheap: fault 14 Script line`, a number of 20 digits,
-// and `Command` or `Unbound`.
-const LINE_MAX: usize = 64;
+/// As many bytes as the longest fault line has, and a newline: `shardheap: fault 14 Script line`, a number of 20
+/// digits, and `Command` or `Unbound`.
+pub const LINE_MAX: usize = 64;
 
 /// The exit status of a run that ended with this fault: 2 where the script is at fault, and 3 where memory, an owner or
 /// a device was.

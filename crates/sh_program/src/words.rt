@@ -1,0 +1,36 @@
+//! The words of the process: as texts, and what is said where they cannot be had.
+ghost use Rattle.std.specs.Prelude.{◌≡◌, ◌≢◌, IfOk, map, string_bytes};
+ghost use Rattle.std.specs.IoError.{error_kind};
+
+use crate::program::report;
+use sh_script::Fault;
+use std::alloc::{AllocError, Global};
+use std::io;
+use std::io::{ErrorKind, Write};
+
+/// Names what is wrong where the process's own words could not be had, and gives the exit status: 2 where they are no
+/// text, and 3 where memory ran out.
+pub fn refuse<E: Write>(error: &io::Error, errors: &mut E) -> u8
+    ensures memory { error_kind error.now ≡ ErrorKind.OutOfMemory → result ≡ 3 }
+    ensures words { error_kind error.now ≢ ErrorKind.OutOfMemory → result ≡ 2 }
+{
+    if error.kind() == ErrorKind::OutOfMemory {
+        return report(Fault::Memory, errors);
+    }
+    let _ = writeln!(
+        errors,
+        "error: invalid UTF-8 was detected in one or more arguments"
+    );
+    2
+}
+
+/// The words as texts, in their order.
+pub fn texts(alloc: Global, words: &[String]) -> Result<Vec<&str>, AllocError>
+    ensures { IfOk result (λ texts. map (λ t. t.now) texts.items ≡ map string_bytes words.now) }
+{
+    let mut texts = Vec::new(alloc);
+    for word in words {
+        texts.push(word.as_str())?;
+    }
+    Ok(texts)
+}
