@@ -4,11 +4,11 @@ use Rattle.std.proofs.lemmas.Bool.{le-ltb}
 use Rattle.std.specs.Prelude.{nat_lt}
 use Rattle.sh_value.specs.declared.refusal.Refusal.{Refusal}
 use Rattle.sh_value.specs.declared.refusal.Refusal.TheVariants as refusal
-use Rattle.sh_calls.specs.declared.answer.Answer.{Answer}
-use Rattle.sh_calls.specs.declared.answer.Answer.TheVariants as answer
+use Rattle.sh_output.specs.declared.answer.Answer.{Answer}
+use Rattle.sh_output.specs.declared.answer.Answer.TheVariants as answer
 use Rattle.sh_calls.specs.Parts.{RunTerms, PassPart}
 use Rattle.sh_calls.specs.Calls.{AnswerSays, InsertAnswers, WordsAnswers}
-use Rattle.sh_calls.specs.Results.{key_answer}
+use Rattle.sh_output.specs.Results.{key_answer}
 
 pub says : {A : Type 0} {tell : Result A Refusal → Answer} {CallAnswers : Result A Refusal → PassPart → Type 0}
     (r : Result A Refusal) (a : Answer) (w : PassPart) → a ≡ tell r → CallAnswers r w → AnswerSays tell CallAnswers a w

@@ -8,11 +8,11 @@ use Rattle.std.proofs.lemmas.Option.{none-some, same_Some, slice_get-map}
 use mathlib.Core.Logic.{dite}
 use native.Mathlib.Decide.{ℕ_discrete}
 use Rattle.sh_script.specs.declared.calls.CallLine.{CallLine}
-use Rattle.sh_calls.specs.declared.answer.Answer.{Answer}
+use Rattle.sh_output.specs.declared.answer.Answer.{Answer}
 use Rattle.sh_calls.specs.Parts.{RunTerms, PassPart, SeenPass, PassTold, SamePass, HasWholeTale, new_pass, new_passes}
 use Rattle.sh_calls.specs.Parts.{tale_told, told_pass, passes_below}
 use Rattle.sh_calls.specs.Calls.{CallAnswers}
-use Rattle.sh_calls.specs.Replies.{reply_line, replies_text}
+use Rattle.sh_output.specs.Replies.{reply_line, replies_text}
 use Rattle.sh_calls.specs.Runs.{CallsRun, LineAnswered, LinesAnswered, opening_calls, next_run, with_part, with_number}
 use Rattle.sh_calls.specs.Runs.{number_meant}
 use Rattle.sh_calls.specs.Told.{AreReplies, IsTold, part_told}

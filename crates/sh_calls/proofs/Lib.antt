@@ -1,4 +1,3 @@
-pub mod KeyLemmas
 pub mod ListLemmas
 pub mod LineLemmas
 pub mod CallLemmas

@@ -1,9 +1,9 @@
 -- All passes in one thread.
 use Rattle.std.specs.Prelude.{◌≡◌, ℕ, List, Option, Some, slice_get, length, take}
 use Rattle.sh_script.specs.declared.calls.CallLine.{CallLine}
-use Rattle.sh_calls.specs.declared.answer.Answer.{Answer}
+use Rattle.sh_output.specs.declared.answer.Answer.{Answer}
 use Rattle.sh_calls.specs.Parts.{RunTerms, PassPart, SeenPass, new_pass}
-use Rattle.sh_calls.specs.Replies.{replies_text}
+use Rattle.sh_output.specs.Replies.{replies_text}
 use Rattle.sh_calls.specs.Runs.{CallsRun, LinesAnswered, opening_calls}
 use Rattle.sh_table.specs.Seats.{Heap}
 

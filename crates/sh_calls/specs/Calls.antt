@@ -15,10 +15,10 @@ use Rattle.sh_script.specs.declared.calls.Reference.{Reference}
 use Rattle.sh_script.specs.declared.calls.Reference.TheVariants as reference
 use Rattle.sh_script.specs.declared.calls.Call.{Call}
 use Rattle.sh_script.specs.declared.calls.Call.TheVariants as call
-use Rattle.sh_calls.specs.declared.answer.Answer.{Answer}
-use Rattle.sh_calls.specs.declared.answer.Answer.TheVariants as answer
-use Rattle.sh_calls.specs.Keys.{key_shown}
-use Rattle.sh_calls.specs.Results.{done_answer, value_answer, key_answer}
+use Rattle.sh_output.specs.declared.answer.Answer.{Answer}
+use Rattle.sh_output.specs.declared.answer.Answer.TheVariants as answer
+use Rattle.sh_output.specs.Keys.{key_shown}
+use Rattle.sh_output.specs.Results.{done_answer, value_answer, key_answer}
 use Rattle.sh_calls.specs.Parts.{RunTerms, PassPart, with_entry, is_run_key, is_own_key}
 
 -- a refusal that comes before all else, with nothing changed; where there is none, the rest holds

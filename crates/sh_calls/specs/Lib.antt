@@ -1,7 +1,3 @@
-pub mod Keys
-pub mod Numbers
-pub mod Replies
-pub mod Results
 pub mod Parts
 pub mod Calls
 pub mod Runs

@@ -2,7 +2,7 @@
 use Rattle.std.specs.Prelude.{◌≡◌, ℕ, ◌==◌, cond, List, [], ◌∷◌, ◌++◌, slice_get, Option, Some, None}
 use Rattle.sh_script.specs.declared.calls.Call.{Call}
 use Rattle.sh_script.specs.declared.calls.CallLine.{CallLine}
-use Rattle.sh_calls.specs.declared.answer.Answer.{Answer}
+use Rattle.sh_output.specs.declared.answer.Answer.{Answer}
 use Rattle.sh_calls.specs.Parts.{RunTerms, PassPart, no_part}
 use Rattle.sh_calls.specs.Calls.{CallAnswers, name_used, binds, number_told}
 

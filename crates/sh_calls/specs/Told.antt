@@ -1,8 +1,8 @@
 -- What a run on the running heap writes.
 use Rattle.std.specs.Prelude.{◌≡◌, ℕ, List, map, Option}
 use Rattle.sh_script.specs.declared.calls.CallLine.{CallLine}
-use Rattle.sh_calls.specs.declared.answer.Answer.{Answer}
-use Rattle.sh_calls.specs.Replies.{replies_text}
+use Rattle.sh_output.specs.declared.answer.Answer.{Answer}
+use Rattle.sh_output.specs.Replies.{replies_text}
 use Rattle.sh_calls.specs.Parts.{RunTerms, PassPart, PassTold, HasWholeTale, passes_below}
 use Rattle.sh_calls.specs.Runs.{CallsRun, LinesAnswered, opening_calls}
 

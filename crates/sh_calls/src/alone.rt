@@ -3,14 +3,14 @@ ghost use Rattle.std.specs.Prelude.{◌≡◌, Option, ◌<◌, IfOk, IfErr, map
 ghost use Rattle.std.specs.List.{All};
 ghost use Rattle.sh_script.specs.declared.calls.CallLine.{CallLine};
 ghost use Rattle.sh_table.specs.Seats.{Heap};
-ghost use Rattle.sh_calls.specs.Keys.{HasTagRoom};
+ghost use Rattle.sh_output.specs.Keys.{HasTagRoom};
 ghost use Rattle.sh_calls.specs.Parts.{RunTerms, new_passes};
 ghost use Rattle.sh_calls.specs.Finished.{heap_seen, terms_seen, AreAllNew, LinesRan};
 
 use crate::line::{answered, binds, number_meant, number_told};
 use crate::meeting::met;
-use crate::push_reply;
 use crate::side::Side;
+use sh_output::push_reply;
 use sh_script::{CallLine, Fault};
 use std::alloc::Global;
 

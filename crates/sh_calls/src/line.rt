@@ -1,16 +1,16 @@
 //! One line on a side: the same for every way of running.
 ghost use Rattle.std.specs.Prelude.{◌≡◌, ℕ, IfOk, true, false, is_some};
-ghost use Rattle.sh_calls.specs.Keys.{HasTagRoom};
+ghost use Rattle.sh_output.specs.Keys.{HasTagRoom};
 ghost use Rattle.sh_calls.specs.Parts.{SeenPass, SamePass};
 ghost use Rattle.sh_calls.specs.Calls.{CallAnswers, AnswerSays, GetAnswers, ReadAnswers, RemoveAnswers};
 ghost use Rattle.sh_calls.specs.Calls.{ReleaseAnswers, AdoptAnswers, LeaveAnswers, WordsAnswers, key_meant};
 ghost use Rattle.sh_calls.specs.Calls.{name_referred, name_used, binds, number_told};
-ghost use Rattle.sh_calls.specs.Results.{done_answer, value_answer, key_answer};
+ghost use Rattle.sh_output.specs.Results.{done_answer, value_answer, key_answer};
 ghost use Rattle.sh_calls.specs.Runs.{number_bound, number_meant};
 
-use crate::Answer;
-use crate::keys::{key_shown, shown};
 use crate::side::Side;
+use sh_output::Answer;
+use sh_output::keys::{key_shown, shown};
 use sh_script::{Call, Reference};
 use sh_value::{Hold, Refusal, Value};
 use std::alloc::Global;

@@ -1,12 +1,13 @@
 -- How a run ends, by what its lines gave and by how writing ended.
-use Rattle.std.proofs.Common.{◌≡◌, ℕ, Bool, true, false, List, Option, Result, Ok, Err, OnOk, inl, inr, sym, subst}
+use Rattle.std.proofs.Common.{◌≡◌, ℕ, Bool, true, false, List, Option, Result, Ok, Err, OnOk, inl, inr}
 use Rattle.std.specs.Prelude.{IfErr}
 use Rattle.std.specs.Io.KnownBytes.{Appends}
 use Rattle.sh_script.specs.declared.fault.Fault.{Fault}
 use Rattle.sh_script.specs.declared.fault.Fault.TheVariants as fault
-use Rattle.sh_replay.specs.declared.mode.Mode.{Mode}
-use Rattle.sh_replay.specs.declared.mode.Mode.TheVariants as mode
-use Rattle.sh_replay.specs.Output.{IsRunOf, IsWaiting, IsScriptOf, MayWait, EndsWriting, Replays}
+use Rattle.sh_output.specs.declared.mode.Mode.{Mode}
+use Rattle.sh_output.specs.declared.mode.Mode.TheVariants as mode
+use Rattle.sh_output.specs.Faults.{IsScriptOf, MayWait}
+use Rattle.sh_replay.specs.Output.{IsRunOf, IsWaiting, EndsWriting, Replays}
 
 -- a run at whose end an owner could not leave is one of a script, in a mode of the running heap
 may_wait : (m : Mode) (text output : List ℕ) → IsWaiting m text output → MayWait m × IsScriptOf m text

@@ -1,14 +1,2 @@
-pub mod EndLemmas
-pub mod RunLemmas
 pub mod EndingLemmas
-pub mod StepKeys
-pub mod RangeLemmas
-pub mod Telling
-pub mod WholeLemmas
-pub mod OpenedLemmas
-pub mod HeaderShapes
-pub mod StepLemmas
 pub mod PlainLines
-pub mod Works
-pub mod Gathers
-pub mod Merges

@@ -22,15 +22,15 @@ use Rattle.sh_plain.proofs.Held.{held_has_value}
 use Rattle.sh_script.specs.declared.calls.Call.{Call}
 use Rattle.sh_script.specs.declared.calls.Call.TheVariants as call
 use Rattle.sh_script.specs.declared.calls.Reference.{Reference}
-use Rattle.sh_calls.specs.declared.answer.Answer.{Answer}
-use Rattle.sh_calls.specs.declared.answer.Answer.TheVariants as answer
-use Rattle.sh_replay.specs.PlainRun as plain
+use Rattle.sh_output.specs.declared.answer.Answer.{Answer}
+use Rattle.sh_output.specs.declared.answer.Answer.TheVariants as answer
+use Rattle.sh_models.specs.PlainRun as plain
 use Rattle.sh_calls.specs.Parts.{PassPart, with_entry, plain_terms}
 use Rattle.sh_calls.specs.Calls.{UnlessRefused, AnswerSays, OnKey, key_meant, HoldGot, get_refusal, KeyRemoved}
 use Rattle.sh_calls.specs.Calls.{remove_refusal, HoldReleased, hold_refusal, ValueRead, ReadAnswers, AdoptAnswers}
 use Rattle.sh_calls.specs.Calls.{adopt_refusal, LeaveAnswers, InsertAnswers, WordsAnswers, ValueInserted, needs_shard}
 use Rattle.sh_calls.specs.Calls.{words_refusal}
-use Rattle.sh_calls.specs.Results.{key_answer, done_answer, value_answer}
+use Rattle.sh_output.specs.Results.{key_answer, done_answer, value_answer}
 use Rattle.sh_replay.specs.PlainDoes.{IsPlainPart, NameStandsFor, IsPlainCall, PlainAnswersSo}
 
 -- ---- counts over the entries of a pass

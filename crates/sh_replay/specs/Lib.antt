@@ -1,13 +1,2 @@
-pub mod PlainRun
-pub mod PlainDoes
-pub mod AccountLines
-pub mod StepsOutput
-pub mod WholeAccounts
-pub mod HeapOutput
-pub mod StepsKeys
-pub mod Ends
 pub mod Output
-pub mod Works
-pub mod Gathers
-pub mod Merges
-pub mod Promises
+pub mod PlainDoes

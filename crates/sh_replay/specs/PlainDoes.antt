@@ -8,8 +8,8 @@ use Rattle.sh_history.specs.declared.log.LogEntry.TheVariants.{Known}
 use Rattle.sh_script.specs.declared.calls.Call.{Call}
 use Rattle.sh_script.specs.declared.calls.Call.TheVariants as call
 use Rattle.sh_script.specs.declared.calls.Reference.{Reference}
-use Rattle.sh_calls.specs.declared.answer.Answer.{Answer}
-use Rattle.sh_replay.specs.PlainRun as plain
+use Rattle.sh_output.specs.declared.answer.Answer.{Answer}
+use Rattle.sh_models.specs.PlainRun as plain
 use Rattle.sh_calls.specs.Parts.{PassPart, plain_terms}
 use Rattle.sh_calls.specs.Calls.{CallAnswers, key_meant}
 

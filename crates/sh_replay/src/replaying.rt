@@ -1,18 +1,19 @@
 //! A whole run: read, parsed, run and written.
 ghost use Rattle.std.specs.Prelude.{◌≡◌, ◌≢◌, ℕ, List, IfOk, IfErr, OnOk, Some, take, false};
 ghost use Rattle.std.specs.Io.KnownBytes.{Appends};
-ghost use Rattle.sh_replay.specs.Ends.{IsEndFault, ReadsAtMostBytes};
-ghost use Rattle.sh_replay.specs.Output.{IsRunOf, IsScriptOf, IsFaultOf, EndsWriting, Replays};
+ghost use Rattle.sh_output.specs.Ends.{IsEndFault, ReadsAtMostBytes};
+ghost use Rattle.sh_output.specs.Faults.{IsScriptOf, IsFaultOf};
+ghost use Rattle.sh_replay.specs.Output.{IsRunOf, EndsWriting, Replays};
 
-use crate::Mode;
-use crate::ends::{read_text, write_text};
-use crate::gate::{Gate, OpenGate};
-use crate::heap_lines::Ran;
-use crate::heap_output::heap_output;
-use crate::plain_output::plain_output;
-use crate::steps_output::steps_output;
 use crate::threads_output::threads_output;
+use sh_heap_run::heap_lines::Ran;
+use sh_heap_run::heap_output::heap_output;
+use sh_models::plain_output::plain_output;
+use sh_models::steps_output::steps_output;
+use sh_output::Mode;
+use sh_output::ends::{read_text, write_text};
 use sh_script::Fault;
+use sh_workers::gate::{Gate, OpenGate};
 use std::alloc::Global;
 use std::io::{Read, Write};
 use std::sync::Wait;

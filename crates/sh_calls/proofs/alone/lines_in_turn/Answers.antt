@@ -4,10 +4,10 @@ use Rattle.std.specs.Option.{option_map}
 use Rattle.std.proofs.lemmas.Grind.{common_steps}
 use Rattle.std.proofs.lemmas.Option.{gets, slice_get-map}
 use Rattle.sh_script.specs.declared.calls.CallLine.{CallLine}
-use Rattle.sh_calls.specs.Keys.{HasTagRoom}
+use Rattle.sh_output.specs.Keys.{HasTagRoom}
 use Rattle.sh_calls.specs.Parts.{RunTerms, new_passes}
 use Rattle.sh_calls.specs.Calls.{CallAnswers, binds, number_told}
-use Rattle.sh_calls.specs.Replies.{reply_line}
+use Rattle.sh_output.specs.Replies.{reply_line}
 use Rattle.sh_calls.specs.Runs.{number_meant, with_number}
 use Rattle.sh_calls.proofs.InTurn.{begins_alone, answered_more, map_set, all_are, all_speak, lines_ran}
 use Rattle.sh_calls.proofs.InTurn.{terms_at}

@@ -1,8 +1,7 @@
-use Rattle.std.proofs.Common.{arith, rules, ◌≡◌, ◌⊎◌, ◌∙◌, sym, ap, subst, inl, inr, ◌++◌, ◌∷◌, [], append_assoc}
+use Rattle.std.proofs.Common.{arith, rules, ◌≡◌, ◌∙◌, sym, ap, subst, inl, inr, ◌++◌, ◌∷◌, [], append_assoc}
 use Rattle.std.proofs.Common.{length-append, map, Option, Some, None}
 use Rattle.std.specs.Prelude.{IfNone, IsSome}
 use Rattle.std.specs.Vec.Iter.{into_iter_len}
-use Rattle.sh_calls.specs.Parts.{SeenPass}
 use Rattle.sh_calls.specs.Meeting.{CarriesTale, tales_told}
 use Rattle.std.specs.Option.{option_map}
 use Rattle.sh_calls.proofs.InTurn.{carries_more, rest_of, next_owns, none_there}

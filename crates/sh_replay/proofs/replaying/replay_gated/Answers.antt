@@ -1,4 +1,4 @@
-use Rattle.std.proofs.Common.{List, ℕ, subst, ap, ◌∙◌}
+use Rattle.std.proofs.Common.{List, ℕ, subst, ◌∙◌}
 use Rattle.sh_replay.specs.Output.{IsRunOf}
 use Rattle.sh_replay.proofs.EndingLemmas.{replays}
 use Rattle.sh_replay.proofs.replaying.replay_gated.Goals as goal

@@ -1,0 +1,62 @@
+-- What modes heap and threads write for a script of calls: the reply lines, and then, where they are asked for and
+-- every owner could leave, the accounts of the pages.
+use Rattle.std.specs.Prelude.{◌≡◌, ℕ, Bool, true, false, List, [], ◌++◌, Option}
+use Rattle.sh_key.specs.Layout.{Layout}
+use Rattle.sh_shape.specs.Shape.{Numbers}
+use Rattle.sh_history.specs.declared.entry.Entry.{Entry}
+use Rattle.sh_script.specs.HeaderMeaning.{layout_of}
+use Rattle.sh_script.specs.Scripts.{IsCalls}
+use Rattle.sh_script.specs.declared.calls.CallLine.{CallLine}
+use Rattle.sh_script.specs.declared.header.Header.{Header}
+use Rattle.sh_calls.specs.Parts.{PassTold, HasWholeTale, heap_terms}
+use Rattle.sh_calls.specs.Told.{IsTold}
+use Rattle.sh_calls.specs.Finished.{AreWaiting}
+use Rattle.sh_heap_run.specs.WholeAccounts.{AreAccountLines}
+
+-- account lines by one history of this tale
+pub record TellsTale (layout : Layout) (shape : Numbers) (tale : List PassTold) (text : List ℕ) : Type 0 where
+  pub whole : HasWholeTale (heap_terms layout shape) tale
+  pub lines : AreAccountLines layout shape whole.history text
+
+-- account lines by this history, where they are asked for; else none
+abbrev pub AccountsAsked : (asked : Bool) → Layout → Numbers → List Entry → List ℕ → Type 0
+AccountsAsked true layout shape history text = AreAccountLines layout shape history text
+AccountsAsked false layout shape history text = text ≡ []
+
+-- The replies are told by the tale of all passes, and after them come the account lines by its history, where they are
+-- asked for.
+pub record IsHeapOutput (layout : Layout) (shape : Numbers) (tag : Option ℕ) (lines : List CallLine) (asked : Bool)
+    (output : List ℕ) : Type 0 where
+  pub replies : List ℕ
+  pub tale : List PassTold
+  pub told : IsTold (heap_terms layout shape) tag lines replies tale
+  pub accounts : List ℕ
+  pub is : output ≡ replies ++ accounts
+  pub are : AccountsAsked asked layout shape told.whole.history accounts
+
+-- the text is a script of calls, and this is what its run on the running heap may write
+pub record IsHeap (asked : Bool) (text output : List ℕ) : Type 0 where
+  pub header : Header
+  pub lines : List CallLine
+  pub is_calls : IsCalls text header lines
+  pub is_output : IsHeapOutput (layout_of header.layout) header.shape header.tag lines asked output
+
+-- The text is a script of calls, and these are the replies of a run of it at whose end a pass still owned a shard, and
+-- could not leave it: there is no account line then.
+pub record IsHeapWaiting (text output : List ℕ) : Type 0 where
+  pub header : Header
+  pub lines : List CallLine
+  pub is_calls : IsCalls text header lines
+  pub waiting : AreWaiting (heap_terms (layout_of header.layout) header.shape) header.tag lines output
+
+-- ---- how it is made
+
+-- what came of the lines, and whether an owner could not leave
+abbrev pub IsRan : Layout → Numbers → Option ℕ → List CallLine → (asked : Bool) → List ℕ → (is_waiting : Bool) → Type 0
+IsRan layout shape tag lines asked output true = AreWaiting (heap_terms layout shape) tag lines output
+IsRan layout shape tag lines asked output false = IsHeapOutput layout shape tag lines asked output
+
+-- what came of a script on the running heap, and whether an owner could not leave
+abbrev pub IsHeapRun : (asked : Bool) → (text output : List ℕ) → (is_waiting : Bool) → Type 0
+IsHeapRun asked text output true = IsHeapWaiting text output
+IsHeapRun asked text output false = IsHeap asked text output

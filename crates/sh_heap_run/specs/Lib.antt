@@ -1,0 +1,2 @@
+pub mod WholeAccounts
+pub mod HeapOutput

@@ -1,0 +1,4 @@
+pub mod PlainRun
+pub mod StepsOutput
+pub mod StepsKeys
+pub mod Output

@@ -1,0 +1,88 @@
+//! Mode steps: the events of a script on the core, in the order of their lines.
+ghost use Rattle.std.specs.Prelude.{◌≡◌, ◌+◌, List, IfOk, IfErr, Ok};
+ghost use Rattle.sh_key.specs.Layout.{first_key, key_count};
+ghost use Rattle.sh_shape.specs.Shape.{IsShape, Fits};
+ghost use Rattle.sh_step.specs.declared.action.Event.{Event};
+ghost use Rattle.sh_step.specs.Plans.{plan_of};
+ghost use Rattle.sh_core.specs.Kept.{StandsFor, StepsWorld, Opens};
+ghost use Rattle.sh_core.specs.Worlds.{run};
+ghost use Rattle.sh_models.specs.StepsOutput.{action_shown, event_shown};
+ghost use Rattle.sh_models.specs.StepsKeys.{KeysWithin, DoesEvent};
+
+use sh_core::{Outcome, World, refines_map};
+use sh_key::{KeyLayout, packing_laws};
+use sh_output::keys::key_shown;
+use sh_script::Fault;
+use sh_shape::Shape;
+use sh_step::{Action, Event};
+use sh_value::Refusal;
+use std::alloc::Global;
+
+// The action that is written so.
+fn action_shown(tag: Option<u8>, action: Action) -> Option<Action>
+    ensures { result ≡ action_shown tag action }
+{
+    match action {
+        Action::EnterGet(key) => key_shown(tag, key).map(Action::EnterGet),
+        Action::EnterRemove(key) => key_shown(tag, key).map(Action::EnterRemove),
+        Action::DropHold(key) => key_shown(tag, key).map(Action::DropHold),
+        Action::ReadClass(key) => key_shown(tag, key).map(Action::ReadClass),
+        Action::ReadLength(key) => key_shown(tag, key).map(Action::ReadLength),
+        Action::ReadWord(key, i) => key_shown(tag, key).map(|key| Action::ReadWord(key, i)),
+        other => Some(other),
+    }
+}
+
+/// The event of the heap that is written so.
+pub fn event_shown(tag: Option<u8>, event: Event) -> Option<Event>
+    ensures { result ≡ event_shown tag event }
+{
+    let Event { pass, action } = event;
+    let action = action_shown(tag, action)?;
+    Some(Event { pass, action })
+}
+
+/// A heap of this shape, which fits the layout.
+pub fn open<L: KeyLayout>(alloc: Global, shape: Shape) -> Result<World<L>, Fault>
+    requires fits { Fits L.layout shape }
+    ensures opens { IfOk result (λ world. Opens L.layout shape (Ok world)) }
+    ensures memory { IfErr result (λ fault. fault ≡ Fault.Memory) }
+{
+    match World::new(alloc, shape) {
+        Ok(world) => Ok(world),
+        Err(Refusal::Memory) => Err(Fault::Memory),
+        Err(_) => unreachable!(),
+    }
+}
+
+// Does an event. A key in its reply is one of the layout.
+fn step<L: KeyLayout>(world: &mut World<L>, event: &Event) -> Result<Outcome, Fault>
+    requires shape { IsShape world.old.shape }
+    requires fits { Fits L.layout world.old.shape }
+    ensures steps { IfOk result (λ outcome. StepsWorld L.layout world.old event.now outcome world.new) }
+    ensures keys { (es : List Event) → StandsFor world.old (run (plan_of L.layout world.old.shape) es)
+        → IfOk result (KeysWithin (first_key L.layout + key_count L.layout)) }
+    ensures memory { IfErr result (λ fault. fault ≡ Fault.Memory) }
+{
+    refines_map();
+    packing_laws::<L>();
+    match world.step(event) {
+        Ok(outcome) => Ok(outcome),
+        Err(_) => Err(Fault::Memory),
+    }
+}
+
+/// Does what is an event of the heap; a line that is none is skipped. A key in the reply is one of the layout.
+pub fn do_event<L: KeyLayout>(world: &mut World<L>, event: Option<Event>) -> Result<Outcome, Fault>
+    requires shape { IsShape world.old.shape }
+    requires fits { Fits L.layout world.old.shape }
+    ensures does { IfOk result (λ outcome. DoesEvent L.layout world.old event outcome world.new) }
+    ensures keys { (es : List Event) → StandsFor world.old (run (plan_of L.layout world.old.shape) es)
+        → IfOk result (KeysWithin (first_key L.layout + key_count L.layout)) }
+    ensures memory { IfErr result (λ fault. fault ≡ Fault.Memory) }
+{
+    match event {
+        Some(event) => step(world, &event),
+        None => Ok(Outcome::Skipped),
+    }
+}

@@ -1,0 +1,6 @@
+pub mod KeyLemmas
+pub mod EndLemmas
+pub mod RangeLemmas
+pub mod Telling
+pub mod HeaderShapes
+pub mod FaultLemmas

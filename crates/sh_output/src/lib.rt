@@ -1,0 +1,14 @@
+//! What the modes of a run share, on no heap: the modes by their names, how a script is read and an output written,
+//! what a call of a script may be answered, and how replies, keys and the accounts of pages are told in lines.
+#![tactic(auto)]
+
+pub mod account_line;
+mod answer;
+pub mod ends;
+pub mod keys;
+mod mode;
+pub mod numbers;
+pub mod pages;
+
+pub use answer::{Answer, push_reply};
+pub use mode::Mode;

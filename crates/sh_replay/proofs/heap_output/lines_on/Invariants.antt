@@ -1,4 +1,0 @@
-use Rattle.sh_replay.proofs.heap_output.lines_on.Given as goal
-
-abbrev pub ghost-gathered : goal.ghost-gathered
-ghost-gathered g a = g.at

@@ -1,9 +1,0 @@
--- What a handle promises.
-use Rattle.std.specs.Prelude.{ℕ}
-use Rattle.sh_replay.specs.declared.run.Started.{Started}
-use Rattle.sh_replay.specs.declared.run.Started.TheVariants.{Here, There}
-
--- the number of a worker that has ended, or that its thread promises
-abbrev pub promised : {S B : Type 0} → Started S B → ℕ
-promised (Here worker) = worker
-promised (There handle) = handle.promise.0

@@ -1,0 +1,4 @@
+pub mod Works
+pub mod Gathers
+pub mod Merges
+pub mod Promises

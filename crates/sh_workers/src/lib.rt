@@ -1,0 +1,15 @@
+//! The threads of mode threads: a worker makes the calls of each pass, the workers wait for one another's names on a
+//! board, and what each was answered is put in the order of the lines. A gate, by which a test holds a worker up, is
+//! passed at each call.
+#![tactic(auto)]
+
+pub mod board;
+pub mod gate;
+mod gather;
+mod merge;
+mod room;
+mod run;
+pub mod threads;
+mod worker;
+
+pub use gate::{Gate, OpenGate};

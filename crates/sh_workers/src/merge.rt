@@ -1,0 +1,53 @@
+//! Answers of all passes, put in the order of the script's lines.
+ghost use Rattle.std.specs.Prelude.{◌≡◌, ◌<◌, map, IfOk, IfErr};
+ghost use Rattle.std.specs.List.{All};
+ghost use Rattle.sh_script.specs.declared.calls.CallLine.{CallLine};
+ghost use Rattle.sh_output.specs.Ends.{IsEndFault};
+ghost use Rattle.sh_workers.specs.Gathers.{HaveEnded};
+ghost use Rattle.sh_workers.specs.Merges.{AllAnswered};
+
+use crate::gather::Ended;
+use crate::room::Room;
+use sh_calls::line::{binds, number_meant, number_told};
+use sh_calls::side::Side;
+use sh_output::push_reply;
+use sh_script::{CallLine, Fault};
+use std::alloc::Global;
+
+/// The reply lines in the order of the script's lines, and the passes. The number that each name stood for is compared
+/// with what its insert was answered: `Io` where they differ, which a board that keeps what was bound never comes to.
+pub fn merged<S: Side, B: Room>(
+    alloc: Global,
+    lines: &[CallLine],
+    ended: Ended<S>,
+) -> Result<(Vec<u8>, Vec<S>), Fault>
+    requires lines { lines.now ≡ B.lines }
+    requires passes { All (λ (l : CallLine). l.pass < B.terms.shape.passes) lines.now }
+    requires ended { HaveEnded B.heap B.terms B.tag B.lines B.terms.shape.passes (map S.seen ended.sides.items)
+        ended.rests.items }
+    ensures answered { IfOk result (λ merged. AllAnswered B.heap B.terms B.tag lines.now
+        (map S.seen merged.1.items) merged.0.items) }
+    ensures fault { IfErr result IsEndFault }
+{
+    let Ended { sides, mut rests } = ended;
+    let mut numbers: Vec<Option<u64>> = Vec::new(alloc);
+    let mut output = Vec::new(alloc);
+    for line in lines {
+        let Some(rest) = rests.get_mut(line.pass as usize) else {
+            unreachable!()
+        };
+        let Some(made) = rest.take() else {
+            unreachable!()
+        };
+        if made.bound != number_meant(numbers.as_slice(), &line.call) {
+            return Err(Fault::Io);
+        }
+        if binds(&line.call) && numbers.push(number_told(&made.answer)).is_err() {
+            return Err(Fault::Memory);
+        }
+        if push_reply(&mut output, line, &made.answer).is_err() {
+            return Err(Fault::Memory);
+        }
+    }
+    Ok((output, sides))
+}

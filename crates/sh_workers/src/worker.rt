@@ -1,0 +1,173 @@
+//! Workers: each makes the calls of one pass, in the order of the script.
+ghost use Rattle.std.specs.Prelude.{◌≡◌, ◌≤◌, length, [], IfSome};
+ghost use Rattle.std.specs.Vec.{vec_capacity};
+ghost use Rattle.sh_output.specs.Keys.{HasTagRoom};
+ghost use Rattle.sh_calls.specs.Parts.{no_part, new_pass};
+ghost use Rattle.sh_workers.specs.Works.{own_calls, IsWork};
+
+use crate::board::Board;
+use crate::gate::Gate;
+use crate::room::Room;
+use sh_calls::line::{answered, binds, name_used, number_told};
+use sh_calls::side::Side;
+use sh_output::Answer;
+use sh_script::{Call, CallLine};
+use std::alloc::Global;
+use std::marker::{Model, PhantomData};
+use std::sync::Wait;
+
+/// What all workers share: the script, the board of its names, and the gate that they pass.
+#[derive(Drop)]
+pub struct Shared<'a, G: Gate> {
+    pub alloc: Global,
+    pub lines: &'a [CallLine],
+    pub tag: Option<u8>,
+    pub board: &'a Board,
+    pub gate: &'a G,
+}
+
+/// A call that was made: the number that its name stood for, if it is on a name, and what it was answered.
+#[derive(Drop)]
+pub struct Made {
+    pub bound: Option<u64>,
+    pub answer: Answer,
+}
+
+/// A pass with its calls. To a contract it is the pass's number.
+#[derive(Drop)]
+pub struct Worker<S: Side, B: Room> {
+    number: usize,
+    side: S,
+    // How many lines it has passed, and how many names they bind.
+    next: usize,
+    names: usize,
+    made: Vec<Made>,
+    room: PhantomData<B>,
+}
+
+impl<S: Side, B: Room> Model for Worker<S, B> {
+    ghost use Rattle.std.specs.Prelude.{ℕ, ◌≤◌, take, length};
+    ghost use Rattle.std.specs.Vec.{vec_capacity};
+    ghost use Rattle.sh_calls.specs.Parts.{no_part};
+    ghost use Rattle.sh_workers.specs.Works.{own_calls, IsWork};
+
+    ghost Value = { ℕ };
+
+    ghost view = { λ w. w.number };
+
+    ghost invariant = { λ w. IsWork B.heap B.terms B.tag (take w.next B.lines) w.number no_part (S.seen w.side)
+        w.made.items × (w.names ≤ w.next) × (length (own_calls w.number B.lines) ≤ vec_capacity w.made) };
+}
+
+// The number that the name of the call stands for: waited for, if the call is on a name. `None` where the board is
+// closed.
+fn awaited<R: Wait>(rt: &R, board: &Board, call: &Call) -> Option<Option<u64>> {
+    if let Call::Wait(name) = call {
+        board.wait(rt, *name)?;
+    }
+    match name_used(call) {
+        Some(name) => board.wait(rt, name),
+        None => Some(None),
+    }
+}
+
+// How many names the call binds.
+fn names_bound(call: &Call) -> usize
+    ensures { result ≤ 1 }
+{
+    if binds(call) { 1 } else { 0 }
+}
+
+impl<S: Side, B: Room> Worker<S, B> {
+    // Passes the next line, and makes its call if it is its own. False where there is no line left, or the board is
+    // closed. It takes no memory but what the call takes: the room for what it was answered was taken before.
+    fn step<R: Wait, G: Gate>(&mut self, rt: &R, shared: &Shared<'_, G>) -> bool
+        requires lines { shared.now.lines.now ≡ B.lines }
+        requires tag { shared.now.tag ≡ B.tag }
+        requires room { HasTagRoom B.terms.layout shared.now.tag }
+        ensures { self.new ≡ self.old }
+    {
+        let Some(line) = shared.lines.get(self.next) else {
+            return false;
+        };
+        if line.pass as usize == self.number {
+            let call = self.made.len();
+            shared.gate.before(self.number, call);
+            let Some(bound) = awaited(rt, shared.board, &line.call) else {
+                return false;
+            };
+            let answer = answered(shared.alloc, &mut self.side, shared.tag, &line.call, bound);
+            if binds(&line.call) {
+                shared.board.bind(rt, self.names, number_told(&answer));
+            }
+            self.made.push_reserved(Made { bound, answer });
+            shared.gate.after(self.number, call);
+        }
+        self.names += names_bound(&line.call);
+        self.next += 1;
+        true
+    }
+
+    /// Makes the calls that are left, in order. Where it stops before the last, it closes the board.
+    pub fn run<R: Wait, G: Gate>(&mut self, rt: &R, shared: &Shared<'_, G>)
+        requires lines { shared.now.lines.now ≡ B.lines }
+        requires tag { shared.now.tag ≡ B.tag }
+        requires room { HasTagRoom B.terms.layout shared.now.tag }
+        ensures { self.new ≡ self.old }
+    {
+        for _ in 0..shared.lines.len() {
+            if !self.step(rt, shared) {
+                shared.board.close(rt);
+                return;
+            }
+        }
+    }
+
+    /// Whether a line is its own.
+    pub fn has_calls(&self, lines: &[CallLine]) -> bool {
+        lines.iter().any(|line| line.pass as usize == self.number)
+    }
+
+    /// Its number.
+    pub fn number(&self) -> usize
+        ensures { result ≡ self.now }
+    {
+        self.number
+    }
+
+    /// A worker that has made no call yet, with room for what its calls are answered.
+    pub fn new(number: usize, side: S, made: Vec<Made>) -> Self
+        requires side { S.seen side ≡ new_pass B.heap B.terms number }
+        requires made { made.items ≡ [] }
+        requires space { length (own_calls number B.lines) ≤ vec_capacity made }
+        ensures { result ≡ number }
+    {
+        Worker {
+            number,
+            side,
+            next: 0,
+            names: 0,
+            made,
+            room: PhantomData,
+        }
+    }
+
+    /// Its pass and the calls that it made, where it made all of them.
+    pub fn finish(self, count: usize) -> Option<(S, Vec<Made>)>
+        requires { count ≡ length B.lines }
+        ensures { IfSome result (λ r. IsWork B.heap B.terms B.tag B.lines self no_part (S.seen r.0) r.1.items) }
+    {
+        if self.next != count {
+            return None;
+        }
+        let Worker {
+            number: _,
+            side,
+            next: _,
+            names: _,
+            made,
+            room: _,
+        } = self;
+        Some((side, made))
+    }
+}
