@@ -1,4 +1,6 @@
 pub mod ListLaws
+pub mod RunLaws
+pub mod NoteLaws
 pub mod NameLaws
 pub mod MoveLaws
 pub mod WordLaws
@@ -10,3 +12,5 @@ pub mod ConditionLaws
 pub mod StepLaws
 pub mod FootstepLaws
 pub mod OperationLaws
+pub mod EndLaws
+pub mod DecidingLaws

@@ -1,5 +1,7 @@
 pub mod Kinds
 pub mod Collections
+pub mod Runs
+pub mod Notes
 pub mod Plans
 pub mod Operations
 pub mod Rows
@@ -8,3 +10,5 @@ pub mod Fits
 pub mod Parts
 pub mod Conditions
 pub mod Footsteps
+pub mod Ends
+pub mod Deciding

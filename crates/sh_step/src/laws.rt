@@ -1,5 +1,7 @@
 //! The laws of the table of actions, of its operations, and of what is counted over steps.
 ghost use Rattle.sh_step.specs.Conditions.{RowsMeet, WhoMeetsHasRow};
+ghost use Rattle.sh_step.specs.Deciding.{DecidingStepsReply};
+ghost use Rattle.sh_step.specs.Ends.{StepsComeNearer, StepsGoOn};
 ghost use Rattle.sh_step.specs.Footsteps.{CountsGrow};
 ghost use Rattle.sh_step.specs.Moves.{StepsLookAtNoPart, StoresAreBlind};
 ghost use Rattle.sh_step.specs.Operations.{RoomDoesNotWrap};
@@ -15,6 +17,20 @@ pub fn conditions_have_rows()
 pub fn steps_look_at_no_part()
     ensures steps { StepsLookAtNoPart }
     ensures stores { StoresAreBlind }
+{}
+
+/// A pass that has begun something ends it by so many steps of its own, at most, as its hand says, whatever the others
+/// do: each step leaves fewer, whatever word it finds, and where a key in its hand names a slot there is a next one. A
+/// removal has 7, and a filling one more than words are left.
+pub fn hands_end()
+    ensures nearer { StepsComeNearer }
+    ensures goes_on { StepsGoOn }
+{}
+
+/// The step that finds the word by which a call is decided replies, and no other does: an entry to get always; an entry
+/// to remove exactly where the word is not live; a mark, the drop of a hold and a publish always.
+pub fn deciding_steps_reply()
+    ensures { DecidingStepsReply }
 {}
 
 /// What is counted over a list of steps grows by 1 with one step more that is such, and stays with another.

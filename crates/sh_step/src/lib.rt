@@ -14,11 +14,15 @@ pub mod laws;
 mod lists;
 pub mod moves;
 pub mod names;
+mod notes;
 pub mod operands;
 pub mod operation;
+mod own_slots;
 mod owners;
 mod paged;
 pub mod part;
+mod run;
+mod runs;
 mod slotted;
 pub mod step;
 mod steps;
@@ -27,7 +31,10 @@ pub use action::{Action, Event, PageName, SlotName};
 pub use body::Body;
 pub use footstep::Footstep;
 pub use kind::ActionKind;
-pub use laws::{conditions_have_rows, footsteps_count, room_does_not_wrap, steps_look_at_no_part};
+pub use laws::{
+    conditions_have_rows, deciding_steps_reply, footsteps_count, hands_end, room_does_not_wrap,
+    steps_look_at_no_part,
+};
 pub use moves::{Move, enabled};
 pub use operation::Operation;
 pub use part::Part;

@@ -12,7 +12,9 @@ mod owners;
 mod paged;
 mod slotted;
 
-use crate::lists::{has_number, has_slots, has_spot, value_noted};
+use crate::lists::{has_number, value_noted};
+use crate::notes::Notes;
+use crate::own_slots::OwnSlots;
 use sh_slots::{Hand, Spot};
 use std::alloc::Global;
 use std::collections::VecDeque;
@@ -26,12 +28,12 @@ const HOLDS_MAX: usize = 16;
 pub struct Part {
     hand: Hand,
     holds: VecDeque<u64>,
-    widths: VecDeque<(u64, u64)>,
-    lengths: VecDeque<(u64, u64)>,
+    widths: Notes,
+    lengths: Notes,
     contents: VecDeque<(u64, u64, u64)>,
     owned: Option<u64>,
-    classes: VecDeque<(u64, u64)>,
-    mine: VecDeque<Spot>,
+    classes: Notes,
+    mine: OwnSlots,
     cursors: VecDeque<(u64, u64)>,
     armed: VecDeque<u64>,
     bell_cursor: Option<u64>,
@@ -45,13 +47,12 @@ impl Model for Part {
     ghost view = { λ p. record {
       hand = p.hand;
       holds = p.holds.items;
-      widths = p.widths.items;
-      lengths =
-          p.lengths.items;
+      widths = p.widths;
+      lengths = p.lengths;
       contents = p.contents.items;
       owned = p.owned;
-      classes = p.classes.items;
-      mine = p.mine.items;
+      classes = p.classes;
+      mine = p.mine;
       cursors = p.cursors.items;
       armed = p.armed.items;
       bell_cursor = p.bell_cursor;
@@ -78,12 +79,12 @@ impl Part {
         Part {
             hand: Hand::Idle,
             holds: VecDeque::new(alloc),
-            widths: VecDeque::new(alloc),
-            lengths: VecDeque::new(alloc),
+            widths: Notes::new(alloc),
+            lengths: Notes::new(alloc),
             contents: VecDeque::new(alloc),
             owned: None,
-            classes: VecDeque::new(alloc),
-            mine: VecDeque::new(alloc),
+            classes: Notes::new(alloc),
+            mine: OwnSlots::new(alloc),
             cursors: VecDeque::new(alloc),
             armed: VecDeque::new(alloc),
             bell_cursor: None,
@@ -160,21 +161,21 @@ impl Part {
     pub fn width_of(&self, key: u64) -> Option<u64>
         ensures { result ≡ noted key self.now.widths }
     {
-        value_noted(&self.widths, key)
+        self.widths.of(key)
     }
 
     /// The length of the value of a key that it holds, if it read it.
     pub fn length_of(&self, key: u64) -> Option<u64>
         ensures { result ≡ noted key self.now.lengths }
     {
-        value_noted(&self.lengths, key)
+        self.lengths.of(key)
     }
 
     /// The class word of a page of its shard, if it read or stored it.
     pub fn class_noted(&self, page: u64) -> Option<u64>
         ensures { result ≡ noted page self.now.classes }
     {
-        value_noted(&self.classes, page)
+        self.classes.of(page)
     }
 
     /// The class word of a page of its shard, 0 where it knows none.
@@ -212,7 +213,7 @@ impl Part {
     pub fn has_mine(&self, spot: Spot) -> bool
         ensures { result ≡ has (same_spot spot) self.now.mine }
     {
-        has_spot(&self.mine, spot)
+        self.mine.has(spot)
     }
 
     /// Whether the first slots of a page, so many, are its own to fill.
@@ -220,7 +221,7 @@ impl Part {
         requires { count ≤ 48 }
         ensures { result ≡ every (λ x. has (same_spot x) self.now.mine) (spots page 0 count) }
     {
-        has_slots(&self.mine, page, count)
+        self.mine.has_first(page, count)
     }
 
     /// Whether nothing of its shard is with it: no slot to fill, no link to follow and no page armed.

@@ -86,7 +86,71 @@ fn a_generation_ends_where_nobody_is_on_the_slot(rt: HostRuntime) -> Result<(), 
     Ok(())
 }
 
-// A page of class 7 has 3 slots. Each refusal of memory leaves the part as it was.
+// A page is given class 7, which has 3 slots. Says whether memory was there; a refusal leaves the part as it was, here
+// and below.
+fn page_is_given_a_class(rt: &impl Abort, shape: &Shape, part: &mut Part) -> bool
+    requires { shape.now ≡ record { shards = 1; segments = 1; passes = 1 } }
+{
+    if part.apply::<Tiny>(shape, &Move::SetClass(0, 7), 0).is_err() {
+        assert_eq!(rt; part.class_noted(0), None);
+        assert!(rt; !part.has_mine(FIRST));
+        return false;
+    }
+    assert_eq!(rt; part.class_noted(0), Some(8));
+    assert!(rt; part.has_all_mine(0, 3));
+    assert!(rt; !part.has_all_mine(0, 4));
+    part.apply::<Tiny>(shape, &Move::PutSlot(FIRST), 0)
+        .expect(rt, "nothing is noted");
+    assert!(rt; !part.has_mine(FIRST));
+    true
+}
+
+fn page_is_armed(rt: &impl Abort, shape: &Shape, part: &mut Part) -> bool
+    requires { shape.now ≡ record { shards = 1; segments = 1; passes = 1 } }
+{
+    if part.apply::<Tiny>(shape, &Move::Arm(0), 2).is_err() {
+        assert!(rt; !part.has_armed(0));
+        assert_eq!(rt; part.cursor(0), None);
+        return false;
+    }
+    assert!(rt; part.has_armed(0));
+    assert_eq!(rt; part.cursor(0), Some(0));
+    true
+}
+
+fn link_is_followed(rt: &impl Abort, shape: &Shape, part: &mut Part) -> bool
+    requires { shape.now ≡ record { shards = 1; segments = 1; passes = 1 } }
+{
+    let follow = Move::Follow(0, 0);
+    part.apply::<Tiny>(shape, &follow, 0)
+        .expect(rt, "nothing is noted");
+    assert_eq!(rt; part.cursor(0), Some(0));
+    assert!(rt; !part.has_mine(FIRST));
+    if part.apply::<Tiny>(shape, &follow, 1).is_err() {
+        assert_eq!(rt; part.cursor(0), Some(0));
+        return false;
+    }
+    assert_eq!(rt; part.cursor(0), None);
+    assert!(rt; part.has_mine(FIRST));
+    true
+}
+
+fn bell_is_followed(rt: &impl Abort, shape: &Shape, part: &mut Part)
+    requires { shape.now ≡ record { shards = 1; segments = 1; passes = 1 } }
+{
+    part.apply::<Tiny>(shape, &Move::TakeBell(0), 1)
+        .expect(rt, "nothing is noted");
+    assert_eq!(rt; part.bell_cursor(), Some(0));
+    let follow_bell = Move::FollowBell(0);
+    part.apply::<Tiny>(shape, &follow_bell, 0)
+        .expect(rt, "nothing is noted");
+    assert_eq!(rt; part.bell_cursor(), Some(0));
+    part.apply::<Tiny>(shape, &follow_bell, 1)
+        .expect(rt, "nothing is noted");
+    assert_eq!(rt; part.bell_cursor(), None);
+    assert!(rt; !part.has_armed(0));
+}
+
 #[test]
 fn an_owner_arms_and_follows_a_page(rt: HostRuntime) -> Result<(), Fail> {
     let shape = one_shard(&rt);
@@ -94,48 +158,11 @@ fn an_owner_arms_and_follows_a_page(rt: HostRuntime) -> Result<(), Fail> {
     part.apply::<Tiny>(&shape, &Move::Adopt(0), 0)
         .expect(&rt, "nothing is noted");
     assert_eq!(rt; part.owned(), Some(0));
-    if part
-        .apply::<Tiny>(&shape, &Move::SetClass(0, 7), 0)
-        .is_err()
+    if page_is_given_a_class(&rt, &shape, &mut part)
+        && page_is_armed(&rt, &shape, &mut part)
+        && link_is_followed(&rt, &shape, &mut part)
     {
-        assert_eq!(rt; part.class_noted(0), None);
-        assert!(rt; !part.has_mine(FIRST));
-        return Ok(());
+        bell_is_followed(&rt, &shape, &mut part);
     }
-    assert_eq!(rt; part.class_noted(0), Some(8));
-    assert!(rt; part.has_all_mine(0, 3));
-    assert!(rt; !part.has_all_mine(0, 4));
-    part.apply::<Tiny>(&shape, &Move::PutSlot(FIRST), 0)
-        .expect(&rt, "nothing is noted");
-    assert!(rt; !part.has_mine(FIRST));
-    if part.apply::<Tiny>(&shape, &Move::Arm(0), 2).is_err() {
-        assert!(rt; !part.has_armed(0));
-        assert_eq!(rt; part.cursor(0), None);
-        return Ok(());
-    }
-    assert!(rt; part.has_armed(0));
-    assert_eq!(rt; part.cursor(0), Some(0));
-    let follow = Move::Follow(0, 0);
-    part.apply::<Tiny>(&shape, &follow, 0)
-        .expect(&rt, "nothing is noted");
-    assert_eq!(rt; part.cursor(0), Some(0));
-    assert!(rt; !part.has_mine(FIRST));
-    if part.apply::<Tiny>(&shape, &follow, 1).is_err() {
-        assert_eq!(rt; part.cursor(0), Some(0));
-        return Ok(());
-    }
-    assert_eq!(rt; part.cursor(0), None);
-    assert!(rt; part.has_mine(FIRST));
-    part.apply::<Tiny>(&shape, &Move::TakeBell(0), 1)
-        .expect(&rt, "nothing is noted");
-    assert_eq!(rt; part.bell_cursor(), Some(0));
-    let follow_bell = Move::FollowBell(0);
-    part.apply::<Tiny>(&shape, &follow_bell, 0)
-        .expect(&rt, "nothing is noted");
-    assert_eq!(rt; part.bell_cursor(), Some(0));
-    part.apply::<Tiny>(&shape, &follow_bell, 1)
-        .expect(&rt, "nothing is noted");
-    assert_eq!(rt; part.bell_cursor(), None);
-    assert!(rt; !part.has_armed(0));
     Ok(())
 }

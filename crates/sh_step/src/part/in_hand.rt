@@ -6,7 +6,6 @@ ghost use Rattle.sh_step.specs.Parts.{ListGrows};
 ghost use Rattle.sh_step.specs.Rows.{drop_hand, finish, put_at, tie, ring, ring_tie};
 
 use super::Part;
-use crate::lists::put_first;
 use crate::operands::gen_max;
 use crate::paged::owns;
 use sh_bell::{is_armed, top_of};
@@ -42,7 +41,7 @@ impl Part {
         if !is_reusable_after(generation, gen_max::<L>(), found) {
             self.hand = Hand::Idle;
         } else if owns::<L>(shape, self, spot.page) {
-            put_first(&mut self.mine, spot)?;
+            self.mine.put(spot)?;
             self.hand = Hand::Idle;
         } else {
             self.hand = Hand::ToPut(spot);

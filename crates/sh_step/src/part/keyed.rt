@@ -7,7 +7,7 @@ ghost use Rattle.sh_step.specs.Rows.{enter_get, enter_remove, mark, freed, drop_
 ghost use Rattle.sh_step.specs.Rows.{read_word};
 
 use super::Part;
-use crate::lists::{forget_notes, forget_words, has_number, put_first, remove_number};
+use crate::lists::{forget_words, has_number, put_first, remove_number};
 use crate::operands::guard_max;
 use sh_key::KeyLayout;
 use sh_slots::{
@@ -79,8 +79,8 @@ impl Part {
     {
         remove_number(&mut self.holds, key);
         if !has_number(&self.holds, key) {
-            forget_notes(&mut self.widths, key);
-            forget_notes(&mut self.lengths, key);
+            self.widths.forget(key);
+            self.lengths.forget(key);
             forget_words(&mut self.contents, key);
         }
     }
@@ -102,7 +102,7 @@ impl Part {
         ensures grows { OnErr result (ListGrows self.old ((read_class self.old key name).part found)) }
         ensures memory { IfErr result (λ refusal. refusal ≡ Refusal.Memory) }
     {
-        put_first(&mut self.widths, (key, found))
+        self.widths.put(key, found)
     }
 
     // A read of the length of a held key's value.
@@ -112,7 +112,7 @@ impl Part {
         ensures grows { OnErr result (ListGrows self.old ((read_length self.old key name).part found)) }
         ensures memory { IfErr result (λ refusal. refusal ≡ Refusal.Memory) }
     {
-        put_first(&mut self.lengths, (key, found))
+        self.lengths.put(key, found)
     }
 
     // A read of a word, of this number, of a held key's value.

@@ -5,9 +5,7 @@ ghost use Rattle.sh_step.specs.Parts.{ListGrows};
 ghost use Rattle.sh_step.specs.Rows.{read_page, set_class, take_page, follow, arm, point};
 
 use super::Part;
-use crate::lists::{
-    forget_page, make_room, put_first, put_in_room, put_slots, remove_note, remove_number,
-};
+use crate::lists::{make_room, put_first, put_in_room, remove_note, remove_number};
 use crate::operands::slots_of_word;
 use sh_bell::{is_armed, top_of};
 use sh_slots::Spot;
@@ -36,7 +34,7 @@ impl Part {
         ensures grows { OnErr result (ListGrows self.old ((read_page self.old page).part found)) }
         ensures memory { IfErr result (λ refusal. refusal ≡ Refusal.Memory) }
     {
-        put_first(&mut self.classes, (page, found))
+        self.classes.put(page, found)
     }
 
     // The change of a page's class: all its slots are then its own, and none but those.
@@ -48,11 +46,7 @@ impl Part {
     {
         let word = u64::from(class) + 1;
         let count = slots_of_word(word);
-        make_room(&mut self.mine, count as usize)?;
-        put_first(&mut self.classes, (page, word))?;
-        forget_page(&mut self.mine, page);
-        put_slots(&mut self.mine, page, count);
-        Ok(())
+        self.mine.set_class(page, count, &mut self.classes, word)
     }
 
     // A take that found this head word.
@@ -79,12 +73,12 @@ impl Part {
         match Link::of(found) {
             Link::Unwritten => {}
             Link::End => {
-                put_first(&mut self.mine, Spot { page, slot })?;
+                self.mine.put(Spot { page, slot })?;
                 remove_note(&mut self.cursors, page);
             }
             Link::Next(next) => {
                 make_room(&mut self.cursors, 1)?;
-                put_first(&mut self.mine, Spot { page, slot })?;
+                self.mine.put(Spot { page, slot })?;
                 remove_note(&mut self.cursors, page);
                 put_in_room(&mut self.cursors, (page, next));
             }

@@ -7,7 +7,6 @@ ghost use Rattle.sh_step.specs.Collections.{without};
 ghost use Rattle.sh_step.specs.Rows.{fill_slot, fill, publish, put_at};
 
 use super::Part;
-use crate::lists::remove_spot;
 use crate::operands::key_of_name;
 use sh_key::KeyLayout;
 use sh_shape::Shape;
@@ -19,7 +18,7 @@ impl Part {
     pub(super) fn fill_slot(&mut self, spot: Spot, value: &Value)
         ensures { (found : ℕ) → self.new ≡ (fill_slot self.old spot value.now).part found }
     {
-        remove_spot(&mut self.mine, spot);
+        self.mine.remove(spot);
         self.hand = Hand::Filling(spot, value.copy(), 0);
     }
 
@@ -57,7 +56,7 @@ impl Part {
         ensures { self.new ≡ (put_at (record self.old { mine = without (same_spot spot) self.old.mine }) spot).part
             found }
     {
-        remove_spot(&mut self.mine, spot);
+        self.mine.remove(spot);
         self.put(spot, found);
     }
 }

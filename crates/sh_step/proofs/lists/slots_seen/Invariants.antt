@@ -1,9 +1,0 @@
-use Rattle.std.proofs.Common.{ℕ, ◌≡◌, ◌<◌, get_or, false, take}
-use Rattle.sh_slots.specs.Slots.{same_spot}
-use Rattle.sh_step.specs.Collections.{has}
-use Rattle.sh_step.proofs.lists.slots_seen.Given as goal
-
--- the slots of the page among the first ones are seen
-abbrev pub invariant-loop-i : goal.invariant-loop-i
-invariant-loop-i l = (slot : ℕ) → slot < 48 → get_or l.seen slot false
-    ≡ has (same_spot (record { page = l.page; slot = slot })) (take l.i l.mine.items)

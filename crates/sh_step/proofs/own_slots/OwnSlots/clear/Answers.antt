@@ -1,0 +1,5 @@
+use Rattle.sh_step.proofs.RunLaws.{none_in_runs}
+use Rattle.sh_step.proofs.own_slots.OwnSlots.clear.Goals as goal
+
+pub returns : goal.returns
+returns c = none_in_runs _ c.clear.ensures.items

@@ -1,0 +1,7 @@
+-- Notes and the newest of each number, kept beside them.
+use Rattle.std.specs.Prelude.{ℕ, ◌≡◌, List}
+use Rattle.sh_step.specs.Collections.{noted}
+
+-- the same is noted of every number
+unfoldable pub NoteTheSame : List (ℕ × ℕ) → List (ℕ × ℕ) → Type 0
+NoteTheSame newest notes = (q : ℕ) → noted q newest ≡ noted q notes

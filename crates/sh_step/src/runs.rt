@@ -1,0 +1,149 @@
+//! Own slots in runs, the newest run first. Each call walks the runs once.
+ghost use Rattle.std.specs.Prelude.{ℕ, ◌≡◌, get_or, false, ◌==◌, ◌||◌, ◌&&◌, ◌+◌, ◌<◌, ◌≤◌, ◌++◌, not, filter, length};
+ghost use Rattle.std.specs.Prelude.{slice_set, Some};
+ghost use Rattle.std.specs.VecDeque.{deque_len, deque_capacity};
+ghost use Rattle.std.specs.List.{list_any, list_all, position};
+ghost use Rattle.sh_slots.specs.Slots.{same_spot, spots};
+ghost use Rattle.sh_step.specs.Collections.{has, without, off, every};
+ghost use Rattle.sh_step.specs.Runs.{slots_of, slots_in};
+
+use crate::run::{Run, is_empty_run, run_has, run_without};
+use sh_slots::Spot;
+use std::collections::VecDeque;
+
+// For how many slots a page has places.
+const SLOT_PLACES: u64 = 48;
+
+// Whether a run has the slot.
+fn any_run_has(runs: &VecDeque<Run>, spot: Spot) -> bool
+    ensures { result ≡ list_any (λ r. has (same_spot spot) (slots_of r)) runs.now.items }
+{
+    runs.iter().any(|run| run_has(*run, spot))
+}
+
+// Which run has the slot first.
+fn run_with(runs: &VecDeque<Run>, spot: Spot) -> Option<usize>
+    ensures { result ≡ position (λ r. has (same_spot spot) (slots_of r)) runs.now.items }
+{
+    runs.iter().position(|run| run_has(*run, spot))
+}
+
+// Whether all runs are empty.
+fn all_empty(runs: &VecDeque<Run>) -> bool
+    ensures { result ≡ list_all (λ r. length (slots_of r) == 0) runs.now.items }
+{
+    runs.iter().all(|run| is_empty_run(*run))
+}
+
+// Keeps the runs of other pages.
+fn keep_other_pages(runs: &mut VecDeque<Run>, page: u64)
+    ensures items { runs.new.items ≡ filter (λ r. not (r.page == page)) runs.old.items }
+    ensures capacity { deque_capacity runs.new ≡ deque_capacity runs.old }
+    ensures fewer { deque_len runs.new ≤ deque_len runs.old }
+{
+    runs.retain(|run| run.page != page);
+}
+
+/// Whether the slot is there.
+pub fn has_spot(runs: &VecDeque<Run>, spot: Spot) -> bool
+    ensures { result ≡ has (same_spot spot) (slots_in runs.now.items) }
+{
+    any_run_has(runs, spot)
+}
+
+/// Whether no slot is there.
+pub fn has_no_spot(runs: &VecDeque<Run>) -> bool
+    ensures { result ≡ (length (slots_in runs.now.items) == 0) }
+{
+    all_empty(runs)
+}
+
+// Notes a slot of the page as seen, where the run has it.
+fn see_slot(seen: &mut [bool; 48], run: Run, page: u64, slot: u64)
+    requires { slot < 48 }
+    ensures { (x : ℕ) → x < 48 → get_or seen.new x false ≡
+        (get_or seen.old x false || ((x == slot) && has (same_spot (record { page = page; slot = x }))
+        (slots_of run))) }
+{
+    if run_has(run, Spot { page, slot }) {
+        seen[slot as usize] = true;
+    }
+}
+
+// Notes the slots of a run that are of the page as seen.
+fn see_run(seen: &mut [bool; 48], run: Run, page: u64)
+    ensures { (x : ℕ) → x < 48 → get_or seen.new x false ≡
+        (get_or seen.old x false || has (same_spot (record { page = page; slot = x })) (slots_of run)) }
+{
+    if run.page != page {
+        return;
+    }
+    for slot in 0..SLOT_PLACES {
+        see_slot(seen, run, page, slot);
+    }
+}
+
+// Which slots of the page are there.
+fn slots_seen(runs: &VecDeque<Run>, page: u64) -> [bool; 48]
+    ensures { (slot : ℕ) → slot < 48 → get_or result slot false ≡ has (same_spot (record { page = page; slot = slot }))
+        (slots_in runs.now.items) }
+{
+    let mut seen = [false; 48];
+    for i in 0..runs.len() {
+        see_run(&mut seen, runs[i], page);
+    }
+    seen
+}
+
+/// Whether the first slots of a page, so many, are all there.
+pub fn has_slots(runs: &VecDeque<Run>, page: u64, count: u64) -> bool
+    requires { count ≤ 48 }
+    ensures { result ≡ every (λ x. has (same_spot x) (slots_in runs.now.items)) (spots page 0 count) }
+{
+    let seen = slots_seen(runs, page);
+    for slot in 0..count {
+        if !seen[slot as usize] {
+            return false;
+        }
+    }
+    true
+}
+
+// Puts a run in the place of another.
+fn put_at(runs: &mut VecDeque<Run>, i: usize, run: Run)
+    requires { i < deque_len runs.old }
+    ensures { runs.new.items ≡ slice_set runs.old.items i run }
+{
+    runs[i] = run;
+}
+
+// Takes the slot out of this run, which has it. A run that is empty then goes.
+fn remove_from(runs: &mut VecDeque<Run>, i: usize, spot: Spot)
+    requires { position (λ r. has (same_spot spot) (slots_of r)) runs.old.items ≡ Some i }
+    ensures { slots_in runs.new.items ≡ without (same_spot spot) (slots_in runs.old.items) }
+{
+    let left = run_without(runs[i], spot);
+    if is_empty_run(left) {
+        runs.remove(i);
+    } else {
+        put_at(runs, i, left);
+    }
+}
+
+/// Takes the slot out once, if it is there.
+pub fn remove_spot(runs: &mut VecDeque<Run>, spot: Spot)
+    ensures { slots_in runs.new.items ≡ without (same_spot spot) (slots_in runs.old.items) }
+{
+    if let Some(i) = run_with(runs, spot) {
+        remove_from(runs, i, spot);
+    }
+}
+
+/// Takes all slots of the page out.
+pub fn forget_page(runs: &mut VecDeque<Run>, page: u64)
+    ensures slots { slots_in runs.new.items ≡ off (λ x. x.page == page) (slots_in runs.old.items) }
+    ensures capacity { deque_capacity runs.new ≡ deque_capacity runs.old }
+    ensures fewer { deque_len runs.new ≤ deque_len runs.old }
+{
+    keep_other_pages(runs, page);
+}
