@@ -162,7 +162,7 @@ module _ (plan : Plan) (w : World) (l : PutLists) (all : All plan w l) (counts :
 
 -- ---- entries
 
-of_its_pass : (a : ℕ) (v : List ℕ) (r : Reply) → pass_of (entry a v r) ≡ a
+pub of_its_pass : (a : ℕ) (v : List ℕ) (r : Reply) → pass_of (entry a v r) ≡ a
 of_its_pass a v (reply.Insert k u) = refl
 of_its_pass a v (reply.Got k) = refl
 of_its_pass a v (reply.Gone k) = refl

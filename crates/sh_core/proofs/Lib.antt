@@ -1,5 +1,6 @@
 pub mod Worked
 pub mod WrongRows
+pub mod NoRing
 pub mod Totals
 pub mod StateWords
 pub mod Slots
@@ -37,6 +38,8 @@ pub mod KeptValues
 pub mod RowsFit
 pub mod FewHolds
 pub mod KeyNotes
+pub mod KeyHolds
+pub mod Flags
 pub mod LinkFacts
 pub mod KeyFacts
 pub mod ListCounts
@@ -49,4 +52,5 @@ pub mod Doing
 pub mod OpeningWords
 pub mod KeptWords
 pub mod Stepping
+pub mod DecidingEvents
 pub mod LayoutLaws

@@ -43,7 +43,7 @@ use Rattle.sh_step.proofs.ConditionLaws.{meets}
 use Rattle.sh_step.proofs.PageLaws.{page_within}
 
 -- a list that adds up to something has an item that does
-some_part : {A : Type 0} (f : A → ℕ) (xs : List A) → 0 < total f xs → (b : ℕ) × (x : A) × (slice_get xs b ≡ Some x)
+pub some_part : {A : Type 0} (f : A → ℕ) (xs : List A) → 0 < total f xs → (b : ℕ) × (x : A) × (slice_get xs b ≡ Some x)
     × (0 < f x)
 unfolding total
 some_part f [] h = absurd (omega arith)

@@ -1,10 +1,12 @@
 -- The theorem: what is kept along a run, and each clause of it.
 use Rattle.std.proofs.Common.{◌||◌, ◌≡◌, ℕ, zero, suc, ◌<◌, ◌≤◌, List, [], ◌∷◌, refl, subst, arith, Some, None}
 use Rattle.sh_slots.specs.declared.hand.Hand.{Hand}
-use Rattle.sh_slots.specs.declared.hand.Hand.TheVariants.{Filling}
+use Rattle.sh_slots.specs.declared.hand.Hand.TheVariants.{Removing, Filling}
 use Rattle.sh_history.specs.History.{Legal}
 use Rattle.sh_step.specs.Plans.{Plan, Lawful, keys_of}
 use Rattle.sh_step.specs.Collections.{total, if1, noted}
+use Rattle.sh_step.specs.Ends.{HandNames}
+use Rattle.sh_step.proofs.EndLaws.{steps_come_nearer, steps_go_on}
 use Rattle.sh_step.specs.declared.body.Body.{Body}
 use Rattle.sh_core.specs.Lists.{PutLists}
 use Rattle.sh_core.specs.Placed.{All}
@@ -24,7 +26,7 @@ use Rattle.sh_key.specs.Layout.{Layout, IsLayout}
 use Rattle.sh_shape.specs.Shape.{Numbers, IsShape, Fits}
 use Rattle.sh_slots.specs.Slots.{name_at}
 use Rattle.sh_step.specs.Plans.{plan_of, heap_pages}
-use Rattle.sh_core.specs.Refines.{ClassesAreKnown, FillsAreKeys, Refines, CountIsFew}
+use Rattle.sh_core.specs.Refines.{ClassesAreKnown, FillsAreKeys, KeysInHandName, Refines, CountIsFew}
 use Rattle.sh_core.specs.Within.{AllWithin, ValuesFit}
 use Rattle.sh_core.proofs.BellWords.{bells_are_small}
 use Rattle.sh_core.proofs.RowsFit.{stores_words, issues_keys}
@@ -35,6 +37,8 @@ use Rattle.sh_core.proofs.StaysWithin.{within_step, within_open}
 use Rattle.sh_core.proofs.PlacesWithin.{steps_within, counts_fit}
 use Rattle.sh_core.proofs.SlotGood.{total_length, visits_few}
 use Rattle.sh_core.proofs.FewHolds.{FewHolds, few_step, few_open}
+use Rattle.sh_core.proofs.KeyHolds.{holds_few}
+use Rattle.sh_core.proofs.Flags.{FlagsAlone, flags_step, flags_open, flagged_empty}
 use Rattle.sh_core.proofs.KeyNotes.{AllTold, told_step, told_open, notes}
 
 know_open : (plan : Plan) → AllKnow plan (open_world plan)
@@ -49,7 +53,7 @@ know_open plan a p at =
       measured = λ k c h. absurd (let z : None ≡ Some c = h in cc);
     })
 
--- all six are kept along a run
+-- all seven are kept along a run
 pub record Kept (plan : Plan) (w : World) (l : PutLists) : Type 0 where
   pub all : All plan w l
   pub know : AllKnow plan w
@@ -57,6 +61,7 @@ pub record Kept (plan : Plan) (w : World) (l : PutLists) : Type 0 where
   pub few : FewHolds plan w
   pub told : AllTold w
   pub beside : Beside plan w
+  pub flags : FlagsAlone w
 
 kept_from : (plan : Plan) (w : World) (l : PutLists) (es : List Event) → Lawful plan → Kept plan w l
     → Kept plan (run_from plan w es) (lists_from plan w l es)
@@ -73,6 +78,7 @@ kept_from plan w l (e ∷ es) laws k = kept_from plan (step plan w e) (list_step
           plan w l e k.all k.know k.told;
       beside = beside_step plan w l e k.all
           (counts_fit plan w l laws k.all k.know k.within) k.beside;
+      flags = flags_step plan w e k.flags;
     })
 
 module _ (plan : Plan) (w : World) (l : PutLists) (laws : Lawful plan) (kept : Kept plan w l) where
@@ -108,6 +114,14 @@ module _ (plan : Plan) (w : World) (l : PutLists) (laws : Lawful plan) (kept : K
       let h : Rattle.sh_core.specs.Within.HandWithin plan (Filling x v i) = subst P is (kept.within a p at).hand in
       let g = all.sound.generations x.page x.slot in laws.names (name_at x (state_of w x).generation) g.0 g.1 h.0 h.1
 
+  -- a key in hand names a slot
+  names : (h : Hand) → Rattle.sh_core.specs.Within.HandWithin plan h → HandNames plan h
+  names (Removing k) is = is
+  names _ is = tt
+
+  hands : KeysInHandName plan w
+  hands a p at = names p.hand (kept.within a p at).hand
+
   pub refines : Refines plan w l
   refines = record {
     legal = all.good.legal;
@@ -142,6 +156,10 @@ module _ (plan : Plan) (w : World) (l : PutLists) (laws : Lawful plan) (kept : K
     stores = stores_words plan w laws fills kept.within;
     issues = issues_keys plan w laws fills kept.within;
     passes = all.good.passes;
+    few_holds = holds_few plan w kept.know kept.few;
+    flags = flagged_empty plan w l all kept.flags;
+    hands = hands;
+    goes_on = λ a p at busy. (steps_go_on plan p busy (hands a p at), steps_come_nearer plan p busy);
   }
 
 -- every run of every heap
@@ -159,6 +177,7 @@ theorem layout shape a b c es =
       few = few_open plan;
       told = told_open plan;
       beside = beside_open plan;
+      flags = flags_open plan;
     }))
 
 -- its log, in the layout's own number of holds

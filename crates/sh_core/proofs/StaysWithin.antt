@@ -28,7 +28,7 @@ use Rattle.sh_core.specs.Within.{Within, HandWithin, SpotWithin, AllWithin}
 use Rattle.sh_core.proofs.Totals.{get_set}
 use Rattle.sh_core.proofs.OpenGood.{part_new}
 use Rattle.sh_core.proofs.StackSteps.{same_page, times_cons, times_none}
-use Rattle.sh_step.specs.Conditions.{Meets, its_page}
+use Rattle.sh_step.specs.Conditions.{Named, Meets, its_page}
 use Rattle.sh_step.proofs.ConditionLaws.{meets}
 use Rattle.sh_step.proofs.PageLaws.{page_within}
 
@@ -84,11 +84,10 @@ module _ (plan : Plan) (p : Body) (old : Within plan p) where
       (stays (record p { holds = k ∷ p.holds }) old.hand refl (λ q. omega arith))
       (stays (in_hand p (Leaving (spot_of h.0))) (h.1.page, h.1.slot) refl (λ q. omega arith)))
   within_row (EnterRemove k) m e = let h = meets plan p (EnterRemove k) m e in
-      quiet m _ h.3 (λ n f. go h.0 (live_at h.0.generation n) (h.1.page, h.1.slot)) where
-        go : (x : Name) (b : Bool) → SpotWithin plan (spot_of x) → Within plan
-            (in_hand p (cond b (Removing k) (Leaving (spot_of x))))
-        go x true w = stays (in_hand p (Removing k)) tt refl (λ q. omega arith)
-        go x false w = stays (in_hand p (Leaving (spot_of x))) w refl (λ q. omega arith)
+      quiet m _ h.3 (λ n f. go h.0 (live_at h.0.generation n) h.1) where
+        go : (x : Name) (b : Bool) → Named plan k x → Within plan (in_hand p (cond b (Removing k) (Leaving (spot_of x))))
+        go x true name = stays (in_hand p (Removing k)) (x, name) refl (λ q. omega arith)
+        go x false name = stays (in_hand p (Leaving (spot_of x))) (name.page, name.slot) refl (λ q. omega arith)
   within_row Mark m e = let h = meets plan p Mark m e in quiet m _ h.4
       (λ n f. stays (in_hand p (Leaving (spot_of h.1))) (h.3.page, h.3.slot) refl (λ q. omega arith))
   within_row Drop m e = let h = meets plan p Drop m e in quiet m _ h.2

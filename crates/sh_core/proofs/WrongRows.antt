@@ -1,11 +1,12 @@
 -- The theorem refuses wrong tables: of each, a clause that some list of events breaks.
 use Rattle.std.proofs.Common.{◌≡◌, ℕ, ◌+◌, ◌<◌, ◌≤◌, true, false, List, [], ◌∷◌, ◌++◌, refl, sym, ◌∙◌, subst, arith}
-use Rattle.std.proofs.Common.{Some, None, slice_get}
+use Rattle.std.proofs.Common.{cond, Some, None, slice_get}
 use Rattle.sh_history.specs.declared.entry.Entry.TheVariants.{Insert, Crowded, Removed}
 use Rattle.sh_history.specs.History.{Legal}
 use Rattle.sh_key.specs.Layouts.{tiny, tiny_numbers}
 use Rattle.sh_slots.specs.declared.hand.Name.{Name}
-use Rattle.sh_slots.specs.Slots.{spot_of}
+use Rattle.sh_slots.specs.declared.hand.Hand.TheVariants.{Removing, Finishing}
+use Rattle.sh_slots.specs.Slots.{spot_of, live_at}
 use Rattle.sh_step.specs.declared.action.Action.TheVariants.{EnterGet, EnterRemove, Mark, Drop, DropHold, Finish}
 use Rattle.sh_step.specs.declared.action.Action.TheVariants.{FillSlot, Publish, ReadClass, ReadPage, SetClass, Take}
 use Rattle.sh_step.specs.declared.action.Action.TheVariants.{Follow, Put, Tie, Adopt, Leave, Arm, Ring, RingTie}
@@ -13,18 +14,21 @@ use Rattle.sh_step.specs.declared.action.Action.TheVariants.{TakeBell}
 use Rattle.sh_step.specs.declared.action.Event.{Event}
 use Rattle.sh_step.specs.declared.body.Body.{Body}
 use Rattle.sh_step.specs.Plans.{Plan, plan_of, keys_of}
-use Rattle.sh_step.specs.Rows.{row}
+use Rattle.sh_step.specs.Deciding.{DecidingReplies}
+use Rattle.sh_step.specs.Rows.{Row, row, enter_get}
 use Rattle.sh_core.specs.Worlds.{World, step, run_from, run, open_world}
 use Rattle.sh_step.specs.Parts.{newcomer}
 use Rattle.sh_core.specs.Lists.{PutLists, list_step, lists_from, lists_of, no_lists, state_of, times}
 use Rattle.sh_core.specs.Stacks.{spot}
 use Rattle.sh_core.specs.Refines.{Always, OneKind, HeldStands, NotesAreTrue, Counted, GenerationsEnd, Finished, Armed}
-use Rattle.sh_core.specs.Refines.{LeftEmpty, Linked, OwnPartsStand, ClassesAreKnown}
+use Rattle.sh_core.specs.Refines.{LeftEmpty, Linked, OwnPartsStand, ClassesAreKnown, HoldsAreFew, FlaggedAreEmpty}
+use Rattle.sh_core.specs.Refines.{KeysInHandName, GoesOn}
 use Rattle.sh_core.specs.Variants.{Table, step_by, run_from_by, run_by, list_step_by, lists_from_by, lists_by, AlwaysBy}
 use Rattle.sh_core.specs.WrongRows.{crowds_at_once, both_remove, marks_and_stays, drops_and_forgets, knows_after_hold}
 use Rattle.sh_core.specs.WrongRows.{keeps_generation, ignores_count, wraps_generation, never_retires, ties_first}
 use Rattle.sh_core.specs.WrongRows.{ends_at_unwritten, leaves_link, follows_twice, never_rings, leaves_slots}
-use Rattle.sh_core.specs.WrongRows.{leaves_bell, forgets_last_slot, gives_any_class}
+use Rattle.sh_core.specs.WrongRows.{leaves_bell, forgets_last_slot, gives_any_class, ignores_room, never_answers_gone}
+use Rattle.sh_core.specs.WrongRows.{remembers_generation, finish_again, tries_again, keeps_flag}
 use Rattle.sh_step.proofs.Truths.{no_bool}
 use Rattle.sh_core.proofs.Worked.{small, ev, at, page, everything}
 
@@ -51,7 +55,7 @@ same_always P always layout shape a b c es =
 abbrev pub IsLegal : Plan → World → PutLists → Type 0
 IsLegal plan w l = Legal plan.passes plan.keys.guard_max w.log
 
-refuted : (rows : Table) (P : Plan → World → PutLists → Type 0) (n : ℕ) → 1 ≤ n → n ≤ 64 → (es : List Event)
+pub refuted : (rows : Table) (P : Plan → World → PutLists → Type 0) (n : ℕ) → 1 ≤ n → n ≤ 64 → (es : List Event)
     → ¬ P (small n) (run_by rows (small n) es) (lists_by rows (small n) es) → ¬ AlwaysBy rows P
 refuted rows P n some few es fails always = fails (always tiny (record { shards = 1; segments = 1; passes = n })
     tiny_numbers.lawful (record {
@@ -80,6 +84,7 @@ wrongly : ℕ
 unfolding everything step_by run_from_by list_step_by lists_from_by crowds_at_once both_remove marks_and_stays
     drops_and_forgets knows_after_hold keeps_generation ignores_count wraps_generation never_retires ties_first
     ends_at_unwritten leaves_link follows_twice never_rings leaves_slots leaves_bell forgets_last_slot gives_any_class
+    ignores_room never_answers_gone remembers_generation tries_again keeps_flag
 wrongly = 0
 
 -- a key is issued twice where the end of a generation leaves it
@@ -175,7 +180,7 @@ old_link_loses_slots = refuted leaves_link Linked 2 (omega arith) (omega arith) 
     (λ h. let z : 0 ≡ 1 = h.0.cursors 0 1 in absurd (omega arith))
 
 -- an armed page whose flag was found has no ring to wait for where nobody rings
-abbrev freeing : List Event
+abbrev pub freeing : List Event
 freeing = opened ++ inserted 0 ++ ev 0 (Arm (page 0 0)) ∷ put_back 1 4096
 
 pub silent_freer_loses_ring : ¬ AlwaysBy never_rings Armed
@@ -294,3 +299,51 @@ unfolding wrongly
 ninth_class_is_none = refuted gives_any_class (λ plan w l. ClassesAreKnown plan w) 1 (omega arith) (omega arith)
     (ev 0 (Adopt 0) ∷ ev 0 (ReadPage (page 0 0)) ∷ ev 0 (SetClass (page 0 0) 8) ∷ [])
     (λ h. let z : 9 ≤ 8 = (h 0).0 in absurd (omega arith))
+
+-- a fifth hold where four may be had
+pub fifth_hold_is_too_many : ¬ AlwaysBy ignores_room (λ plan w l. HoldsAreFew plan w)
+unfolding wrongly
+fifth_hold_is_too_many = refuted ignores_room (λ plan w l. HoldsAreFew plan w) 1 (omega arith) (omega arith)
+    (opened ++ inserted 0 ++ ev 0 (EnterGet 4096) ∷ ev 0 (EnterGet 4096) ∷ ev 0 (EnterGet 4096) ∷ ev 0 (EnterGet 4096) ∷
+    ev 0 (EnterGet 4096) ∷ []) (λ h. let z : 5 ≤ 4 = h 4096 in absurd (omega arith))
+
+-- a flag over a slot that was put
+abbrev flagged : List Event
+flagged = opened ++ inserted 0 ++ ev 0 (Arm (page 0 0)) ∷ removed 1 4096 ++ ev 1 Put ∷ []
+
+pub flag_stays_over_slot : ¬ AlwaysBy keeps_flag (λ plan w l. FlaggedAreEmpty w l)
+unfolding wrongly
+flag_stays_over_slot = refuted keeps_flag (λ plan w l. FlaggedAreEmpty w l) 2 (omega arith) (omega arith) flagged
+    (λ h. let z : 0 ∷ [] ≡ [] = h 0 refl in cc)
+
+-- what is in hand names nothing: generation 1 is no key
+abbrev owner : Body
+owner = record newcomer { owned = Some 0; classes = (0, 8) ∷ (0, 0) ∷ []; mine = spot 0 1 ∷ spot 0 2 ∷ [] }
+
+pub generation_is_no_key : ¬ AlwaysBy remembers_generation (λ plan w l. KeysInHandName plan w)
+unfolding wrongly
+generation_is_no_key = refuted remembers_generation (λ plan w l. KeysInHandName plan w) 1 (omega arith) (omega arith)
+    (opened ++ inserted 0 ++ ev 0 (EnterRemove 4096) ∷ [])
+    (λ h. let n = h 0 (record owner { hand = Removing 1 }) refl in let z : None ≡ Some n.0 = n.1.unpacks in cc)
+
+-- an end that is tried again and again
+abbrev ender : Body
+ender = record owner { hand = Finishing (spot 0 0) 1 }
+
+pub end_may_never_come : ¬ AlwaysBy tries_again (λ plan w l. GoesOn tries_again plan w)
+unfolding wrongly
+end_may_never_come = refuted tries_again (λ plan w l. GoesOn tries_again plan w) 1 (omega arith) (omega arith)
+    (opened ++ inserted 0 ++ ev 0 (EnterRemove 4096) ∷ ev 0 Mark ∷ ev 0 Drop ∷ [])
+    (λ h. let z : 5 < 5 = (h 0 ender refl (λ e. cc)).1 Finish (finish_again (small 1) ender (spot 0 0) 1) refl 0
+    in absurd (omega arith))
+
+-- a get that is never answered
+abbrev unanswered : Row
+unanswered = record (enter_get (small 1) newcomer 4096 (record { page = 0; slot = 0; generation = 1 })) {
+  reply = λ n. cond (live_at 1 n) ((enter_get (small 1) newcomer 4096
+      (record { page = 0; slot = 0; generation = 1 })).reply n) None;
+}
+
+pub gone_is_never_told : ¬ DecidingReplies never_answers_gone
+unfolding wrongly
+gone_is_never_told = λ h. let z : false ≡ true = h (small 1) newcomer (EnterGet 4096) unanswered 0 refl in no_bool z

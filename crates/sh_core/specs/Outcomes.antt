@@ -1,7 +1,9 @@
 -- What comes of an event.
-use Rattle.std.specs.Prelude.{List, [], ◌∷◌, Option, Some, None, slice_get}
+use Rattle.std.specs.Prelude.{◌≡◌, Bool, true, false, List, [], ◌∷◌, ◌++◌, Option, Some, None, slice_get}
 use Rattle.sh_history.specs.declared.entry.Entry.{Entry}
+use Rattle.sh_history.specs.Log.{pass_of}
 use Rattle.sh_step.specs.declared.action.Event.{Event}
+use Rattle.sh_step.specs.Deciding.{decides}
 use Rattle.sh_step.specs.Plans.{Plan}
 use Rattle.sh_step.specs.Rows.{Row, row}
 use Rattle.sh_core.specs.declared.outcome.Outcome.{Outcome}
@@ -32,3 +34,15 @@ outcomes_from plan w (e ∷ es) = outcome_of plan w e ∷ outcomes_from plan (st
 
 abbrev pub outcomes : Plan → List Event → List Outcome
 outcomes plan es = outcomes_from plan (open_world plan) es
+
+-- An event that was done and decided a call was replied: one entry of its pass joined the log, and that is what came of
+-- it. One that decided none moved, and left the log
+abbrev pub IsTold : (decided : Bool) → (before after : World) → Event → Outcome → Type 0
+IsTold true before after e outcome = (t : Entry) × (outcome ≡ Replied t) × (pass_of t ≡ e.pass)
+    × (after.log ≡ before.log ++ t ∷ [])
+IsTold false before after e outcome = (outcome ≡ Moved) × (after.log ≡ before.log)
+
+-- so it is with each event that is done, whatever word it found
+abbrev pub DecidingEventsReply : Type 0
+DecidingEventsReply = (plan : Plan) (w : World) (e : Event) (m : Row) → row_of_event plan w e ≡ Some m
+    → IsTold (decides plan e.action (read w.words m.place)) w (step plan w e) e (outcome_of plan w e)

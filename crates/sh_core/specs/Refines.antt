@@ -1,15 +1,17 @@
 -- What holds after every list of events: the clauses of the theorem, each of a world and of the lists of what was put.
-use Rattle.std.specs.Prelude.{IsSome, ℕ, ◌+◌, ◌-◌, ◌*◌, ◌/◌, ◌%◌, ◌≡◌, ◌<◌, ◌≤◌, true, false, nat_lt, not, ◌&&◌, ◌||◌}
-use Rattle.std.specs.Prelude.{List, [], Some, None, All, length, slice_get, slice_index}
+use Rattle.std.specs.Prelude.{IsSome, ℕ, ◌+◌, ◌-◌, ◌*◌, ◌/◌, ◌%◌, ◌≡◌, ◌≢◌, ◌<◌, ◌≤◌, true, false, nat_lt, not, ◌&&◌}
+use Rattle.std.specs.Prelude.{◌||◌, List, [], Some, None, All, length, slice_get, slice_index}
 use Rattle.sh_step.specs.declared.action.Event.{Event}
 use Rattle.sh_slots.specs.declared.hand.Spot.{Spot}
 use Rattle.sh_slots.specs.declared.hand.Name.{Name}
 use Rattle.sh_word.specs.Fields.{Fields}
 use Rattle.sh_key.specs.Layout.{Layout, IsLayout}
 use Rattle.sh_shape.specs.Shape.{Numbers, IsShape, Fits}
-use Rattle.sh_step.specs.Rows.{own, unpoint}
+use Rattle.sh_step.specs.Rows.{row, own, unpoint}
+use Rattle.sh_step.specs.Ends.{HandNames, ComesNearer, HasNext}
+use Rattle.sh_core.specs.Variants.{Table}
 use Rattle.sh_core.specs.Within.{StepsWithin, CountsFit, BellsAreSmall, ValuesFit, StoresWords, IssuesKeys}
-use Rattle.sh_slots.specs.declared.hand.Hand.TheVariants.{Filling}
+use Rattle.sh_slots.specs.declared.hand.Hand.TheVariants.{Idle, Filling}
 use Rattle.sh_slots.specs.Slots.{name_at}
 use Rattle.sh_step.specs.Plans.{plan_of, Plan, heap_pages, home}
 use Rattle.sh_shape.specs.Classes.{class_count, slots, width}
@@ -221,6 +223,23 @@ FillsAreKeys plan w = (a : ℕ) (p : Body) (x : Spot) (v : List ℕ) (i : ℕ) �
     ≡ Filling x v i → plan.keys.unpack (plan.keys.pack (name_at x (state_of w x).generation))
     ≡ Some (name_at x (state_of w x).generation)
 
+-- a key has at most as many holds, of all passes together, as the layout allows
+abbrev pub HoldsAreFew : Plan → World → Type 0
+HoldsAreFew plan w = (k : ℕ) → total (λ (p : Body). times k p.holds) w.parts ≤ plan.keys.guard_max
+
+-- a page whose flag stands has an empty stack
+abbrev pub FlaggedAreEmpty : World → PutLists → Type 0
+FlaggedAreEmpty w l = (q : ℕ) → w.words.head_at q % 2 ≡ 1 → l.stack q ≡ []
+
+-- a key in hand names a slot of the heap
+abbrev pub KeysInHandName : Plan → World → Type 0
+KeysInHandName plan w = (a : ℕ) (p : Body) → slice_get w.parts a ≡ Some p → HandNames plan p.hand
+
+-- a pass that has begun something can go on by this table: there is a next step, and each leaves fewer to the end
+abbrev pub GoesOn : Table → Plan → World → Type 0
+GoesOn rows plan w = (a : ℕ) (p : Body) → slice_get w.parts a ≡ Some p → p.hand ≢ Idle
+    → HasNext (rows plan p) × ComesNearer (rows plan p) p.hand
+
 -- all of it
 pub record Refines (plan : Plan) (w : World) (l : PutLists) : Type 0 where
   pub legal : Legal plan.passes plan.keys.guard_max w.log
@@ -254,6 +273,10 @@ pub record Refines (plan : Plan) (w : World) (l : PutLists) : Type 0 where
   pub values : ValuesFit plan w
   pub stores : StoresWords plan w
   pub issues : IssuesKeys plan w
+  pub few_holds : HoldsAreFew plan w
+  pub flags : FlaggedAreEmpty w l
+  pub hands : KeysInHandName plan w
+  pub goes_on : GoesOn row plan w
   pub passes : length w.parts ≡ plan.passes
 
 -- P holds after every list of events, in every heap whose shape fits its layout

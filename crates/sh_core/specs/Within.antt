@@ -7,10 +7,13 @@ use Rattle.sh_shape.specs.declared.places.Place.{Place}
 use Rattle.sh_shape.specs.declared.places.Place.TheVariants.{Class, Head, PageLink, State, Link, Length, Payload, Owner}
 use Rattle.sh_shape.specs.declared.places.Place.TheVariants.{Bell}
 use Rattle.sh_slots.specs.declared.hand.Hand.{Hand}
-use Rattle.sh_slots.specs.declared.hand.Hand.TheVariants.{Leaving, Finishing, ToPut, Tying, Ringing, RingTying, Filling}
+use Rattle.sh_slots.specs.declared.hand.Hand.TheVariants.{Removing, Leaving, Finishing, ToPut, Tying, Ringing}
+use Rattle.sh_slots.specs.declared.hand.Hand.TheVariants.{RingTying, Filling}
+use Rattle.sh_slots.specs.declared.hand.Name.{Name}
 use Rattle.sh_slots.specs.declared.hand.Spot.{Spot}
 use Rattle.sh_step.specs.declared.action.Action.{Action}
 use Rattle.sh_step.specs.declared.body.Body.{Body}
+use Rattle.sh_step.specs.Conditions.{Named}
 use Rattle.sh_step.specs.Plans.{Plan, plan_of, heap_pages}
 use Rattle.sh_step.specs.Rows.{Row, row}
 use Rattle.sh_shape.specs.Classes.{width, slots}
@@ -23,11 +26,14 @@ use Rattle.sh_core.specs.Words.{read}
 use Rattle.sh_core.specs.Worlds.{World}
 use Rattle.sh_core.specs.Lists.{times}
 
--- the slot of a page of the heap, and for an end of a generation one that there is
+-- the slot of a page of the heap
 abbrev pub SpotWithin : Plan → Spot → Type 0
 SpotWithin plan x = (x.page < heap_pages plan) × (x.slot < 48)
 
+-- the key in the hand names a slot of the heap; the slot or the page there is one of the heap, and the generation whose
+-- end it is one that there is
 abbrev pub HandWithin : Plan → Hand → Type 0
+HandWithin plan (Removing k) = (x : Name) × Named plan k x
 HandWithin plan (Leaving x) = SpotWithin plan x
 HandWithin plan (Finishing x g) = SpotWithin plan x × (g ≤ plan.keys.gen_max)
 HandWithin plan (ToPut x) = SpotWithin plan x

@@ -4,19 +4,18 @@ use Rattle.sh_shape.specs.declared.places.Place.TheVariants.{State, Link, Head}
 use Rattle.sh_shape.specs.Classes.{slots}
 use Rattle.sh_slots.specs.declared.hand.Hand.TheVariants.{Idle, Removing, Leaving, Finishing, ToPut, Tying, Ringing}
 use Rattle.sh_slots.specs.declared.hand.Spot.{Spot}
-use Rattle.sh_slots.specs.declared.hand.Name.{Name}
 use Rattle.sh_slots.specs.declared.reply.Reply.TheVariants as reply
 use Rattle.sh_slots.specs.Slots.{same_spot, spots, spot_of, live_at, after_drop, marked_word, reusable_word}
-use Rattle.sh_slots.specs.Slots.{retired_word}
-use Rattle.sh_step.specs.declared.action.Action.TheVariants.{EnterGet, Mark, Drop, DropHold, Finish, SetClass, Follow}
-use Rattle.sh_step.specs.declared.action.Action.TheVariants.{Put, Tie, Leave}
+use Rattle.sh_slots.specs.Slots.{retired_word, after_enter_remove}
+use Rattle.sh_step.specs.declared.action.Action.TheVariants.{EnterGet, EnterRemove, Mark, Drop, DropHold, Finish}
+use Rattle.sh_step.specs.declared.action.Action.TheVariants.{SetClass, Follow, Put, Tie, Leave, Ring}
 use Rattle.sh_step.specs.declared.body.Body.{Body}
 use Rattle.sh_step.specs.declared.operation.Operation.{Operation}
-use Rattle.sh_step.specs.declared.operation.Operation.TheVariants.{Swap, Store, CompareExchange, Load}
+use Rattle.sh_step.specs.declared.operation.Operation.TheVariants.{FetchAdd, Swap, Store, CompareExchange, Load}
 use Rattle.sh_step.specs.Collections.{has, noted, every, without}
 use Rattle.sh_step.specs.Plans.{Plan}
 use Rattle.sh_step.specs.Rows.{Row, row, when, silent, hand, idle, own, named, paged, point, unpoint, enter_get, mark}
-use Rattle.sh_step.specs.Rows.{drop_hand, drop_key, set_class, follow, leave, all_mine}
+use Rattle.sh_step.specs.Rows.{enter_remove, drop_hand, drop_key, finish, put_at, set_class, follow, leave, all_mine}
 use Rattle.sh_stack.specs.Stack.{top_word}
 use Rattle.sh_bell.specs.Bell.{head_word, is_armed}
 use Rattle.sh_word.specs.Fields.{word_of}
@@ -32,6 +31,29 @@ crowds_at_once plan p (EnterGet k) = named plan k (λ x. when (idle p && nat_lt 
       reply = λ n. Some (cond (live_at x.generation n) (reply.Crowded k) (reply.Gone k));
     }))
 crowds_at_once plan p x = row plan p x
+
+-- a get takes a hold of a key that has as many as it may have
+unfoldable pub ignores_room : Table
+ignores_room plan p (EnterGet k) = named plan k (λ x. when (idle p && nat_lt (length p.holds) 16)
+    (record (enter_get plan p k x) {
+      part = λ n. cond (live_at x.generation n) (record p { holds = k ∷ p.holds }) (hand p (Leaving (spot_of x)));
+      reply = λ n. Some (cond (live_at x.generation n) (reply.Got k) (reply.Gone k));
+    }))
+ignores_room plan p x = row plan p x
+
+-- a get that finds the slot without the key's value answers nothing, and never will
+unfoldable pub never_answers_gone : Table
+never_answers_gone plan p (EnterGet k) = named plan k (λ x. when (idle p && nat_lt (length p.holds) 16)
+    (record (enter_get plan p k x) {
+      reply = λ n. cond (live_at x.generation n) ((enter_get plan p k x).reply n) None;
+    }))
+never_answers_gone plan p x = row plan p x
+
+-- a removal has the key's generation in hand, and no longer the key
+unfoldable pub remembers_generation : Table
+remembers_generation plan p (EnterRemove k) = named plan k (λ x. when (idle p)
+    (record (enter_remove plan p k x) { part = λ n. hand p (after_enter_remove x.generation x n) }))
+remembers_generation plan p x = row plan p x
 
 -- a mark removes the key whether or not it was marked before
 unfoldable pub both_remove : Table
@@ -121,7 +143,25 @@ never_retires plan p Finish = elim (p.hand) [
 ]
 never_retires plan p x = row plan p x
 
+abbrev pub finish_again : Plan → Body → Spot → ℕ → Row
+finish_again plan p x g = record (finish plan p x g) {
+  part = λ n. cond (n == marked_word g) ((finish plan p x g).part n) p;
+}
+
+-- whoever finds that another came is to try it again
+unfoldable pub tries_again : Table
+tries_again plan p Finish = elim (p.hand) [ Finishing x g ↦ Some (finish_again plan p x g) | _ ↦ None ]
+tries_again plan p x = row plan p x
+
 -- ---- stacks
+
+-- a put adds its slot to the head word, so a flag that stood there stays
+unfoldable pub keeps_flag : Table
+keeps_flag plan p Put = elim (p.hand) [
+  | ToPut x ↦ Some (record (put_at p x) { operation = FetchAdd (head_word (top_word x.slot)) })
+  | _ ↦ None
+]
+keeps_flag plan p x = row plan p x
 
 abbrev pub tie_first : Body → Spot → Row
 tie_first p x = record {
@@ -192,6 +232,11 @@ tie_and_stop p x l = record {
 unfoldable pub never_rings : Table
 never_rings plan p Tie = elim (p.hand) [ Tying x l r ↦ Some (tie_and_stop p x l) | _ ↦ None ]
 never_rings plan p x = row plan p x
+
+-- whoever has to ring has no step by which to do so
+unfoldable pub cannot_ring : Table
+cannot_ring plan p Ring = None
+cannot_ring plan p x = row plan p x
 
 -- ---- owners
 

@@ -1,13 +1,15 @@
 //! What holds of every run.
 ghost use Rattle.std.specs.Prelude.{◌≡◌, length};
 ghost use Rattle.sh_history.specs.History.{Legal};
+ghost use Rattle.sh_step.specs.Rows.{row};
 ghost use Rattle.sh_core.specs.LinkWords.{EachLinked};
 ghost use Rattle.sh_core.specs.Within.{StepsWithin, CountsFit, BellsAreSmall, ValuesFit, StoresWords, IssuesKeys};
 ghost use Rattle.sh_core.specs.Refines.{Always, OneKind, KindsAddUp, Filled, ClassesAreKnown, HeldStands, ReadsWithin};
 ghost use Rattle.sh_core.specs.Refines.{NotesAreTrue, HoldsAreTold, Counted, CountIsFew};
 ghost use Rattle.sh_core.specs.Refines.{PastIsRemoved, KeysAreTold, EntriesAreOurs, GenerationsEnd, RetiredIsLast};
 ghost use Rattle.sh_core.specs.Refines.{Finished, OneOwner, Armed, LeftEmpty, ShardlessHaveNothing, Linked};
-ghost use Rattle.sh_core.specs.Refines.{OwnPartsStand, FillsAreKeys};
+ghost use Rattle.sh_core.specs.Refines.{OwnPartsStand, FillsAreKeys, HoldsAreFew, FlaggedAreEmpty, KeysInHandName};
+ghost use Rattle.sh_core.specs.Refines.{GoesOn};
 
 /// The core refines the map: in every heap whose shape fits its layout, after every list of events, whoever did them
 /// and in whatever order, and wherever calls were left unfinished.
@@ -28,6 +30,7 @@ pub fn refines_map()
     ensures reads { Always (λ plan w l. ReadsWithin plan w) }
     ensures notes { Always (λ plan w l. NotesAreTrue plan w) }
     ensures holds { Always (λ plan w l. HoldsAreTold w) }
+    ensures few_holds { Always (λ plan w l. HoldsAreFew plan w) }
 
     // A slot's count is its holds and the passes on it for a moment, and has room.
     ensures counted { Always (λ plan w l. Counted plan w) }
@@ -50,6 +53,7 @@ pub fn refines_map()
     // What stands on a page and on a bell.
     ensures linked { Always (λ plan w l. Linked plan w l) }
     ensures links { Always (λ plan w l. EachLinked plan w l) }
+    ensures flags { Always (λ plan w l. FlaggedAreEmpty w l) }
 
     // What a pass has of its own is within its shard, and each step is on a place of the heap.
     ensures parts { Always (λ plan w l. OwnPartsStand plan w) }
@@ -60,4 +64,8 @@ pub fn refines_map()
     ensures stores { Always (λ plan w l. StoresWords plan w) }
     ensures issues { Always (λ plan w l. IssuesKeys plan w) }
     ensures passes { Always (λ plan w l. length w.parts ≡ plan.passes) }
+
+    // A pass that has begun something can go on, and each of its steps brings it nearer to the end.
+    ensures hands { Always (λ plan w l. KeysInHandName plan w) }
+    ensures goes_on { Always (λ plan w l. GoesOn row plan w) }
 {}

@@ -1,4 +1,5 @@
-//! Laws of what passes did, and of the places and words that they step on.
+//! Laws of what passes did and were replied, and of the places and words that they step on.
+ghost use Rattle.sh_core.specs.Outcomes.{DecidingEventsReply};
 ghost use Rattle.sh_core.specs.Trails.{TrailGrows, OthersTrailsStay, SkipsLeaveTrails};
 ghost use Rattle.sh_core.specs.Within.{PlansHaveShapesPlaces, CountsLeaveRoom};
 
@@ -8,6 +9,11 @@ pub fn trails_grow()
     ensures own { TrailGrows }
     ensures others { OthersTrailsStay }
     ensures skipped { SkipsLeaveTrails }
+{}
+
+/// An event by whose word a call is decided replies: one entry of its pass joins the log then, and only then.
+pub fn deciding_events_reply()
+    ensures { DecidingEventsReply }
 {}
 
 /// A place that the plan of a heap has is one of the heap's shape.

@@ -17,7 +17,9 @@ pub mod world;
 
 pub use accounts::Accounts;
 pub use claims::refines_map;
-pub use laws::{counts_leave_room, plans_have_the_places_of_shapes, trails_grow};
+pub use laws::{
+    counts_leave_room, deciding_events_reply, plans_have_the_places_of_shapes, trails_grow,
+};
 pub use outcome::Outcome;
 pub use refuted::refutes_wrong_tables;
 pub use world::{World, run};

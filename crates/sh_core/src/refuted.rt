@@ -2,14 +2,18 @@
 ghost use Rattle.sh_history.specs.History.{Legal};
 ghost use Rattle.sh_core.specs.Variants.{AlwaysBy};
 ghost use Rattle.sh_core.specs.Refines.{OneKind, HeldStands, NotesAreTrue, Counted, GenerationsEnd, Finished, Armed};
-ghost use Rattle.sh_core.specs.Refines.{LeftEmpty, Linked, OwnPartsStand, ClassesAreKnown};
+ghost use Rattle.sh_core.specs.Refines.{LeftEmpty, Linked, OwnPartsStand, ClassesAreKnown, HoldsAreFew};
+ghost use Rattle.sh_core.specs.Refines.{FlaggedAreEmpty, KeysInHandName, GoesOn};
 ghost use Rattle.sh_core.specs.WrongRows.{crowds_at_once, both_remove, marks_and_stays, drops_and_forgets};
 ghost use Rattle.sh_core.specs.WrongRows.{knows_after_hold, keeps_generation, ignores_count, wraps_generation};
 ghost use Rattle.sh_core.specs.WrongRows.{never_retires, ties_first, ends_at_unwritten, leaves_link, follows_twice};
 ghost use Rattle.sh_core.specs.WrongRows.{never_rings, leaves_slots, leaves_bell, forgets_last_slot, gives_any_class};
+ghost use Rattle.sh_core.specs.WrongRows.{ignores_room, never_answers_gone, remembers_generation, tries_again};
+ghost use Rattle.sh_core.specs.WrongRows.{keeps_flag, cannot_ring};
+ghost use Rattle.sh_step.specs.Deciding.{DecidingReplies};
 
 /// The theorem is not one that any table of actions has: of each of these tables, which are the right one but for an
-/// action or two, some list of events breaks a clause.
+/// action or two, some list of events breaks a clause, or a step the law of deciding steps.
 pub fn refutes_wrong_tables()
     // What is answered of a key, and what is known of it.
     ensures crowds_at_once { ¬ AlwaysBy crowds_at_once (λ plan w l. Legal plan.passes plan.keys.guard_max w.log) }
@@ -17,19 +21,25 @@ pub fn refutes_wrong_tables()
     ensures marks_and_stays { ¬ AlwaysBy marks_and_stays (λ plan w l. Counted plan w) }
     ensures drops_and_forgets { ¬ AlwaysBy drops_and_forgets (λ plan w l. Finished plan w) }
     ensures knows_after_hold { ¬ AlwaysBy knows_after_hold (λ plan w l. NotesAreTrue plan w) }
+    ensures ignores_room { ¬ AlwaysBy ignores_room (λ plan w l. HoldsAreFew plan w) }
+    ensures never_answers_gone { ¬ DecidingReplies never_answers_gone }
+    ensures remembers_generation { ¬ AlwaysBy remembers_generation (λ plan w l. KeysInHandName plan w) }
 
     // The end of a generation.
     ensures keeps_generation { ¬ AlwaysBy keeps_generation (λ plan w l. Legal plan.passes plan.keys.guard_max w.log) }
     ensures ignores_count { ¬ AlwaysBy ignores_count (λ plan w l. HeldStands plan w) }
     ensures wraps_generation { ¬ AlwaysBy wraps_generation (λ plan w l. Legal plan.passes plan.keys.guard_max w.log) }
     ensures never_retires { ¬ AlwaysBy never_retires (λ plan w l. GenerationsEnd plan w) }
+    ensures tries_again { ¬ AlwaysBy tries_again (λ plan w l. GoesOn tries_again plan w) }
 
     // Stacks and bells.
+    ensures keeps_flag { ¬ AlwaysBy keeps_flag (λ plan w l. FlaggedAreEmpty w l) }
     ensures ties_first { ¬ AlwaysBy ties_first (λ plan w l. Linked plan w l) }
     ensures ends_at_unwritten { ¬ AlwaysBy ends_at_unwritten (λ plan w l. Linked plan w l) }
     ensures leaves_link { ¬ AlwaysBy leaves_link (λ plan w l. Linked plan w l) }
     ensures follows_twice { ¬ AlwaysBy follows_twice (λ plan w l. OneKind w l) }
     ensures never_rings { ¬ AlwaysBy never_rings (λ plan w l. Armed plan w l) }
+    ensures cannot_ring { ¬ AlwaysBy cannot_ring (λ plan w l. GoesOn cannot_ring plan w) }
 
     // Owners.
     ensures leaves_slots { ¬ AlwaysBy leaves_slots (λ plan w l. LeftEmpty plan w) }

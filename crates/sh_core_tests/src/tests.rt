@@ -1,4 +1,5 @@
 mod bells;
+mod largest;
 mod layouts;
 mod memory;
 mod opening;

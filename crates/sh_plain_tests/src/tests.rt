@@ -1,6 +1,6 @@
 ghost use Rattle.std.specs.Prelude.{◌≡◌};
 
-use sh_key::Tiny;
+use sh_key::{Tiny, Wide};
 use sh_plain::{PlainStore, Store};
 use sh_value::{Hold, Refusal, Value};
 use std::process::Abort;
@@ -20,6 +20,22 @@ fn gives_each_key_once(rt: HostRuntime) -> Result<(), Fail> {
     assert_eq!(rt; store.insert(&empty), Err(Refusal::Full));
     let hold = store.get(16383).expect(&rt, "it was inserted");
     assert_eq!(rt; store.read(hold).expect(&rt, "it is held").words().len(), 0);
+    Ok(())
+}
+
+// The entries and the index behind them grow with each call.
+#[test]
+fn many_entries_are_kept(rt: HostRuntime) -> Result<(), Fail> {
+    let mut store = PlainStore::<Wide>::new(rt.alloc(), 1);
+    let word = value(&[7], &rt);
+    for key in 16_777_216..16_847_216u64 {
+        assert_eq!(rt; store.insert(&word), Ok(key));
+        assert_eq!(rt; store.remove(key), Ok(()));
+    }
+    assert_eq!(rt; store.get(16_777_216), Err(Refusal::Gone));
+    assert_eq!(rt; store.get(16_847_215), Err(Refusal::Gone));
+    assert_eq!(rt; store.insert(&word), Ok(16_847_216));
+    assert_eq!(rt; store.get(16_847_216), Ok(Hold { key: 16_847_216 }));
     Ok(())
 }
 

@@ -96,3 +96,15 @@ returns-clause-issues c = λ layout shape a b f es. (theorem layout shape a b f 
 
 pub returns-clause-passes : goal.returns-clause-passes
 returns-clause-passes c = λ layout shape a b f es. (theorem layout shape a b f es).passes
+
+pub returns-clause-few_holds : goal.returns-clause-few_holds
+returns-clause-few_holds c = λ layout shape a b f es. (theorem layout shape a b f es).few_holds
+
+pub returns-clause-flags : goal.returns-clause-flags
+returns-clause-flags c = λ layout shape a b f es. (theorem layout shape a b f es).flags
+
+pub returns-clause-hands : goal.returns-clause-hands
+returns-clause-hands c = λ layout shape a b f es. (theorem layout shape a b f es).hands
+
+pub returns-clause-goes_on : goal.returns-clause-goes_on
+returns-clause-goes_on c = λ layout shape a b f es. (theorem layout shape a b f es).goes_on

@@ -4,7 +4,9 @@ use Rattle.sh_core.proofs.WrongRows.{ignored_count_loses_held, wrapped_generatio
 use Rattle.sh_core.proofs.WrongRows.{unretired_slot_has_no_key, early_link_is_wrong, unwritten_end_loses_slots}
 use Rattle.sh_core.proofs.WrongRows.{old_link_loses_slots, followed_twice_is_mine_twice, silent_freer_loses_ring}
 use Rattle.sh_core.proofs.WrongRows.{leaver_keeps_slots, left_bell_is_nobodys, forgotten_slot_has_two_kinds}
-use Rattle.sh_core.proofs.WrongRows.{ninth_class_is_none}
+use Rattle.sh_core.proofs.WrongRows.{ninth_class_is_none, fifth_hold_is_too_many, flag_stays_over_slot}
+use Rattle.sh_core.proofs.WrongRows.{generation_is_no_key, end_may_never_come, gone_is_never_told}
+use Rattle.sh_core.proofs.NoRing.{unrung_never_ends}
 use Rattle.sh_core.proofs.refuted.refutes_wrong_tables.Goals as goal
 
 pub returns-clause-crowds_at_once : goal.returns-clause-crowds_at_once
@@ -60,3 +62,21 @@ returns-clause-forgets_last_slot c = forgotten_slot_has_two_kinds
 
 pub returns-clause-gives_any_class : goal.returns-clause-gives_any_class
 returns-clause-gives_any_class c = ninth_class_is_none
+
+pub returns-clause-ignores_room : goal.returns-clause-ignores_room
+returns-clause-ignores_room c = fifth_hold_is_too_many
+
+pub returns-clause-keeps_flag : goal.returns-clause-keeps_flag
+returns-clause-keeps_flag c = flag_stays_over_slot
+
+pub returns-clause-remembers_generation : goal.returns-clause-remembers_generation
+returns-clause-remembers_generation c = generation_is_no_key
+
+pub returns-clause-tries_again : goal.returns-clause-tries_again
+returns-clause-tries_again c = end_may_never_come
+
+pub returns-clause-never_answers_gone : goal.returns-clause-never_answers_gone
+returns-clause-never_answers_gone c = gone_is_never_told
+
+pub returns-clause-cannot_ring : goal.returns-clause-cannot_ring
+returns-clause-cannot_ring c = unrung_never_ends

@@ -14,7 +14,7 @@ loop-line-preserved g c =
           c.args.lines.now c.loop-line.line-index c.line-item.result c.in_ok-answer.answer c.loop-line.output.items
           c.push_reply.new.out.items
           c.loop-line-test.true c.line-item.is c.loop-line.invariant.written c.in_ok-answer.ensures.steps
-          (from_ok c.push_reply.result c.if-is_err.ensures.value c.push_reply.ensures);
+          (from_ok c.push_reply.result c.if-is_err.ensures.value c.push_reply.ensures.text);
       passes = c.step.ensures.passes ∙ c.loop-line.invariant.passes;
       tag = c.step.ensures.tag ∙ c.loop-line.invariant.tag;
       names = omega (arith, c.step.ensures.names, c.loop-line.invariant.names);
