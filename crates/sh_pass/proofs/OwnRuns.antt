@@ -15,11 +15,11 @@ use Rattle.sh_step.specs.declared.action.Action.TheVariants as action
 use Rattle.sh_step.specs.declared.action.PageName.{PageName}
 use Rattle.sh_step.specs.declared.moves.Move.TheVariants as move
 use Rattle.sh_step.specs.Moves.{place_named}
-use Rattle.sh_step.specs.Plans.{Plan, plan_of, heap_pages}
+use Rattle.sh_step.specs.Plans.{Plan, plan_of, heap_pages, home}
 use Rattle.sh_step.proofs.Truths.{lt_true}
 use Rattle.sh_pass.specs.Passes.{Caller}
-use Rattle.sh_pass.specs.Owners.{MayTouch, OwnerDid, OwnerActs, Aside, OnPage, SamePages, SeenPage, IsKeyIn, heap_page}
-use Rattle.sh_pass.specs.Owners.{heap_spot}
+use Rattle.sh_pass.specs.Owners.{MayTouch, OwnerDid, OwnerActs, Aside, OnPage, SamePages, SeenPage, IsKeyIn, IsKeyOn}
+use Rattle.sh_pass.specs.Owners.{heap_page, heap_spot}
 use Rattle.sh_pass.proofs.OwnMay.{home_is}
 use Rattle.sh_pass.proofs.ReadLaws.{later_same}
 
@@ -54,12 +54,13 @@ issued layout shape v w x value n y d same is =
     ((d.fits refl).issues ((plan_of layout v.view.shape).keys.pack (published_name x n)) value x.page x.slot refl
     refl))
 
--- and its key is one of the page's shard
-pub key_in : (layout : Layout) (v u w : Caller) (x : PageName) (slot : ℕ) (value : List ℕ) (n : ℕ) (shape : Numbers)
-    (k : ℕ) (y : Name) → MayTouch v x → OwnerDid layout action.Publish (move.Publish (heap_spot v x slot) value) n u w
+-- and its key names a slot of the page
+pub key_on : (layout : Layout) (v u w : Caller) (x : PageName) (slot : ℕ) (value : List ℕ) (n : ℕ) (shape : Numbers)
+    (k : ℕ) (y : Name) → OwnerDid layout action.Publish (move.Publish (heap_spot v x slot) value) n u w
     → u.view.shape ≡ v.view.shape → shape ≡ u.view.shape
-    → y ≡ published_name (heap_spot v x slot) n → k ≡ (plan_of layout shape).keys.pack y → IsKeyIn layout v x.shard k
-key_in layout v u w x slot value n shape k y m d before same is key =
+    → y ≡ published_name (heap_spot v x slot) n → k ≡ (plan_of layout shape).keys.pack y
+    → IsKeyOn layout v (heap_page v x) k
+key_on layout v u w x slot value n shape k y d before same is key =
     let plan : Plan = plan_of layout v.view.shape in
     let named : Name = published_name (heap_spot v x slot) n in
     let told : plan.keys.unpack (plan.keys.pack named) ≡ Some named = issued layout v.view.shape u w
@@ -72,5 +73,15 @@ key_in layout v u w x slot value n shape k y m d before same is key =
       ap (place_named plan) one ∙ (ap (λ (o : Option Name). elim o as (λ _. Option Name)
           [ Some z ↦ cond (nat_lt z.page (heap_pages plan) && nat_lt z.slot 48) (Some z) None | None ↦ None ]) told
           ∙ rw (a, b) refl),
-      home_is plan x.shard x.page m.page,
+      refl,
+    )
+
+-- so it is a key of the page's shard
+pub key_in : (layout : Layout) (v : Caller) (x : PageName) (k : ℕ) → MayTouch v x
+    → IsKeyOn layout v (heap_page v x) k → IsKeyIn layout v x.shard k
+key_in layout v x k m on =
+    let plan : Plan = plan_of layout v.view.shape in (
+      on.0,
+      on.1,
+      ap (home plan) on.2 ∙ home_is plan x.shard x.page m.page,
     )

@@ -247,6 +247,10 @@ abbrev pub IsKeyIn : Layout → Caller → (n key : ℕ) → Type 0
 IsKeyIn layout v n key = (x : Name) × (place_named (plan_of layout v.view.shape) key ≡ Some x)
     × (home (plan_of layout v.view.shape) x.page ≡ n)
 
+-- the key names a slot of page q of the heap
+abbrev pub IsKeyOn : Layout → Caller → (q key : ℕ) → Type 0
+IsKeyOn layout v q key = (x : Name) × (place_named (plan_of layout v.view.shape) key ≡ Some x) × (x.page ≡ q)
+
 -- ---- calls
 
 -- this slot came to be its own, of a page of its shard, or none did and its pages are as before

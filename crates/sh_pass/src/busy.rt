@@ -15,6 +15,11 @@ use std::marker::{Model, PhantomData};
 /// A pass that does one step a call, so that it can stop between any two.
 ///
 /// A contract sees which heap it is of and what it knows, as of a `Pass`.
+///
+/// One that is dropped leaves for good what it has begun, beside its holds. Its count on a slot stays, so that the slot
+/// is never used again. A slot in its hand is on no stack. An owner that follows a stack comes no further than to a
+/// slot that it put and did not tie, and its leave is refused as `Waiting`. Of a page for which it was to ring, the
+/// owner never hears. So it is best stepped on until `end` gives the pass back.
 #[derive(Drop)]
 pub struct Busy<'a, L: KeyLayout> {
     heap: &'a Heap<L>,

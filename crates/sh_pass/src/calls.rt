@@ -98,7 +98,7 @@ pub(crate) fn release_key<L: KeyLayout>(
     requires kept { HoldsKept held.old.items seat.old.me.0.own.body.holds }
     ensures seat { IsSeat L.layout table.now seat.new }
     ensures kept { HoldsKept held.new.items seat.new.me.0.own.body.holds }
-    ensures does { ReleaseDoes key (caller_of seat.old) result.0 (caller_of seat.new) }
+    ensures does { ReleaseDoes L.layout key (caller_of seat.old) result.0 (caller_of seat.new) }
     ensures leaves { CallLeaves L.layout result.1 (caller_of seat.old) (caller_of seat.new) }
 {
     let Some(at) = find(held.as_slice(), key) else {

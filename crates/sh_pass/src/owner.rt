@@ -22,6 +22,9 @@ use std::marker::{Model, PhantomData};
 ///
 /// Each of its steps is one step of the core, has that step's condition, and answers the word that it found; for a
 /// store it answers nothing. A contract sees which heap it is of and what it knows, as of a `Pass`.
+///
+/// One that is dropped leaves its shard taken for good, with the slots that are its own, what it has begun, and its
+/// holds. So it is best made to leave, and given back by `into_pass`.
 #[derive(Drop)]
 pub struct Owner<'a, L: KeyLayout> {
     pub(crate) heap: &'a Heap<L>,

@@ -13,7 +13,8 @@ use sh_value::{Hold, Refusal, Value};
 
 impl<'a, L: KeyLayout> Owner<'a, L> {
     /// Takes a hold on a key, so that its value stays readable. Refused as `BadKey`, `HoldsFull`, `Gone` or `Crowded`,
-    /// tried in that order. Where a get that is refused comes to be the last on a removed key, the slot is its own.
+    /// tried in that order, as the get of a `Pass` is. Where a get that is refused comes to be the last on a removed
+    /// key, the slot is its own.
     pub fn get(&mut self, key: u64) -> (Result<Hold, Refusal>, Option<Spot>)
         requires idle { (own_body self.old).hand ≡ Idle }
         ensures does { GetDoes L.layout key self.old result.0 self.new }
@@ -39,7 +40,7 @@ impl<'a, L: KeyLayout> Owner<'a, L> {
     /// Gives one hold on a key back. Refused as `NotHeld`, exactly where the pass has no hold on the key.
     pub fn release(&mut self, hold: Hold) -> (Result<(), Refusal>, Option<Spot>)
         requires idle { (own_body self.old).hand ≡ Idle }
-        ensures does { ReleaseDoes hold.key self.old result.0 self.new }
+        ensures does { ReleaseDoes L.layout hold.key self.old result.0 self.new }
         ensures leaves { CallLeaves L.layout result.1 self.old self.new }
         ensures stands { ViewStands L.layout self.new.view }
     {

@@ -12,6 +12,7 @@ ghost use Rattle.sh_stack.specs.Stack.{link_over};
 ghost use Rattle.sh_table.specs.Tales.{ViewStands};
 ghost use Rattle.sh_pass.specs.Owners.{MayTouch, OwnerDid, OwnerActs, OnPage, SamePages, SameBells, NonePut, heap_page};
 ghost use Rattle.sh_pass.specs.Owners.{own_body, seen_page, published, slot_in, heap_spot, page_without, IsKeyIn};
+ghost use Rattle.sh_pass.specs.Owners.{IsKeyOn};
 
 use crate::owner::Owner;
 use sh_key::KeyLayout;
@@ -91,6 +92,7 @@ impl<'a, L: KeyLayout> Owner<'a, L> {
         ensures acts { OwnerActs Idle (Known (entry.Insert self.old.view.pass result value.now) ∷ [])
             (length value.now + 2) self.old self.new }
         ensures key { IsKeyIn L.layout self.old name.shard result }
+        ensures on { IsKeyOn L.layout self.old (heap_page self.old name) result }
         ensures bells { SameBells L.layout self.old self.new }
         ensures page { OnPage (heap_page self.old name) (page_without (seen_page self.old (heap_page self.old name))
             slot) self.old self.new }

@@ -15,7 +15,8 @@ use std::marker::{Model, PhantomData};
 
 /// A pass without its heap: it has no lifetime, and each call is given the heap that it is of.
 ///
-/// A contract sees which heap that is and what the pass knows, as of a `Pass`.
+/// A contract sees which heap that is and what the pass knows, as of a `Pass`. What is dropped with it is lost as with
+/// a `Pass`.
 #[derive(Drop)]
 pub struct PassState<L: KeyLayout> {
     pub(crate) seat: Token,
@@ -51,7 +52,7 @@ impl<L: KeyLayout> PassState<L> {
     }
 
     /// Takes a hold on a key, so that its value stays readable. Refused as `BadKey`, `HoldsFull`, `Gone` or `Crowded`,
-    /// tried in that order.
+    /// tried in that order, as the get of a `Pass` is.
     pub fn get(&mut self, heap: &Heap<L>, key: u64) -> Result<Hold, Refusal>
         requires { self.old.heap ≡ heap.now }
         ensures does { GetDoes L.layout key self.old result self.new }
@@ -77,7 +78,7 @@ impl<L: KeyLayout> PassState<L> {
     /// Gives one hold on a key back. Refused as `NotHeld`, exactly where the pass has no hold on the key.
     pub fn release(&mut self, heap: &Heap<L>, hold: Hold) -> Result<(), Refusal>
         requires { self.old.heap ≡ heap.now }
-        ensures does { ReleaseDoes hold.key self.old result self.new }
+        ensures does { ReleaseDoes L.layout hold.key self.old result self.new }
         ensures stands { ViewStands L.layout self.new.view }
         ensures same { self.new.heap ≡ self.old.heap }
         ensures idle { self.new.view.own.body.hand ≡ Idle }

@@ -1,11 +1,12 @@
-//! What no clause says: that a heap opens, what gets of numbers that were never issued are answered, and that passes
-//! step at the same time. Owners are still to come, so no value stands in these heaps.
+//! What no clause says: that a heap opens, what gets of numbers that were never issued are answered, that passes step at
+//! the same time, and which words stand in the heap.
 ghost use Rattle.std.specs.Prelude.{◌≡◌};
 
 mod by_hand;
 mod forged;
+mod words;
 
-use sh_key::{KeyLayout, Tiny};
+use sh_key::{KeyLayout, Tiny, Wide};
 use sh_pass::{Heap, Pass, Seats, merge};
 use sh_shape::Shape;
 use sh_value::{Hold, Refusal};
@@ -117,6 +118,23 @@ fn opened_with_memory(rt: &impl Abort, alloc: Global) -> (Heap<Tiny>, Seats<Tiny
             opened::<Tiny>(rt, alloc, 2)
         }
     }
+}
+
+// 256 segments, of eight pages of 195 words each, and 64 passes.
+#[test]
+fn the_largest_heap_opens(rt: HostRuntime) {
+    let shape = Shape::new(2, 128, 64).expect(&rt, "a shape");
+    let (heap, seats) = Heap::<Wide>::open(rt.alloc(), shape).expect(&rt, "a heap");
+    let Ok(mut passes) = heap.passes(rt.alloc(), seats) else {
+        panic!(rt; "no passes")
+    };
+    assert_eq!(rt; passes.len(), 64);
+    let Some(mut one) = passes.pop() else {
+        panic!(rt; "no pass")
+    };
+    // The last slot of the last page of the second shard.
+    assert_eq!(rt; one.get(16_908_271), Err(Refusal::Gone));
+    assert_eq!(rt; one.get(16_908_272), Err(Refusal::BadKey));
 }
 
 // Refused memory: nothing is opened, or the seats come back, and the same call then answers.

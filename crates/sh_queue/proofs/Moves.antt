@@ -175,6 +175,7 @@ kept_moved
     → KeepsQueues w' size' opened unopened notes'
 kept_moved w w' new t p size size' opened unopened notes notes' h m distinct inner old sized long noted = record {
   room = omega (arith, h.room);
+  lean = omega (arith, h.lean);
   few = h.few;
   distinct = distinct;
   marked = m.marked ∙ h.marked;

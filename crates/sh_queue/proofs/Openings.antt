@@ -2,7 +2,7 @@
 use Rattle.std.proofs.Common.{◌≡◌, ◌≢◌, ℕ, zero, suc, ◌+◌, ◌-◌, ◌*◌, ◌<◌, ◌≤◌, ◌⊎◌, ⊎_elim, inl, Bool, true, false}
 use Rattle.std.proofs.Common.{List, [], ◌∷◌, ◌++◌, length, get_or, replicate, sym, refl, ap, ◌∙◌, subst, arith}
 use Rattle.std.proofs.Common.{append-nil, append_assoc, length-append}
-use Rattle.std.specs.Prelude.{nat_lt}
+use Rattle.std.specs.Prelude.{max, nat_lt}
 use Rattle.std.proofs.lemmas.Bool.{cases_eq, cases_lt, lt-ltb, le-ltb, ltb-true}
 use Rattle.std.proofs.lemmas.List.{length-replicate}
 use Rattle.sh_lists.specs.Numbers.{Distinct, upward}
@@ -112,13 +112,19 @@ class_queues_same : (w w' : List ℕ) → ((i : ℕ) → i < 8 → pages_behind 
 unfolding class_queues
 class_queues_same w w' others = classes_same 8 0 w w' (λ i upto. others i (omega arith))
 
+-- where no more than the next segment was asked for
+pub lean_after : (size grown after opened : ℕ) → size ≤ 19 + opened → grown ≤ max size (11 + (opened + 8))
+    → after ≡ grown → after ≤ 19 + (opened + 8)
+lean_after size grown after opened lean asked is = omega arith
+
 pub leaves_opened
     : (w w' : List ℕ) (size size' opened unopened : ℕ) (notes notes' : List Bool) (v : PageQueues)
     → queues_shown w opened unopened ≡ v → KeepsQueues w size opened unopened notes → v.unopened ≢ 0
     → w' ≡ put_before 10 (upward (11 + opened) 8) w → Distinct w' → 11 + (opened + 8) ≤ size'
+    → size' ≤ 19 + (opened + 8)
     → notes' ≡ notes ++ replicate (opened + 8 - length notes) false
     → Leaves w' size' (opened + 8) (unopened - 1) notes' (one_more_segment v)
-leaves_opened w w' size size' opened unopened notes notes' v is h some new distinct room noted =
+leaves_opened w w' size size' opened unopened notes notes' v is h some new distinct room lean noted =
     let P : PageQueues → Type 0 = λ v. v.unopened ≢ 0 → Leaves w' size' (opened + 8) (unopened - 1) notes'
     (one_more_segment v) in
     let at : P (queues_shown w opened unopened) = λ some.
@@ -134,6 +140,7 @@ leaves_opened w w' size size' opened unopened notes notes' v is h some new disti
     record {
       kept = record {
         room = room;
+        lean = lean;
         few = subst (λ k. k ≤ 2048) (sym left) h.few;
         distinct = distinct;
         marked = o.marked;

@@ -108,10 +108,12 @@ queues_shown numbers opened unopened = record {
   blank = pages_behind 9 numbers;
 }
 
--- what is true of the chain: it has the marks in ascending order, the opened pages between them, and the blank pages
--- rise; the notes tell which pages are in the full queue
+-- what is true of the chain: it has room for the opened pages, and for no more than one segment beyond them; it has the
+-- marks in ascending order, the opened pages between them, and the blank pages rise; the notes tell which pages are in
+-- the full queue
 pub record KeepsQueues (numbers : List ℕ) (size opened unopened : ℕ) (notes : List Bool) : Type 0 where
   pub room : 11 + opened ≤ size
+  pub lean : size ≤ 19 + opened
   pub few : opened + 8 * unopened ≤ 2048
   pub distinct : Distinct numbers
   pub marked : marks numbers ≡ upward 0 11

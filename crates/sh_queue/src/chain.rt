@@ -1,5 +1,5 @@
 // One list of numbers, linked both ways.
-ghost use Rattle.std.specs.Prelude.{◌≡◌, ◌≢◌, ℕ, ◌+◌, ◌-◌, ◌^◌, ◌<◌, ◌≤◌, [], ◌∷◌, ◌++◌, length, replicate, true};
+ghost use Rattle.std.specs.Prelude.{◌≡◌, ◌≢◌, ℕ, ◌+◌, ◌-◌, ◌^◌, ◌<◌, ◌≤◌, [], ◌∷◌, ◌++◌, length, max, replicate, true};
 ghost use Rattle.std.specs.Prelude.{false, IfOk, OnOk, OnErr};
 ghost use Rattle.sh_lists.specs.Numbers.{Distinct, upward};
 ghost use Rattle.sh_queue.specs.Numbers.{has_number, without_number, put_after, put_before, following, preceding};
@@ -12,8 +12,7 @@ use std::marker::Model;
 pub const END: u32 = 10;
 
 // A list of numbers that begins with 0 and ends with `END`, none twice. A number is taken out or put in with no regard
-// to where it stands, in the same few steps. A contract sees the numbers in order, and below which number each has to
-// be.
+// to where it stands. A contract sees the numbers in order, and below which number each has to be.
 #[derive(Drop)]
 pub struct Chain {
     // The number behind each number, and the one ahead of it.
@@ -58,6 +57,8 @@ impl Chain {
         ensures same { self.new.numbers ≡ self.old.numbers }
         ensures kept { self.old.size ≤ self.new.size }
         ensures room { OnOk result (size ≤ self.new.size) }
+        // It asks for no more than is needed.
+        ensures lean { self.new.size ≤ max self.old.size size }
     {
         lengthen(&mut self.prev, size)?;
         lengthen(&mut self.next, size)

@@ -1,5 +1,5 @@
 //! The queues of an owner's pages.
-ghost use Rattle.std.specs.Prelude.{◌≡◌, ◌≢◌, ℕ, ◌+◌, ◌-◌, ◌*◌, ◌<◌, ◌≤◌, ◌++◌, true, false, length, replicate, None};
+ghost use Rattle.std.specs.Prelude.{◌≡◌, ◌≢◌, ℕ, ◌+◌, ◌-◌, ◌*◌, ◌<◌, ◌≤◌, ◌++◌, true, false, length, max, replicate, None};
 ghost use Rattle.std.specs.Prelude.{slice_get, IfSome, IfOk, IfErr, OnOk, OnErr};
 ghost use Rattle.std.specs.List.{last_or};
 ghost use Rattle.sh_lists.specs.Numbers.{upward};
@@ -28,7 +28,7 @@ const FIRST_PAGE: u32 = 11;
 ///
 /// A page is a number. Pages are opened 8 at a time, which is a segment, in ascending order. An opened page is blank,
 /// or stands in the queue of one class from 0 to 7, or in the full queue. Memory is taken by `new` and `open_segment`
-/// alone. No other call takes any, and each takes the same few steps whatever the queues hold.
+/// alone, for one segment at a time. No other call takes any.
 #[derive(Drop)]
 pub struct Queues {
     chain: Chain,
@@ -190,6 +190,7 @@ fn make_room(chain: &mut Chain, full: &mut Vec<bool>, pages: u32) -> Result<(), 
     ensures same { chain.new.numbers ≡ chain.old.numbers }
     ensures kept { chain.old.size ≤ chain.new.size }
     ensures room { OnOk result (11 + pages ≤ chain.new.size) }
+    ensures lean { chain.new.size ≤ max chain.old.size (11 + pages) }
     ensures notes { OnOk result (full.new.items ≡ full.old.items ++ replicate (pages - length full.old.items) false) }
     ensures err { OnErr result (full.new.items ≡ full.old.items) }
 {

@@ -106,3 +106,25 @@ fn a_segment_refused_for_memory_changes_nothing(rt: HostRuntime) -> Result<(), F
     assert_eq!(rt; queues.unopened(), 0);
     Ok(())
 }
+
+// As many segments as a heap may have are opened one after the other, and each page has its place.
+#[test]
+fn all_segments_are_opened(rt: HostRuntime) {
+    let mut queues = Queues::new(rt.alloc(), 256).expect(&rt, "there is memory");
+    for first in 0..256u32 {
+        assert!(rt; queues.unopened() != 0);
+        assert_eq!(rt; queues.open_segment(), Ok(first.wrapping_mul(8)));
+    }
+    assert_eq!(rt; queues.unopened(), 0);
+    assert_eq!(rt; queues.opened(), 2_048);
+    for page in 0..2_048u32 {
+        assert_eq!(rt; queues.blank(), Some(page));
+        assert!(rt; page < queues.opened());
+        queues.to_full(page);
+    }
+    assert_eq!(rt; queues.blank(), None);
+    assert!(rt; queues.opened() == 2_048);
+    assert!(rt; queues.in_full(2_047));
+    queues.to_front(7, 2_047);
+    assert_eq!(rt; queues.last(7), Some(2_047));
+}

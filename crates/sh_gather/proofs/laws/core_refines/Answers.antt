@@ -34,6 +34,10 @@ returns c = (
     values = c.refines_map.ensures.values layout shape a b f es;
     stores = c.refines_map.ensures.stores layout shape a b f es;
     issues = c.refines_map.ensures.issues layout shape a b f es;
+    few_holds = c.refines_map.ensures.few_holds layout shape a b f es;
+    flags = c.refines_map.ensures.flags layout shape a b f es;
+    hands = c.refines_map.ensures.hands layout shape a b f es;
+    goes_on = c.refines_map.ensures.goes_on layout shape a b f es;
     passes = c.refines_map.ensures.passes layout shape a b f es;
   },
   c.plans_are_lawful.ensures,

@@ -1,6 +1,10 @@
 use Rattle.std.proofs.Common.{◌≡◌, ◌∙◌, ◌+◌, ◌==◌, ℕ, List, length, Some, position, remove, refl, ap, sym, subst}
 use Rattle.sh_step.specs.declared.body.Body.{Body}
+use Rattle.sh_step.specs.declared.action.Action.TheVariants as action
+use Rattle.sh_step.specs.Plans.{plan_of}
+use Rattle.sh_pass.specs.Deciding.{Begins, DropsHold}
 use Rattle.sh_pass.specs.Passes.{HoldsKept, caller_of, heap_of}
+use Rattle.sh_pass.proofs.DecidedLaws.{name_found, of_key}
 use Rattle.sh_pass.proofs.HeldLaws.{hold_found, no_hold, held_named, found_has, kept_less, kept_swapped}
 use Rattle.sh_pass.proofs.HeldLaws.{adds_of, same_home}
 use Rattle.sh_pass.proofs.OwnCalls.{leaves_grown}
@@ -47,10 +51,16 @@ returns-clause-does g c =
     let f = hold_found c.args.held.now.items _ c.args.seat.now.me.0.own.body.holds c.args.key c.in-Some.at _
     c.requires.kept.holds c.as_slice.ensures.value c.find.ensures c.in-Some.is in
     let same : heap_of c.release_at-slot.new.seat ≡ heap_of c.args.seat.now = same_home c.requires.seat
-    c.release_at-slot.ensures.seat in (
+    c.release_at-slot.ensures.seat in
+    let v = c.args.seat.now.me.0 in
+    let plan = plan_of g.L.KeyLayout.layout v.shape in
+    let named = name_found c.args.key c.shape.result.now c.place_of_key.result c.in-Some-place_of_key.name
+    c.requires.seat c.shape.ensures c.place_of_key.ensures c.in-Some-place_of_key.is in
+    let first = of_key v c.release_at-slot.new.seat.me.0 plan c.args.key (λ x. Begins (action.DropHold c.args.key) x)
+    c.in-Some-place_of_key.name named c.release_at-slot.ensures.first in (
       f.1,
-      adds_of (heap_of c.args.seat.now) (heap_of c.release_at-slot.new.seat) _ same refl
-          c.release_at-slot.ensures.grows,
+      adds_of (heap_of c.args.seat.now) (heap_of c.release_at-slot.new.seat) _ (DropsHold plan c.args.key) same refl
+          c.release_at-slot.ensures.grows first,
     )
 
 pub returns-clause-leaves : goal.returns-clause-leaves

@@ -1,5 +1,11 @@
-use Rattle.std.proofs.Common.{refl}
-use Rattle.sh_pass.specs.Passes.{caller_of}
+use Rattle.std.proofs.Common.{Bool, true, false, refl, ap, subst}
+use Rattle.std.specs.Prelude.{is_some}
+use Rattle.sh_step.specs.Plans.{plan_of}
+use Rattle.sh_pass.specs.Deciding.{Stepped, EntryOrMarkDecides, RemovalDecided}
+use Rattle.sh_pass.specs.Growing.{RemoveGrows}
+use Rattle.sh_pass.specs.Passes.{caller_of, heap_of}
+use Rattle.sh_pass.proofs.DecidedLaws.{name_found, of_key}
+use Rattle.sh_pass.proofs.HeldLaws.{adds_of, same_home}
 use Rattle.sh_pass.proofs.OwnCalls.{leaves_grown}
 use Rattle.sh_pass.proofs.calls.remove_key.Goals as goal
 
@@ -16,3 +22,37 @@ returns-else-removed-clause-leaves g c =
     leaves_grown g.L.KeyLayout.layout (caller_of c.args.seat.now) (caller_of c.remove_at-removed.new.seat) _ e.grows
     (record { owned = refl; classes = refl; mine = refl; cursors = refl; armed = refl; bell = refl }) refl
     c.requires.idle e.shard e.seat.stands
+
+pub returns-then-removed-clause-does : goal.returns-then-removed-clause-does
+returns-then-removed-clause-does g c =
+    let e = c.remove_at-removed.ensures in
+    let v = c.args.seat.now.me.0 in
+    let w = c.remove_at-removed.new.seat.me.0 in
+    let plan = plan_of g.L.KeyLayout.layout v.shape in
+    let P : Bool → Type 0 = λ b. RemoveGrows c.args.key b c.remove_at-removed.result.1 v w in
+    let Q : Bool → Type 0 = λ b. Stepped (EntryOrMarkDecides c.args.key c.in-Some.name b) v w in
+    let named = name_found c.args.key c.shape.result.now c.place_of_key.result c.in-Some.name c.requires.seat
+    c.shape.ensures c.place_of_key.ensures c.in-Some.is in
+    let first = of_key v w plan c.args.key (λ x. EntryOrMarkDecides c.args.key x true) c.in-Some.name named
+    (subst Q c.if-removed.true e.first) in (
+      ap is_some named,
+      adds_of (heap_of c.args.seat.now) (heap_of c.remove_at-removed.new.seat) _ (RemovalDecided plan c.args.key true)
+          (same_home c.requires.seat e.seat) refl (subst P c.if-removed.true e.grows) first,
+    )
+
+pub returns-else-removed-clause-does : goal.returns-else-removed-clause-does
+returns-else-removed-clause-does g c =
+    let e = c.remove_at-removed.ensures in
+    let v = c.args.seat.now.me.0 in
+    let w = c.remove_at-removed.new.seat.me.0 in
+    let plan = plan_of g.L.KeyLayout.layout v.shape in
+    let P : Bool → Type 0 = λ b. RemoveGrows c.args.key b c.remove_at-removed.result.1 v w in
+    let Q : Bool → Type 0 = λ b. Stepped (EntryOrMarkDecides c.args.key c.in-Some.name b) v w in
+    let named = name_found c.args.key c.shape.result.now c.place_of_key.result c.in-Some.name c.requires.seat
+    c.shape.ensures c.place_of_key.ensures c.in-Some.is in
+    let first = of_key v w plan c.args.key (λ x. EntryOrMarkDecides c.args.key x false) c.in-Some.name named
+    (subst Q c.if-removed.false e.first) in (
+      ap is_some named,
+      adds_of (heap_of c.args.seat.now) (heap_of c.remove_at-removed.new.seat) _ (RemovalDecided plan c.args.key false)
+          (same_home c.requires.seat e.seat) refl (subst P c.if-removed.false e.grows) first,
+    )

@@ -7,7 +7,7 @@ use Rattle.sh_slots.specs.declared.hand.Hand.TheVariants.{Filling}
 use Rattle.sh_step.specs.declared.action.Action.TheVariants as action
 use Rattle.sh_step.specs.declared.moves.Move.TheVariants as move
 use Rattle.sh_slots.specs.Slots.{published_name}
-use Rattle.sh_pass.proofs.OwnRuns.{acts_on, page_on, issued, key_in}
+use Rattle.sh_pass.proofs.OwnRuns.{acts_on, page_on, issued, key_on, key_in}
 use Rattle.sh_pass.proofs.owner.Owner.insert_at.Goals as goal
 
 pub loop-i-preserved : goal.loop-i-preserved
@@ -33,8 +33,8 @@ key_of_name-requires-clause-names g c =
     c.args.value.now c.publish-found.result c.published_name-stored.result p.does (now ∙ p.acts.aside.same.shape)
     c.published_name-stored.ensures
 
-pub returns-clause-key : goal.returns-clause-key
-returns-clause-key g c =
+pub returns-clause-on : goal.returns-clause-on
+returns-clause-on g c =
     let layout = g.L.KeyLayout.layout in
     let v = c.args.self.now in
     let p = c.publish-found.ensures in
@@ -46,10 +46,14 @@ returns-clause-key g c =
     let x = c.fill_slot-spot.ensures.spot in
     let P : Spot → Type 0 = λ z. OwnerDid layout action.Publish (move.Publish z c.args.value.now) c.publish-found.result
     c.loop-i.self c.publish-found.new.self in
-    key_in layout v c.loop-i.self c.publish-found.new.self c.args.name c.args.slot c.args.value.now
-    c.publish-found.result c.shape.result.now c.key_of_name.result c.published_name-stored.result c.requires.touch
+    key_on layout v c.loop-i.self c.publish-found.new.self c.args.name c.args.slot c.args.value.now
+    c.publish-found.result c.shape.result.now c.key_of_name.result c.published_name-stored.result
     (subst P x p.does) before at (c.published_name-stored.ensures
     ∙ ap (λ (z : Spot). published_name z c.publish-found.result) x) c.key_of_name.ensures
+
+pub returns-clause-key : goal.returns-clause-key
+returns-clause-key g c = key_in g.L.KeyLayout.layout c.args.self.now c.args.name c.key_of_name.result c.requires.touch
+    (returns-clause-on g c)
 
 pub returns-clause-bells : goal.returns-clause-bells
 returns-clause-bells g c = λ n. c.publish-found.ensures.bells n ∙ c.loop-i.invariant.1 n

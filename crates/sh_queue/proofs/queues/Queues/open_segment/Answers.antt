@@ -3,7 +3,7 @@ use Rattle.sh_lists.specs.Numbers.{upward}
 use Rattle.sh_queue.specs.Numbers.{has_number, put_before}
 use Rattle.sh_queue.specs.Chain.{ChainNumbers}
 use Rattle.sh_queue.proofs.Sections.{has_number-mark}
-use Rattle.sh_queue.proofs.Openings.{leaves_opened, next_are_new}
+use Rattle.sh_queue.proofs.Openings.{lean_after, leaves_opened, next_are_new}
 use Rattle.sh_queue.proofs.queues.Queues.open_segment.Goals as goal
 
 pub append-requires-clause-here : goal.append-requires-clause-here
@@ -27,6 +27,8 @@ invariant_of-self c =
     c.make_room.ensures.same)
     c.append.ensures.distinct
     (subst (λ n. 11 + (q.opened + 8) ≤ n) (sym sized) c.in-Ok.ensures.room)
+    (lean_after q.chain.size c.make_room.new.chain.size c.append.new.self.size q.opened c.self.invariant.lean
+    c.make_room.ensures.lean sized)
     c.in-Ok.ensures.notes).kept
 
 pub returns-in-Ok-clause-ok : goal.returns-in-Ok-clause-ok
@@ -39,4 +41,6 @@ returns-in-Ok-clause-ok c =
     c.make_room.ensures.same)
     c.append.ensures.distinct
     (subst (λ n. 11 + (q.opened + 8) ≤ n) (sym sized) c.in-Ok.ensures.room)
+    (lean_after q.chain.size c.make_room.new.chain.size c.append.new.self.size q.opened c.self.invariant.lean
+    c.make_room.ensures.lean sized)
     c.in-Ok.ensures.notes).shows

@@ -1,0 +1,74 @@
+-- Which word decides a call: one that its own steps really found.
+use Rattle.std.specs.Prelude.{◌≡◌, ℕ, Bool, true, false, List, [], ◌∷◌, ◌++◌, length, Some}
+use Rattle.sh_shape.specs.declared.places.Place.TheVariants.{State}
+use Rattle.sh_slots.specs.declared.enter.GetAnswer.{GetAnswer}
+use Rattle.sh_slots.specs.declared.enter.GetAnswer.TheVariants as answer
+use Rattle.sh_slots.specs.declared.hand.Name.{Name}
+use Rattle.sh_slots.specs.Slots.{answer_to_get, live_at, is_first_mark}
+use Rattle.sh_step.specs.declared.action.Action.{Action}
+use Rattle.sh_step.specs.declared.action.Action.TheVariants as action
+use Rattle.sh_step.specs.declared.footstep.Footstep.{Footstep}
+use Rattle.sh_step.specs.Moves.{place_named}
+use Rattle.sh_step.specs.Plans.{Plan}
+use Rattle.sh_table.specs.declared.view.View.{View}
+
+-- what the pass did between two views is so
+abbrev pub Stepped : (List Footstep → Type 0) → View → View → Type 0
+Stepped IsSo v w = (new : List Footstep) × (w.own.trail ≡ v.own.trail ++ new) × IsSo new
+
+-- the step of an action on the state word of the slot of this name, which found the word n
+abbrev pub step_at_slot : Action → Name → ℕ → Footstep
+step_at_slot x name n = record { action = x; place = State name.page name.slot; answer = Some n }
+
+-- the first of these steps is that of the action at the slot of this name
+pub record Begins (x : Action) (name : Name) (new : List Footstep) : Type 0 where
+  pub found : ℕ
+  pub rest : List Footstep
+  pub steps : new ≡ step_at_slot x name found ∷ rest
+
+-- ---- of the slot of this name
+
+-- it is entered to get the key, and the word found there decides the answer
+abbrev pub EntryDecides : Plan → ℕ → Name → GetAnswer → List Footstep → Type 0
+EntryDecides plan key name a new = (b : Begins (action.EnterGet key) name new)
+    × (answer_to_get name.generation plan.keys.guard_max b.found ≡ a)
+
+-- it is marked, and the word found there decides whether this pass removed the key
+abbrev pub MarkDecides : Name → Bool → List Footstep → Type 0
+MarkDecides name removed new = (b : Begins action.Mark name new) × (removed ≡ is_first_mark b.found)
+
+-- it is entered to remove the key, in one step: whether the word found there is live
+abbrev pub EntryTells : ℕ → Name → Bool → List Footstep → Type 0
+EntryTells key name live new = (n : ℕ) × (new ≡ step_at_slot (action.EnterRemove key) name n ∷ [])
+    × (live_at name.generation n ≡ live)
+
+-- after an entry that found a word which is live, or is not, these steps follow
+abbrev pub AfterEntry : Name → (removed live : Bool) → List Footstep → Type 0
+AfterEntry name removed true rest = MarkDecides name removed rest
+AfterEntry name removed false rest = removed ≡ false
+
+-- it is entered to remove the key: where the word found there is not live, this pass did not remove the key, and else
+-- the mark decides
+abbrev pub EntryOrMarkDecides : ℕ → Name → Bool → List Footstep → Type 0
+EntryOrMarkDecides key name removed new = (b : Begins (action.EnterRemove key) name new)
+    × AfterEntry name removed (live_at name.generation b.found) b.rest
+
+-- ---- of the slot of a key
+
+-- a get is decided by the word that it found as it entered the slot of its key
+abbrev pub DecidedByEntry : Plan → ℕ → GetAnswer → List Footstep → Type 0
+DecidedByEntry plan key a new = (name : Name) × (place_named plan key ≡ Some name) × EntryDecides plan key name a new
+
+-- a get that succeeds has done nothing else
+abbrev pub InOneStep : Plan → ℕ → List Footstep → Type 0
+InOneStep plan key new = DecidedByEntry plan key answer.Got new × (length new ≡ 1)
+
+-- A removal is decided by the word that it found as it entered the slot of its key, where that is not live, and else by
+-- the one that its mark found there
+abbrev pub RemovalDecided : Plan → ℕ → Bool → List Footstep → Type 0
+RemovalDecided plan key removed new = (name : Name) × (place_named plan key ≡ Some name)
+    × EntryOrMarkDecides key name removed new
+
+-- a release drops a hold on its key first, at the slot of the key
+abbrev pub DropsHold : Plan → ℕ → List Footstep → Type 0
+DropsHold plan key new = (name : Name) × (place_named plan key ≡ Some name) × Begins (action.DropHold key) name new
