@@ -13,6 +13,7 @@ use Rattle.sh_pass.specs.Owners.{SeenPage, SeenBell, Aside, OwnerActs, OnPage, S
 use Rattle.sh_pass.specs.Owners.{heap_page, own_body, seen_page, page_noted}
 use Rattle.sh_shard.specs.declared.pages.PageState.{PageState}
 use Rattle.sh_shard.specs.Pages.{shard_page, AdoptsShard}
+use Rattle.sh_shard.specs.Steps.{StepsAtMost}
 use Rattle.sh_shard.specs.Kept.{KeepsPage, KeepsPages, bare_lists, blank_state}
 use Rattle.sh_shard.proofs.Keeping.{page_of, here_at, others_at}
 use Rattle.sh_shard.proofs.Sides.{aside_none, aside_then}
@@ -31,6 +32,7 @@ pub record Reading (layout : Layout) (shard : ℕ) (v w : Caller) (states : List
   pub bell : (own_body w).bell_cursor ≡ None
   pub none : (q : ℕ) → HasNothing (seen_page w q)
   pub pages : (p : ℕ) → p < length states → KeepsPage (get_or states p blank_state) (page_of w shard p)
+  pub steps : length w.view.own.trail ≡ length v.view.own.trail + length states
 
 pub reading_none : {layout : Layout} (shard : ℕ) (v : Caller) → (own_body v).hand ≡ Idle → (own_body v).owned
     ≡ Some shard → (own_body v).bell_cursor ≡ None → ((q : ℕ) → HasNothing (seen_page v q)) → ViewStands layout v.view
@@ -45,6 +47,7 @@ reading_none shard v idle owned bell none stands = record {
   bell = bell;
   none = none;
   pages = λ p l. absurd (omega arith);
+  steps = omega arith;
 }
 
 last_of : (xs : List PageState) (x : PageState) → get_or (xs ++ x ∷ []) (length xs) blank_state ≡ x
@@ -70,12 +73,13 @@ kept_first g n h l = record {
   blank = λ e. refl;
 }
 
-pub reading_more : {layout : Layout} (shard n : ℕ) (v w x : Caller) (states : List PageState) {m : ℕ}
-    → Reading layout shard v w states → OwnerActs Idle [] m w x → SameBells layout w x
+pub reading_more : {layout : Layout} (shard n : ℕ) (v w x : Caller) (states : List PageState)
+    → Reading layout shard v w states → OwnerActs Idle [] 1 w x → SameBells layout w x
     → OnPage (heap_page w (shard_page shard (length states))) (page_noted (page_of w shard (length states)) n) w x
     → ViewStands layout x.view → n ≤ 8
     → Reading layout shard v x (states ++ state_of n ∷ [])
 reading_more {layout} shard n v w x states r acts bells on stands few = record {
+  steps = let e = length-append states (state_of n ∷ []) in one_more _ _ _ _ _ r.steps acts.steps e;
   aside = aside_then r.aside acts.aside;
   log = acts.log ∙ (append-nil w.view.own.log ∙ r.log);
   stands = stands;
@@ -95,6 +99,9 @@ reading_more {layout} shard n v w x states r acts bells on stands few = record {
       p ne))
       (cases_eq p (length states));
 } where
+  one_more : (a b c k l : ℕ) → b ≡ a + k → c ≡ b + 1 → l ≡ k + 1 → c ≡ a + l
+  one_more a b c k l g h e = omega arith
+
   here : page_of x shard (length states) ≡ page_noted (page_of w shard (length states)) n
   here = here_at w x shard (length states) acts.aside.same.shape on
 
@@ -151,10 +158,14 @@ reading_adopts layout shard v w states r size = record {
 }
 
 pub reading_more_at : {layout : Layout} (shard n : ℕ) (v w x : Caller) (states : List PageState) (p : ℕ) → length states
-    ≡ p → {m : ℕ} → Reading layout shard v w states → OwnerActs Idle [] m w x → SameBells layout w x
+    ≡ p → Reading layout shard v w states → OwnerActs Idle [] 1 w x → SameBells layout w x
     → OnPage (heap_page w (shard_page shard p)) (page_noted (page_of w shard p) n) w x → ViewStands layout x.view
     → n ≤ 8
     → Reading layout shard v x (states ++ state_of n ∷ [])
 reading_more_at shard n v w x states p is r acts bells on stands few = reading_more shard n v w x states r acts bells
     (subst (λ z. OnPage (heap_page w (shard_page shard z)) (page_noted (page_of w shard z) n) w x) (sym is) on) stands
     few
+
+pub reading_in : {layout : Layout} (shard : ℕ) (v w : Caller) (states : List PageState)
+    → Reading layout shard v w states → StepsAtMost (length states) v w
+reading_in shard v w states r = let e = r.steps in omega arith

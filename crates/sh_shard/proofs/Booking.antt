@@ -213,7 +213,7 @@ remove_leaves layout key o n (Err refusal.BadShape) k = absurd k
 remove_leaves layout key o n (Err refusal.WrongKind) k = absurd k
 
 pub release_leaves : (layout : Layout) (key : ℕ) (o n : Sharded) (r : Result (Unit {0}) Refusal)
-    → ViewStands layout o.pages.owner.view → ReleaseDoes key o.pages.owner r n.pages.owner
+    → ViewStands layout o.pages.owner.view → ReleaseDoes layout key o.pages.owner r n.pages.owner
     → ReleaseLeaves (shard_setting layout o) key (shard_book o) r (shard_book n)
 release_leaves layout key o n (Ok u) s k = (held_now layout o.pages.owner.view key s k.0, k.1.log)
 release_leaves layout key o n (Err refusal.BadKey) s k = absurd k

@@ -1,8 +1,8 @@
 -- Pages come back from the full queue, and the pages of a shard that is adopted come to their queues.
 use Rattle.std.proofs.Common.{◌≡◌, ◌≢◌, ℕ, zero, suc, ◌+◌, ◌-◌, ◌*◌, ◌<◌, ◌≤◌, ◌⊎◌, inl, inr, ⊎_elim, Bool, true, false}
-use Rattle.std.proofs.Common.{Option, Some, None, refl, ap, ◌∙◌, sym, subst, arith}
+use Rattle.std.proofs.Common.{Option, Some, None, length, refl, ap, ◌∙◌, sym, subst, arith}
 use Rattle.std.proofs.lemmas.Bool.{cases_eq, cases_lt, false≢true}
-use Rattle.sh_queue.specs.Numbers.{has_number}
+use Rattle.sh_queue.specs.Numbers.{has_number, RisesFrom}
 use Rattle.sh_queue.specs.Queues.{PageQueues, EachOnce, class_queue, at_back, none_opened, one_more_segment}
 use Rattle.sh_queue.proofs.PageLaws.{has_number-from_without, has_number-at_back, full_opened, blank_opened}
 use Rattle.sh_pass.specs.Owners.{SeenPage}
@@ -10,6 +10,7 @@ use Rattle.sh_shard.specs.Pages.{Paged, page_at, seen_class, SlotComes}
 use Rattle.sh_shard.specs.Shards.{SortedPages, FullPage}
 use Rattle.sh_shard.specs.Returning.{SortedBut, ReturnsPage, AllBlank, FiledBelow}
 use Rattle.sh_shard.proofs.Sorting.{stands_at_back}
+use Rattle.sh_shard.proofs.Filing.{rises_nothing, rises_append, back_same, back_other}
 
 word_of : (g : SeenPage) (word : ℕ) → g.class ≡ Some word → seen_class g ≡ word
 word_of g word is = ap (λ (o : Option ℕ). elim o as (λ _. ℕ) [ Some m ↦ m | None ↦ 0 ]) is
@@ -186,6 +187,8 @@ filed_none v q b = record {
   full =
       b.full;
   blank = λ p here below. absurd (omega arith);
+  rising = λ c. rises_nothing (class_queue q c) (b.classes c);
+  below = λ c p here. absurd (false≢true (sym (b.classes c p) ∙ here));
 }
 
 below_next : (p k : ℕ) → p < k + 1 → (p ≡ k) ⊎ (p < k)
@@ -201,6 +204,8 @@ filed_blank k v q f is = record {
       (λ (e : p ≡ k). subst (λ z. (page_at v z).class ≡ Some 0) (sym e) is)
       (λ (l : p < k). f.blank p here l)
       (below_next p k below);
+  rising = f.rising;
+  below = λ c p here. let l = f.below c p here in omega arith;
 }
 
 pub filed_more : (k word : ℕ) (v : Paged) (q q' : PageQueues) → FiledBelow k v q → EachOnce q → k < q.opened
@@ -217,6 +222,15 @@ filed_more k word v q q' f once inside class some few is = subst (FiledBelow (k 
       (λ (e : r ≡ k). absurd (false≢true (sym gone ∙ subst (λ z. has_number z now.blank ≡ true) e h)))
       (λ (l : r < k). f.blank r (has_number-from_without r k q.blank h) l)
       (below_next r k below);
+  rising = λ e. ⊎_elim
+      (λ (t : e ≡ d). subst (RisesFrom 0) (sym (ap (class_queue now) t ∙ back_same d k q inside_classes apart))
+      (rises_append 0 k (class_queue q d) (f.rising d) (omega arith) (f.below d)))
+      (λ (t : e ≢ d). subst (RisesFrom 0) (sym (back_other d k q inside_classes apart e t)) (f.rising e))
+      (cases_eq e d);
+  below = λ e r h. ⊎_elim
+      (λ (t : has_number r (class_queue q e) ≡ true). let l = f.below e r t in omega arith)
+      (λ (t : (e ≡ d) × (r ≡ k)). let l = t.1 in omega arith)
+      (has_number-at_back d k q e r inside_classes h);
 }) where
   d : ℕ
   d = word - 1
@@ -230,6 +244,15 @@ filed_more k word v q q' f once inside class some few is = subst (FiledBelow (k 
 
   less : d < 8
   less = let s = positive word some in omega arith
+
+  inside_classes : d < length q.classes
+  inside_classes = let m = once.classes in let z = less in omega arith
+
+  apart : (c : ℕ) → has_number k (class_queue q c) ≡ false
+  apart c = go (has_number k (class_queue q c)) refl where
+    go : (b : Bool) → has_number k (class_queue q c) ≡ b → b ≡ false
+    go false is = refl
+    go true is = absurd (let l = f.below c k is in omega arith)
 
   next : word ≡ d + 1
   next = let s = positive word some in omega arith

@@ -11,10 +11,28 @@ use Rattle.sh_step.specs.Collections.{if1}
 use Rattle.sh_shard.specs.Pages.{Paged, page_at, count_below, armed_pages, BellReads, BellStops}
 use Rattle.sh_shard.specs.Shards.{Sharded}
 use Rattle.sh_shard.specs.Searches.{Heard, Hears}
+use Rattle.sh_shard.specs.Works.{WorksThroughout, ReadFromBell}
 use Rattle.sh_shard.proofs.Sides.{aside_none, aside_then}
+use Rattle.sh_shard.proofs.Works.{through_none, through_reads, through_stops, read_more}
+
+pub through_hears : (c : ℕ) (read : Bool) (o n : Sharded) → Hears c read o n → WorksThroughout o.pages n.pages
+through_hears c read o n h = record {
+  aside = h.aside;
+  put = h.put;
+  log = h.log;
+  shard = h.shard;
+  count = h.count;
+  classes = h.classes;
+  takes = λ q. omega (arith, h.page_takes q);
+  met = λ q. omega (arith, h.page_met q);
+  bell_takes = omega (arith, h.takes);
+  bell_met = h.met;
+}
 
 pub hears_none : (c : ℕ) (o : Sharded) → Hears c false o o
 hears_none c o = record {
+  opened = refl;
+  came = λ p h. inl h;
   aside = aside_none _;
   put = refl;
   log = refl;
@@ -42,6 +60,16 @@ read_class p o n b r = by_cases p (λ g. g.class) o n b (ap (λ (g : SeenPage). 
 pub hears_more : (c word : ℕ) (read read' : Bool) (o n m : Sharded) → c < 8 → Hears c read o n → EachOnce n.queues
     → Heard word n m → (read' ≡ false → (read ≡ false) × (word ≢ c + 1)) → Hears c read' o m
 hears_more c word read read' o n m l h once d quiet = record {
+  opened = heard_opened ∙ h.opened;
+  came = λ q e. ⊎_elim
+      (λ (t : m.queues ≡ n.queues). stood q (sym (ap (λ (z : PageQueues). has_number q (class_queue z c)) t) ∙ e))
+      (λ (t : (m.queues ≡ at_back (word - 1) d.page n.queues) × (0 < word) × (word ≤ 8)). ⊎_elim
+      (λ (f : has_number q (class_queue n.queues c) ≡ true). stood q f)
+      (λ (f : (c ≡ word - 1) × (q ≡ d.page)). inr (subst (λ z. ReadFromBell z o.pages m.pages) (sym f.1) now))
+      (has_number-at_back (word - 1) d.page n.queues c q
+      (let z = once.classes in let t1 = t.1 in let t2 = t.2 in omega arith)
+      (sym (ap (λ (z : PageQueues). has_number q (class_queue z c)) t.0) ∙ e)))
+      d.queues;
   aside = aside_then h.aside d.reads.aside;
   put = d.reads.put ∙ h.put;
   log = d.reads.log ∙ h.log;
@@ -61,6 +89,30 @@ hears_more c word read read' o n m l h once d quiet = record {
       (sym (ap (λ (z : PageQueues). has_number q (class_queue z c)) t.0) ∙ e))
       d.queues);
 } where
+  heard_opened : m.queues.opened ≡ n.queues.opened
+  heard_opened = ⊎_elim
+      (λ (t : m.queues ≡ n.queues). ap (λ (z : PageQueues). z.opened) t)
+      (λ (t : (m.queues ≡ at_back (word - 1) d.page n.queues) × (0 < word) × (word ≤ 8)). ap
+      (λ (z : PageQueues). z.opened) t.0)
+      d.queues
+
+  now : ReadFromBell d.page o.pages m.pages
+  now = record {
+    before = n.pages;
+    after = m.pages;
+    first = through_hears c read o n h;
+    reads = d.reads;
+    rest = through_none m.pages;
+  }
+
+  stood : (q : ℕ) → has_number q (class_queue n.queues c) ≡ true
+      → (has_number q (class_queue o.queues c) ≡ true) ⊎ ReadFromBell q o.pages m.pages
+  stood q e = ⊎_elim
+      (λ (f : has_number q (class_queue o.queues c) ≡ true). inl f)
+      (λ (f : ReadFromBell q o.pages n.pages). inr (read_more q o.pages n.pages m.pages f (through_reads d.page n.pages
+      m.pages d.reads)))
+      (h.came q e)
+
   other : (q : ℕ) → q ≡ d.page → (page_at o.pages q).class ≡ Some (c + 1) → word ≡ c + 1
   other q is e =
       let f : Some word ≡ Some (c + 1) = sym d.class ∙ (read_class d.page n.pages m.pages d.reads d.page
@@ -125,6 +177,12 @@ not_either a b word c e f = go a (sym e ∙ f) where
 pub hears_stops : (c : ℕ) (read : Bool) (o n m : Sharded) → Hears c read o n → m.queues ≡ n.queues
     → BellStops n.pages m.pages → Hears c read o m
 hears_stops c read o n m h same s = record {
+  opened = ap (λ (z : PageQueues). z.opened) same ∙ h.opened;
+  came = λ q e. ⊎_elim
+      (λ (f : has_number q (class_queue o.queues c) ≡ true). inl f)
+      (λ (f : ReadFromBell q o.pages n.pages). inr (read_more q o.pages n.pages m.pages f (through_stops n.pages m.pages
+      s)))
+      (h.came q (sym (ap (λ (z : PageQueues). has_number q (class_queue z c)) same) ∙ e));
   aside = aside_then h.aside s.aside;
   put = s.put ∙ h.put;
   log = s.log ∙ h.log;

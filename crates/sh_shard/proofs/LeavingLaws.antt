@@ -1,5 +1,5 @@
 -- Leaving a shard: what is collected, what is put back, and what is left.
-use Rattle.std.proofs.Common.{◌≡◌, ◌≢◌, ℕ, zero, suc, ◌+◌, ◌<◌, ◌≤◌, ◌==◌, ◌&&◌, ◌⊎◌, inl, inr, ⊎_elim, Bool, true}
+use Rattle.std.proofs.Common.{◌≡◌, ◌≢◌, ℕ, zero, suc, ◌+◌, ◌*◌, ◌<◌, ◌≤◌, ◌==◌, ◌&&◌, ◌⊎◌, inl, inr, ⊎_elim, Bool, true}
 use Rattle.std.proofs.Common.{false, Option, Some, None, MatchOption, refl, ap, ◌∙◌}
 use Rattle.std.proofs.Common.{sym, subst, arith}
 use Rattle.std.specs.Prelude.{not}
@@ -9,8 +9,10 @@ use Rattle.sh_step.specs.Collections.{if1}
 use Rattle.sh_pass.specs.Passes.{Caller}
 use Rattle.sh_pass.specs.Owners.{SeenPage, SeenBell, Aside, page_without}
 use Rattle.sh_shard.specs.Pages.{Paged, page_at, count_below, own_slots, armed_pages, CursorStands, NothingMine}
-use Rattle.sh_shard.specs.Pages.{WorksOn, TakesPage, CursorStops, BellTakes, BellStops, BellReads}
-use Rattle.sh_shard.specs.Pages.{ShardLeft}
+use Rattle.sh_shard.specs.Pages.{TakesPage, CursorStops, BellTakes, BellStops, BellReads}
+use Rattle.sh_shard.specs.Pages.{ShardLeft, TakesSteps, StepsForRings}
+use Rattle.sh_shard.specs.Steps.{StepsAtMost}
+use Rattle.sh_shard.specs.Bounds.{leave_steps}
 use Rattle.sh_shard.specs.Works.{BellDone}
 use Rattle.sh_shard.specs.Leaving.{Collecting, BellFollowed, PageEmptied, EmptiesPage, PagesEmptied}
 use Rattle.sh_shard.specs.Leaving.{AtRest, AllAtRest, NotAtRest, Waiting, PutsOne, PutsBack, PutsAllBack}
@@ -18,6 +20,8 @@ use Rattle.sh_shard.proofs.Sides.{aside_none, aside_then}
 use Rattle.sh_shard.proofs.Works.{through_none, through_more, through_takes, through_stops, through_reads}
 use Rattle.sh_shard.proofs.Works.{through_works}
 use Rattle.sh_shard.proofs.Working.{works_more, count_few}
+use Rattle.sh_shard.proofs.Bounding.{plain_then, slots_then, slots_most, rings_then, rings_read, rings_none, rings_most}
+use Rattle.sh_shard.proofs.Bounding.{steps_none}
 
 pub collecting_none : (o : Paged) → Collecting o o
 collecting_none o = record { through = through_none o; arm = refl }
@@ -75,15 +79,26 @@ pub record Following (turn : ℕ) (o n : Paged) : Type 0 where
   pub collects : Collecting o n
   pub takes : n.bell.takes ≡ o.bell.takes
   pub few : turn + armed_pages n ≤ o.count
+  pub steps : StepsForRings 0 o n
 
 pub following_none : (o : Paged) → Following 0 o o
-following_none o = record { collects = collecting_none o; takes = refl; few = let l = armed_few o in omega arith }
+following_none o = record {
+  collects = collecting_none o;
+  takes = refl;
+  few = let l = armed_few o in omega arith;
+  steps = rings_none 0 o;
+}
+
+-- a page that is read is one step
+pub read_steps : (p : ℕ) (n m : Paged) → BellReads p n m → StepsForRings 0 n m
+read_steps p n m b = rings_read _ _ _ _ b.steps (armed_less p n m b)
 
 pub following_more : (turn p : ℕ) (o n m : Paged) → Following turn o n → BellReads p n m → Following (turn + 1) o m
 following_more turn p o n m f b = record {
   collects = collecting_more o n m f.collects (collecting_reads p n m b);
   takes = b.takes ∙ f.takes;
   few = let e = armed_less p n m b in let l = f.few in omega arith;
+  steps = rings_then 0 0 0 o n m f.steps (read_steps p n m b) (omega arith);
 }
 
 weaken : (c : Option ℕ) (a b d : ℕ) → a ≤ b → MatchOption c (Unit {0}) (λ _. b < d)
@@ -96,6 +111,7 @@ followed_to turn o n m f b = record {
   collects = collecting_more o n m f.collects (collecting_stops n m b);
   takes = b.takes ∙ f.takes;
   waits = weaken m.bell.cursor o.bell.met n.bell.met m.bell.met f.collects.through.bell_met b.waits;
+  steps = rings_then 0 1 1 o n m f.steps b.steps (omega arith);
 }
 
 pub never_past : {A : Type 0} (turn : ℕ) (o n : Paged) → Following turn o n → o.count + 1 ≤ turn → A
@@ -119,6 +135,13 @@ bell_emptied o m t n f b h = emptied_then n.bell.cursor o.bell.takes n.bell.take
     (let x = f.takes in let y = b.takes in let z = h.takes in omega arith)
     (let x = f.collects.through.bell_met in let y = b.met in omega arith) h.waits
 
+pub bell_steps : (o m : Paged) → BellFollowed o m → StepsForRings 3 o m
+bell_steps o m f = let g = f.steps in omega arith
+
+pub bell_steps_taken : (o m t n : Paged) → BellFollowed o m → BellTakes m t → BellFollowed t n → StepsForRings 3 o n
+bell_steps_taken o m t n f b h = rings_then 2 1 3 o t n (rings_then 1 1 2 o m t f.steps b.steps (omega arith)) h.steps
+    (omega arith)
+
 -- ---- the pages
 
 pub collecting_works : (p : ℕ) (o n : Paged) → EmptiesPage p o n → Collecting o n
@@ -127,6 +150,7 @@ collecting_works p o n h = record { through = through_works p o n h.works; arm =
 -- the cursor is followed and waits
 pub empties_waiting : (p : ℕ) (o n : Paged) → CursorStops p o n → CursorStands (page_at n p).cursor → EmptiesPage p o n
 empties_waiting p o n s c = record {
+  steps = let g = s.steps in omega arith;
   works = s.works;
   arm = s.arm;
   emptied = record
@@ -136,6 +160,7 @@ empties_waiting p o n s c = record {
 -- it is followed to its end, and the page is not armed
 pub empties_calm : (p : ℕ) (o n : Paged) → CursorStops p o n → (page_at n p).armed ≡ false → EmptiesPage p o n
 empties_calm p o n s c = record {
+  steps = let g = s.steps in omega arith;
   works = s.works;
   arm = s.arm;
   emptied = record
@@ -147,6 +172,7 @@ pub empties_taken : (p : ℕ) (o m t n : Paged) → CursorStops p o m → TakesP
     → EmptiesPage p o n
 empties_taken p o m t n s k h =
     let w = works_more p o t n (works_more p o m t s.works k.works) h.works in record {
+      steps = slots_then 2 1 3 p o t n (slots_then 1 1 2 p o m t s.steps k.steps (omega arith)) h.steps (omega arith);
       works = w;
       arm = h.arm ∙ (k.arm ∙ s.arm);
       emptied = record {
@@ -160,9 +186,15 @@ pub record Emptying (page : ℕ) (o n : Paged) : Type 0 where
   pub collects : Collecting o n
   pub bell : n.bell ≡ o.bell
   pub pages : (p : ℕ) → p < page → PageEmptied (page_at o p) (page_at n p)
+  pub steps : StepsAtMost (51 * page) o.owner n.owner
 
 pub emptying_none : (o : Paged) → Emptying 0 o o
-emptying_none o = record { collects = collecting_none o; bell = refl; pages = λ p l. absurd (omega arith) }
+emptying_none o = record {
+  collects = collecting_none o;
+  bell = refl;
+  pages = λ p l. absurd (omega arith);
+  steps = steps_none 0 o.owner;
+}
 
 emptied_after : (g h k : SeenPage) → g.met ≤ h.met → g.takes ≤ h.takes → PageEmptied h k → PageEmptied g k
 emptied_after g h k m t e = record {
@@ -182,10 +214,13 @@ emptying_more page o n m f e = record {
       (λ (ne : p ≢ page). subst (PageEmptied (page_at o p)) (sym (e.works.others p ne))
       (f.pages p (more p page (let z = l in omega arith) (λ is. ne (sym is)))))
       (cases_eq p page);
+  steps = plain_then _ _ _ (51 * page) 51 (51 * (page + 1)) f.steps (slots_most 3 51 page n m e.steps (omega arith))
+      (omega arith);
 }
 
-pub pages_emptied : (page : ℕ) (o n : Paged) → Emptying page o n → o.count ≤ page → PagesEmptied o n
-pages_emptied page o n f l = record {
+pub pages_emptied : (page : ℕ) (o n : Paged) → Emptying page o n → o.count ≤ page → page ≤ o.count → PagesEmptied o n
+pages_emptied page o n f l most = record {
+  steps = let g = f.steps in omega arith;
   collects = f.collects;
   bell = f.bell;
   pages = λ p k. f.pages p
@@ -243,9 +278,11 @@ waiting o m n g b e w = record {
 -- ---- what is put back
 
 pub puts_one : (o n : Paged) (p s : ℕ) → Aside o.owner n.owner → n.bell ≡ o.bell → n.owner.view.own.log
-    ≡ o.owner.view.own.log → n.shard ≡ o.shard → n.count ≡ o.count → page_at n p ≡ page_without (page_at o p) s
+    ≡ o.owner.view.own.log → n.shard ≡ o.shard → n.count ≡ o.count → TakesSteps 2 o n
+    → page_at n p ≡ page_without (page_at o p) s
     → ((q : ℕ) → q ≢ p → page_at n q ≡ page_at o q) → (page_at o p).mine s ≡ true → s < 48 → PutsOne p o n
-puts_one o n p s aside bell log shard count here others mine small = record {
+puts_one o n p s aside bell log shard count steps here others mine small = record {
+  steps = steps;
   aside = aside;
   bell = bell;
   log = log;
@@ -283,10 +320,12 @@ pub record Putting (turn p : ℕ) (o n : Paged) : Type 0 where
   pub cursor : (page_at n p).cursor ≡ (page_at o p).cursor
   pub armed : (page_at n p).armed ≡ (page_at o p).armed
   pub few : turn + own_slots (page_at n p) ≤ 48
+  pub steps : TakesSteps (2 * turn) o n
   pub others : (q : ℕ) → q ≢ p → page_at n q ≡ page_at o q
 
 pub putting_none : (p : ℕ) (o : Paged) → Putting 0 p o o
 putting_none p o = record {
+  steps = omega arith;
   aside = aside_none o.owner;
   bell = refl;
   log = refl;
@@ -301,6 +340,7 @@ putting_none p o = record {
 
 pub putting_more : (turn p : ℕ) (o m n : Paged) → Putting turn p o m → PutsOne p m n → Putting (turn + 1) p o n
 putting_more turn p o m n g h = record {
+  steps = let a = g.steps in let b = h.steps in omega arith;
   aside = aside_then g.aside h.aside;
   bell = h.bell ∙ g.bell;
   log = h.log ∙ g.log;
@@ -312,9 +352,13 @@ putting_more turn p o m n g h = record {
   others = λ q ne. h.others q ne ∙ g.others q ne;
 }
 
+put_most : (turn own a b : ℕ) → turn + own ≤ 48 → b ≡ a + 2 * turn → b ≤ a + 96
+put_most turn own a b l e = omega arith
+
 pub put_done : (turn p : ℕ) (o m n : Paged) → Putting turn p o m → n ≡ m → NothingMine (page_at m p) → PutsBack p o n
 put_done turn p o m n g is none = subst (PutsBack p o) (sym is)
     (record {
+      steps = put_most turn _ _ _ g.few g.steps;
       aside = g.aside;
       bell = g.bell;
       log = g.log;
@@ -339,6 +383,7 @@ pub record Returning (page : ℕ) (o n : Paged) : Type 0 where
   pub bell : n.bell ≡ o.bell
   pub rest : (p : ℕ) → p < o.count → AtRest (page_at n p)
   pub mine : (p : ℕ) → p < page → NothingMine (page_at n p)
+  pub steps : StepsAtMost (96 * page) o.owner n.owner
 
 pub returning_none : (o : Paged) → AllAtRest o → Returning 0 o o
 returning_none o a = record {
@@ -350,11 +395,13 @@ returning_none o a = record {
   rest =
       a.pages;
   mine = λ p l. absurd (omega arith);
+  steps = steps_none 0 o.owner;
 }
 
 pub returning_more : (page : ℕ) (o m n : Paged) → Returning page o m → page < o.count → PutsBack page m n
     → Returning (page + 1) o n
 returning_more page o m n g l h = record {
+  steps = plain_then _ _ _ (96 * page) 96 (96 * (page + 1)) g.steps h.steps (omega arith);
   aside = aside_then g.aside h.aside;
   log = h.log ∙ g.log;
   shard = h.shard ∙ g.shard;
@@ -372,8 +419,10 @@ returning_more page o m n g l h = record {
       (cases_eq p page);
 }
 
-pub returned : (page : ℕ) (o n : Paged) → Returning page o n → o.bell.cursor ≡ None → o.count ≤ page → PutsAllBack o n
-returned page o n g bell l = record {
+pub returned : (page : ℕ) (o n : Paged) → Returning page o n → o.bell.cursor ≡ None → o.count ≤ page → page ≤ o.count
+    → PutsAllBack o n
+returned page o n g bell l most = record {
+  steps = let h = g.steps in omega arith;
   aside = g.aside;
   log = g.log;
   shard = g.shard;
@@ -406,6 +455,27 @@ pub leaves : (o m n t : Paged) (w : Caller) → Collecting o m → PagesEmptied 
     → ShardLeft o.owner w
 leaves o m n t w g e b h = left_after o t w (aside_then g.through.aside (aside_then e.collects.through.aside b.aside))
     (b.log ∙ (e.collects.through.log ∙ g.through.log)) h
+
+-- all steps of a leave, and of one that waits
+pub leaves_in : (o m n t : Paged) (w : Caller) → Collecting o m → StepsForRings 3 o m → PagesEmptied m n
+    → PutsAllBack n t → StepsAtMost 1 t.owner w → StepsAtMost (leave_steps o.count) o.owner w
+leaves_in o m n t w c g e b h =
+    let x = rings_most 3 o m g in
+    let s = c.through.count in
+    let r = e.collects.through.count in
+    let y = e.steps in
+    let z = b.steps in sum _ _ _ _ _ o.count m.count n.count x y z h s r
+  where
+    sum : (a b c d f k l j : ℕ) → b ≤ a + (k + 3) → c ≤ b + 51 * l → d ≤ c + 96 * j → f ≤ d + 1 → l ≡ k → j ≡ l
+        → f ≤ a + (148 * k + 4)
+    sum a b c d f k l j x y z h s r = omega arith
+
+pub waits_in : (o m n : Paged) → Collecting o m → StepsForRings 3 o m → PagesEmptied m n
+    → StepsAtMost (leave_steps o.count) o.owner n.owner
+waits_in o m n c g e = sum _ _ _ o.count m.count (rings_most 3 o m g) e.steps c.through.count
+  where
+    sum : (a b c k l : ℕ) → b ≤ a + (k + 3) → c ≤ b + 51 * l → l ≡ k → c ≤ a + (148 * k + 4)
+    sum a b c k l x y s = omega arith
 
 pub rests_more : (v : Paged) (page : ℕ) → ((p : ℕ) → p < page → AtRest (page_at v p)) → AtRest (page_at v page)
     → (p : ℕ) → p < page + 1 → AtRest (page_at v p)

@@ -1,10 +1,12 @@
 pub mod Sides
+pub mod Bounding
 pub mod Works
 pub mod Sorting
 pub mod Searching
 pub mod Hearing
 pub mod Trying
 pub mod Preparing
+pub mod Filing
 pub mod FullPages
 pub mod PageLaws
 pub mod Keeping

@@ -1,26 +1,31 @@
 -- A page is given another class, and an insert goes there.
-use Rattle.std.proofs.Common.{◌≡◌, ◌≢◌, ℕ, suc, ◌+◌, ◌<◌, ◌≤◌, inl, inr, ⊎_elim, Bool, true, false}
-use Rattle.std.proofs.Common.{Some, List, [], ◌∷◌, ◌++◌, slice_get, refl, ap, ◌∙◌}
+use Rattle.std.proofs.Common.{◌≡◌, ◌≢◌, ℕ, suc, ◌+◌, ◌*◌, ◌<◌, ◌≤◌, ◌⊎◌, inl, inr, ⊎_elim, Bool, true, false}
+use Rattle.std.proofs.Common.{Option, Some, None, MatchOption, IfSome, List, ◌∷◌, length, slice_get, refl, ap, ◌∙◌}
 use Rattle.std.proofs.Common.{sym, subst, arith}
 use Rattle.std.specs.Prelude.{Result, Ok, Err}
 use Rattle.std.proofs.lemmas.Bool.{cases_eq, cases_lt, false≢true}
 use Rattle.sh_queue.specs.Numbers.{has_number}
 use Rattle.sh_queue.specs.Queues.{PageQueues, EachOnce, class_queue, at_front, one_more_segment}
 use Rattle.sh_queue.proofs.PageLaws.{class_queue-at_front_same, without_number-hasnt}
-use Rattle.sh_history.specs.declared.entry.Entry.TheVariants as entry
-use Rattle.sh_history.specs.declared.log.LogEntry.TheVariants.{Known}
 use Rattle.sh_key.specs.Layout.{Layout}
 use Rattle.sh_value.specs.declared.refusal.Refusal.{Refusal}
 use Rattle.sh_value.specs.declared.refusal.Refusal.TheVariants as refusal
-use Rattle.sh_pass.specs.Owners.{SeenPage, IsKeyIn}
-use Rattle.sh_shard.specs.Pages.{Paged, page_at, NothingMine, GivesClass}
+use Rattle.sh_pass.specs.Owners.{SeenPage}
+use Rattle.sh_shard.specs.Pages.{Paged, page_at, NothingMine, NamesSlot, PageInserts, GivesClass}
+use Rattle.sh_shard.specs.Pages.{TakesSteps}
 use Rattle.sh_shard.specs.Works.{WorksThroughout}
-use Rattle.sh_shard.specs.Shards.{Sharded, SortedPages, Added, NoRoom, IsSpare}
+use Rattle.sh_shard.specs.Steps.{StepsAtMost}
+use Rattle.sh_shard.specs.Bounds.{PrepareIsBounded, InsertIsBounded}
+use Rattle.sh_shard.specs.Filing.{OpensFor}
+use Rattle.sh_shard.specs.Shards.{Sharded, SortedPages, NoneLeft, NoRoom, IsSpare, NeedsSegment}
 use Rattle.sh_shard.specs.Shards.{IsBlank, NoneSpare, NoneOpenedBlank, IsLowest, IsNextFor, PreparesPage}
-use Rattle.sh_shard.specs.Shards.{PrepareServes, InsertsElsewhere, InsertServes, IsQuick}
+use Rattle.sh_shard.specs.Shards.{PrepareServes, InsertServes, IsQuick}
+use Rattle.sh_shard.specs.Finding.{StoresAtFront, InsertsElsewhere}
 use Rattle.sh_shard.specs.Searches.{Tried}
-use Rattle.sh_shard.proofs.Sides.{aside_then}
-use Rattle.sh_shard.proofs.Searching.{added_since, key_same, none_left, some_given, not_whole}
+use Rattle.sh_shard.proofs.Works.{through_none}
+use Rattle.sh_shard.proofs.Bounding.{steps_none}
+use Rattle.sh_shard.proofs.Working.{names_before}
+use Rattle.sh_shard.proofs.Searching.{added_since, added_given, front_has, stored, none_left, some_given, not_whole}
 
 -- ---- a page
 
@@ -45,6 +50,7 @@ prepared v w q q' c p sorted once class inside next other gives moved = record {
   front = ap (λ (z : PageQueues). class_queue z c) moved
       ∙ (class_queue-at_front_same c p q (let m = once.classes in omega arith)
       ∙ ap (λ xs. p ∷ xs) (without_number-hasnt p (class_queue q c) (not_in_class v q c p sorted other)));
+  opened = inl (inside, ap (λ (z : PageQueues). z.opened) moved);
 }
 
 -- a segment was opened, since no opened page was blank
@@ -77,6 +83,16 @@ module _ (o m : Sharded) (sorted : SortedPages o.pages o.queues) (some : o.queue
     next_from (inr (inr k)) = absurd (k.2.lower o.queues.opened (let e = k.1 in let f = first_inside in omega arith)
         first_blank)
 
+    first_is : IsNextFor c p m → p ≡ o.queues.opened
+    first_is (inl k) = is_first k.1
+    first_is (inr (inl k)) = absurd (opened_has_blank k.0)
+    first_is (inr (inr k)) = absurd (k.2.lower o.queues.opened (let e = k.1 in let f = first_inside in omega arith)
+        first_blank)
+
+    opens_more : (n : PageQueues) → IsNextFor c p m → OpensFor p m.queues n → OpensFor p o.queues n
+    opens_more n next (inl k) = inr (first_is next, k.1 ∙ ap (λ (q : PageQueues). q.opened) moved)
+    opens_more n next (inr k) = absurd (let e = first_is next in let f = k.0 in let g = first_inside in omega arith)
+
     -- the lowest blank page is the first of the segment
     pub prepared_from : (n : Sharded) → PreparesPage c p m n → PreparesPage c p o n
     prepared_from n k =
@@ -86,7 +102,13 @@ module _ (o m : Sharded) (sorted : SortedPages o.pages o.queues) (some : o.queue
           next = next_from k.next;
           gives = all.1;
           front = k.front ∙ ap (λ (q : PageQueues). p ∷ class_queue q c) moved;
+          opened = opens_more n.queues k.next k.opened;
         }
+
+-- memory was refused to the segment
+pub segment_refused : (c : ℕ) (o n : Sharded) (r : Refusal) → r ≡ refusal.Memory → n ≡ o → NeedsSegment c o
+    → PrepareServes c o (Err r) n
+segment_refused c o n r is same needs = subst (λ z. PrepareServes c o (Err z) n) (sym is) (same, needs)
 
 -- no page that is not opened is spare
 pub none_spare : (c opened : ℕ) (o : Sharded) → SortedPages o.pages o.queues → opened ≡ o.queues.opened
@@ -110,15 +132,41 @@ spare_next c k o below here p inside = ⊎_elim
 
 -- ---- an insert
 
-pub added_prepared : (p c key : ℕ) (value : List ℕ) (o n m : Paged) → GivesClass p c o n → Added value key n m
-    → Added value key o m
-added_prepared p c key value o n m g i = record {
-  aside = aside_then g.aside i.aside;
-  put = i.put ∙ g.put;
-  log = i.log ∙ (λ j. g.log j ++ Known (entry.Insert (g.aside.same.pass j) key value) ∷ []);
-  shard = i.shard ∙ g.shard;
-  count = i.count ∙ g.count;
+-- at the front of the class, if the page there has a slot
+pub used_at_front : (layout : Layout) (c p : ℕ) (value : List ℕ) (o n : Sharded) (r : Option ℕ)
+    → SortedPages o.pages o.queues → slice_get (class_queue o.queues c) 0 ≡ Some p → p < o.queues.opened
+    → MatchOption r ((n ≡ o) × NothingMine (page_at o.pages p)) (λ key. PageInserts p value key o.pages n.pages)
+    → IfSome r (λ key. NamesSlot layout p key o.pages) → n.queues ≡ o.queues
+    → IfSome r (λ _. TakesSteps (length value + 2) o.pages n.pages)
+    → MatchOption r ((n ≡ o) × ((q : ℕ) → slice_get (class_queue o.queues c) 0 ≡ Some q
+    → NothingMine (page_at o.pages q))) (λ key. StoresAtFront layout c key value o n)
+used_at_front layout c p value o n None sorted front inside used names same steps = (
+  used.0,
+  λ q e. let is : Some p ≡ Some q = sym front ∙ e in
+      let f : p ≡ q = cc in subst (λ z. NothingMine (page_at o.pages z)) f used.1,
+)
+used_at_front layout c p value o n (Some key) sorted front inside used names same steps = record {
+  steps = steps;
+  page = p;
+  front = front;
+  inside = inside;
+  counted = let a = sorted.all in omega arith;
+  opened = ap (λ (q : PageQueues). q.opened) same;
+  class = sorted.classes c p (front_has c p o.queues front);
+  names = names;
+  inserts = used;
 }
+
+pub served_at_front : (layout : Layout) (c key : ℕ) (value : List ℕ) (o n : Sharded)
+    → StoresAtFront layout c key value o n → InsertServes layout c value o (Ok key) n
+served_at_front layout c key value o n s = stored layout c s.page key value o n (record {
+  inside = s.counted;
+  class = s.class;
+  names = s.names;
+  tried = o.pages;
+  through = through_none o.pages;
+  inserts = s.inserts;
+}) s.inside s.opened (inl (front_has c s.page o.queues s.front))
 
 module _ (layout : Layout) (c : ℕ) (value : List ℕ) where
   pub elsewhere_refused : (o n : Sharded) (r : Refusal) → PrepareServes c o (Err r) n
@@ -137,23 +185,51 @@ module _ (layout : Layout) (c : ℕ) (value : List ℕ) where
   elsewhere_refused o n refusal.BadShape k = absurd k
   elsewhere_refused o n refusal.WrongKind k = absurd k
 
-  pub elsewhere_added : (p key : ℕ) (o n m : Sharded) → PreparesPage c p o n → Added value key n.pages m.pages
-      → IsKeyIn layout n.pages.owner n.pages.shard key
+  -- the page that was given the class is its front
+  pub elsewhere_stored : (p key : ℕ) (o n m : Sharded) → PreparesPage c p o n → StoresAtFront layout c key value n m
       → InsertsElsewhere layout c value o (Ok key) m
-  elsewhere_added p key o n m k a is = (
-    added_prepared p c key value o.pages n.pages m.pages k.gives a,
-    key_same layout
-        o.pages n.pages key k.gives.aside k.gives.shard is,
-  )
+  elsewhere_stored p key o n m k s =
+      let front : Some p ≡ Some s.page = sym (ap (λ xs. slice_get xs 0) k.front) ∙ s.front in
+      let is : s.page ≡ p = cc in record {
+        page = p;
+        names = names_before layout p key o.pages n.pages k.gives.aside k.gives.shard
+            (subst (λ z. NamesSlot layout z key n.pages) is s.names);
+        given = n;
+        prepares = k;
+        inserts = subst (λ z. PageInserts z value key n.pages m.pages) is s.inserts;
+        opened = s.opened;
+        steps = let a = k.gives.steps in let b = s.steps in omega arith;
+      }
 
   -- after the search in vain
   pub served_after : (o n m : Sharded) → c < 8 → Tried c o n → SortedPages n.pages n.queues → EachOnce n.queues
       → (r : Result ℕ Refusal)
       → InsertsElsewhere layout c value n r m → InsertServes layout c value o r m
-  served_after o n m class t sorted once (Ok key) k = (
-    added_since key value o.pages n.pages m.pages t.through k.0,
-    key_same layout o.pages n.pages key t.through.aside t.through.shard k.1,
-  )
+  served_after o n m class t sorted once (Ok key) k =
+      let gives = k.prepares.gives in
+      let names = names_before layout k.page key o.pages n.pages t.through.aside t.through.shard k.names in (
+        added_since key value o.pages n.pages m.pages t.through (added_given k.page c k.page key value n.pages
+            k.given.pages m.pages gives k.inserts),
+        names.shard,
+        record {
+          page = k.page;
+          inside = let a = k.prepares.inside in let e = gives.count in let f = k.inserts.count in omega arith;
+          names = names.page;
+          class = k.inserts.class ∙ ap (λ (g : SeenPage). g.class) gives.here;
+          others = λ q ne. ap (λ (g : SeenPage). g.class) (k.inserts.others q ne)
+              ∙ (ap (λ (g : SeenPage). g.class) (gives.others q ne) ∙ t.through.classes q);
+          opened = let P : ℕ × ℕ → Type 0 = λ z. ((k.page < z.0) × (z.1 ≡ z.0))
+              ⊎ ((k.page ≡ z.0) × (z.1 ≡ z.0 + 8)) in subst P (λ i. (t.opened i, sym k.opened i)) k.prepares.opened;
+          came = inr (inr (record {
+            searched = n;
+            left = none_left c o n t sorted once;
+            opened = t.opened;
+            given = k.given;
+            prepares = k.prepares;
+            inserts = k.inserts;
+          }));
+        },
+      )
   served_after o n m class t sorted once (Err refusal.Full) k = subst (NoRoom c o) (sym k.0)
       (let left = none_left c o n t sorted once in record {
         left = left;
@@ -173,7 +249,8 @@ module _ (layout : Layout) (c : ℕ) (value : List ℕ) where
         suc_is : (d : ℕ) → d ≡ c → suc d ≡ c + 1
         suc_is d is = omega arith
   served_after o n m class t sorted once (Err refusal.Memory) k = subst
-      (λ (z : Sharded). WorksThroughout o.pages z.pages × (z.queues.unopened ≢ 0)) (sym k.0) (t.through, k.1)
+      (λ (z : Sharded). WorksThroughout o.pages z.pages × NoneLeft c o.pages z.pages × NeedsSegment c z) (sym k.0)
+      (t.through, none_left c o n t sorted once, k.1)
   served_after o n m class t sorted once (Err refusal.BadKey) k = absurd k
   served_after o n m class t sorted once (Err refusal.Gone) k = absurd k
   served_after o n m class t sorted once (Err refusal.Crowded) k = absurd k
@@ -195,3 +272,48 @@ pub prepared_has_slot : {A : Type 0} (c p : ℕ) (o n : Sharded) → c < 8 → P
     → ((r : ℕ) → slice_get (class_queue n.queues c) 0 ≡ Some r → NothingMine (page_at n.pages r)) → A
 prepared_has_slot c p o n class k none = some_given p c o.pages n.pages class k.gives
     (none p (ap (λ xs. slice_get xs 0) k.front))
+
+-- ---- how many steps that takes
+
+pub prepare_in : (c : ℕ) (o n : Sharded) (r : Result ℕ Refusal) → PrepareServes c o r n → PrepareIsBounded o n
+prepare_in c o n (Ok p) k = let a = k.gives.steps in omega arith
+prepare_in c o n (Err refusal.Full) k = subst (PrepareIsBounded o) (sym k.0) (steps_none 1 o.pages.owner)
+prepare_in c o n (Err refusal.Memory) k = subst (PrepareIsBounded o) (sym k.0) (steps_none 1 o.pages.owner)
+prepare_in c o n (Err refusal.BadKey) k = absurd k
+prepare_in c o n (Err refusal.Gone) k = absurd k
+prepare_in c o n (Err refusal.Crowded) k = absurd k
+prepare_in c o n (Err refusal.HoldsFull) k = absurd k
+prepare_in c o n (Err refusal.NotHeld) k = absurd k
+prepare_in c o n (Err refusal.TooLong) k = absurd k
+prepare_in c o n (Err refusal.Taken) k = absurd k
+prepare_in c o n (Err refusal.NoShard) k = absurd k
+prepare_in c o n (Err refusal.Waiting) k = absurd k
+prepare_in c o n (Err refusal.BadShape) k = absurd k
+prepare_in c o n (Err refusal.WrongKind) k = absurd k
+
+elsewhere_in : (layout : Layout) (c : ℕ) (value : List ℕ) (o n : Sharded) (r : Result ℕ Refusal)
+    → InsertsElsewhere layout c value o r n → StepsAtMost (length value + 3) o.pages.owner n.pages.owner
+elsewhere_in layout c value o n (Ok key) k = k.steps
+elsewhere_in layout c value o n (Err refusal.Full) k = subst
+    (λ (z : Sharded). StepsAtMost (length value + 3) o.pages.owner z.pages.owner) (sym k.0) (steps_none _ o.pages.owner)
+elsewhere_in layout c value o n (Err refusal.Memory) k = subst
+    (λ (z : Sharded). StepsAtMost (length value + 3) o.pages.owner z.pages.owner) (sym k.0) (steps_none _ o.pages.owner)
+elsewhere_in layout c value o n (Err refusal.BadKey) k = absurd k
+elsewhere_in layout c value o n (Err refusal.Gone) k = absurd k
+elsewhere_in layout c value o n (Err refusal.Crowded) k = absurd k
+elsewhere_in layout c value o n (Err refusal.HoldsFull) k = absurd k
+elsewhere_in layout c value o n (Err refusal.NotHeld) k = absurd k
+elsewhere_in layout c value o n (Err refusal.TooLong) k = absurd k
+elsewhere_in layout c value o n (Err refusal.Taken) k = absurd k
+elsewhere_in layout c value o n (Err refusal.NoShard) k = absurd k
+elsewhere_in layout c value o n (Err refusal.Waiting) k = absurd k
+elsewhere_in layout c value o n (Err refusal.BadShape) k = absurd k
+elsewhere_in layout c value o n (Err refusal.WrongKind) k = absurd k
+
+pub served_in : (layout : Layout) (c : ℕ) (value : List ℕ) (o n m : Sharded) (r : Result ℕ Refusal) → Tried c o n
+    → InsertsElsewhere layout c value n r m → InsertIsBounded (length value) o m
+served_in layout c value o n m r t k = sum _ _ _ o.pages.count (length value) t.steps
+    (elsewhere_in layout c value n m r k)
+  where
+    sum : (a b c k w : ℕ) → b ≤ a + (9 * k + 3) → c ≤ b + (w + 3) → c ≤ a + (9 * k + w + 53)
+    sum a b c k w g h = omega arith

@@ -1,30 +1,36 @@
 -- A search of the pages of a class.
-use Rattle.std.proofs.Common.{◌≡◌, ◌≢◌, ℕ, zero, suc, ◌+◌, ◌<◌, ◌≤◌, ◌||◌, ◌⊎◌, inl, inr, ⊎_elim, Bool, true}
+use Rattle.std.proofs.Common.{◌≡◌, ◌≢◌, ℕ, zero, suc, ◌+◌, ◌*◌, ◌<◌, ◌≤◌, ◌||◌, ◌⊎◌, inl, inr, ⊎_elim, Bool, true}
 use Rattle.std.proofs.Common.{false, Option, Some, None, MatchOption, List, [], ◌∷◌, ◌++◌, append_assoc, append-nil}
 use Rattle.std.proofs.Common.{length, slice_get, refl, ap, ◌∙◌, sym, subst, arith}
 use Rattle.std.specs.List.{last_or}
 use Rattle.std.proofs.lemmas.Bool.{cases_eq, cases_lt, false≢true}
-use Rattle.std.specs.Prelude.{nat_lt}
+use Rattle.std.specs.Prelude.{nat_lt, Ok}
 use Rattle.sh_lists.specs.Numbers.{Distinct}
 use Rattle.sh_lists.proofs.Distincts.{Misses-left}
 use Rattle.sh_queue.specs.Numbers.{has_number}
 use Rattle.sh_queue.specs.Queues.{PageQueues, EachOnce, class_queue, at_back, among_full}
 use Rattle.sh_queue.proofs.Numbers.{has_number-append, has_number-from_Misses, has_number-first, has_number-last}
+use Rattle.sh_queue.proofs.Numbers.{has_number-here}
 use Rattle.sh_queue.proofs.PageLaws.{has_number-only, class_queue-at_back_front, class_queue-among_full_front}
-use Rattle.sh_queue.proofs.PageLaws.{class_distinct, length-class_queue, opened_somewhere}
+use Rattle.sh_queue.proofs.PageLaws.{class_distinct, length-class_queue, opened_somewhere, has_number-at_back}
+use Rattle.sh_queue.proofs.PageLaws.{has_number-among_full}
 use Rattle.sh_history.specs.declared.entry.Entry.TheVariants as entry
 use Rattle.sh_history.specs.declared.log.LogEntry.TheVariants.{Known}
 use Rattle.sh_key.specs.Layout.{Layout}
 use Rattle.sh_shape.specs.Classes.{slots}
-use Rattle.sh_pass.specs.Owners.{SeenPage, Aside, IsKeyIn}
+use Rattle.sh_pass.specs.Owners.{SeenPage}
 use Rattle.sh_shard.specs.Pages.{Paged, page_at, seen_class, WorksOn, PageDone, PageInserts, NothingMine, WhollyMine}
-use Rattle.sh_shard.specs.Pages.{GivesClass}
+use Rattle.sh_shard.specs.Pages.{GivesClass, NamesSlot}
 use Rattle.sh_shard.specs.Shards.{Sharded, SortedPages, FullPage, Added, NoneLeft, IsBlank}
-use Rattle.sh_shard.specs.Shards.{NoneOpenedBlank, IsLowest}
-use Rattle.sh_shard.specs.Works.{WorksThroughout}
-use Rattle.sh_shard.specs.Searches.{WorkedSince, Settles, Searched, Searching, Tried}
+use Rattle.sh_shard.specs.Shards.{NoneOpenedBlank, IsLowest, InsertServes, CameByBell, NextAfterSearch}
+use Rattle.sh_shard.specs.Steps.{StepsAtMost}
+use Rattle.sh_shard.specs.Works.{WorksThroughout, ClassDone}
+use Rattle.sh_shard.specs.Finding.{StoresIn, StoresInQueue}
+use Rattle.sh_shard.specs.Searches.{WorkedSince, Settles, Stood, Searched, Searching, Tried}
 use Rattle.sh_shard.proofs.Sides.{aside_then}
 use Rattle.sh_shard.proofs.Works.{through_none, through_more, through_works}
+use Rattle.sh_shard.proofs.Working.{names_before}
+use Rattle.sh_shard.proofs.Bounding.{steps_none, plain_then}
 
 -- ---- work on pages, one after the other
 
@@ -80,6 +86,9 @@ pub begins : (c last : ℕ) (o : Sharded) → EachOnce o.queues → last_or None
     → Searching c 0 last o o
 begins c last o once e = record {
   since = since_none o.pages;
+  steps = steps_none 0 o.pages.owner;
+  opened = refl;
+  stood = λ p h. h;
   rest = class_queue o.queues c;
   waited = [];
   queue = sym (append-nil (class_queue o.queues c));
@@ -101,9 +110,34 @@ pub front_has : (c p : ℕ) (q : PageQueues) → slice_get (class_queue q c) 0 �
     ≡ true
 front_has c p q e = has_number-first p (class_queue q c) e
 
+pub settled_opened : (c p : ℕ) (o n : Sharded) → Settles c p o n → n.queues.opened ≡ o.queues.opened
+settled_opened c p o n s = ⊎_elim (λ (b : n.queues ≡ at_back c p o.queues). ap (λ (q : PageQueues). q.opened) b)
+    (λ (b : n.queues ≡ among_full p o.queues). ap (λ (q : PageQueues). q.opened) b) s.queues
+
+-- what stands in the class then stood there before
+settled_stood : (c p : ℕ) (n m z : Sharded) → EachOnce n.queues → c < 8 → m.queues ≡ n.queues
+    → has_number p (class_queue n.queues c) ≡ true → Settles c p m z → Stood c n z
+settled_stood c p n m z once l same here st r h = ⊎_elim
+    (λ (b : z.queues ≡ at_back c p m.queues). ⊎_elim
+    (λ (t : has_number r (class_queue m.queues c) ≡ true). before t)
+    (λ (t : (c ≡ c) × (r ≡ p)). subst (λ k. has_number k (class_queue n.queues c) ≡ true) (sym t.1) here)
+    (has_number-at_back c p m.queues c r inside (sym (ap (λ (k : PageQueues). has_number r (class_queue k c)) b) ∙ h)))
+    (λ (b : z.queues ≡ among_full p m.queues). before (has_number-among_full c p m.queues c r
+    (sym (ap (λ (k : PageQueues). has_number r (class_queue k c)) b) ∙ h)))
+    st.queues
+  where
+    before : has_number r (class_queue m.queues c) ≡ true → has_number r (class_queue n.queues c) ≡ true
+    before t = sym (ap (λ (k : PageQueues). has_number r (class_queue k c)) same) ∙ t
+
+    inside : c < length m.queues.classes
+    inside = let e : length m.queues.classes ≡ length n.queues.classes = ap (λ (k : PageQueues). length k.classes) same
+        in let f = once.classes in omega arith
+
 -- what waits after one more page was tried
 pub record Turned (c last : ℕ) (o z : Sharded) (p : ℕ) (ys : List ℕ) : Type 0 where
   pub since : WorkedSince o.pages z.pages
+  pub opened : z.queues.opened ≡ o.queues.opened
+  pub stood : Stood c o z
   pub waited : List ℕ
   pub queue : class_queue z.queues c ≡ ys ++ waited
   pub done : (r : ℕ) → has_number r waited ≡ true → PageDone o.pages z.pages r
@@ -123,10 +157,16 @@ turned c p turn last o n m z s ys is once l same w d st =
     let inside : c < length m.queues.classes = (let e : length m.queues.classes
     ≡ length n.queues.classes = ap (λ (k : PageQueues). length k.classes) same in let f = once.classes
     in omega arith) in
+    let here : has_number p (class_queue n.queues c) ≡ true = ap (has_number p) q ∙ has_number-here p (ys ++ s.waited) in
+    let stood : Stood c o z = λ r h. s.stood r (settled_stood c p n m z once l same here st r h) in
+    let opened : z.queues.opened ≡ o.queues.opened = settled_opened c p m z st
+    ∙ (ap (λ (k : PageQueues). k.opened) same ∙ s.opened) in
     ⊎_elim
     (λ (b : z.queues ≡ at_back c p m.queues).
     let out : Turned c last o z p ys = record {
       since = since;
+      opened = opened;
+      stood = stood;
       waited = s.waited ++ p ∷ [];
       queue = ap (λ (k : PageQueues). class_queue k c) b ∙ (class_queue-at_back_front c p m.queues (ys ++ s.waited)
           inside q' ∙ append_assoc ys s.waited (p ∷ []));
@@ -137,6 +177,8 @@ turned c p turn last o n m z s ys is once l same w d st =
     (λ (b : z.queues ≡ among_full p m.queues).
     let out : Turned c last o z p ys = record {
       since = since;
+      opened = opened;
+      stood = stood;
       waited = s.waited;
       queue = ap (λ (k : PageQueues). class_queue k c) b ∙ class_queue-among_full_front c p m.queues (ys ++ s.waited)
           q';
@@ -147,14 +189,18 @@ turned c p turn last o n m z s ys is once l same w d st =
 pub more : (c p turn last : ℕ) (o n m z : Sharded) → Searching c turn last o n → slice_get (class_queue n.queues c) 0
     ≡ Some p → EachOnce n.queues → c < 8 → m.queues ≡ n.queues
     → WorksOn p n.pages m.pages → PageDone n.pages m.pages p → Settles c p m z → z.queues.opened ≡ n.queues.opened
-    → p ≢ last → Searching c (turn + 1) last o z
-more c p turn last o n m z s e once l same w d st opened ne =
+    → StepsAtMost 4 n.pages.owner m.pages.owner → p ≢ last → Searching c (turn + 1) last o z
+more c p turn last o n m z s e once l same w d st opened four ne =
     let f = front_is c p turn last o n s e in
     let t = turned c p turn last o n m z s f.0 f.1 once l same w d st in
     let some : f.0 ≢ [] = λ k. ne (let is : Some p ≡ Some last = sym (ap (last_or None) (f.1 ∙ ap (λ ys. p ∷ ys) k))
     ∙ s.ends in let j : p ≡ last = cc in j) in
     let i = last_in p last f.0 some (sym (ap (last_or None) f.1) ∙ s.ends) in record {
       since = t.since;
+      steps = subst (λ (v : Paged). StepsAtMost (4 * (turn + 1)) o.pages.owner v.owner) (sym st.pages)
+          (plain_then _ _ _ (4 * turn) 4 (4 * (turn + 1)) s.steps four (omega arith));
+      opened = t.opened;
+      stood = t.stood;
       rest = f.0;
       waited = t.waited;
       queue = t.queue;
@@ -170,8 +216,9 @@ none_behind p (y ∷ ys) w d e = absurd (false≢true (sym (has_number-from_Miss
 
 pub ended : (c p turn last : ℕ) (o n m z : Sharded) → Searching c turn last o n → slice_get (class_queue n.queues c) 0
     ≡ Some p → EachOnce n.queues → c < 8 → m.queues ≡ n.queues
-    → WorksOn p n.pages m.pages → PageDone n.pages m.pages p → Settles c p m z → p ≡ last → Searched c o z
-ended c p turn last o n m z s e once l same w d st is =
+    → WorksOn p n.pages m.pages → PageDone n.pages m.pages p → Settles c p m z
+    → StepsAtMost 4 n.pages.owner m.pages.owner → SortedPages n.pages n.queues → p ≡ last → Searched c o z
+ended c p turn last o n m z s e once l same w d st four sorted is =
     let f = front_is c p turn last o n s e in
     let t = turned c p turn last o n m z s f.0 f.1 once l same w d st in
     let q : class_queue n.queues c ≡ p ∷ (f.0 ++ s.waited) = s.queue ∙ ap (λ xs. xs ++ s.waited) f.1 in
@@ -179,6 +226,12 @@ ended c p turn last o n m z s e once l same w d st is =
     (sym (ap (last_or None) f.1) ∙ (s.ends ∙ ap (λ (k : ℕ). Some k) (sym is))) in
     record {
       since = t.since;
+      steps = subst (λ (v : Paged). StepsAtMost (4 * o.pages.count) o.pages.owner v.owner) (sym st.pages)
+          (plain_then _ _ _ (4 * turn) 4 (4 * o.pages.count) s.steps four
+          (let k = s.few in let r : length s.rest ≡ suc (length f.0) = ap length f.1 in let a = sorted.all in
+          let h = s.since.through.count in omega arith));
+      opened = t.opened;
+      stood = t.stood;
       done = λ r h. t.done r (sym (ap (has_number r) (t.queue ∙ ap (λ xs. xs ++ t.waited) none))
           ∙ h);
     }
@@ -204,14 +257,16 @@ none_last x [] e = let z : Some x ≡ None = e in cc
 none_last x (y ∷ ys) e = none_last y ys e
 
 pub no_pages : (c : ℕ) (o : Sharded) → last_or None (class_queue o.queues c) ≡ None → Searched c o o
-no_pages c o e = record { since = since_none o.pages; done = λ p h. go (class_queue o.queues c) p e h } where
+no_pages c o e = record {
+  since = since_none o.pages;
+  steps = steps_none (4 * o.pages.count) o.pages.owner;
+  opened = refl;
+  stood = λ p h. h;
+  done = λ p h. go (class_queue o.queues c) p e h;
+} where
   go : (xs : List ℕ) (p : ℕ) → last_or None xs ≡ None → has_number p xs ≡ true → PageDone o.pages o.pages p
   go [] p e h = absurd (false≢true h)
   go (x ∷ xs) p e h = absurd (none_last x xs e)
-
-pub settled_opened : (c p : ℕ) (o n : Sharded) → Settles c p o n → n.queues.opened ≡ o.queues.opened
-settled_opened c p o n s = ⊎_elim (λ (b : n.queues ≡ at_back c p o.queues). ap (λ (q : PageQueues). q.opened) b)
-    (λ (b : n.queues ≡ among_full p o.queues). ap (λ (q : PageQueues). q.opened) b) s.queues
 
 -- ---- a value was added
 
@@ -228,10 +283,6 @@ added_since key value o n m s i = record {
   count = i.count ∙ s.count;
 }
 
-pub added : (p key : ℕ) (value : List ℕ) (o n m : Paged) → WorkedSince o n → PageInserts p value key n m
-    → Added value key o m
-added p key value o n m s i = added_since key value o n m s.through (added_here p key value n m i)
-
 -- in a page that was given a class
 pub added_given : (p c q key : ℕ) (value : List ℕ) (o n m : Paged) → GivesClass p c o n → PageInserts q value key n m
     → Added value key o m
@@ -243,15 +294,60 @@ added_given p c q key value o n m g i = record {
   count = i.count ∙ g.count;
 }
 
--- a key of the shard is one of the same shard before
-pub key_same : (layout : Layout) (o m : Paged) (key : ℕ) → Aside o.owner m.owner → m.shard ≡ o.shard
-    → IsKeyIn layout m.owner m.shard key → IsKeyIn layout o.owner o.shard key
-key_same layout o m key a e is = subst (λ s. s) (ap2 a.same.shape e) is where
-  ap2 : m.owner.view.shape ≡ o.owner.view.shape → m.shard ≡ o.shard → IsKeyIn layout m.owner m.shard key
-      ≡ IsKeyIn layout o.owner o.shard key
-  ap2 s e = λ i. (x : Rattle.sh_slots.specs.declared.hand.Name.Name)
-      × (Rattle.sh_step.specs.Moves.place_named (Rattle.sh_step.specs.Plans.plan_of layout (s i)) key ≡ Some x)
-      × (Rattle.sh_step.specs.Plans.home (Rattle.sh_step.specs.Plans.plan_of layout (s i)) x.page ≡ e i)
+-- a search found page p of the class, where the value is now
+pub found : (layout : Layout) (c p key turn last : ℕ) (value : List ℕ) (o n m : Sharded) → Searching c turn last o n
+    → SortedPages n.pages n.queues → has_number p (class_queue n.queues c) ≡ true → p < n.queues.opened
+    → NamesSlot layout p key n.pages → PageInserts p value key n.pages m.pages → m.queues ≡ n.queues
+    → StoresInQueue layout c key value o m
+found layout c p key turn last value o n m s sorted here inside names i same = record {
+  page = p;
+  here = s.stood p here;
+  inside = let e = s.opened in omega arith;
+  opened = ap (λ (k : PageQueues). k.opened) same ∙ s.opened;
+  stores = record {
+    inside = let a = sorted.all in let e = s.since.through.count in omega arith;
+    class = sym (s.since.through.classes p) ∙ sorted.classes c p here;
+    names = names_before layout p key o.pages n.pages s.since.through.aside s.since.through.shard names;
+    tried = n.pages;
+    through = s.since.through;
+    inserts = i;
+  };
+}
+
+-- how many steps that takes
+pub found_in : (c p turn last w : ℕ) (o n m : Sharded) → Searching c turn last o n → SortedPages n.pages n.queues
+    → slice_get (class_queue n.queues c) 0 ≡ Some p
+    → StepsAtMost (w + 54) n.pages.owner m.pages.owner
+    → StepsAtMost (4 * o.pages.count + w + 50) o.pages.owner m.pages.owner
+found_in c p turn last w o n m s sorted e t =
+    let f = front_is c p turn last o n s e in
+    let r : length s.rest ≡ suc (length f.0) = ap length f.1 in
+    sum _ _ _ turn (length s.rest) (length f.0) n.queues.opened n.queues.unopened n.pages.count o.pages.count w s.steps t
+    s.few r sorted.all s.since.through.count
+  where
+    sum : (a b c k x y q u n o w : ℕ) → b ≤ a + 4 * k → c ≤ b + (w + 54) → k + x ≤ q → x ≡ suc y → q + 8 * u ≡ n
+        → n ≡ o → c ≤ a + (4 * o + w + 50)
+    sum a b c k x y q u n o w g h i j l m = omega arith
+
+-- page p of class c has the value: the insert was served, wherever the page came from
+pub stored : (layout : Layout) (c p key : ℕ) (value : List ℕ) (o n : Sharded)
+    → StoresIn layout c p key value o.pages n.pages → p < o.queues.opened → n.queues.opened ≡ o.queues.opened
+    → (has_number p (class_queue o.queues c) ≡ true)
+    ⊎ (CameByBell c p key value o.pages n.pages ⊎ NextAfterSearch c p key value o n)
+    → InsertServes layout c value o (Ok key) n
+stored layout c p key value o n s inside same came = (
+  added_since key value o.pages s.tried n.pages s.through (added_here p key value s.tried n.pages s.inserts),
+  s.names.shard,
+  record {
+    page = p;
+    inside = let a = s.inside in let e = s.through.count in let f = s.inserts.count in omega arith;
+    names = s.names.page;
+    class = s.inserts.class ∙ (s.through.classes p ∙ s.class);
+    others = λ q ne. ap (λ (g : SeenPage). g.class) (s.inserts.others q ne) ∙ s.through.classes q;
+    opened = inl (inside, same);
+    came = came;
+  },
+)
 
 -- ---- each page of the class is done
 
@@ -262,11 +358,11 @@ full_done o n p f = record {
       (λ _. (page_at o p).met < (page_at n p).met)) (sym f.cursor) f.armed;
 }
 
-pub none_left : (c : ℕ) (o n : Sharded) → Tried c o n → SortedPages n.pages n.queues → EachOnce n.queues
-    → NoneLeft c o.pages n.pages
-none_left c o n s k once = record {
-  through = s.through;
-  bell = s.bell;
+pub class_done : (c : ℕ) (o n : Sharded) → WorksThroughout o.pages n.pages
+    → ((p : ℕ) → has_number p (class_queue n.queues c) ≡ true → PageDone o.pages n.pages p)
+    → SortedPages n.pages n.queues → EachOnce n.queues → ClassDone c o.pages n.pages
+class_done c o n through done k once = record {
+  through = through;
   done = λ p l is.
       ⊎_elim (λ (h : p < n.queues.opened). inside p h is) (λ (h : n.queues.opened ≤ p). blank p (k.later p h l) is)
       (cases_lt p n.queues.opened);
@@ -281,12 +377,20 @@ none_left c o n s k once = record {
       let e : Some (r.0 + 1) ≡ Some (c + 1) = sym (k.classes r.0 p r.2) ∙ is in
       let f : r.0 + 1 ≡ c + 1 = cc in
       let g : r.0 ≡ c = omega arith in
-      s.done p (subst (λ z. has_number p (class_queue n.queues z) ≡ true) g r.2))
+      done p (subst (λ z. has_number p (class_queue n.queues z) ≡ true) g r.2))
       (λ (h : (has_number p n.queues.full ≡ true) ⊎ (has_number p n.queues.blank ≡ true)). ⊎_elim
       (λ (t : has_number p n.queues.full ≡ true). full_done o.pages n.pages p (k.full p t))
       (λ (t : has_number p n.queues.blank ≡ true). blank p (k.blank p t) is)
       h)
       (opened_somewhere p n.queues once l)
+
+pub none_left : (c : ℕ) (o n : Sharded) → Tried c o n → SortedPages n.pages n.queues → EachOnce n.queues
+    → NoneLeft c o.pages n.pages
+none_left c o n s k once = record {
+  through = s.through;
+  bell = s.bell;
+  done = (class_done c o n s.through s.done k once).done;
+}
 
 word_of : (g : SeenPage) (word : ℕ) → g.class ≡ Some word → seen_class g ≡ word
 word_of g word is = ap (λ (o : Option ℕ). elim o as (λ _. ℕ) [ Some m ↦ m | None ↦ 0 ]) is

@@ -1,7 +1,7 @@
 -- Work on pages, step by step.
-use Rattle.std.proofs.Common.{◌≡◌, ◌≢◌, ℕ, zero, suc, ◌+◌, ◌<◌, ◌≤◌, ◌==◌, ◌||◌, ◌⊎◌, inr, ⊎_elim, Bool, true, false}
+use Rattle.std.proofs.Common.{◌≡◌, ◌≢◌, ℕ, zero, suc, ◌+◌, ◌*◌, ◌<◌, ◌≤◌, ◌==◌, ◌||◌, ◌⊎◌, inr, ⊎_elim, Bool, true, false}
 use Rattle.std.proofs.Common.{cond, Option, Some, None, MatchOption, List, [], ◌∷◌, ◌++◌, refl, ap, ◌∙◌, sym, subst}
-use Rattle.std.proofs.Common.{arith, append-nil}
+use Rattle.std.proofs.Common.{IfSome, arith, append-nil}
 use Rattle.std.proofs.lemmas.Bool.{cases_eq}
 use Rattle.std.proofs.lemmas.Bool.Decides.{nat_tests}
 use Rattle.sh_bell.specs.Bell.{is_armed}
@@ -9,6 +9,7 @@ use Rattle.sh_key.specs.Layout.{Layout}
 use Rattle.sh_history.specs.declared.entry.Entry.TheVariants as entry
 use Rattle.sh_history.specs.declared.log.LogEntry.TheVariants.{Known}
 use Rattle.sh_queue.specs.Numbers.{has_number}
+use Rattle.sh_shape.specs.Places.{pages_of}
 use Rattle.sh_shape.specs.Shape.{Numbers}
 use Rattle.sh_slots.specs.declared.hand.Name.{Name}
 use Rattle.sh_step.specs.Moves.{place_named}
@@ -20,12 +21,15 @@ use Rattle.sh_stack.specs.Stack.{link_item}
 use Rattle.sh_step.specs.Collections.{if1}
 use Rattle.sh_pass.specs.Passes.{Caller}
 use Rattle.sh_pass.specs.Owners.{SeenPage, SeenBell, Aside, OwnerActs, OnPage, SamePages, SameBells, NonePut, NoneArmed}
-use Rattle.sh_pass.specs.Owners.{heap_page, seen_bell, page_on_bell, page_taken, page_followed}
-use Rattle.sh_pass.specs.Owners.{page_rung, page_without, page_given, IsKeyIn, bell_taken, bell_followed}
+use Rattle.sh_pass.specs.Owners.{heap_page, seen_bell, page_on_bell, page_taken, page_armed, page_followed}
+use Rattle.sh_pass.specs.Owners.{page_rung, page_without, page_given, bell_taken, bell_followed}
 use Rattle.sh_shard.specs.Pages.{Paged, shard_page, page_at, count_below, own_slots, NothingMine, WorksOn, TakesPage}
 use Rattle.sh_shard.specs.Pages.{CursorMoves, CursorStops, CollectsPage, GuardsPage, PageDone, PageInserts, GivesClass}
-use Rattle.sh_shard.specs.Pages.{BellTakes, BellStops, BellReads}
+use Rattle.sh_shard.specs.Steps.{StepsAtMost}
+use Rattle.sh_shard.specs.Pages.{BellTakes, BellStops, BellReads, NamesSlot, TakesSteps, StepsForSlots}
 use Rattle.sh_shard.proofs.Sides.{aside_none, aside_then}
+use Rattle.sh_shard.proofs.Bounding.{slots_same, slots_gained, slots_none, slots_then, slots_most, slots_gone, rings_same}
+use Rattle.sh_shard.proofs.Bounding.{rings_none, armed_alike}
 use Rattle.sh_shard.proofs.Keeping.{page_of, here_at, others_at, all_at}
 
 -- what a contract sees of pages
@@ -98,8 +102,9 @@ weaken None a b d l h = tt
 weaken (Some s) a b d l h = omega arith
 
 pub stops_more : (p : ℕ) (o m n : Paged) → WorksOn p o m → NoneArmed o.owner m.owner → (page_at m p).armed
-    ≡ (page_at o p).armed → CursorStops p m n → CursorStops p o n
-stops_more p o m n g arm e h = record {
+    ≡ (page_at o p).armed → StepsForSlots 0 p o m → CursorStops p m n → CursorStops p o n
+stops_more p o m n g arm e t h = record {
+  steps = slots_then 0 1 1 p o m n t h.steps (omega arith);
   works = works_more p o m n g h.works;
   arm = h.arm ∙ arm;
   armed = h.armed
@@ -107,8 +112,9 @@ stops_more p o m n g arm e h = record {
   waits = weaken (page_at n p).cursor _ _ _ g.met h.waits;
 }
 
-pub collects : (p : ℕ) (o m n : Paged) → WorksOn p o m → CursorStops p m n → CollectsPage p o n
-collects p o m n g h = record {
+pub collects : (p : ℕ) (o m n : Paged) → WorksOn p o m → StepsForSlots 1 p o m → CursorStops p m n → CollectsPage p o n
+collects p o m n g t h = record {
+  steps = slots_then 1 1 2 p o m n t h.steps (omega arith);
   works = works_more p o m n g h.works;
   waits = weaken (page_at n p).cursor _ _ _ g.met
       h.waits;
@@ -119,8 +125,10 @@ guard_waits : (c : Option ℕ) (A B : Type 0) (x : ℕ) (y : ℕ) → A → Matc
 guard_waits None A B x y a h = a
 guard_waits (Some s) A B x y a h = inr h
 
-pub guards : (p : ℕ) (o m n : Paged) → WorksOn p o m → (page_at m p).armed ≡ true → CursorStops p m n → GuardsPage p o n
-guards p o m n g e h = record {
+pub guards : (p : ℕ) (o m n : Paged) → WorksOn p o m → (page_at m p).armed ≡ true → StepsForSlots 1 p o m
+    → CursorStops p m n → GuardsPage p o n
+guards p o m n g e t h = record {
+  steps = slots_then 1 1 2 p o m n t h.steps (omega arith);
   works = works_more p o m n g h.works;
   waits = guard_waits (page_at n p).cursor _ _ _ _
       (h.armed ∙ e) (weaken (page_at n p).cursor _ _ _ g.met h.waits);
@@ -169,7 +177,7 @@ never_armed : (b t : Bool) → t ≡ false → cond b false t ≡ false
 never_armed true t e = refl
 never_armed false t e = e
 
-pub taken : (layout : Layout) (p n shard k k' : ℕ) (v w : Caller) {m : ℕ} → OwnerActs Idle [] m v w
+pub taken : (layout : Layout) (p n shard k k' : ℕ) (v w : Caller) → OwnerActs Idle [] 1 v w
     → SameBells layout v w → OnPage (heap_page v (shard_page shard p)) (page_taken (page_of v shard p) n) v w
     → NonePut v w → NoneArmed v w → k' ≡ k
     → TakesPage p (paged_of layout v shard k) (paged_of layout w shard k')
@@ -180,7 +188,14 @@ taken layout p n shard k k' v w acts bells on put arm size =
       arm = arm;
       takes = ap (λ (z : SeenPage). z.takes) here;
       armed = λ e. ap (λ (z : SeenPage). z.armed) here ∙ never_armed (is_armed n) g.armed e;
+      steps = slots_same _ _ _ _ 1 acts.steps (ap own_slots here);
     }
+
+pub arming : (layout : Layout) (p n shard k k' : ℕ) (v w : Caller) → OwnerActs Idle [] 1 v w
+    → OnPage (heap_page v (shard_page shard p)) (page_armed (page_of v shard p) n) v w
+    → StepsForSlots 1 p (paged_of layout v shard k) (paged_of layout w shard k')
+arming layout p n shard k k' v w acts on = slots_same _ _ _ _ 1 acts.steps
+    (ap own_slots (here_at v w shard p acts.aside.same.shape on))
 
 followed_is : (g : SeenPage) (s n : ℕ) → (n ≡ 0 → ⊥) → page_followed g s n
     ≡ record g { mine = λ t. (t == s) || g.mine t; cursor = link_item n }
@@ -193,7 +208,7 @@ met_is g s n none = let e : (n == 0) ≡ true = grind (arith, nat_tests)
     in ap (λ b. cond b (record g { met = g.met + 1 }) (record g
     { mine = λ t. (t == s) || g.mine t; cursor = link_item n })) e
 
-pub moved : (layout : Layout) (p s n shard k k' : ℕ) (v w : Caller) {m : ℕ} → OwnerActs Idle [] m v w
+pub moved : (layout : Layout) (p s n shard k k' : ℕ) (v w : Caller) → OwnerActs Idle [] 1 v w
     → SameBells layout v w → OnPage (heap_page v (shard_page shard p)) (page_followed (page_of v shard p) s n) v w
     → NonePut v w → NoneArmed v w → (n ≡ 0 → ⊥) → k' ≡ k → s < 48 → (page_of v shard p).mine s ≡ false
     → CursorMoves p (paged_of layout v shard k) (paged_of layout w shard k')
@@ -207,13 +222,14 @@ moved layout p s n shard k k' v w acts bells on put arm some size small none =
       arm = arm;
       armed = ap (λ (z : SeenPage). z.armed) here;
       more = ap own_slots here ∙ count_more g.mine s 48 small none;
+      steps = slots_gained _ _ _ _ acts.steps (ap own_slots here ∙ count_more g.mine s 48 small none);
     }
 
 waits_at : (c : Option ℕ) (a b : ℕ) → a < b → MatchOption c (Unit {0}) (λ _. a < b)
 waits_at None a b l = tt
 waits_at (Some s) a b l = l
 
-pub stopped : (layout : Layout) (p s n shard k k' : ℕ) (v w : Caller) {m : ℕ} → OwnerActs Idle [] m v w
+pub stopped : (layout : Layout) (p s n shard k k' : ℕ) (v w : Caller) → OwnerActs Idle [] 1 v w
     → SameBells layout v w → OnPage (heap_page v (shard_page shard p)) (page_followed (page_of v shard p) s n) v w
     → NonePut v w → NoneArmed v w → n ≡ 0 → k' ≡ k
     → CursorStops p (paged_of layout v shard k) (paged_of layout w shard k')
@@ -228,6 +244,7 @@ stopped layout p s n shard k k' v w acts bells on put arm none size =
       armed = ap (λ (z : SeenPage). z.armed) here;
       waits = waits_at (page_of w shard p).cursor g.met (page_of w shard p).met
           (subst (λ (z : SeenPage). g.met < z.met) (sym here) (omega arith));
+      steps = slots_same _ _ _ _ 1 acts.steps (ap own_slots here);
     }
 
 pub stops_none : (p : ℕ) (o : Paged) → (page_at o p).cursor ≡ None → CursorStops p o o
@@ -235,6 +252,7 @@ stops_none p o e = record {
   works = works_none p o;
   arm = refl;
   armed = refl;
+  steps = slots_none 1 p o;
   waits = subst
       (λ (c : Option ℕ). MatchOption c (Unit {0}) (λ _. (page_at o p).met < (page_at o p).met)) (sym e) tt;
 }
@@ -244,7 +262,7 @@ too_many p i v l m = let f = count_few (page_at v p).mine 48 in absurd (omega ar
 
 -- ---- the bell
 
-pub bell_took : (layout : Layout) (n shard k : ℕ) (v w : Caller) {m : ℕ} → OwnerActs Idle [] m v w
+pub bell_took : (layout : Layout) (n shard k : ℕ) (v w : Caller) → OwnerActs Idle [] 1 v w
     → seen_bell layout w shard ≡ bell_taken v shard n (seen_bell layout v shard) → SamePages v w → NonePut v w
     → NoneArmed v w → BellTakes (paged_of layout v shard k) (paged_of layout w shard k)
 bell_took layout n shard k v w acts bell pages put arm = record {
@@ -257,9 +275,11 @@ bell_took layout n shard k v w acts bell pages put arm = record {
   takes = ap (λ (b : SeenBell). b.takes) bell;
   met = ap (λ (b : SeenBell). b.met) bell;
   pages = all_at v w shard acts.aside.same.shape pages;
+  steps = rings_same _ _ _ _ 1 acts.steps (armed_alike (paged_of layout v shard k) (paged_of layout w shard k) refl
+      (all_at v w shard acts.aside.same.shape pages));
 }
 
-pub bell_stopped : (layout : Layout) (p n shard k : ℕ) (v w : Caller) {m : ℕ} → OwnerActs Idle [] m v w
+pub bell_stopped : (layout : Layout) (p n shard k : ℕ) (v w : Caller) → OwnerActs Idle [] 1 v w
     → seen_bell layout w shard ≡ bell_followed v shard n (seen_bell layout v shard)
     → OnPage (heap_page v (shard_page shard p)) (page_rung (page_of v shard p) n) v w → NonePut v w → NoneArmed v w → n
     ≡ 0
@@ -271,7 +291,10 @@ bell_stopped layout p n shard k v w acts bell on put arm none =
     ∙ ap (λ t. cond t (record b { met = b.met + 1 }) (record b { cursor = page_on_bell v shard 2 n })) e in
     let met : (seen_bell layout w shard).met ≡ b.met + 1 = ap (λ (z : SeenBell). z.met) is in
     let here : page_of w shard p ≡ page_of v shard p = here_at v w shard p acts.aside.same.shape on
-    ∙ ap (λ t. cond t (page_of v shard p) (record (page_of v shard p) { armed = false })) e in record {
+    ∙ ap (λ t. cond t (page_of v shard p) (record (page_of v shard p) { armed = false })) e in
+    let pages : (q : ℕ) → page_of w shard q ≡ page_of v shard q =
+    λ q. ⊎_elim (λ (same : q ≡ p). subst (λ z. page_of w shard z ≡ page_of v shard z) (sym same) here)
+    (λ (ne : q ≢ p). others_at v w shard p acts.aside.same.shape on q ne) (cases_eq q p) in record {
       aside = acts.aside;
       put = put;
       arm = arm;
@@ -281,11 +304,12 @@ bell_stopped layout p n shard k v w acts bell on put arm none =
       takes = ap (λ (z : SeenBell). z.takes) is;
       met = omega (arith, met);
       waits = waits_at (seen_bell layout w shard).cursor b.met (seen_bell layout w shard).met (omega (arith, met));
-      pages = λ q. ⊎_elim (λ (same : q ≡ p). subst (λ z. page_of w shard z ≡ page_of v shard z) (sym same) here)
-          (λ (ne : q ≢ p). others_at v w shard p acts.aside.same.shape on q ne) (cases_eq q p);
+      pages = pages;
+      steps = rings_same _ _ _ _ 1 acts.steps
+          (armed_alike (paged_of layout v shard k) (paged_of layout w shard k) refl pages);
     }
 
-pub bell_read : (layout : Layout) (p n shard k k' : ℕ) (v w : Caller) {m : ℕ} → OwnerActs Idle [] m v w
+pub bell_read : (layout : Layout) (p n shard k k' : ℕ) (v w : Caller) → OwnerActs Idle [] 1 v w
     → seen_bell layout w shard ≡ bell_followed v shard n (seen_bell layout v shard)
     → OnPage (heap_page v (shard_page shard p)) (page_rung (page_of v shard p) n) v w → NonePut v w → NoneArmed v w
     → (n ≡ 0 → ⊥) → k' ≡ k → p < k → (page_of v shard p).armed ≡ true
@@ -308,6 +332,7 @@ bell_read layout p n shard k k' v w acts bell on put arm some size inside was =
       here = here_at v w shard p acts.aside.same.shape on ∙ ap
           (λ t. cond t (page_of v shard p) (record (page_of v shard p) { armed = false })) e;
       others = others_at v w shard p acts.aside.same.shape on;
+      steps = acts.steps;
     }
 
 pub bell_waits_none : (o : Paged) → o.bell.cursor ≡ None → BellStops o o
@@ -324,10 +349,11 @@ bell_waits_none o e = record {
   waits = subst (λ (c : Option ℕ). MatchOption c (Unit {0})
       (λ _. o.bell.met < o.bell.met)) (sym e) tt;
   pages = λ q. refl;
+  steps = rings_none 1 o;
 }
 
 pub collects_taken : (p : ℕ) (o m n : Paged) → TakesPage p o m → CursorStops p m n → CollectsPage p o n
-collects_taken p o m n t h = collects p o m n t.works h
+collects_taken p o m n t h = collects p o m n t.works t.steps h
 
 -- ---- slots that are used
 
@@ -359,14 +385,23 @@ inserts_after p key value o m n g h = record {
   others = λ q ne. h.others q ne ∙ g.others q ne;
 }
 
-pub key_after : (layout : Layout) (p key : ℕ) (o m : Paged) → WorksOn p o m → IsKeyIn layout m.owner m.shard key
-    → IsKeyIn layout o.owner o.shard key
-key_after layout p key o m g h =
-    let P : Numbers × ℕ → Type 0 = λ z. (x : Name) × (place_named (plan_of layout z.0) key ≡ Some x)
+-- what a key names after work on the pages of the shard, it named before
+pub names_before : (layout : Layout) (p key : ℕ) (o m : Paged) → Aside o.owner m.owner → m.shard ≡ o.shard
+    → NamesSlot layout p key m → NamesSlot layout p key o
+names_before layout p key o m aside shard h =
+    let S : Numbers × ℕ → Type 0 = λ z. (x : Name) × (place_named (plan_of layout z.0) key ≡ Some x)
     × (home (plan_of layout z.0) x.page ≡ z.1) in
-    subst P (λ i. (g.aside.same.shape i, g.shard i)) h
+    let P : Numbers × ℕ → Type 0 = λ z. (x : Name) × (place_named (plan_of layout z.0) key ≡ Some x)
+    × (x.page ≡ z.1 * pages_of z.0 + p) in record {
+      shard = subst S (λ i. (aside.same.shape i, shard i)) h.shard;
+      page = subst P (λ i. (aside.same.shape i, shard i)) h.page;
+    }
 
-pub gave_class : (layout : Layout) (p shard c k k' : ℕ) (v w : Caller) {m : ℕ} → OwnerActs Idle [] m v w
+pub names_after : (layout : Layout) (p q key : ℕ) (o m : Paged) → WorksOn q o m → NamesSlot layout p key m
+    → NamesSlot layout p key o
+names_after layout p q key o m g h = names_before layout p key o m g.aside g.shard h
+
+pub gave_class : (layout : Layout) (p shard c k k' : ℕ) (v w : Caller) → OwnerActs Idle [] 1 v w
     → SameBells layout v w → OnPage (heap_page v (shard_page shard p)) (page_given (page_of v shard p) c) v w
     → NonePut v w → NoneArmed v w → k' ≡ k
     → GivesClass p c (paged_of layout v shard k) (paged_of layout w shard k')
@@ -380,6 +415,7 @@ gave_class layout p shard c k k' v w acts bells on put arm size = record {
   count = size;
   here = here_at v w shard p acts.aside.same.shape on;
   others = others_at v w shard p acts.aside.same.shape on;
+  steps = acts.steps;
 }
 
 -- a page whose lists are empty
@@ -405,3 +441,29 @@ tried p value r o m₁ m₂ m₃ m₄ n first g second h = go r (subst (λ (z : 
           (λ key. PageInserts p value key o n)
       go None g h e = subst (λ (z : Paged). WorksOn p o z × PageDone o z p) (sym e.0) (done_of p o m₂ m₄ g h e.1)
       go (Some key) g h e = inserts_after p key value o m₄ n (works_more p o m₂ m₄ g.works h.works) e
+
+-- how many steps a try takes
+pub tried_steps : (p w : ℕ) (r : Option ℕ) (o m₁ m₂ m₃ m₄ n : Paged) → m₁ ≡ o → CollectsPage p m₁ m₂ → m₃ ≡ m₂
+    → GuardsPage p m₃ m₄
+    → MatchOption r ((n ≡ m₄) × NothingMine (page_at m₄ p)) (λ _. TakesSteps (w + 2) m₄ n)
+    → MatchOption r (StepsAtMost 4 o.owner n.owner) (λ _. StepsAtMost (w + 54) o.owner n.owner)
+tried_steps p w r o m₁ m₂ m₃ m₄ n first g second h = go r (slots_then 2 2 4 p o m₂ m₄
+    (subst (λ (z : Paged). StepsForSlots 2 p z m₂) first g.steps)
+    (subst (λ (z : Paged). StepsForSlots 2 p z m₄) second h.steps) (omega arith)) where
+      go : (r : Option ℕ) → StepsForSlots 4 p o m₄
+          → MatchOption r ((n ≡ m₄) × NothingMine (page_at m₄ p)) (λ _. TakesSteps (w + 2) m₄ n)
+          → MatchOption r (StepsAtMost 4 o.owner n.owner) (λ _. StepsAtMost (w + 54) o.owner n.owner)
+      go None t e = subst (λ (z : Paged). StepsAtMost 4 o.owner z.owner) (sym e.0) (slots_gone 4 p o m₄ t e.1)
+      go (Some key) t e = let f = slots_most 4 52 p o m₄ t (omega arith) in omega arith
+
+pub tried_steps_early : (p w : ℕ) (o m₁ m₂ n : Paged) → m₁ ≡ o → CollectsPage p m₁ m₂ → TakesSteps (w + 2) m₂ n
+    → StepsAtMost (w + 54) o.owner n.owner
+tried_steps_early p w o m₁ m₂ n first g e =
+    let f = slots_most 2 52 p o m₂ (subst (λ (z : Paged). StepsForSlots 2 p z m₂) first g.steps) (omega arith)
+    in omega arith
+
+pub used_in : (A : ℕ → Type 0) (p w : ℕ) (m n : Paged) (r : Option ℕ)
+    → MatchOption r ((n ≡ m) × NothingMine (page_at m p)) A → IfSome r (λ _. TakesSteps (w + 2) m n)
+    → MatchOption r ((n ≡ m) × NothingMine (page_at m p)) (λ _. TakesSteps (w + 2) m n)
+used_in A p w m n None used steps = used
+used_in A p w m n (Some key) used steps = steps

@@ -1,9 +1,9 @@
 -- Work on many pages and on the bell, over one piece of work after another.
-use Rattle.std.proofs.Common.{◌≡◌, ◌≢◌, ℕ, ◌≤◌, ◌⊎◌, ⊎_elim, MatchOption, refl, ap, ◌∙◌, sym, subst, arith}
+use Rattle.std.proofs.Common.{◌≡◌, ◌≢◌, ℕ, ◌≤◌, ⊎_elim, refl, ap, ◌∙◌, sym, subst, arith}
 use Rattle.std.proofs.lemmas.Bool.{cases_eq}
 use Rattle.sh_pass.specs.Owners.{SeenPage, SeenBell}
 use Rattle.sh_shard.specs.Pages.{Paged, page_at, WorksOn, BellTakes, BellStops, BellReads}
-use Rattle.sh_shard.specs.Works.{WorksThroughout}
+use Rattle.sh_shard.specs.Works.{WorksThroughout, ReadFromBell}
 use Rattle.sh_shard.proofs.Sides.{aside_none, aside_then}
 
 pub through_none : (o : Paged) → WorksThroughout o o
@@ -105,4 +105,24 @@ through_works p o n w = record {
   met = works_of p (λ a b. a ≤ b) (λ g. g.met) o n w (λ b. omega arith) w.met;
   bell_takes = as_much n.bell.takes o.bell.takes (ap (λ (b : SeenBell). b.takes) w.bell);
   bell_met = as_much n.bell.met o.bell.met (ap (λ (b : SeenBell). b.met) w.bell);
+}
+
+-- ---- a page that was read from the bell, in more work
+
+pub read_more : (p : ℕ) (o n m : Paged) → ReadFromBell p o n → WorksThroughout n m → ReadFromBell p o m
+read_more p o n m r t = record {
+  before = r.before;
+  after = r.after;
+  first = r.first;
+  reads = r.reads;
+  rest = through_more r.after n m r.rest t;
+}
+
+pub read_later : (p : ℕ) (o n m : Paged) → WorksThroughout o n → ReadFromBell p n m → ReadFromBell p o m
+read_later p o n m t r = record {
+  before = r.before;
+  after = r.after;
+  first = through_more o n r.before t r.first;
+  reads = r.reads;
+  rest = r.rest;
 }

@@ -1,10 +1,11 @@
 -- How an owner leaves its shard: it empties the bell and the stacks, puts back what it has, and gives the shard up.
-use Rattle.std.specs.Prelude.{◌≡◌, ◌≢◌, ℕ, ◌+◌, ◌<◌, ◌≤◌, ◌⊎◌, true, false, None, MatchOption}
+use Rattle.std.specs.Prelude.{◌≡◌, ◌≢◌, ℕ, ◌+◌, ◌*◌, ◌<◌, ◌⊎◌, true, false, None, MatchOption}
 use Rattle.std.specs.Prelude.{Result, Ok, Err}
 use Rattle.sh_pass.specs.Passes.{Caller}
-use Rattle.sh_pass.specs.Owners.{SeenPage, Aside, HasNothing, NonePut}
+use Rattle.sh_pass.specs.Owners.{SeenPage, Aside, HasNothing}
 use Rattle.sh_shard.specs.Pages.{Paged, page_at, own_slots, CursorStands, NothingMine, WaitsSince, WorksOn, NoArming}
-use Rattle.sh_shard.specs.Pages.{ShardLeft}
+use Rattle.sh_shard.specs.Pages.{ShardLeft, TakesSteps, StepsForSlots, StepsForRings}
+use Rattle.sh_shard.specs.Steps.{StepsAtMost}
 use Rattle.sh_shard.specs.Works.{WorksThroughout}
 
 -- work on pages and on the bell that arms nothing
@@ -23,18 +24,21 @@ pub record EmptiesPage (p : ℕ) (o n : Paged) : Type 0 where
   pub works : WorksOn p o n
   pub arm : NoArming o n
   pub emptied : PageEmptied (page_at o p) (page_at n p)
+  pub steps : StepsForSlots 3 p o n
 
 -- the bell was followed to its end, or to a link that was not written
 pub record BellFollowed (o n : Paged) : Type 0 where
   pub collects : Collecting o n
   pub takes : n.bell.takes ≡ o.bell.takes
   pub waits : MatchOption n.bell.cursor (Unit {0}) (λ _. o.bell.met < n.bell.met)
+  pub steps : StepsForRings 1 o n
 
 -- each page was emptied, and the bell is as it was
 pub record PagesEmptied (o n : Paged) : Type 0 where
   pub collects : Collecting o n
   pub bell : n.bell ≡ o.bell
   pub pages : (p : ℕ) → p < n.count → PageEmptied (page_at o p) (page_at n p)
+  pub steps : StepsAtMost (51 * o.count) o.owner n.owner
 
 -- the page has no cursor and is not armed
 pub record AtRest (g : SeenPage) : Type 0 where
@@ -76,6 +80,7 @@ pub record PutsOne (p : ℕ) (o n : Paged) : Type 0 where
   pub armed : (page_at n p).armed ≡ (page_at o p).armed
   pub less : own_slots (page_at n p) + 1 ≡ own_slots (page_at o p)
   pub others : (q : ℕ) → q ≢ p → page_at n q ≡ page_at o q
+  pub steps : TakesSteps 2 o n
 
 -- each slot of page p that was its owner's was put on the page's stack
 pub record PutsBack (p : ℕ) (o n : Paged) : Type 0 where
@@ -88,6 +93,7 @@ pub record PutsBack (p : ℕ) (o n : Paged) : Type 0 where
   pub armed : (page_at n p).armed ≡ (page_at o p).armed
   pub mine : NothingMine (page_at n p)
   pub others : (q : ℕ) → q ≢ p → page_at n q ≡ page_at o q
+  pub steps : StepsAtMost 96 o.owner n.owner
 
 -- nothing of any page is its owner's, and all is at rest
 pub record PutsAllBack (o n : Paged) : Type 0 where
@@ -96,6 +102,7 @@ pub record PutsAllBack (o n : Paged) : Type 0 where
   pub shard : n.shard ≡ o.shard
   pub bell : n.bell.cursor ≡ None
   pub pages : (p : ℕ) → p < n.count → HasNothing (page_at n p)
+  pub steps : StepsAtMost (96 * o.count) o.owner n.owner
 
 -- the shard is left, or leaving waits and the shard comes back
 abbrev pub LeaveDoes : Paged → Result Caller Paged → Type 0

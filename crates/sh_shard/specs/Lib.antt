@@ -1,8 +1,12 @@
+pub mod Steps
 pub mod Pages
 pub mod Kept
 pub mod Works
 pub mod Leaving
+pub mod Filing
 pub mod Shards
+pub mod Bounds
+pub mod Finding
 pub mod Searches
 pub mod Returning
 pub mod Stores

@@ -3,6 +3,7 @@ use Rattle.std.specs.Prelude.{◌≡◌, ◌≢◌, ℕ, zero, suc, ◌+◌, ◌
 use Rattle.std.specs.Prelude.{length, Option, Some, None, MatchOption, IfSome, Result, Ok, Err}
 use Rattle.sh_history.specs.declared.entry.Entry.TheVariants as entry
 use Rattle.sh_history.specs.declared.log.LogEntry.TheVariants.{Known}
+use Rattle.sh_key.specs.Layout.{Layout}
 use Rattle.sh_shape.specs.Classes.{slots}
 use Rattle.sh_shape.specs.Places.{pages_of}
 use Rattle.sh_slots.specs.declared.hand.Hand.TheVariants.{Idle}
@@ -14,7 +15,7 @@ use Rattle.sh_value.specs.declared.refusal.Refusal.TheVariants as refusal
 use Rattle.sh_pass.specs.Growing.{SameTale}
 use Rattle.sh_pass.specs.Passes.{Caller}
 use Rattle.sh_pass.specs.Owners.{SeenPage, SeenBell, Aside, NonePut, NoneArmed, heap_page, own_body, page_given}
-use Rattle.sh_pass.specs.Owners.{page_with, seen_page}
+use Rattle.sh_pass.specs.Owners.{page_with, seen_page, IsKeyIn, IsKeyOn}
 
 -- what the owner knows, its shard, how many pages that has, and its bell as the owner sees it
 pub record Paged : Type 0 where
@@ -67,6 +68,19 @@ TakesSteps n v w = length w.owner.view.own.trail ≡ length v.owner.view.own.tra
 abbrev pub NoArming : Paged → Paged → Type 0
 NoArming o n = NoneArmed o.owner n.owner
 
+-- at most so many steps were taken, and one for each slot that page p has more of its owner's
+abbrev pub StepsForSlots : (k p : ℕ) → Paged → Paged → Type 0
+StepsForSlots k p o n = length n.owner.view.own.trail + own_slots (page_at o p)
+    ≤ length o.owner.view.own.trail + own_slots (page_at n p) + k
+
+-- how many pages are armed
+abbrev pub armed_pages : Paged → ℕ
+armed_pages v = count_below (λ p. (page_at v p).armed) v.count
+
+-- at most so many steps were taken, and one for each page that is armed no longer
+abbrev pub StepsForRings : ℕ → Paged → Paged → Type 0
+StepsForRings k o n = length n.owner.view.own.trail + armed_pages n ≤ length o.owner.view.own.trail + armed_pages o + k
+
 -- ---- work on one page
 
 -- work on page p alone, which adds nothing to the log and puts nothing
@@ -88,6 +102,7 @@ pub record TakesPage (p : ℕ) (o n : Paged) : Type 0 where
   pub arm : NoArming o n
   pub takes : (page_at n p).takes ≡ (page_at o p).takes + 1
   pub armed : (page_at o p).armed ≡ false → (page_at n p).armed ≡ false
+  pub steps : StepsForSlots 1 p o n
 
 -- the cursor went on, and one slot more is its own
 pub record CursorMoves (p : ℕ) (o n : Paged) : Type 0 where
@@ -95,6 +110,7 @@ pub record CursorMoves (p : ℕ) (o n : Paged) : Type 0 where
   pub arm : NoArming o n
   pub armed : (page_at n p).armed ≡ (page_at o p).armed
   pub more : own_slots (page_at n p) ≡ own_slots (page_at o p) + 1
+  pub steps : StepsForSlots 0 p o n
 
 -- the cursor is at its end, or met a link that was not written
 pub record CursorStops (p : ℕ) (o n : Paged) : Type 0 where
@@ -102,17 +118,20 @@ pub record CursorStops (p : ℕ) (o n : Paged) : Type 0 where
   pub arm : NoArming o n
   pub armed : (page_at n p).armed ≡ (page_at o p).armed
   pub waits : WaitsSince (page_at o p) (page_at n p)
+  pub steps : StepsForSlots 1 p o n
 
 -- the page's stack was collected, as far as its links are written
 pub record CollectsPage (p : ℕ) (o n : Paged) : Type 0 where
   pub works : WorksOn p o n
   pub waits : WaitsSince (page_at o p) (page_at n p)
+  pub steps : StepsForSlots 2 p o n
 
 -- after it the page is armed, unless a cursor stands; that cursor stood before, or met a link that was not written
 pub record GuardsPage (p : ℕ) (o n : Paged) : Type 0 where
   pub works : WorksOn p o n
   pub waits : MatchOption (page_at n p).cursor ((page_at n p).armed ≡ true)
       (λ _. (n ≡ o) ⊎ ((page_at o p).met < (page_at n p).met))
+  pub steps : StepsForSlots 2 p o n
 
 -- nothing is left in the page: where it has a cursor, a link was not written in this call; else it is armed
 pub record PageDone (o n : Paged) (p : ℕ) : Type 0 where
@@ -130,6 +149,11 @@ pub record PageInserts (p : ℕ) (value : List ℕ) (key : ℕ) (o n : Paged) : 
   pub class : (page_at n p).class ≡ (page_at o p).class
   pub others : (q : ℕ) → q ≢ p → page_at n q ≡ page_at o q
 
+-- the key names a slot of page p, and so of the shard
+pub record NamesSlot (layout : Layout) (p key : ℕ) (v : Paged) : Type 0 where
+  pub shard : IsKeyIn layout v.owner v.shard key
+  pub page : IsKeyOn layout v.owner (heap_page v.owner (shard_page v.shard p)) key
+
 -- page p was given class c: all its slots are its owner's
 pub record GivesClass (p c : ℕ) (o n : Paged) : Type 0 where
   pub aside : Aside o.owner n.owner
@@ -141,6 +165,7 @@ pub record GivesClass (p c : ℕ) (o n : Paged) : Type 0 where
   pub count : n.count ≡ o.count
   pub here : page_at n p ≡ page_given (page_at o p) c
   pub others : (q : ℕ) → q ≢ p → page_at n q ≡ page_at o q
+  pub steps : TakesSteps 1 o n
 
 -- ---- the bell
 
@@ -155,6 +180,7 @@ pub record BellTakes (o n : Paged) : Type 0 where
   pub takes : n.bell.takes ≡ o.bell.takes + 1
   pub met : n.bell.met ≡ o.bell.met
   pub pages : (q : ℕ) → page_at n q ≡ page_at o q
+  pub steps : StepsForRings 1 o n
 
 -- the bell's cursor is at its end, or met a link that was not written
 pub record BellStops (o n : Paged) : Type 0 where
@@ -168,6 +194,7 @@ pub record BellStops (o n : Paged) : Type 0 where
   pub met : o.bell.met ≤ n.bell.met
   pub waits : MatchOption n.bell.cursor (Unit {0}) (λ _. o.bell.met < n.bell.met)
   pub pages : (q : ℕ) → page_at n q ≡ page_at o q
+  pub steps : StepsForRings 1 o n
 
 -- page p was read from the bell: it was armed, and is no longer
 pub record BellReads (p : ℕ) (o n : Paged) : Type 0 where
@@ -183,10 +210,7 @@ pub record BellReads (p : ℕ) (o n : Paged) : Type 0 where
   pub was : (page_at o p).armed ≡ true
   pub here : page_at n p ≡ record (page_at o p) { armed = false }
   pub others : (q : ℕ) → q ≢ p → page_at n q ≡ page_at o q
-
--- how many pages are armed
-abbrev pub armed_pages : Paged → ℕ
-armed_pages v = count_below (λ p. (page_at v p).armed) v.count
+  pub steps : TakesSteps 1 o n
 
 -- ---- the four calls
 

@@ -1,8 +1,9 @@
 -- How pages come back from the full queue, and how the pages of a shard that is adopted come to their queues.
-use Rattle.std.specs.Prelude.{◌≡◌, ℕ, ◌+◌, ◌-◌, ◌*◌, ◌<◌, ◌≤◌, ◌⊎◌, true, false, Some}
-use Rattle.sh_queue.specs.Numbers.{has_number}
+use Rattle.std.specs.Prelude.{◌≡◌, ◌≢◌, ℕ, ◌+◌, ◌-◌, ◌*◌, ◌<◌, ◌≤◌, ◌⊎◌, true, false, List, ◌++◌, Some}
+use Rattle.sh_queue.specs.Numbers.{has_number, RisesFrom}
 use Rattle.sh_queue.specs.Queues.{PageQueues, class_queue, at_back}
 use Rattle.sh_shard.specs.Pages.{Paged, page_at, seen_class}
+use Rattle.sh_shard.specs.Filing.{FilesRising}
 use Rattle.sh_shard.specs.Shards.{FullPage}
 
 -- each page stands where it belongs, but that those named may stand in the full queue and have a slot or a cursor, or
@@ -32,3 +33,15 @@ pub record FiledBelow (k : ℕ) (v : Paged) (q : PageQueues) : Type 0 where
   pub classes : (c p : ℕ) → has_number p (class_queue q c) ≡ true → (page_at v p).class ≡ Some (c + 1)
   pub full : (p : ℕ) → has_number p q.full ≡ false
   pub blank : (p : ℕ) → has_number p q.blank ≡ true → p < k → (page_at v p).class ≡ Some 0
+  pub rising : FilesRising q
+  pub below : (c p : ℕ) → has_number p (class_queue q c) ≡ true → p < k
+
+-- the number is 0, or that behind a page with a class
+abbrev pub IsClassedEnd : ℕ → Paged → Type 0
+IsClassedEnd end v = (end ≡ 0) ⊎ ((p : ℕ) × (end ≡ p + 1) × ((page_at v p).class ≢ Some 0))
+
+-- of the pages below k those that came back stand behind each class in ascending order
+pub record ReturnedBelow (k : ℕ) (q r : PageQueues) : Type 0 where
+  pub opened : r.opened ≡ q.opened
+  pub classes : (c : ℕ) → (came : List ℕ) × (class_queue r c ≡ class_queue q c ++ came) × RisesFrom 0 came
+      × ((p : ℕ) → has_number p came ≡ true → p < k)

@@ -1,12 +1,13 @@
 -- What a search of an owner's pages does, part by part.
-use Rattle.std.specs.Prelude.{◌≡◌, ℕ, ◌+◌, ◌-◌, ◌<◌, ◌≤◌, ◌⊎◌, Bool, true, false, List, ◌++◌, length, Some, None}
+use Rattle.std.specs.Prelude.{◌≡◌, ℕ, ◌+◌, ◌-◌, ◌*◌, ◌<◌, ◌≤◌, ◌⊎◌, Bool, true, false, List, ◌++◌, length, Some, None}
 use Rattle.std.specs.Prelude.{MatchOption}
 use Rattle.std.specs.List.{last_or}
 use Rattle.sh_queue.specs.Numbers.{has_number}
 use Rattle.sh_queue.specs.Queues.{class_queue, at_back, among_full}
 use Rattle.sh_pass.specs.Owners.{Aside, NonePut}
-use Rattle.sh_shard.specs.Pages.{Paged, page_at, PageDone, BellReads}
-use Rattle.sh_shard.specs.Works.{WorksThroughout, BellDone}
+use Rattle.sh_shard.specs.Steps.{StepsAtMost}
+use Rattle.sh_shard.specs.Pages.{Paged, page_at, PageDone, BellReads, StepsForRings}
+use Rattle.sh_shard.specs.Works.{WorksThroughout, BellDone, ReadFromBell}
 use Rattle.sh_shard.specs.Shards.{Sharded}
 
 -- work on pages alone: the bell is as it was
@@ -19,35 +20,55 @@ pub record Settles (c p : ℕ) (o n : Sharded) : Type 0 where
   pub pages : n.pages ≡ o.pages
   pub queues : (n.queues ≡ at_back c p o.queues) ⊎ (n.queues ≡ among_full p o.queues)
 
+-- what stands in the queue of class c stood there
+abbrev pub Stood : ℕ → Sharded → Sharded → Type 0
+Stood c o n = (p : ℕ) → has_number p (class_queue n.queues c) ≡ true → has_number p (class_queue o.queues c) ≡ true
+
 -- each page that stands in the queue of class c was tried, and nothing is left in it
 pub record Searched (c : ℕ) (o n : Sharded) : Type 0 where
   pub since : WorkedSince o.pages n.pages
+  pub opened : n.queues.opened ≡ o.queues.opened
+  pub stood : Stood c o n
   pub done : (p : ℕ) → has_number p (class_queue n.queues c) ≡ true → PageDone o.pages n.pages p
+  pub steps : StepsAtMost (4 * o.pages.count) o.pages.owner n.pages.owner
 
 -- after so many turns: `rest` is yet to be tried, and ends in the page that was the last as the search began; those
 -- that were tried wait behind it
 pub record Searching (c turn last : ℕ) (o n : Sharded) : Type 0 where
   pub since : WorkedSince o.pages n.pages
+  pub opened : n.queues.opened ≡ o.queues.opened
+  pub stood : Stood c o n
   pub rest : List ℕ
   pub waited : List ℕ
   pub queue : class_queue n.queues c ≡ rest ++ waited
   pub ends : last_or None rest ≡ Some last
   pub few : turn + length rest ≤ n.queues.opened
   pub done : (p : ℕ) → has_number p waited ≡ true → PageDone o.pages n.pages p
+  pub steps : StepsAtMost (4 * turn) o.pages.owner n.pages.owner
+
+-- what stands in the queue of class c stood there, or was read from the bell
+abbrev pub StoodOrRead : ℕ → Sharded → Sharded → Type 0
+StoodOrRead c o n = (p : ℕ) → has_number p (class_queue n.queues c) ≡ true
+    → (has_number p (class_queue o.queues c) ≡ true) ⊎ ReadFromBell p o.pages n.pages
 
 -- the bell was followed, taken and followed; where `read` is not so, no page of class c was read
 pub record RingsOut (c : ℕ) (read : Bool) (o n : Sharded) : Type 0 where
   pub through : WorksThroughout o.pages n.pages
+  pub opened : n.queues.opened ≡ o.queues.opened
+  pub came : StoodOrRead c o n
   pub bell : BellDone o.pages n.pages
   pub pages : read ≡ false → (q : ℕ) → (page_at o.pages q).class ≡ Some (c + 1) → page_at n.pages q ≡ page_at o.pages q
   pub queue : read ≡ false → (q : ℕ) → has_number q (class_queue n.queues c) ≡ true
       → has_number q (class_queue o.queues c) ≡ true
+  pub steps : StepsForRings 3 o.pages n.pages
 
 -- each page that stands in the queue of class c is done, and so is the bell
 pub record Tried (c : ℕ) (o n : Sharded) : Type 0 where
   pub through : WorksThroughout o.pages n.pages
+  pub opened : n.queues.opened ≡ o.queues.opened
   pub bell : BellDone o.pages n.pages
   pub done : (p : ℕ) → has_number p (class_queue n.queues c) ≡ true → PageDone o.pages n.pages p
+  pub steps : StepsAtMost (9 * o.pages.count + 3) o.pages.owner n.pages.owner
 
 -- a page of this class word was read from the bell; where it stood in the full queue, it went to the back of its class
 pub record Heard (word : ℕ) (o n : Sharded) : Type 0 where
@@ -58,6 +79,8 @@ pub record Heard (word : ℕ) (o n : Sharded) : Type 0 where
 
 -- pages were read from the bell; of class c none was, unless `read`
 pub record Hears (c : ℕ) (read : Bool) (o n : Sharded) : Type 0 where
+  pub opened : n.queues.opened ≡ o.queues.opened
+  pub came : StoodOrRead c o n
   pub aside : Aside o.pages.owner n.pages.owner
   pub put : NonePut o.pages.owner n.pages.owner
   pub log : n.pages.owner.view.own.log ≡ o.pages.owner.view.own.log

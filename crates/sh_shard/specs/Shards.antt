@@ -1,6 +1,6 @@
 -- What a contract sees of an owner's shard, and what its calls do.
 use Rattle.std.specs.Prelude.{◌≡◌, ◌≢◌, ℕ, ◌+◌, ◌*◌, ◌<◌, ◌≤◌, ◌⊎◌, true, List, [], ◌∷◌, ◌++◌, length, None}
-use Rattle.std.specs.Prelude.{Some, MatchOption, Result, Ok, Err, slice_get}
+use Rattle.std.specs.Prelude.{Some, Result, Ok, Err, slice_get}
 use Rattle.sh_history.specs.declared.entry.Entry.TheVariants as entry
 use Rattle.sh_history.specs.declared.log.LogEntry.TheVariants.{Known}
 use Rattle.sh_key.specs.Layout.{Layout}
@@ -13,11 +13,12 @@ use Rattle.sh_pass.specs.Passes.{Caller}
 use Rattle.sh_slots.specs.declared.hand.Hand.TheVariants.{Idle}
 use Rattle.sh_table.specs.Tales.{ViewStands}
 use Rattle.sh_pass.specs.Growing.{SameTale}
-use Rattle.sh_pass.specs.Owners.{SeenPage, Aside, NonePut, IsKeyIn, own_body}
-use Rattle.sh_shard.specs.Pages.{Paged, page_at, seen_class, NothingMine, WhollyMine, GivesClass, PageDone, TakesSteps}
-use Rattle.sh_shard.specs.Pages.{AdoptsShard, AdoptRefused, ShardLeft}
-use Rattle.sh_shard.specs.Works.{WorksThroughout, BellDone}
+use Rattle.sh_pass.specs.Owners.{SeenPage, Aside, NonePut, IsKeyIn, IsKeyOn, heap_page, own_body}
+use Rattle.sh_shard.specs.Pages.{Paged, shard_page, page_at, seen_class, NothingMine, WhollyMine, GivesClass, PageDone}
+use Rattle.sh_shard.specs.Pages.{PageInserts, TakesSteps, AdoptsShard, AdoptRefused, ShardLeft}
+use Rattle.sh_shard.specs.Works.{WorksThroughout, BellDone, ClassDone, ReadFromBell}
 use Rattle.sh_shard.specs.Leaving.{Waiting}
+use Rattle.sh_shard.specs.Filing.{OpensFor, OpensClassed, FilesRising, ReturnsRising}
 
 pub record Sharded : Type 0 where
   pub pages : Paged
@@ -82,6 +83,12 @@ pub record NoPageFor (c : ℕ) (o : Sharded) : Type 0 where
   pub spare : NoneSpare c o.pages
   pub unopened : o.queues.unopened ≡ 0
 
+-- only a segment more has a page for class c: no opened page is blank, and none is spare
+pub record NeedsSegment (c : ℕ) (o : Sharded) : Type 0 where
+  pub blank : NoneOpenedBlank o
+  pub spare : NoneSpare c o.pages
+  pub unopened : o.queues.unopened ≢ 0
+
 -- page p is such a page, and no lower one is
 pub record IsLowest (such : SeenPage → Type 0) (p : ℕ) (v : Paged) : Type 0 where
   pub here : such (page_at v p)
@@ -100,12 +107,14 @@ pub record PreparesPage (c p : ℕ) (o n : Sharded) : Type 0 where
   pub next : IsNextFor c p o
   pub gives : GivesClass p c o.pages n.pages
   pub front : class_queue n.queues c ≡ p ∷ class_queue o.queues c
+  pub opened : OpensFor p o.queues n.queues
 
--- a page is prepared for class c, or there is none that could be, or a segment's growth was refused
+-- a page is prepared for class c, or there is none that could be, or the growth of the segment that has the next one was
+-- refused
 abbrev pub PrepareServes : ℕ → Sharded → Result ℕ Refusal → Sharded → Type 0
 PrepareServes c o (Ok p) n = PreparesPage c p o n
 PrepareServes c o (Err refusal.Full) n = (n ≡ o) × NoPageFor c o
-PrepareServes c o (Err refusal.Memory) n = (n ≡ o) × (o.queues.unopened ≢ 0)
+PrepareServes c o (Err refusal.Memory) n = (n ≡ o) × NeedsSegment c o
 PrepareServes c o (Err _) n = ⊥
 
 -- the shard has no room for class c: each page of the class is done, no page is blank, of no page are all slots its
@@ -124,23 +133,50 @@ pub record Added (value : List ℕ) (key : ℕ) (o n : Paged) : Type 0 where
   pub shard : n.shard ≡ o.shard
   pub count : n.count ≡ o.count
 
--- an insert of a value of class c: it joins the log, or there is no room, or the growth of a segment, which is
--- unopened still, was refused
+-- each page of class c was searched in vain; then page p, which has the class, was read from the bell and was searched
+-- again, and the value is there
+pub record CameByBell (c p key : ℕ) (value : List ℕ) (o n : Paged) : Type 0 where
+  pub class : (page_at o p).class ≡ Some (c + 1)
+  pub searched : Paged
+  pub done : ClassDone c o searched
+  pub heard : Paged
+  pub reads : ReadFromBell p searched heard
+  pub bell : BellDone o heard
+  pub tried : Paged
+  pub again : WorksThroughout heard tried
+  pub inserts : PageInserts p value key tried n
+
+-- each page of class c and the bell were searched in vain; then page p, the next one for the class, was given it, and the
+-- value is there
+pub record NextAfterSearch (c p key : ℕ) (value : List ℕ) (o n : Sharded) : Type 0 where
+  pub searched : Sharded
+  pub left : NoneLeft c o.pages searched.pages
+  pub opened : searched.queues.opened ≡ o.queues.opened
+  pub given : Sharded
+  pub prepares : PreparesPage c p searched given
+  pub inserts : PageInserts p value key given.pages n.pages
+
+-- a value of class c went to a page that has the class, and no other page changed its class: one that stood in the queue
+-- of the class, or came back by the bell, or was the next one for the class after a search in vain
+pub record FindsPage (layout : Layout) (c key : ℕ) (value : List ℕ) (o n : Sharded) : Type 0 where
+  pub page : ℕ
+  pub inside : page < n.pages.count
+  pub names : IsKeyOn layout o.pages.owner (heap_page o.pages.owner (shard_page o.pages.shard page)) key
+  pub class : (page_at n.pages page).class ≡ Some (c + 1)
+  pub others : (q : ℕ) → q ≢ page → (page_at n.pages q).class ≡ (page_at o.pages q).class
+  pub opened : OpensFor page o.queues n.queues
+  pub came : (has_number page (class_queue o.queues c) ≡ true)
+      ⊎ (CameByBell c page key value o.pages n.pages ⊎ NextAfterSearch c page key value o n)
+
+-- an insert of a value of class c: it joins the log, or there is no room, or nothing of the class is left and the
+-- growth of the segment that has the next page was refused
 abbrev pub InsertServes : Layout → ℕ → List ℕ → Sharded → Result ℕ Refusal → Sharded → Type 0
 InsertServes layout c value o (Ok key) n = Added value key o.pages n.pages
-    × IsKeyIn layout o.pages.owner o.pages.shard key
+    × IsKeyIn layout o.pages.owner o.pages.shard key × FindsPage layout c key value o n
 InsertServes layout c value o (Err refusal.Full) n = NoRoom c o n
-InsertServes layout c value o (Err refusal.Memory) n = WorksThroughout o.pages n.pages × (n.queues.unopened ≢ 0)
+InsertServes layout c value o (Err refusal.Memory) n = WorksThroughout o.pages n.pages × NoneLeft c o.pages n.pages
+    × NeedsSegment c n
 InsertServes layout c value o (Err _) n = ⊥
-
--- an insert of a value of class c into a page that had another class or none: there is none where the value could go,
--- or a segment's growth was refused, and then nothing is changed
-abbrev pub InsertsElsewhere : Layout → ℕ → List ℕ → Sharded → Result ℕ Refusal → Sharded → Type 0
-InsertsElsewhere layout c value o (Ok key) n = Added value key o.pages n.pages
-    × IsKeyIn layout o.pages.owner o.pages.shard key
-InsertsElsewhere layout c value o (Err refusal.Full) n = (n ≡ o) × NoPageFor c o
-InsertsElsewhere layout c value o (Err refusal.Memory) n = (n ≡ o) × (o.queues.unopened ≢ 0)
-InsertsElsewhere layout c value o (Err _) n = ⊥
 
 -- the class of a value
 abbrev pub value_class : List ℕ → ℕ
@@ -160,12 +196,14 @@ DoneIn n o (Err _) m = ⊥
 
 -- ---- becoming and ceasing to be the owner
 
--- shard k is the pass's own, or there is none of the number, or it has an owner, or memory was refused
+-- shard k is the pass's own, with its pages that have a class in their queues; or there is none of the number, or it has
+-- an owner, or memory was refused
 abbrev pub AdoptServes : ℕ → Caller → Result Sharded (Caller × Refusal) → Type 0
-AdoptServes k v (Ok n) = (k < v.view.shape.shards) × AdoptsShard v k n.pages
+AdoptServes k v (Ok n) = (k < v.view.shape.shards) × AdoptsShard v k n.pages × OpensClassed n.pages n.queues
+    × FilesRising n.queues
 AdoptServes k v (Err r) = AdoptRefused k v r.0 r.1
 
 -- the shard is left, or leaving waits for others and the shard comes back
 abbrev pub LeaveServes : Sharded → Result Caller (Sharded × Refusal) → Type 0
 LeaveServes o (Ok w) = ShardLeft o.pages.owner w
-LeaveServes o (Err r) = (r.1 ≡ refusal.Waiting) × Waiting o.pages r.0.pages
+LeaveServes o (Err r) = (r.1 ≡ refusal.Waiting) × Waiting o.pages r.0.pages × ReturnsRising o.queues r.0.queues

@@ -1,7 +1,7 @@
 -- Work on many pages and on the bell: what an insert, a prepare and a leave do before they put anything.
-use Rattle.std.specs.Prelude.{◌≡◌, ℕ, ◌<◌, ◌≤◌, MatchOption}
+use Rattle.std.specs.Prelude.{◌≡◌, ℕ, ◌+◌, ◌<◌, ◌≤◌, Some, MatchOption}
 use Rattle.sh_pass.specs.Owners.{Aside, NonePut}
-use Rattle.sh_shard.specs.Pages.{Paged, page_at}
+use Rattle.sh_shard.specs.Pages.{Paged, page_at, PageDone, BellReads}
 
 -- work on pages and on the bell that adds nothing to the log, puts nothing and changes no page's class
 pub record WorksThroughout (o n : Paged) : Type 0 where
@@ -19,3 +19,16 @@ pub record WorksThroughout (o n : Paged) : Type 0 where
 -- the bell was taken and followed to its end, or a link of it was not written, in this work
 abbrev pub BellDone : Paged → Paged → Type 0
 BellDone o n = MatchOption n.bell.cursor (o.bell.takes < n.bell.takes) (λ _. o.bell.met < n.bell.met)
+
+-- nothing of class c was left in any page of the class
+pub record ClassDone (c : ℕ) (o n : Paged) : Type 0 where
+  pub through : WorksThroughout o n
+  pub done : (p : ℕ) → p < n.count → (page_at n p).class ≡ Some (c + 1) → PageDone o n p
+
+-- page p was read from the bell, in this work
+pub record ReadFromBell (p : ℕ) (o n : Paged) : Type 0 where
+  pub before : Paged
+  pub after : Paged
+  pub first : WorksThroughout o before
+  pub reads : BellReads p before after
+  pub rest : WorksThroughout after n

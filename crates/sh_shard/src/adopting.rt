@@ -2,7 +2,9 @@
 ghost use Rattle.std.specs.Prelude.{◌≡◌, ℕ, ◌+◌, ◌*◌, ◌<◌, ◌≤◌, ◌==◌, cond, Some, IfOk, IfErr, OnOk};
 ghost use Rattle.sh_shard.specs.Pages.{page_at, BarePage};
 ghost use Rattle.sh_shard.specs.Shards.{SortedPages, HoldsShard, AdoptServes};
-ghost use Rattle.sh_shard.specs.Returning.{AllBlank, FiledBelow};
+ghost use Rattle.sh_shard.specs.Bounds.{AdoptIsBounded};
+ghost use Rattle.sh_shard.specs.Returning.{AllBlank, FiledBelow, IsClassedEnd};
+ghost use Rattle.sh_shard.specs.Filing.{OpensClassed, FilesRising};
 
 use crate::pages::Pages;
 use crate::shard::Shard;
@@ -15,9 +17,11 @@ use std::alloc::Global;
 impl<'a, L: KeyLayout> Shard<'a, L> {
     /// Makes the pass the owner of shard `n`: it finds what those before it left there. Refused, with the pass, as
     /// `NoShard` exactly where the heap has no shard of this number, as `Taken` where the shard has an owner, and as
-    /// `Memory` where memory for its pages is refused: then the shard is left again.
+    /// `Memory` where memory for its pages is refused: then the shard is left again. It takes at most two steps more
+    /// than the shard has pages.
     pub fn adopt(alloc: Global, pass: Pass<'a, L>, n: u64) -> Result<Self, (Pass<'a, L>, Refusal)>
         ensures serves { AdoptServes n pass.entry result }
+        ensures bounded { AdoptIsBounded pass.entry result }
         ensures holds { IfOk result (HoldsShard L.layout) }
     {
         let pages = Pages::adopt(alloc, pass, n)?;
@@ -37,6 +41,8 @@ fn queues_of<L: KeyLayout>(alloc: Global, pages: &Pages<'_, L>) -> Result<Queues
     requires bare { (p : ℕ) → p < pages.now.count → BarePage (page_at pages.now p) }
     requires segments { (k : ℕ) × (pages.now.count ≡ 8 * k) }
     ensures sorted { IfOk result (λ queues. SortedPages pages.now queues) }
+    ensures opened { IfOk result (λ queues. OpensClassed pages.now queues) }
+    ensures rising { IfOk result (λ queues. FilesRising queues) }
     ensures memory { IfErr result (λ refusal. refusal ≡ Refusal.Memory) }
 {
     let segments = (pages.count() / 8) as u32;
@@ -51,6 +57,7 @@ fn queues_of<L: KeyLayout>(alloc: Global, pages: &Pages<'_, L>) -> Result<Queues
 fn classed_end<L: KeyLayout>(pages: &Pages<'_, L>) -> u64
     ensures few { result ≤ pages.now.count }
     ensures later { (p : ℕ) → result ≤ p → p < pages.now.count → (page_at pages.now p).class ≡ Some 0 }
+    ensures classed { IsClassedEnd result pages.now }
 {
     let mut end = 0;
     let count = pages.count();
@@ -72,8 +79,10 @@ fn end_with(end: u64, page: u64, word: u64) -> u64
 fn open_up_to(queues: &mut Queues, end: u64) -> Result<(), Refusal>
     requires blank { AllBlank (queues.old.opened + 8 * queues.old.unopened) queues.old }
     requires few { end ≤ queues.old.opened + 8 * queues.old.unopened }
+    requires none { queues.old.opened ≡ 0 }
     ensures blank { AllBlank (queues.old.opened + 8 * queues.old.unopened) queues.new }
     ensures opened { OnOk result (end ≤ queues.new.opened) }
+    ensures needed { queues.new.opened < end + 8 }
     ensures memory { IfErr result (λ refusal. refusal ≡ Refusal.Memory) }
 {
     let segments = queues.unopened();
@@ -90,7 +99,9 @@ fn open_up_to(queues: &mut Queues, end: u64) -> Result<(), Refusal>
 fn file_pages<L: KeyLayout>(pages: &Pages<'_, L>, queues: &mut Queues)
     requires blank { AllBlank pages.now.count queues.old }
     requires later { (p : ℕ) → queues.old.opened ≤ p → p < pages.now.count → (page_at pages.now p).class ≡ Some 0 }
-    ensures { SortedPages pages.now queues.new }
+    ensures sorted { SortedPages pages.now queues.new }
+    ensures rising { FilesRising queues.new }
+    ensures opened { queues.new.opened ≡ queues.old.opened }
 {
     let opened = queues.opened();
     for page in 0..opened {

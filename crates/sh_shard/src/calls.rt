@@ -58,7 +58,7 @@ impl<'a, L: KeyLayout> Pages<'a, L> {
 
     /// Gives one hold on a key back. Refused as `NotHeld`. Answers also the page to which a slot came.
     pub(crate) fn release(&mut self, hold: Hold) -> (Result<(), Refusal>, Option<u64>)
-        ensures does { ReleaseDoes hold.key self.old.owner result.0 self.new.owner }
+        ensures does { ReleaseDoes L.layout hold.key self.old.owner result.0 self.new.owner }
         ensures came { SlotComes result.1 self.old self.new }
     {
         let (answer, came) = self.owner.release(hold);

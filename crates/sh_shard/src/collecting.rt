@@ -2,7 +2,7 @@
 ghost use Rattle.std.specs.Prelude.{◌≡◌, ℕ, ◌<◌, None, IfSome, MatchBool, false, true, cond};
 ghost use Rattle.sh_bell.specs.Bell.{is_armed as armed_by};
 ghost use Rattle.sh_shard.specs.Pages.{page_at, seen_class, WorksOn, NoArming, TakesPage, CursorMoves, CursorStops};
-ghost use Rattle.sh_shard.specs.Pages.{CollectsPage, GuardsPage};
+ghost use Rattle.sh_shard.specs.Pages.{CollectsPage, GuardsPage, StepsForSlots};
 
 use crate::pages::Pages;
 use sh_bell::{is_armed, top_of};
@@ -55,6 +55,7 @@ impl<'a, L: KeyLayout> Pages<'a, L> {
         requires calm { (page_at self.old page).armed ≡ false }
         ensures works { WorksOn page self.old self.new }
         ensures armed { (page_at self.new page).armed ≡ true }
+        ensures steps { StepsForSlots 1 page self.old self.new }
     {
         let name = PageName {
             shard: self.shard,

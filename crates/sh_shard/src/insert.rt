@@ -3,9 +3,10 @@ ghost use Rattle.std.specs.Prelude.{◌≡◌, ℕ, ◌+◌, ◌<◌, ◌≤◌,
 ghost use Rattle.sh_queue.specs.Numbers.{has_number};
 ghost use Rattle.sh_queue.specs.Queues.{class_queue};
 ghost use Rattle.sh_shape.specs.Classes.{width};
-ghost use Rattle.sh_pass.specs.Owners.{IsKeyIn};
-ghost use Rattle.sh_shard.specs.Pages.{page_at, NothingMine, PageInserts, TakesSteps};
-ghost use Rattle.sh_shard.specs.Shards.{Added, InsertServes, InsertsElsewhere, IsQuick, DoneIn};
+ghost use Rattle.sh_shard.specs.Pages.{page_at, NothingMine, NamesSlot, PageInserts, TakesSteps};
+ghost use Rattle.sh_shard.specs.Shards.{InsertServes, IsQuick, DoneIn};
+ghost use Rattle.sh_shard.specs.Bounds.{InsertIsBounded};
+ghost use Rattle.sh_shard.specs.Finding.{StoresAtFront, InsertsElsewhere};
 
 use crate::shard::Shard;
 use sh_key::KeyLayout;
@@ -18,6 +19,7 @@ impl<'a, L: KeyLayout> Shard<'a, L> {
         requires fits { length value.now ≤ width c }
         ensures serves { InsertServes L.layout c value.now self.old result self.new }
         ensures quick { IsQuick c self.old → DoneIn (length value.now + 2) self.old result self.new }
+        ensures bounded { InsertIsBounded (length value.now) self.old self.new }
     {
         if let Some(key) = self.use_at_front(c, value) {
             return Ok(key);
@@ -29,7 +31,8 @@ impl<'a, L: KeyLayout> Shard<'a, L> {
     fn insert_slowly(&mut self, c: u32, value: &Value) -> Result<u64, Refusal>
         requires class { c < 8 }
         requires fits { length value.now ≤ width c }
-        ensures { InsertServes L.layout c value.now self.old result self.new }
+        ensures serves { InsertServes L.layout c value.now self.old result self.new }
+        ensures bounded { InsertIsBounded (length value.now) self.old self.new }
     {
         if let Some(key) = self.look(c, value) {
             return Ok(key);
@@ -60,8 +63,7 @@ impl<'a, L: KeyLayout> Shard<'a, L> {
         ensures used { MatchOption result
             ((self.new ≡ self.old) × ((p : ℕ) → slice_get (class_queue self.old.queues c) 0 ≡ Some p
             → NothingMine (page_at self.old.pages p)))
-            (λ key. Added value.now key self.old.pages self.new.pages) }
-        ensures key { IfSome result (λ key. IsKeyIn L.layout self.old.pages.owner self.old.pages.shard key) }
+            (λ key. StoresAtFront L.layout c key value.now self.old self.new) }
         ensures steps { IfSome result (λ _. TakesSteps (length value.now + 2) self.old.pages self.new.pages) }
     {
         let Some(page) = self.queues.front(c) else {
@@ -77,7 +79,8 @@ impl<'a, L: KeyLayout> Shard<'a, L> {
         requires fits { length value.now ≤ width c }
         ensures used { MatchOption result ((self.new ≡ self.old) × NothingMine (page_at self.old.pages page))
             (λ key. PageInserts page value.now key self.old.pages self.new.pages) }
-        ensures key { IfSome result (λ key. IsKeyIn L.layout self.old.pages.owner self.old.pages.shard key) }
+        ensures key { IfSome result (λ key. NamesSlot L.layout page key self.old.pages) }
+        ensures queues { self.new.queues ≡ self.old.queues }
         ensures steps { IfSome result (λ _. TakesSteps (length value.now + 2) self.old.pages self.new.pages) }
     {
         let _opened = self.queues.opened();

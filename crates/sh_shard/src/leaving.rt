@@ -1,10 +1,12 @@
 // Leaving the shard: what others put is collected, what the owner has is put back, and the shard is given up.
-ghost use Rattle.std.specs.Prelude.{◌≡◌, ℕ, ◌<◌, ◌⊎◌, None, MatchBool, Result, true, false};
+ghost use Rattle.std.specs.Prelude.{◌≡◌, ℕ, ◌<◌, ◌⊎◌, None, MatchBool, MatchResult, true, false};
 ghost use Rattle.sh_pass.specs.Owners.{HasNothing, heap_page as number_of};
 ghost use Rattle.sh_shard.specs.Works.{BellDone};
 ghost use Rattle.sh_shard.specs.Leaving.{LeaveDoes, Collecting, BellFollowed, EmptiesPage, PagesEmptied};
 ghost use Rattle.sh_shard.specs.Leaving.{AtRest, AllAtRest, NotAtRest, PutsOne, PutsBack, PutsAllBack};
-ghost use Rattle.sh_shard.specs.Pages.{page_at, shard_page, CursorStands, NothingMine, ShardLeft};
+ghost use Rattle.sh_shard.specs.Pages.{page_at, shard_page, CursorStands, NothingMine, ShardLeft, StepsForRings};
+ghost use Rattle.sh_shard.specs.Steps.{StepsAtMost};
+ghost use Rattle.sh_shard.specs.Bounds.{leave_steps};
 
 use crate::pages::Pages;
 use sh_bell::{is_armed, top_of};
@@ -31,6 +33,7 @@ impl<'a, L: KeyLayout> Pages<'a, L> {
     fn empty_bell(&mut self)
         ensures through { Collecting self.old self.new }
         ensures bell { BellDone self.old self.new }
+        ensures steps { StepsForRings 3 self.old self.new }
     {
         self.follow_rings();
         if self.has_rings() {
@@ -152,7 +155,8 @@ impl<'a, L: KeyLayout> Pages<'a, L> {
     pub(crate) fn give_up(self) -> Pass<'a, L>
         requires pages { (p : ℕ) → p < self.count → HasNothing (page_at self p) }
         requires bell { self.bell.cursor ≡ None }
-        ensures { ShardLeft self.entry.owner result }
+        ensures left { ShardLeft self.entry.owner result }
+        ensures steps { StepsAtMost 1 self.entry.owner result }
     {
         let Pages {
             mut owner,
@@ -169,7 +173,9 @@ impl<'a, L: KeyLayout> Pages<'a, L> {
     /// they began: nothing is put, and the pages come back. Else the owner's slots are put on their pages, and the
     /// shard is given up.
     pub(crate) fn leave(mut self) -> Result<Pass<'a, L>, Self>
-        ensures { LeaveDoes self.entry result }
+        ensures does { LeaveDoes self.entry result }
+        ensures steps { MatchResult result (λ v. StepsAtMost (leave_steps self.entry.count) self.entry.owner v)
+            (λ n. StepsAtMost (leave_steps self.entry.count) self.entry.owner n.owner) }
     {
         self.empty_bell();
         self.empty_pages();

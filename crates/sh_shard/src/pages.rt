@@ -1,10 +1,11 @@
 //! The pages of an owner's shard: what is kept of each is what the owner knows of it.
-ghost use Rattle.std.specs.Prelude.{◌≡◌, ℕ, ◌<◌, ◌≤◌, Option, None, Some, MatchBool, MatchResult, true, false};
+ghost use Rattle.std.specs.Prelude.{◌≡◌, ℕ, ◌+◌, ◌<◌, ◌≤◌, Option, None, Some, MatchBool, MatchResult, true, false};
 ghost use Rattle.sh_slots.specs.declared.hand.Hand.TheVariants.{Idle};
 ghost use Rattle.sh_table.specs.Tales.{ViewStands};
 ghost use Rattle.sh_pass.specs.Owners.{HasNothing, own_body, seen_page};
 ghost use Rattle.sh_shard.specs.Pages.{page_at, AdoptsPages, AdoptsShard, CursorStands, NothingMine, ShardLeft};
 ghost use Rattle.sh_shard.specs.Pages.{WhollyMine, seen_class};
+ghost use Rattle.sh_shard.specs.Steps.{StepsAtMost};
 
 use sh_key::KeyLayout;
 use sh_lists::PageLists;
@@ -64,7 +65,9 @@ impl<'a, L: KeyLayout> Pages<'a, L> {
         pass: Pass<'a, L>,
         shard: u64,
     ) -> Result<Self, (Pass<'a, L>, Refusal)>
-        ensures { AdoptsPages shard pass.entry result }
+        ensures adopts { AdoptsPages shard pass.entry result }
+        ensures steps { MatchResult result (λ pages. StepsAtMost (pages.count + 1) pass.entry pages.owner)
+            (λ r. StepsAtMost 2 pass.entry r.0) }
     {
         let mut owner = Owner::of(pass);
         if shard >= owner.shards() {
@@ -86,8 +89,10 @@ impl<'a, L: KeyLayout> Pages<'a, L> {
         requires bell { (own_body owner).bell_cursor ≡ None }
         requires pages { (q : ℕ) → HasNothing (seen_page owner q) }
         requires stands { ViewStands L.layout owner.view }
-        ensures { MatchResult result (λ pages. AdoptsShard owner.entry shard pages)
+        ensures begins { MatchResult result (λ pages. AdoptsShard owner.entry shard pages)
             (λ back. ShardLeft owner.entry back) }
+        ensures steps { MatchResult result (λ pages. StepsAtMost pages.count owner.entry pages.owner)
+            (λ back. StepsAtMost 1 owner.entry back) }
     {
         let mut owner = owner;
         let count = owner.pages();

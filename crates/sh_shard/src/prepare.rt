@@ -4,6 +4,7 @@ ghost use Rattle.sh_queue.specs.Queues.{one_more_segment};
 ghost use Rattle.sh_shard.specs.Pages.{page_at};
 ghost use Rattle.sh_shard.specs.Shards.{IsSpare, NoneSpare, NoneOpenedBlank, IsLowest, PreparesPage, PrepareServes};
 ghost use Rattle.sh_shard.specs.Shards.{StaysOwner};
+ghost use Rattle.sh_shard.specs.Bounds.{PrepareIsBounded};
 
 use crate::shard::Shard;
 use sh_key::KeyLayout;
@@ -13,10 +14,12 @@ impl<'a, L: KeyLayout> Shard<'a, L> {
     /// Gives a page the class, from 0 to 7, puts it in front of the class's queue, and answers it: the lowest blank
     /// page of the opened segments, else the lowest page of another class all of whose slots are the owner's, else the
     /// first page of the next segment, which is opened. Refused, with nothing changed, as `Full` exactly where there is
-    /// no such page, and as `Memory` where the segment's growth is refused.
+    /// no such page, and as `Memory` where the segment's growth is refused. It
+    /// takes one step at most.
     pub fn prepare(&mut self, class: u32) -> Result<u32, Refusal>
         requires { class < 8 }
         ensures serves { PrepareServes class self.old result self.new }
+        ensures bounded { PrepareIsBounded self.old self.new }
         ensures stays { StaysOwner L.layout self.old self.new }
     {
         let answer = self.give_page(class);

@@ -4,6 +4,7 @@ ghost use Rattle.sh_queue.specs.Numbers.{has_number};
 ghost use Rattle.sh_shard.specs.Pages.{page_at, seen_class};
 ghost use Rattle.sh_shard.specs.Shards.{FullPage, SortedPages};
 ghost use Rattle.sh_shard.specs.Returning.{SortedBut, ReturnsPage};
+ghost use Rattle.sh_shard.specs.Filing.{ReturnsRising};
 
 use crate::pages::Pages;
 use sh_key::KeyLayout;
@@ -12,7 +13,8 @@ use sh_queue::Queues;
 // All pages that are not full any longer go back to their classes, in ascending order.
 pub(crate) fn return_all<L: KeyLayout>(pages: &Pages<'_, L>, queues: &mut Queues)
     requires { SortedBut (λ p. Unit {0}) pages.now queues.old }
-    ensures { SortedPages pages.now queues.new }
+    ensures sorted { SortedPages pages.now queues.new }
+    ensures rising { ReturnsRising queues.old queues.new }
 {
     let opened = queues.opened();
     for page in 0..opened {

@@ -1,6 +1,6 @@
 // Hearing of armed pages by the shard's bell: a full page that is read from it goes back to its class.
 ghost use Rattle.std.specs.Prelude.{◌≡◌, ℕ, ◌+◌, ◌<◌, None, MatchOption, ◌||◌, ◌==◌};
-ghost use Rattle.sh_shard.specs.Pages.{BellTakes, BellStops};
+ghost use Rattle.sh_shard.specs.Pages.{BellTakes, BellStops, StepsForRings};
 ghost use Rattle.sh_shard.specs.Searches.{Heard, Hears, BellWaits, RingsOut};
 
 use crate::shard::Shard;
@@ -39,6 +39,7 @@ impl<'a, L: KeyLayout> Shard<'a, L> {
         requires class { c < 8 }
         ensures hears { Hears c result self.old self.new }
         ensures waits { BellWaits self.old self.new }
+        ensures steps { StepsForRings 1 self.old.pages self.new.pages }
     {
         let mut read = false;
         let _opened = self.queues.opened();

@@ -1,11 +1,13 @@
 // Looking for a slot in the pages of a class, and in what others freed there.
-ghost use Rattle.std.specs.Prelude.{◌≡◌, ℕ, ◌<◌, ◌≤◌, length, MatchOption, IfSome, true};
+ghost use Rattle.std.specs.Prelude.{◌≡◌, ℕ, ◌+◌, ◌*◌, ◌<◌, ◌≤◌, length, MatchOption, IfSome, Ok, true};
 ghost use Rattle.sh_queue.specs.Numbers.{has_number};
 ghost use Rattle.sh_queue.specs.Queues.{class_queue};
 ghost use Rattle.sh_shape.specs.Classes.{width};
-ghost use Rattle.sh_pass.specs.Owners.{IsKeyIn};
-ghost use Rattle.sh_shard.specs.Pages.{page_at, NothingMine, WorksOn, PageDone, PageInserts};
-ghost use Rattle.sh_shard.specs.Shards.{Added};
+ghost use Rattle.sh_shard.specs.Pages.{page_at, NothingMine, WorksOn, PageDone, PageInserts, NamesSlot};
+ghost use Rattle.sh_shard.specs.Shards.{InsertServes};
+ghost use Rattle.sh_shard.specs.Steps.{StepsAtMost};
+ghost use Rattle.sh_shard.specs.Bounds.{InsertIsBounded};
+ghost use Rattle.sh_shard.specs.Finding.{StoresInQueue};
 ghost use Rattle.sh_shard.specs.Searches.{Settles, Searched, Tried};
 
 use crate::shard::Shard;
@@ -18,8 +20,8 @@ impl<'a, L: KeyLayout> Shard<'a, L> {
         requires class { c < 8 }
         requires fits { length value.now ≤ width c }
         ensures looked { MatchOption result (Tried c self.old self.new)
-            (λ key. Added value.now key self.old.pages self.new.pages) }
-        ensures key { IfSome result (λ key. IsKeyIn L.layout self.old.pages.owner self.old.pages.shard key) }
+            (λ key. InsertServes L.layout c value.now self.old (Ok key) self.new) }
+        ensures steps { IfSome result (λ _. InsertIsBounded (length value.now) self.old self.new) }
     {
         if let Some(key) = self.search(c, value) {
             return Some(key);
@@ -36,8 +38,9 @@ impl<'a, L: KeyLayout> Shard<'a, L> {
         requires class { c < 8 }
         requires fits { length value.now ≤ width c }
         ensures searched { MatchOption result (Searched c self.old self.new)
-            (λ key. Added value.now key self.old.pages self.new.pages) }
-        ensures key { IfSome result (λ key. IsKeyIn L.layout self.old.pages.owner self.old.pages.shard key) }
+            (λ key. StoresInQueue L.layout c key value.now self.old self.new) }
+        ensures steps { IfSome result (λ _. StepsAtMost (4 * self.old.pages.count + length value.now + 50)
+            self.old.pages.owner self.new.pages.owner) }
     {
         let opened = self.queues.opened();
         let Some(last) = self.queues.last(c) else {
@@ -68,7 +71,9 @@ impl<'a, L: KeyLayout> Shard<'a, L> {
         ensures tried { MatchOption result (WorksOn page self.old.pages self.new.pages
             × PageDone self.old.pages self.new.pages page) (λ key. PageInserts page value.now key self.old.pages
             self.new.pages) }
-        ensures key { IfSome result (λ key. IsKeyIn L.layout self.old.pages.owner self.old.pages.shard key) }
+        ensures key { IfSome result (λ key. NamesSlot L.layout page key self.old.pages) }
+        ensures steps { MatchOption result (StepsAtMost 4 self.old.pages.owner self.new.pages.owner)
+            (λ _. StepsAtMost (length value.now + 54) self.old.pages.owner self.new.pages.owner) }
     {
         let _opened = self.queues.opened();
         self.pages.try_page(page as u64, value)

@@ -21,7 +21,7 @@ impl<L: KeyLayout> Store for Shard<'_, L> {
 
     ghost removes = { λ old key result new. RemoveDoes L.layout key old.pages.owner result new.pages.owner };
 
-    ghost releases = { λ old key result new. ReleaseDoes key old.pages.owner result new.pages.owner };
+    ghost releases = { λ old key result new. ReleaseDoes L.layout key old.pages.owner result new.pages.owner };
 
     fn insert(&mut self, value: &Value) -> Result<u64, Refusal> {
         self.standing();

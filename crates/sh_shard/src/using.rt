@@ -1,9 +1,9 @@
 // Using the slots of a page.
 ghost use Rattle.std.specs.Prelude.{◌≡◌, ℕ, ◌+◌, ◌-◌, ◌<◌, ◌≤◌, ◌⊎◌, length, Some, MatchOption, IfSome};
 ghost use Rattle.sh_shape.specs.Classes.{width};
-ghost use Rattle.sh_pass.specs.Owners.{IsKeyIn};
 ghost use Rattle.sh_shard.specs.Pages.{page_at, seen_class, WorksOn, PageDone, NothingMine, WhollyMine, PageInserts};
-ghost use Rattle.sh_shard.specs.Pages.{TakesSteps, GivesClass};
+ghost use Rattle.sh_shard.specs.Pages.{TakesSteps, GivesClass, NamesSlot};
+ghost use Rattle.sh_shard.specs.Steps.{StepsAtMost};
 
 use crate::pages::Pages;
 use sh_key::KeyLayout;
@@ -20,7 +20,7 @@ impl<'a, L: KeyLayout> Pages<'a, L> {
         requires fits { length value.now ≤ width (seen_class (page_at self.old page) - 1) }
         ensures used { MatchOption result ((self.new ≡ self.old) × NothingMine (page_at self.old page))
             (λ key. PageInserts page value.now key self.old self.new) }
-        ensures key { IfSome result (λ key. IsKeyIn L.layout self.old.owner self.old.shard key) }
+        ensures key { IfSome result (λ key. NamesSlot L.layout page key self.old) }
         ensures steps { IfSome result (λ _. TakesSteps (length value.now + 2) self.old self.new) }
     {
         let name = PageName {
@@ -41,7 +41,9 @@ impl<'a, L: KeyLayout> Pages<'a, L> {
         requires fits { length value.now ≤ width (seen_class (page_at self.old page) - 1) }
         ensures tried { MatchOption result (WorksOn page self.old self.new × PageDone self.old self.new page)
             (λ key. PageInserts page value.now key self.old self.new) }
-        ensures key { IfSome result (λ key. IsKeyIn L.layout self.old.owner self.old.shard key) }
+        ensures key { IfSome result (λ key. NamesSlot L.layout page key self.old) }
+        ensures steps { MatchOption result (StepsAtMost 4 self.old.owner self.new.owner)
+            (λ _. StepsAtMost (length value.now + 54) self.old.owner self.new.owner) }
     {
         if let Some(key) = self.use_slot(page, value) {
             return Some(key);

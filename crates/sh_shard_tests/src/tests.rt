@@ -4,12 +4,14 @@ ghost use Rattle.std.specs.Prelude.{◌≡◌, ◌<◌};
 
 mod changing_hands;
 mod filling;
+mod largest;
 mod memory;
 mod order;
 mod records;
 mod replies;
 mod stopped;
 mod threads;
+mod words;
 
 use sh_key::KeyLayout;
 use sh_pass::{Busy, Heap, Pass, Seats};

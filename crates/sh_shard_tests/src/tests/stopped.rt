@@ -84,6 +84,21 @@ fn a_caller_stops_at_a_page_that_is_armed(rt: HostRuntime) -> Result<(), Fail> {
     Ok(())
 }
 
+// A page that its owner freed a slot of stands in the queue of its class and is armed still. A search takes its stack,
+// so what another put there is found before that one rings.
+#[test]
+fn an_armed_page_in_the_queue_of_its_class_is_taken(rt: HostRuntime) -> Result<(), Fail> {
+    let (heap, seats) = opened::<Tiny>(&rt, rt.alloc(), 1, 1, 2);
+    let (one, other) = two_passes(&rt, rt.alloc(), &heap, seats);
+    let mut shard = adopted(&rt, rt.alloc(), one, 0);
+    fill(&rt, &mut shard);
+    assert_eq!(rt; shard.remove(4_096), Ok(()));
+    assert_eq!(rt; put(&mut shard, &sixteen(&rt)), Ok(8_192));
+    let _busy = stopped_at(&rt, other, 4_097, 6);
+    assert_eq!(rt; put(&mut shard, &sixteen(&rt)), Ok(8_193));
+    Ok(())
+}
+
 // Two remove a key at the same time: both enter its slot, the owner marks it first, and the other, who marks it too, is
 // the one who finishes it.
 #[test]

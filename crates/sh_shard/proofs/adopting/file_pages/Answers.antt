@@ -9,8 +9,8 @@ loop-page-init g c = record {
       c.opened-opened.ensures.opened;
 }
 
-pub returns : goal.returns
-returns g c = filed_all c.args.pages.now c.loop-page.queues c.loop-page.page c.loop-page.invariant.filed
+pub returns-clause-sorted : goal.returns-clause-sorted
+returns-clause-sorted g c = filed_all c.args.pages.now c.loop-page.queues c.loop-page.page c.loop-page.invariant.filed
     c.opened-filed.ensures.once (let o = c.loop-page.invariant.opened in let l = c.loop-page-test.false in omega arith)
     (λ p from upto. c.requires.later p (let o = c.loop-page.invariant.opened in let q = c.opened-opened.ensures.opened
     in omega arith) upto)

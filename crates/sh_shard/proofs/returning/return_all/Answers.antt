@@ -2,12 +2,14 @@ use Rattle.std.proofs.Common.{ℕ, ◌≢◌, ◌+◌, ◌<◌, ◌≤◌, ⊎_e
 use Rattle.std.proofs.lemmas.Bool.{cases_lt}
 use Rattle.sh_queue.proofs.PageLaws.{full_opened}
 use Rattle.sh_shard.proofs.FullPages.{but_none, but_fewer, but_returned, full_classed, returns_opened}
+use Rattle.sh_shard.proofs.Filing.{returned_none, returned_more, returns_rising}
 use Rattle.sh_shard.proofs.returning.return_all.Goals as goal
 
 pub loop-page-init : goal.loop-page-init
 loop-page-init g c = record {
   sorted = but_fewer c.args.pages.now c.args.queues.now _ _ c.requires (λ p _. omega arith);
   opened = sym c.opened-opened.ensures.opened;
+  rising = returned_none c.args.queues.now;
 }
 
 pub return_page-requires-clause-inside : goal.return_page-requires-clause-inside
@@ -30,9 +32,16 @@ loop-page-preserved g c =
           (full_classed c.args.pages.now c.loop-page.queues c.loop-page.page _ i.sorted) c.return_page.ensures;
       opened = returns_opened c.loop-page.page c.args.pages.now c.loop-page.queues c.return_page.new.queues
           c.return_page.ensures ∙ i.opened;
+      rising = returned_more c.loop-page.page c.args.pages.now c.args.queues.now c.loop-page.queues
+          c.return_page.new.queues i.rising c.opened-opened-in-loop-page.ensures.once
+          (λ here. i.sorted.word c.loop-page.page here) c.return_page.ensures;
     }
 
-pub returns : goal.returns
-returns g c = but_none c.args.pages.now c.loop-page.queues (λ p. c.loop-page.page ≤ p) c.loop-page.invariant.sorted
+pub returns-clause-rising : goal.returns-clause-rising
+returns-clause-rising g c = returns_rising c.loop-page.page c.args.queues.now c.loop-page.queues
+    c.loop-page.invariant.rising
+
+pub returns-clause-sorted : goal.returns-clause-sorted
+returns-clause-sorted g c = but_none c.args.pages.now c.loop-page.queues (λ p. c.loop-page.page ≤ p) c.loop-page.invariant.sorted
     (λ p here from. let inside = full_opened p c.loop-page.queues c.opened-returned.ensures.once here
     in let o = c.loop-page.invariant.opened in let l = c.loop-page-test.false in omega arith)

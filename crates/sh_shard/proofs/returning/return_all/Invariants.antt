@@ -1,5 +1,5 @@
 use Rattle.std.proofs.Common.{◌≡◌, ◌≤◌}
-use Rattle.sh_shard.specs.Returning.{SortedBut}
+use Rattle.sh_shard.specs.Returning.{SortedBut, ReturnedBelow}
 use Rattle.sh_shard.proofs.returning.return_all.Given as goal
 
 abbrev pub invariant-loop-page : goal.invariant-loop-page
@@ -7,4 +7,5 @@ invariant-loop-page g l = record {
   sorted : SortedBut (λ p. l.page ≤ p) l.pages l.queues;
   opened : l.queues.opened
       ≡ l.opened;
+  rising : ReturnedBelow l.page l.fn.queues l.queues;
 }

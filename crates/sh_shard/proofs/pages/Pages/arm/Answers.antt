@@ -3,10 +3,10 @@ use Rattle.std.proofs.lemmas.List.{length-set}
 use Rattle.sh_stack.specs.Stack.{top_item}
 use Rattle.sh_pass.specs.Owners.{page_armed}
 use Rattle.sh_shard.specs.declared.pages.PageState.{PageState}
-use Rattle.sh_shard.specs.Pages.{Paged, WorksOn, page_at, seen_class}
+use Rattle.sh_shard.specs.Pages.{Paged, WorksOn, StepsForSlots, page_at, seen_class}
 use Rattle.sh_shard.proofs.PageLaws.{kept_armed}
 use Rattle.sh_shard.proofs.Keeping.{state_kept, keeps_set, small_cursor, page_of}
-use Rattle.sh_shard.proofs.Working.{paged_of, works_on}
+use Rattle.sh_shard.proofs.Working.{paged_of, works_on, arming}
 use Rattle.sh_shard.proofs.pages.Pages.arm.Goals as goal
 
 pub small-cursor-requires : goal.small-cursor-requires
@@ -47,3 +47,16 @@ returns-clause-works g c =
     c.arm-found.result) c.arm-found.ensures.acts c.arm-found.ensures.bells c.arm-found.ensures.page
     c.arm-found.ensures.put (length-set c.self.inside.states.items c.args.page next) refl (omega arith)
     (omega arith))
+
+pub returns-clause-steps : goal.returns-clause-steps
+returns-clause-steps g c =
+    let next : PageState = record {
+      lists = c.set_cursor.new.self;
+      class_word = c.index_mut-state.result.now.class_word;
+      armed = true;
+    } in
+    let P : Paged → Type 0 = λ z. StepsForSlots 1 c.args.page z (paged_of g.L.KeyLayout.layout c.arm-found.new.self
+    c.self.inside.shard (length (set c.self.inside.states.items c.args.page next))) in
+    subst P c.self.view_is (arming g.L.KeyLayout.layout c.args.page c.arm-found.result c.self.inside.shard
+    (length c.self.inside.states.items) (length (set c.self.inside.states.items c.args.page next))
+    c.self.inside.owner c.arm-found.new.self c.arm-found.ensures.acts c.arm-found.ensures.page)

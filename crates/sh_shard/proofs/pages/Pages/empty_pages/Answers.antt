@@ -16,3 +16,4 @@ loop-page-preserved g c = emptying_more c.loop-page.page c.args.self.now c.loop-
 pub returns : goal.returns
 returns g c = pages_emptied c.loop-page.page c.args.self.now c.loop-page.self c.loop-page.invariant
     (let e = c.count-page-end.ensures.count in let z = c.loop-page-test.false in omega arith)
+    (let e = c.count-page-end.ensures.count in let z = c.loop-page.auto.page-end in omega arith)

@@ -21,3 +21,4 @@ loop-page-preserved g c = returning_more c.loop-page.page c.args.self.now c.loop
 pub returns : goal.returns
 returns g c = returned c.loop-page.page c.args.self.now c.loop-page.self c.loop-page.invariant c.requires.bell
     (let e = c.count-page-end.ensures.count in let z = c.loop-page-test.false in omega arith)
+    (let e = c.count-page-end.ensures.count in let z = c.loop-page.auto.page-end in omega arith)

@@ -50,7 +50,7 @@ returns g c =
     subst P c.self.view_is (puts_one o n c.args.page c.in-Some.slot acts.aside
     (c.tie.ensures.bells c.self.inside.shard ∙ c.put_slot-head.ensures.bells c.self.inside.shard)
     (acts.log ∙ append-nil c.self.inside.owner.view.own.log) refl
-    (length-set c.self.inside.states.items c.args.page next)
+    (length-set c.self.inside.states.items c.args.page next) acts.steps
     (here_at c.self.inside.owner c.tie.new.self c.self.inside.shard c.args.page acts.aside.same.shape on)
     (others_at c.self.inside.owner c.tie.new.self c.self.inside.shard c.args.page acts.aside.same.shape on)
     (used_is_mine st (page_of c.self.inside.owner c.self.inside.shard c.args.page) c.in-Some.slot c.next_slot.new.self a

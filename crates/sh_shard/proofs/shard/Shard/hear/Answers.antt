@@ -2,6 +2,7 @@ use Rattle.std.proofs.Common.{◌≡◌, refl, ap, ◌∙◌, subst, arith}
 use Rattle.sh_queue.specs.Queues.{EachOnce}
 use Rattle.sh_shard.specs.Shards.{Sharded}
 use Rattle.sh_shard.proofs.Hearing.{hears_none, hears_more, hears_stops, armed_less, armed_few, not_either}
+use Rattle.sh_shard.proofs.Bounding.{rings_none, rings_then, rings_read}
 use Rattle.sh_shard.proofs.shard.Shard.hear.Goals as goal
 
 pub loop-turn-init : goal.loop-turn-init
@@ -11,6 +12,7 @@ loop-turn-init g c = record {
   armed = let f = armed_few
       c.args.self.now.pages in let e = c.count-count.ensures.count in let k : c.self.inside.pages.count
       ≡ c.args.self.now.pages.count = ap (λ (z : Sharded). z.pages.count) c.self.view_is in omega arith;
+  steps = rings_none 0 c.args.self.now.pages;
 }
 
 pub loop-turn-preserved : goal.loop-turn-preserved
@@ -24,7 +26,14 @@ loop-turn-preserved g c =
       met = c.in-Some.ensures.reads.met ∙ i.met;
       armed = let a = armed_less c.in-Some.word c.loop-turn.self c.read_bell.new.self c.in-Some.ensures
           in let b = i.armed in omega arith;
+      steps = rings_then 0 0 0 c.args.self.now.pages c.loop-turn.self.pages c.read_bell.new.self.pages i.steps
+          (rings_read _ _ _ _ c.in-Some.ensures.reads.steps (armed_less c.in-Some.word c.loop-turn.self
+          c.read_bell.new.self c.in-Some.ensures)) (omega arith);
     }
+
+pub returns-in_default-clause-steps : goal.returns-in_default-clause-steps
+returns-in_default-clause-steps g c = rings_then 0 1 1 c.args.self.now.pages c.loop-turn.self.pages
+    c.read_bell.new.self.pages c.loop-turn.invariant.steps c.in_default.ensures.1.steps (omega arith)
 
 pub returns-in_default-clause-hears : goal.returns-in_default-clause-hears
 returns-in_default-clause-hears g c = hears_stops c.args.c c.loop-turn.read c.args.self.now c.loop-turn.self

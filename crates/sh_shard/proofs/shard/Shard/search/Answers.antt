@@ -1,9 +1,9 @@
-use Rattle.std.proofs.Common.{◌≡◌, Some, None, slice_get, ap, ◌∙◌, sym, subst}
+use Rattle.std.proofs.Common.{◌≡◌, ◌<◌, Some, None, length, slice_get, ap, ◌∙◌, sym, subst}
 use Rattle.std.specs.List.{last_or}
 use Rattle.sh_queue.specs.Numbers.{has_number}
 use Rattle.sh_queue.specs.Queues.{PageQueues, EachOnce, class_queue}
-use Rattle.sh_shard.specs.Shards.{Sharded}
-use Rattle.sh_shard.proofs.Searching.{begins, more, ended, no_pages, out_of_pages, front_has, settled_opened}
+use Rattle.sh_shard.specs.Shards.{Sharded, SortedPages}
+use Rattle.sh_shard.proofs.Searching.{begins, more, ended, found, found_in, no_pages, out_of_pages, front_has, settled_opened}
 use Rattle.sh_shard.proofs.shard.Shard.search.Goals as goal
 
 pub returns-in_default-clause-searched : goal.returns-in_default-clause-searched
@@ -40,6 +40,31 @@ settle-requires-clause-here g c =
     ap (λ (q : PageQueues). has_number c.in-Some-front.page (class_queue q c.args.c)) c.try_page.ensures.queues
     ∙ front_has c.args.c c.in-Some-front.page c.loop-turn.self.queues front
 
+pub returns-in-Some-try_page-clause-searched : goal.returns-in-Some-try_page-clause-searched
+returns-in-Some-try_page-clause-searched g c =
+    let front : slice_get (class_queue c.loop-turn.self.queues c.args.c) 0
+    ≡ Some c.in-Some-front.page = ap (λ (z : Sharded). slice_get (class_queue z.queues c.args.c) 0)
+    (sym c.self-in-loop-turn.view_is) ∙ (sym c.front.ensures.front ∙ c.in-Some-front.is) in
+    let sorted : SortedPages c.loop-turn.self.pages c.loop-turn.self.queues = subst
+    (λ (z : Sharded). SortedPages z.pages z.queues) c.self-in-loop-turn.view_is c.self-in-loop-turn.invariant in
+    let inside : c.in-Some-front.page < c.loop-turn.self.queues.opened = subst
+    (λ (z : Sharded). c.in-Some-front.page < z.queues.opened) c.self-in-loop-turn.view_is
+    c.in-Some-front.ensures.opened in
+    found g.L.KeyLayout.layout c.args.c c.in-Some-front.page c.in-Some-try_page.key c.loop-turn._turn c.in-Some.last
+    c.args.value.now c.args.self.now c.loop-turn.self c.try_page.new.self c.loop-turn.invariant.searching sorted
+    (front_has c.args.c c.in-Some-front.page c.loop-turn.self.queues front) inside c.in-Some-try_page.ensures.key
+    c.in-Some-try_page.ensures.tried c.try_page.ensures.queues
+
+pub returns-in-Some-try_page-clause-steps : goal.returns-in-Some-try_page-clause-steps
+returns-in-Some-try_page-clause-steps g c =
+    let front : slice_get (class_queue c.loop-turn.self.queues c.args.c) 0
+    ≡ Some c.in-Some-front.page = ap (λ (z : Sharded). slice_get (class_queue z.queues c.args.c) 0)
+    (sym c.self-in-loop-turn.view_is) ∙ (sym c.front.ensures.front ∙ c.in-Some-front.is) in
+    let sorted : SortedPages c.loop-turn.self.pages c.loop-turn.self.queues = subst
+    (λ (z : Sharded). SortedPages z.pages z.queues) c.self-in-loop-turn.view_is c.self-in-loop-turn.invariant in
+    found_in c.args.c c.in-Some-front.page c.loop-turn._turn c.in-Some.last (length c.args.value.now) c.args.self.now
+    c.loop-turn.self c.try_page.new.self c.loop-turn.invariant.searching sorted front c.in-Some-try_page.ensures.steps
+
 pub returns-then-page-last-clause-searched : goal.returns-then-page-last-clause-searched
 returns-then-page-last-clause-searched g c =
     let front : slice_get (class_queue c.loop-turn.self.queues c.args.c) 0
@@ -47,10 +72,13 @@ returns-then-page-last-clause-searched g c =
     (sym c.self-in-loop-turn.view_is) ∙ (sym c.front.ensures.front ∙ c.in-Some-front.is) in
     let once : EachOnce c.loop-turn.self.queues = subst (λ (z : Sharded). EachOnce z.queues) c.self-in-loop-turn.view_is
     c.opened-opened-in-loop-turn.ensures.once in
+    let sorted : SortedPages c.loop-turn.self.pages c.loop-turn.self.queues = subst
+    (λ (z : Sharded). SortedPages z.pages z.queues) c.self-in-loop-turn.view_is c.self-in-loop-turn.invariant in
     let tried = c.in_default-try_page.ensures.tried in
     ended c.args.c c.in-Some-front.page c.loop-turn._turn c.in-Some.last c.args.self.now c.loop-turn.self
     c.try_page.new.self c.settle.new.self c.loop-turn.invariant.searching front once c.requires.class
-    c.try_page.ensures.queues tried.0 tried.1 c.settle.ensures c.if-page-last.true
+    c.try_page.ensures.queues tried.0 tried.1 c.settle.ensures c.in_default-try_page.ensures.steps sorted
+    c.if-page-last.true
 
 pub loop-turn-preserved : goal.loop-turn-preserved
 loop-turn-preserved g c =
@@ -65,6 +93,7 @@ loop-turn-preserved g c =
     ∙ ap (λ (q : PageQueues). q.opened) c.try_page.ensures.queues in record {
       searching = more c.args.c c.in-Some-front.page c.loop-turn._turn c.in-Some.last c.args.self.now c.loop-turn.self
           c.try_page.new.self c.settle.new.self c.loop-turn.invariant.searching front once c.requires.class
-          c.try_page.ensures.queues tried.0 tried.1 c.settle.ensures opened c.if-page-last.false;
+          c.try_page.ensures.queues tried.0 tried.1 c.settle.ensures opened c.in_default-try_page.ensures.steps
+          c.if-page-last.false;
       opened = opened ∙ c.loop-turn.invariant.opened;
     }

@@ -1,0 +1,143 @@
+-- Pages that are filed in ascending order.
+use Rattle.std.proofs.Common.{◌≡◌, ◌≢◌, ℕ, suc, ◌+◌, ◌-◌, ◌*◌, ◌<◌, ◌≤◌, ◌||◌, ◌⊎◌, inl, inr, ⊎_elim, Bool, true, false, cond}
+use Rattle.std.proofs.Common.{Some, List, [], ◌∷◌, ◌++◌, append_assoc, append-nil, length, refl, ap, ◌∙◌, sym, subst}
+use Rattle.std.proofs.Common.{arith}
+use Rattle.std.specs.Prelude.{◌==◌}
+use Rattle.std.proofs.lemmas.Bool.{cases_eq, false≢true}
+use Rattle.std.proofs.lemmas.Bool.Decides.{nat_tests}
+use Rattle.sh_queue.specs.Numbers.{has_number, RisesFrom}
+use Rattle.sh_queue.specs.Queues.{PageQueues, EachOnce, class_queue, at_back}
+use Rattle.sh_queue.proofs.Numbers.{has_number-append, has_number-here, has_number-there}
+use Rattle.sh_queue.proofs.PageLaws.{class_apart, class_queue-at_back_same, class_queue-at_back_other, has_number-only}
+use Rattle.sh_queue.proofs.PageLaws.{without_number-hasnt}
+use Rattle.sh_shard.specs.Pages.{Paged, page_at, seen_class}
+use Rattle.sh_shard.specs.Shards.{SortedPages, FullPage}
+use Rattle.sh_shard.specs.Filing.{OpensClassed, ReturnsRising}
+use Rattle.sh_shard.specs.Returning.{ReturnsPage, ReturnedBelow, IsClassedEnd}
+
+-- a number above all stands behind them
+pub rises_append : (low k : ℕ) (xs : List ℕ) → RisesFrom low xs → low ≤ k
+    → ((p : ℕ) → has_number p xs ≡ true → p < k) → RisesFrom low (xs ++ k ∷ [])
+rises_append low k [] r l below = (l, tt)
+rises_append low k (x ∷ xs) r l below = (
+  r.0,
+  rises_append (suc x) k xs r.1 (let b = below x (has_number-here x xs) in omega arith)
+      (λ p here. below p (has_number-there p x xs here)),
+)
+
+-- where nothing stands, all rises
+pub rises_nothing : (xs : List ℕ) → ((p : ℕ) → has_number p xs ≡ false) → RisesFrom 0 xs
+rises_nothing [] none = tt
+rises_nothing (x ∷ xs) none = absurd (false≢true (sym (none x) ∙ has_number-here x xs))
+
+either : (a b : Bool) → a || b ≡ true → (a ≡ true) ⊎ (b ≡ true)
+either true b e = inl refl
+either false b e = inr e
+
+-- what stands there, or is the number behind it, is below the next number
+pub below_append : (k : ℕ) (xs : List ℕ) → ((p : ℕ) → has_number p xs ≡ true → p < k) → (p : ℕ)
+    → has_number p (xs ++ k ∷ []) ≡ true → p < k + 1
+below_append k xs below p here = ⊎_elim
+    (λ (h : has_number p xs ≡ true). let b = below p h in omega arith)
+    (λ (h : has_number p (k ∷ []) ≡ true). let b = has_number-only p k h in omega arith)
+    (either (has_number p xs) (has_number p (k ∷ [])) (sym (has_number-append p xs (k ∷ [])) ∙ here))
+
+-- ---- the queue of each class once page k went to the back of class d, and stood in no class
+
+module _ (d k : ℕ) (q : PageQueues) (inside : d < length q.classes)
+    (none : (c : ℕ) → has_number k (class_queue q c) ≡ false) where
+  pub back_same : class_queue (at_back d k q) d ≡ class_queue q d ++ k ∷ []
+  back_same = class_queue-at_back_same d k q inside
+      ∙ ap (λ xs. xs ++ k ∷ []) (without_number-hasnt k (class_queue q d) (none d))
+
+  pub back_other : (c : ℕ) → c ≢ d → class_queue (at_back d k q) c ≡ class_queue q c
+  back_other c other = class_queue-at_back_other d k q c other
+      ∙ without_number-hasnt k (class_queue q c) (none c)
+
+-- a full page stands in no class
+full_apart : (k : ℕ) (q : PageQueues) → EachOnce q → has_number k q.full ≡ true → (c : ℕ)
+    → has_number k (class_queue q c) ≡ false
+full_apart k q once full c = go (has_number k (class_queue q c)) refl where
+  go : (b : Bool) → has_number k (class_queue q c) ≡ b → b ≡ false
+  go false is = refl
+  go true is = absurd (false≢true (sym (class_apart k q once c is).0 ∙ full))
+
+-- ---- pages that come back
+
+pub returned_none : (q : PageQueues) → ReturnedBelow 0 q q
+returned_none q = record {
+  opened = refl;
+  classes = λ c. ([], sym (append-nil (class_queue q c)), tt, λ p here. absurd (false≢true here));
+}
+
+pub returned_more : (k : ℕ) (v : Paged) (q r t : PageQueues) → ReturnedBelow k q r → EachOnce r
+    → (has_number k r.full ≡ true → (0 < seen_class (page_at v k)) × (seen_class (page_at v k) ≤ 8))
+    → ReturnsPage k v r t → ReturnedBelow (k + 1) q t
+returned_more k v q r t b once word why = ⊎_elim
+    (λ (h : (t ≡ r) × ((has_number k r.full ≡ false) ⊎ FullPage (page_at v k))).
+    subst (ReturnedBelow (k + 1) q) (sym h.0) (record {
+      opened = b.opened;
+      classes = λ c. let z = b.classes c in (z.0, z.1, z.2, λ p here. let l = z.3 p here in omega arith);
+    }))
+    (λ (h : (has_number k r.full ≡ true) × (t ≡ at_back (seen_class (page_at v k) - 1) k r)).
+    subst (ReturnedBelow (k + 1) q) (sym h.1) (went h.0))
+    why
+  where
+    d : ℕ
+    d = seen_class (page_at v k) - 1
+
+    went : has_number k r.full ≡ true → ReturnedBelow (k + 1) q (at_back d k r)
+    went full =
+        let none = full_apart k r once full in
+        let inside : d < length r.classes = let e = once.classes in let w = word full in let w0 = w.0 in let w1 = w.1
+        in omega arith in record {
+          opened = b.opened;
+          classes = λ c. let z = b.classes c in ⊎_elim
+              (λ (is : c ≡ d). (
+                z.0 ++ k ∷ [],
+                ap (class_queue (at_back d k r)) is ∙ (back_same d k r inside none
+                    ∙ (ap (λ xs. xs ++ k ∷ []) (ap (class_queue r) (sym is) ∙ z.1)
+                    ∙ append_assoc (class_queue q c) z.0 (k ∷ []))),
+                rises_append 0 k z.0 z.2 (omega arith) z.3,
+                below_append k z.0 z.3,
+              ))
+              (λ (other : c ≢ d). (
+                z.0,
+                back_other d k r inside none c other ∙ z.1,
+                z.2,
+                λ p here. let l = z.3 p here in omega arith,
+              ))
+              (cases_eq c d);
+        }
+
+pub returns_rising : (k : ℕ) (q r : PageQueues) → ReturnedBelow k q r → ReturnsRising q r
+returns_rising k q r b = record {
+  opened = b.opened;
+  classes = λ c. let z = b.classes c in (z.0, z.1, z.2);
+}
+
+-- ---- how many segments are opened
+
+pub end_next : (end next page word : ℕ) (v : Paged) → IsClassedEnd end v → (page_at v page).class ≡ Some word
+    → next ≡ cond (word == 0) end (page + 1) → IsClassedEnd next v
+end_next end next page word v before class is = go (word == 0) refl where
+  go : (b : Bool) → (word == 0) ≡ b → IsClassedEnd next v
+  go true e = subst (λ z. IsClassedEnd z v) (sym (is ∙ ap (λ b. cond b end (page + 1)) e)) before
+  go false e = inr (
+    page,
+    is ∙ ap (λ b. cond b end (page + 1)) e,
+    λ blank.
+        let f : Some word ≡ Some 0 = sym class ∙ blank in
+        let z : word ≡ 0 = cc in
+        false≢true (sym e ∙ (grind (arith, nat_tests))),
+  )
+
+pub opens_classed : (v : Paged) (q : PageQueues) (end k : ℕ) → SortedPages v q → v.count ≡ 8 * k → IsClassedEnd end v
+    → end ≤ q.opened → q.opened < end + 8 → OpensClassed v q
+opens_classed v q end k sorted size before enough needed = record { later = sorted.later; last = last } where
+  last : (q.opened ≡ 0) ⊎ ((p : ℕ) × (p < q.opened) × (q.opened ≤ p + 8) × ((page_at v p).class ≢ Some 0))
+  last = ⊎_elim
+      (λ (none : end ≡ 0). inl (let a = sorted.all in omega arith))
+      (λ (h : (p : ℕ) × (end ≡ p + 1) × ((page_at v p).class ≢ Some 0)).
+      inr (h.0, (let e = h.1 in omega arith), (let e = h.1 in omega arith), h.2))
+      before

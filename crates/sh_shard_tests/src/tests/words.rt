@@ -1,0 +1,58 @@
+//! The words of a heap of which all passes met.
+ghost use Rattle.std.specs.Prelude.{◌<◌};
+ghost use Rattle.sh_shape.specs.Places.{all_pages};
+
+use super::*;
+use sh_key::Tiny;
+use sh_shape::Place;
+use std::test::Fail;
+
+// The number of the first page over the whole heap.
+fn first_page(rt: &impl Abort, shape: &Shape) -> u64
+    ensures { result < all_pages shape.now }
+{
+    assert!(rt; shape.shards() > 0);
+    assert!(rt; shape.pages() > 0);
+    u64::from(shape.page_number(0, 0))
+}
+
+// The state word of a slot of the first page.
+fn state_word(rt: &impl Abort, pass: &mut Pass<'_, Tiny>, slot: u64) -> u64
+    requires { slot < 48 }
+{
+    let page = first_page(rt, pass.shape());
+    assert!(rt; pass.is_whole());
+    pass.load(Place::State(page, slot))
+}
+
+// The head word of the first page.
+fn head_word(rt: &impl Abort, pass: &mut Pass<'_, Tiny>) -> u64 {
+    let page = first_page(rt, pass.shape());
+    assert!(rt; pass.is_whole());
+    pass.load(Place::Head(page))
+}
+
+// After its third generation, the last of the layout, a slot is retired: its state word says so, and no owner puts it on
+// the page's stack, whose head stays empty. The slots beside it are live, in their first generation.
+#[test]
+fn a_retired_slot_has_its_word(rt: HostRuntime) -> Result<(), Fail> {
+    let (heap, seats) = opened::<Tiny>(&rt, rt.alloc(), 1, 1, 1);
+    let mut shard = adopted(&rt, rt.alloc(), one_pass(&rt, rt.alloc(), &heap, seats), 0);
+    for key in [4_096, 4_097, 4_098] {
+        assert_eq!(rt; put(&mut shard, &sixteen(&rt)), Ok(key));
+    }
+    for key in [4_096, 8_192] {
+        assert_eq!(rt; shard.remove(key), Ok(()));
+        assert_eq!(rt; put(&mut shard, &sixteen(&rt)), Ok(key + 4_096));
+    }
+    assert_eq!(rt; shard.remove(12_288), Ok(()));
+    for key in [4_096, 8_192, 12_288] {
+        assert_eq!(rt; shard.get(key), Err(Refusal::Gone));
+    }
+    let mut pass = left(&rt, shard);
+    assert_eq!(rt; state_word(&rt, &mut pass, 0), 15_032_385_536);
+    assert_eq!(rt; state_word(&rt, &mut pass, 1), 5_368_709_120);
+    assert_eq!(rt; state_word(&rt, &mut pass, 2), 5_368_709_120);
+    assert_eq!(rt; head_word(&rt, &mut pass), 0);
+    Ok(())
+}
