@@ -1,5 +1,7 @@
 //! Passes, and owners, for callers that give up where they are refused: what a call hands back then is let go.
-ghost use Rattle.std.specs.Prelude.{◌≡◌};
+ghost use Rattle.std.specs.Prelude.{◌≡◌, MatchResult, Ok, Err};
+ghost use Rattle.sh_pass.specs.Passes.{Caller, newcomers};
+ghost use Rattle.sh_shard.specs.Shards.{AdoptServes, LeaveServes, Sharded};
 
 use crate::lots::insert_each;
 use sh_key::KeyLayout;
@@ -16,8 +18,14 @@ pub fn passes_of<L: KeyLayout>(
     seats: Seats<L>,
 ) -> Result<Vec<Pass<'_, L>>, Refusal>
     requires { seats ≡ heap.now }
+    ensures { MatchResult result
+        (λ passes. passes.items ≡ newcomers heap.now heap.now.shape.passes)
+        (λ why. why ≡ Refusal.Memory) }
 {
-    heap.passes(alloc, seats).map_err(|(_, why)| why)
+    match heap.passes(alloc, seats) {
+        Ok(passes) => Ok(passes),
+        Err((_, why)) => Err(why),
+    }
 }
 
 /// The owner that the pass becomes by adopting the shard.
@@ -25,13 +33,27 @@ pub fn adopted<'a, L: KeyLayout>(
     alloc: Global,
     pass: Pass<'a, L>,
     shard: u64,
-) -> Result<Shard<'a, L>, Refusal> {
-    Shard::adopt(alloc, pass, shard).map_err(|(_, why)| why)
+) -> Result<Shard<'a, L>, Refusal>
+    ensures { MatchResult result
+        (λ owner. AdoptServes shard pass.entry (Ok owner))
+        (λ why. (back : Caller) × AdoptServes shard pass.entry (Err (back, why))) }
+{
+    match Shard::adopt(alloc, pass, shard) {
+        Ok(owner) => Ok(owner),
+        Err((_, why)) => Err(why),
+    }
 }
 
 /// The pass that an owner is again once it has left.
-pub fn left<'a, L: KeyLayout>(owner: Shard<'a, L>) -> Result<Pass<'a, L>, Refusal> {
-    owner.leave().map_err(|(_, why)| why)
+pub fn left<'a, L: KeyLayout>(owner: Shard<'a, L>) -> Result<Pass<'a, L>, Refusal>
+    ensures { MatchResult result
+        (λ pass. LeaveServes owner.entry (Ok pass))
+        (λ why. (back : Sharded) × LeaveServes owner.entry (Err (back, why))) }
+{
+    match owner.leave() {
+        Ok(pass) => Ok(pass),
+        Err((_, why)) => Err(why),
+    }
 }
 
 /// An owner of the shard that has inserted the values of the first places, one for each key that is asked for.

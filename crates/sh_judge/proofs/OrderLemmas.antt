@@ -1,5 +1,5 @@
 -- Placed lines that stand in the order of their points are a history that keeps to the times of the calls.
-use Rattle.std.proofs.Common.{◌≡◌, ℕ, ◌+◌, ◌*◌, ◌<◌, ◌≤◌, Bool, true, false, inl, inr, List, [], ◌∷◌, length, get_or, map, refl, sym, subst, ◌∙◌, arith}
+use Rattle.std.proofs.Common.{◌≡◌, ℕ, ◌<◌, ◌≤◌, Bool, true, false, inl, inr, List, [], ◌∷◌, length, get_or, map, refl, sym, subst, ◌∙◌, arith}
 use Rattle.std.proofs.lemmas.List.{get_or-map, length-map}
 use Rattle.std.proofs.lemmas.List.Elements.{All-get_or}
 use Rattle.std.proofs.lemmas.Bool.{true≢false}
@@ -20,6 +20,7 @@ use Rattle.sh_judge.specs.declared.line.Line.{Line}
 use Rattle.sh_judge.specs.declared.point.Point.{Point}
 use Rattle.sh_judge.specs.Points.{time, IsWithin}
 use Rattle.sh_judge.specs.Histories.{IsEntryOf, IsHistoryOf}
+use Rattle.sh_judge.specs.Marks.{MarksAreRemoved}
 use Rattle.sh_judge.specs.Orders.{line_of, IsInOrder, entry_of_placed}
 
 not_above : (a b : ℕ) (t : Bool) → t ≡ false → (a < b → t ≡ true) → b ≤ a
@@ -65,10 +66,12 @@ times_kept (p ∷ ps) within rises i j d up below =
     rw (get_or-map line_of (p ∷ ps) i p d i_below, get_or-map line_of (p ∷ ps) j p d j_below) (omega arith)
 
 pub history_of : (lines : List Line) (placed : List Placed) (issued : List ℕ) (history : List Entry)
-    → IsInOrder lines placed → history ≡ map (entry_of_placed issued) placed → IsHistoryOf lines history
-history_of lines placed issued history order is = record {
+    → IsInOrder lines placed → history ≡ map (entry_of_placed issued) placed
+    → MarksAreRemoved (map line_of placed) history → IsHistoryOf lines history
+history_of lines placed issued history order is marks = record {
   ordered = map line_of placed;
   each_once = order.each_once;
   keeps_times = times_kept placed order.within order.in_time;
   entries = subst (AllZip IsEntryOf (map line_of placed)) (sym is) (entries_told issued placed);
+  marks = marks;
 }

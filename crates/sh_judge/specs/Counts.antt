@@ -1,5 +1,5 @@
 -- What is counted, and the number of each.
-use Rattle.std.specs.Prelude.{ℕ, slice_index}
+use Rattle.std.specs.Prelude.{◌≡◌, ℕ, ◌+◌, ◌-◌, ◌^◌, min, slice_index, slice_set}
 use Rattle.sh_judge.specs.declared.counts.Count.{Count}
 use Rattle.sh_judge.specs.declared.counts.Count.TheVariants as count
 use Rattle.sh_judge.specs.declared.counts.Counts.{Counts}
@@ -35,3 +35,17 @@ place_of count.Queued = 24
 -- how often this was counted
 abbrev pub number_of : Counts → Count → ℕ
 number_of counts count = slice_index counts.numbers (place_of count)
+
+-- the number, or the greatest of 64 bits where it is above that
+abbrev pub saturated : ℕ → ℕ
+saturated n = min n (2 ^ 64 - 1)
+
+-- this was counted so many times more, and nothing else
+abbrev pub counted : Count → ℕ → Counts → Counts
+counted count more counts =
+    record counts { numbers = slice_set counts.numbers (place_of count) (saturated (number_of counts count + more)) }
+
+-- of each thing as many were counted as by both
+abbrev pub CountsBoth : (one other both : Counts) → Type 0
+CountsBoth one other both =
+    (count : Count) → number_of both count ≡ saturated (number_of one count + number_of other count)

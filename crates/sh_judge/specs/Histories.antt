@@ -7,6 +7,7 @@ use Rattle.sh_history.specs.declared.entry.Entry.TheVariants as entry
 use Rattle.sh_judge.specs.declared.line.Line.{Line}
 use Rattle.sh_judge.specs.declared.line.Told.{Told}
 use Rattle.sh_judge.specs.declared.line.Told.TheVariants.{Inserted, Got, Gone, Crowded, Removed, Marked, Released}
+use Rattle.sh_judge.specs.Marks.{MarksAreRemoved}
 
 abbrev pub entry_told : Bool → List ℕ → (pass key : ℕ) → Told → Entry
 entry_told is_remover issued pass key (Inserted value) = entry.Insert pass key value
@@ -28,10 +29,11 @@ abbrev pub IsEntryOf : Line → Entry → Type 0
 IsEntryOf line e = (is_remover : Bool) × (issued : List ℕ) × (e ≡ entry_of_line is_remover issued line)
 
 -- the history has an entry for each line, in an order that keeps to the times of the calls: none began only when one
--- that stands behind it had ended
+-- that stands behind it had ended. A mark by hand stands for the removal of its key, or for a Gone behind it
 pub record IsHistoryOf (lines : List Line) (history : List Entry) : Type 0 where
   pub ordered : List Line
   pub each_once : IsPermutation lines ordered
   pub keeps_times : (i j : ℕ) (d : Line) → i ≤ j → j < length ordered
       → (slice_index_or ordered i d).span.begin < (slice_index_or ordered j d).span.end
   pub entries : AllZip IsEntryOf ordered history
+  pub marks : MarksAreRemoved ordered history

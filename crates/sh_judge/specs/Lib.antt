@@ -1,8 +1,11 @@
 pub mod Pattern
 pub mod Points
+pub mod Courses
+pub mod Marks
 pub mod Histories
 pub mod Orders
 pub mod Pages
 pub mod Counts
 pub mod Records
 pub mod Tallies
+pub mod Choices

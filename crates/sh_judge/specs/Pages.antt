@@ -1,5 +1,5 @@
 -- What the answers say of the pages of a heap.
-use Rattle.std.specs.Prelude.{◌≡◌, ◌≢◌, ℕ, ◌+◌, ◌-◌, ◌^◌, ◌==◌, ◌⊎◌, min, nat_lt, Bool, if◌then◌else◌, Option, Some, None}
+use Rattle.std.specs.Prelude.{◌≡◌, ◌≢◌, ℕ, ◌+◌, ◌-◌, ◌^◌, ◌⊎◌, min, nat_lt, Bool, if◌then◌else◌, Option, Some, None}
 use Rattle.sh_core.specs.declared.accounts.Accounts.{Accounts}
 use Rattle.sh_shape.specs.Classes.{slots}
 use Rattle.sh_judge.specs.declared.tally.PageTally.{PageTally}

@@ -1,5 +1,6 @@
 -- What is noted of a pass.
-use Rattle.std.specs.Prelude.{◌≡◌, ℕ, ◌⊎◌, List, [], ◌∷◌, ◌++◌, Option, Some, unwrap_or}
+use Rattle.std.specs.Prelude.{◌≡◌, ◌≢◌, ℕ, ◌⊎◌, List, [], ◌∷◌, ◌++◌, Option, Some, None, length, option_and_then, slice_get, slice_set, unwrap_or}
+use Rattle.sh_value.specs.declared.hold.Hold.{Hold}
 use Rattle.sh_value.specs.declared.refusal.Refusal.{Refusal}
 use Rattle.sh_value.specs.declared.refusal.Refusal.TheVariants as refusal
 use Rattle.sh_judge.specs.declared.fault.Call.{Call}
@@ -7,7 +8,14 @@ use Rattle.sh_judge.specs.declared.fault.Fault.{Fault}
 use Rattle.sh_judge.specs.declared.fault.Fault.TheVariants as fault
 use Rattle.sh_judge.specs.declared.fault.Wrong.TheVariants as wrong
 use Rattle.sh_judge.specs.declared.line.Line.{Line}
+use Rattle.sh_judge.specs.declared.line.Span.{Span}
+use Rattle.sh_judge.specs.declared.line.Told.{Told}
+use Rattle.sh_judge.specs.declared.line.Told.TheVariants.{Got}
+use Rattle.sh_judge.specs.declared.counts.Count.TheVariants as count
+use Rattle.sh_judge.specs.declared.record.Held.{Held}
 use Rattle.sh_judge.specs.declared.record.Record.{Record}
+use Rattle.sh_judge.specs.Counts.{counted}
+use Rattle.sh_judge.specs.Pattern.{IsPattern}
 
 -- the fault that a refusal is which cannot be
 abbrev pub refusal_fault : ℕ → Call → Refusal → Fault
@@ -30,3 +38,43 @@ pub record LacksLine (old new : Record) : Type 0 where
 
 abbrev pub IsTold : Record → Record → Line → Type 0
 IsTold old new line = HasLine old new line ⊎ LacksLine old new
+
+-- a hold was got: a line tells of it, and the hold names that line
+pub record HasHold (old new : Record) (hold : Hold) (span : Span) : Type 0 where
+  pub lines : new.lines.items
+      ≡ old.lines.items ++ record { pass = old.pass; key = hold.key; span = span; told = Got None } ∷ []
+  pub holds : new.holds.items ≡ old.holds.items ++ record { hold = hold; line = length old.lines.items } ∷ []
+  pub fault : new.fault ≡ old.fault
+
+-- the value that an answer tells of, where it was read
+abbrev pub value_told : Told → Option (List ℕ)
+value_told (Got value) = value
+value_told _ = None
+
+-- the value that was read of a hold, as its line tells
+abbrev pub value_read : Record → Held → Option (List ℕ)
+value_read record' held =
+    option_and_then (λ (line : Line). value_told line.told) (slice_get record'.lines.items held.line)
+
+-- a fault is noted, where there was none before, and no line changes
+pub record FindsFault (old new : Record) (found : Fault) : Type 0 where
+  pub fault : new.fault ≡ first_fault old found
+  pub lines : new.lines.items ≡ old.lines.items
+
+-- the line of the hold tells that the value was read, and each other line stays
+pub record TellsValue (old new : Record) (held : Held) (value : List ℕ) : Type 0 where
+  pub fault : new.fault ≡ old.fault
+  pub line : (line : Line) → slice_get old.lines.items held.line ≡ Some line
+      → new.lines.items ≡ slice_set old.lines.items held.line (record line { told = Got (Some value) })
+  pub none : slice_get old.lines.items held.line ≡ None → new.lines.items ≡ old.lines.items
+
+-- what a read of a hold leads to: the value is torn, or another one than was read before, or it is noted
+pub record Reads (old new : Record) (held : Held) (value : List ℕ) : Type 0 where
+  pub torn : ¬ IsPattern value → FindsFault old new (fault.Wrong (wrong.Torn old.pass held.hold.key))
+  pub changed : IsPattern value → (before : List ℕ) → value_read old held ≡ Some before → before ≢ value
+      → FindsFault old new (fault.Wrong (wrong.Changed old.pass held.hold.key))
+  pub noted : IsPattern value → ((before : List ℕ) → value_read old held ≡ Some before → before ≡ value)
+      → TellsValue old new held value
+  pub counts : new.counts ≡ counted count.Reads 1 old.counts
+  pub pass : new.pass ≡ old.pass
+  pub holds : new.holds ≡ old.holds

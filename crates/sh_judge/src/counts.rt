@@ -1,6 +1,6 @@
 //! How often what was answered.
 ghost use Rattle.std.specs.Prelude.{◌≡◌};
-ghost use Rattle.sh_judge.specs.Counts.{number_of};
+ghost use Rattle.sh_judge.specs.Counts.{counted, number_of, CountsBoth};
 ghost use Rattle.sh_judge.specs.declared.counts.Count.{Count};
 
 use std::fmt;
@@ -77,22 +77,29 @@ impl Counts {
         Counts { numbers: [0; 25] }
     }
 
-    /// Counts so many more.
-    pub fn add(&mut self, count: Count, more: u64) {
-        if let Some(number) = self.numbers.get_mut(count as usize) {
-            *number = number.saturating_add(more);
+    /// Counts so many more, up to the greatest number of 64 bits.
+    pub fn add(&mut self, count: Count, more: u64)
+        ensures { self.new ≡ counted count more self.old }
+    {
+        let place = count as usize;
+        if place < 25 {
+            self.numbers[place] = self.numbers[place].saturating_add(more);
         }
     }
 
     /// Counts one more.
-    pub fn one(&mut self, count: Count) {
+    pub fn one(&mut self, count: Count)
+        ensures { self.new ≡ counted count 1 self.old }
+    {
         self.add(count, 1);
     }
 
     /// Adds what another counted.
-    pub fn take_in(&mut self, other: &Counts) {
-        for (number, more) in self.numbers.iter_mut().zip(other.numbers.iter()) {
-            *number = number.saturating_add(*more);
+    pub fn take_in(&mut self, other: &Counts)
+        ensures { CountsBoth self.old other.now self.new }
+    {
+        for (place, more) in other.numbers.iter().enumerate() {
+            self.numbers[place] = self.numbers[place].saturating_add(*more);
         }
     }
 

@@ -2,16 +2,19 @@
 //!
 //! Each rule of a legal history speaks of one key alone. So the history of all passes is legal exactly where, for each
 //! key, the answers on it are.
-ghost use Rattle.std.specs.Prelude.{◌≡◌, IfOk, IfSome, map};
+ghost use Rattle.std.specs.Prelude.{◌≡◌, ◌⊎◌, IfOk, IfErr, IfSome, IsTrue, length, map};
 ghost use Rattle.sh_history.specs.History.{Legal};
 ghost use Rattle.sh_judge.specs.Histories.{entry_of_line, IsHistoryOf};
-ghost use Rattle.sh_judge.specs.Orders.{entry_of_placed, IsInOrder};
+ghost use Rattle.sh_judge.specs.Marks.{MarksAreRemoved};
+ghost use Rattle.sh_judge.specs.Orders.{entry_of_placed, line_of, IsInOrder};
+ghost use Rattle.sh_judge.specs.declared.fault.Fault.TheVariants as fault;
 
 use crate::fault::{Fault, Wrong};
 use crate::line::{Line, Told};
 use crate::order;
 use crate::order::Course;
 use crate::point::Point;
+use sh_history::look::is_removed;
 use sh_history::{Entry, check};
 use sh_value::Value;
 use std::alloc::{AllocError, Global};
@@ -25,6 +28,8 @@ struct Placed<'a> {
 }
 
 impl From<AllocError> for Fault {
+    ghost from_gives = { λ _ f. f ≡ fault.Memory };
+
     fn from(_: AllocError) -> Fault {
         Fault::Memory
     }
@@ -93,7 +98,21 @@ fn history(alloc: Global, placed: &[Placed], issued: &Value) -> Result<Vec<Entry
     Ok(entries)
 }
 
+// Whether each mark by hand stands for the removal of its key, or behind it.
+fn marks_are_removed(placed: &[Placed], entries: &[Entry]) -> bool
+    requires { length entries.now ≡ length placed.now }
+    ensures { IsTrue result → MarksAreRemoved (map line_of placed.now) entries.now }
+{
+    for (place, at) in placed.iter().enumerate() {
+        if at.line.told == Told::Marked && !is_removed(&entries[..place + 1], at.line.key) {
+            return false;
+        }
+    }
+    true
+}
+
 /// The history of a key, by all lines on it: an order that keeps to the times of their calls, in which they are legal.
+/// A key that was marked by hand is removed by then, by this mark or by an entry before it.
 pub fn judged(
     alloc: Global,
     key: u64,
@@ -103,6 +122,7 @@ pub fn judged(
 ) -> Result<Vec<Entry>, Fault>
     ensures legal { IfOk result (λ history. Legal passes guard_max history.items) }
     ensures told { IfOk result (λ history. IsHistoryOf lines.now history.items) }
+    ensures err { IfErr result (λ fault. (fault ≡ Fault.Memory) ⊎ (fault ≡ Fault.Wrong (Wrong.NoOrder key))) }
 {
     let course = order::decide(lines);
     let Some(placed) = in_order(alloc, lines, course)? else {
@@ -110,6 +130,9 @@ pub fn judged(
     };
     let issued = value_inserted(lines);
     let entries = history(alloc, placed.as_slice(), &issued)?;
+    if !marks_are_removed(placed.as_slice(), entries.as_slice()) {
+        return Err(Fault::Wrong(Wrong::NoOrder(key)));
+    }
     match check(entries.as_slice(), passes, guard_max) {
         Ok(()) => Ok(entries),
         Err(_) => Err(Fault::Wrong(Wrong::NoOrder(key))),

@@ -3,6 +3,13 @@
 //! The insert is put as late as it may be: before the first answer ends that needs the value. A get is put as early as
 //! it may be, a release as late. The removal is put as early as it may be: after each answer that needs the value. So
 //! where any order is legal and keeps to the times, this one does.
+ghost use Rattle.std.specs.Prelude.{◌≡◌, ◌≤◌, ◌⊎◌, true, false, All, IsTrue, IfSome, IfNone};
+ghost use Rattle.std.specs.List.{list_any};
+ghost use Rattle.std.specs.Option.{MatchOption};
+ghost use Rattle.sh_judge.specs.Courses.{FollowsInsert, IsBegun, IsCourse, IsEarly, IsInsertPoint, IsLate, IsPointOf};
+ghost use Rattle.sh_judge.specs.Courses.{IsRemoval, IsRemover, is_use, needs_value, tells_insert};
+ghost use Rattle.sh_judge.specs.declared.line.Line.{Line as AnyLine};
+
 use crate::line::{Line, Told};
 use crate::point::{Point, Rank};
 
@@ -16,96 +23,169 @@ pub struct Course {
 }
 
 // Whether the answer is given only while there is a value.
-fn needs_value(told: &Told) -> bool {
+fn needs_value(told: &Told) -> bool
+    ensures { result ≡ needs_value told.now }
+{
     match told {
         Told::Inserted(_) | Told::Got(_) | Told::Crowded | Told::Removed | Told::Marked => true,
         Told::Gone | Told::Released => false,
     }
 }
 
-// The point of the insert, as late as it may be.
-fn inserted(lines: &[Line]) -> Option<Point> {
-    if !lines
+// Whether the answer is given only to one who found the value.
+fn is_use(told: &Told) -> bool
+    ensures { result ≡ is_use told.now }
+{
+    matches!(told, Told::Got(_) | Told::Crowded)
+}
+
+// The first end of a call whose answer needs the value.
+fn first_end(lines: &[Line]) -> Option<u64>
+    ensures first { IfSome result (λ end.
+        All (λ (line : AnyLine). needs_value line.told ≡ true → end ≤ line.span.end) lines.now) }
+    ensures none { IfNone result (All (λ (line : AnyLine). needs_value line.told ≡ false) lines.now) }
+{
+    let mut first = None;
+    for line in lines {
+        if needs_value(&line.told) {
+            first = match first {
+                Some(end) if end < line.span.end => Some(end),
+                _ => Some(line.span.end),
+            };
+        }
+    }
+    first
+}
+
+// Whether a line says that the key was inserted.
+fn has_insert(lines: &[Line]) -> bool
+    ensures { result ≡ list_any tells_insert lines.now }
+{
+    lines
         .iter()
         .any(|line| matches!(line.told, Told::Inserted(_)))
-    {
-        return None;
+}
+
+// The point of the insert, as late as it may be.
+fn inserted(lines: &[Line]) -> Option<Point>
+    ensures { MatchOption result (list_any tells_insert lines.now ≡ false) (IsInsertPoint lines.now) }
+{
+    match first_end(lines) {
+        Some(end) if has_insert(lines) => Some(Point::before(end, Rank::Insert)),
+        _ => None,
     }
-    let first_end = lines
-        .iter()
-        .filter(|line| needs_value(&line.told))
-        .map(|line| line.span.end)
-        .min()?;
-    Some(Point::before(first_end, Rank::Insert))
 }
 
 // The first point at which the call had begun and the key was inserted.
-fn earliest(line: &Line, inserted: Option<Point>, rank: Rank) -> Point {
+fn earliest(line: &Line, inserted: Option<Point>, rank: Rank) -> Point
+    ensures begun { IsBegun line.now result }
+    ensures behind { FollowsInsert inserted result }
+    ensures is_rank { result.rank ≡ rank }
+{
     let begun = Point::after(line.span.begin, rank);
     match inserted {
-        Some(inserted) => begun.max(inserted.with(rank)),
+        Some(inserted) => begun.latest(inserted.with(rank)),
         None => begun,
     }
 }
 
 // The last point at which a get was begun or the key was inserted.
-fn last_use(lines: &[Line], inserted: Option<Point>) -> Option<Point> {
-    lines
-        .iter()
-        .filter(|line| matches!(line.told, Told::Got(_) | Told::Crowded))
-        .map(|line| earliest(line, inserted, Rank::Get))
-        .max()
+fn last_use(lines: &[Line], inserted: Option<Point>) -> Option<Point>
+    ensures { MatchOption result (All (λ (line : AnyLine). is_use line.told ≡ false) lines.now)
+        (λ point. All (λ (line : AnyLine). is_use line.told ≡ true → IsBegun line point) lines.now) }
+{
+    let mut last: Option<Point> = None;
+    for line in lines {
+        if is_use(&line.told) {
+            let used = earliest(line, inserted, Rank::Get);
+            last = match last {
+                Some(point) => Some(point.latest(used)),
+                None => Some(used),
+            };
+        }
+    }
+    last
+}
+
+// Whether the line is a mark by hand whose call had not ended when the value was last used.
+fn may_remove(line: &Line, last_use: Option<Point>) -> bool
+    ensures { IsTrue result → line.now.told ≡ Told.Marked }
+{
+    line.told == Told::Marked
+        && last_use.is_none_or(|used| used < Point::before(line.span.end, Rank::Remove))
+}
+
+// The mark by hand that may have removed the key and began first.
+fn first_mark(lines: &[Line], last_use: Option<Point>) -> Option<usize>
+    ensures { IfSome result (IsRemover lines.now) }
+{
+    let mut first: Option<(usize, u64)> = None;
+    for (place, line) in lines.iter().enumerate() {
+        let is_first = first.is_none_or(|(_, begin)| line.span.begin < begin);
+        if is_first && may_remove(line, last_use) {
+            first = Some((place, line.span.begin));
+        }
+    }
+    first.map(|(place, _)| place)
 }
 
 // The line that removed the key, of those that say so or, where none does, of those that marked it by hand and had not
 // ended when the value was last used, the first that began.
-fn remover(lines: &[Line], last_use: Option<Point>) -> Option<usize> {
-    if let Some(place) = lines.iter().position(|line| line.told == Told::Removed) {
-        return Some(place);
+fn remover(lines: &[Line], last_use: Option<Point>) -> Option<usize>
+    ensures some { IfSome result (IsRemover lines.now) }
+    ensures none { IfNone result (All (λ (line : AnyLine). ¬ (line.told ≡ Told.Removed)) lines.now) }
+{
+    match lines.iter().position(|line| line.told == Told::Removed) {
+        Some(place) => Some(place),
+        None => first_mark(lines, last_use),
     }
-    let may_be = |line: &Line| line.told == Told::Marked
-        && last_use.is_none_or(|used| used < Point::before(line.span.end, Rank::Remove));
-    let first = lines
-        .iter()
-        .filter(|line| may_be(*line))
-        .map(|line| line.span.begin)
-        .min()?;
-    lines.iter().position(|line| line.told == Told::Marked && line.span.begin == first)
+}
+
+// The line that removed the key, and the point, as early as it may be: after each answer that needs the value.
+fn removed(lines: &[Line], inserted: Option<Point>) -> Option<(usize, Point)>
+    ensures { MatchOption result (All (λ (line : AnyLine). ¬ (line.told ≡ Told.Removed)) lines.now)
+        (λ removed. IsRemoval lines.now inserted removed.0 removed.1) }
+{
+    let last_use = last_use(lines, inserted);
+    let place = remover(lines, last_use)?;
+    let begun = earliest(&lines[place], inserted, Rank::Remove);
+    match last_use {
+        Some(used) => Some((place, begun.latest(used.with(Rank::Remove)))),
+        None => Some((place, begun)),
+    }
 }
 
 /// What is decided of a key by these lines, all that there are on it.
-pub fn decide(lines: &[Line]) -> Course {
+pub fn decide(lines: &[Line]) -> Course
+    ensures { IsCourse lines.now result }
+{
     let inserted = inserted(lines);
-    let last_use = last_use(lines, inserted);
-    let removed = match remover(lines, last_use) {
-        None => None,
-        Some(place) => lines.get(place).map(|line| {
-            let begun = earliest(line, inserted, Rank::Remove);
-            match last_use {
-                Some(used) => (place, begun.max(used.with(Rank::Remove))),
-                None => (place, begun),
-            }
-        }),
-    };
-    Course { inserted, removed }
+    Course {
+        inserted,
+        removed: removed(lines, inserted),
+    }
+}
+
+// After the removal.
+fn late(line: &Line, course: Course) -> Point
+    ensures { IsLate course line.now result }
+{
+    let begun = Point::after(line.span.begin, Rank::Late);
+    match course.removed {
+        Some((_, removed)) => begun.latest(removed.with(Rank::Late)),
+        None => begun,
+    }
 }
 
 // The point of an answer that the key is gone: before the insert where the call had begun by then, else after the
 // removal.
-fn gone(line: &Line, course: Course) -> Point {
+fn gone(line: &Line, course: Course) -> Point
+    ensures { IsEarly course line.now result ⊎ IsLate course line.now result }
+{
     let begun = Point::after(line.span.begin, Rank::Early);
-    if course.inserted.is_some_and(|inserted| begun < inserted) {
-        return begun;
-    }
-    late(line, course)
-}
-
-// After the removal.
-fn late(line: &Line, course: Course) -> Point {
-    let begun = Point::after(line.span.begin, Rank::Late);
-    match course.removed {
-        Some((_, removed)) => begun.max(removed.with(Rank::Late)),
-        None => begun,
+    match course.inserted {
+        Some(inserted) if begun.is_before(inserted) => begun,
+        Some(_) | None => late(line, course),
     }
 }
 
@@ -126,7 +206,11 @@ fn holds_at(lines: &[Line], inserted: Option<Point>, point: Point) -> u64 {
 
 // The point of a get that is refused as crowded: of the points at which it may stand, one at which there are most
 // holds.
-fn crowded(lines: &[Line], line: &Line, inserted: Option<Point>) -> Point {
+fn crowded(lines: &[Line], line: &Line, inserted: Option<Point>) -> Point
+    ensures begun { IsBegun line.now result }
+    ensures behind { FollowsInsert inserted result }
+    ensures is_rank { result.rank ≡ Rank.Crowded }
+{
     let mut best = earliest(line, inserted, Rank::Crowded);
     let mut most = holds_at(lines, inserted, best);
     for other in lines {
@@ -144,7 +228,9 @@ fn crowded(lines: &[Line], line: &Line, inserted: Option<Point>) -> Point {
 }
 
 /// The point of the line at this place among the lines on the key.
-pub fn point(lines: &[Line], place: usize, line: &Line, course: Course) -> Point {
+pub fn point(lines: &[Line], place: usize, line: &Line, course: Course) -> Point
+    ensures { IsPointOf course place line.now line.now.told result }
+{
     match &line.told {
         Told::Inserted(_) => match course.inserted {
             Some(inserted) => inserted,

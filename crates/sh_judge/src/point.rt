@@ -1,6 +1,7 @@
 //! Points in time at which answers may have been decided.
-ghost use Rattle.std.specs.Prelude.{◌≡◌, ◌↔◌, IsTrue};
-ghost use Rattle.sh_judge.specs.Points.{IsWithin};
+ghost use Rattle.std.specs.Prelude.{◌≡◌, ◌≤◌, ◌↔◌, ◌⊎◌, IsTrue};
+ghost use Rattle.std.specs.Bool.{OnTrue, OnFalse};
+ghost use Rattle.sh_judge.specs.Points.{time, IsWithin};
 
 use crate::line::Span;
 
@@ -68,6 +69,22 @@ impl Point {
         ensures { result ≡ record self { rank = rank } }
     {
         Point { rank, ..self }
+    }
+
+    /// The later of the two.
+    pub fn latest(self, other: Point) -> Point
+        ensures one { (result ≡ self) ⊎ (result ≡ other) }
+        ensures last { (time self ≤ time result) × (time other ≤ time result) }
+    {
+        self.max(other)
+    }
+
+    /// Whether it comes before another point. Points at one edge of a moment come by their ranks.
+    pub fn is_before(self, other: Point) -> bool
+        ensures yes { OnTrue result (time self ≤ time other) }
+        ensures no { OnFalse result (time other ≤ time self) }
+    {
+        self < other
     }
 
     /// Whether it lies in the time of a call.

@@ -1,7 +1,11 @@
 //! What is kept of a pass: what it was answered, what it holds, and what was found wrong.
-ghost use Rattle.std.specs.Prelude.{◌≡◌, ◌+◌, ◌<◌, ◌≤◌, ◌↔◌, [], IsTrue, vec_len, slice_get};
-ghost use Rattle.sh_judge.specs.Pattern.{IsPattern};
-ghost use Rattle.sh_judge.specs.Records.{refusal_fault, first_fault, IsTold};
+ghost use Rattle.std.specs.Prelude.{◌≡◌, ◌≢◌, ℕ, ◌<◌, ◌≤◌, ◌↔◌, ◌⊎◌, [], List, IsTrue, Some, None, swap_remove, vec_len};
+ghost use Rattle.std.specs.Prelude.{slice_get};
+ghost use Rattle.std.specs.Bool.{OnTrue, OnFalse};
+ghost use Rattle.std.specs.Option.{option_copied};
+ghost use Rattle.sh_judge.specs.Counts.{counted};
+ghost use Rattle.sh_judge.specs.Records.{refusal_fault, first_fault, IsTold, HasHold, Reads, value_read};
+ghost use Rattle.sh_judge.specs.declared.record.Held.{Held as AnyHeld};
 
 use crate::counts::{Count, Counts};
 use crate::fault::{Call, Fault, Wrong};
@@ -110,8 +114,11 @@ impl Record {
 
     /// Adds a line to the log.
     pub fn tell(&mut self, key: u64, span: Span, told: Told)
-        ensures { IsTold self.old self.new
+        ensures line { IsTold self.old self.new
             (record { pass = self.old.pass; key = key; span = span; told = told }) }
+        ensures pass { self.new.pass ≡ self.old.pass }
+        ensures counts { self.new.counts ≡ self.old.counts }
+        ensures holds { self.new.holds ≡ self.old.holds }
     {
         let line = Line {
             pass: self.pass,
@@ -124,8 +131,12 @@ impl Record {
         }
     }
 
-    /// Notes a hold that was got.
-    pub fn got(&mut self, hold: Hold, span: Span) {
+    /// Notes a hold that was got: a line tells of it, and the hold names that line.
+    pub fn got(&mut self, hold: Hold, span: Span)
+        ensures hold { HasHold self.old self.new hold span ⊎ (self.new.fault ≡ first_fault self.old Fault.Memory) }
+        ensures counts { self.new.counts ≡ counted Count.Gets 1 self.old.counts }
+        ensures pass { self.new.pass ≡ self.old.pass }
+    {
         let held = Held {
             hold,
             line: self.lines.len(),
@@ -158,21 +169,50 @@ impl Record {
         self.holds.get(number as usize).copied()
     }
 
-    /// Forgets one of its holds.
+    /// Forgets one of its holds. The last one takes its place.
     pub fn forget(&mut self, number: u64)
-        ensures fewer { number < vec_len self.old.holds → vec_len self.new.holds + 1 ≡ vec_len self.old.holds }
-        ensures lines { self.new.lines ≡ self.old.lines }
-        ensures fault { self.new.fault ≡ self.old.fault }
+        ensures held { (held : AnyHeld) → slice_get self.old.holds.items number ≡ Some held
+            → self.new.holds.items ≡ swap_remove self.old.holds.items number held }
+        ensures none { slice_get self.old.holds.items number ≡ None → self.new ≡ self.old }
+        ensures others { self.new ≡ record self.old { holds = self.new.holds } }
     {
         if number < self.holds.len() as u64 {
             self.holds.swap_remove(number as usize);
         }
     }
 
+    // The value that was read of a hold, as its line tells.
+    fn value_read(&self, held: Held) -> Option<&Value>
+        ensures { option_copied result ≡ value_read self.now held }
+    {
+        match &self.lines.get(held.line)?.told {
+            Told::Got(Some(value)) => Some(value),
+            Told::Got(None)
+            | Told::Inserted(_)
+            | Told::Gone
+            | Told::Crowded
+            | Told::Removed
+            | Told::Marked
+            | Told::Released => None,
+        }
+    }
+
+    // Whether another value was read of a hold before.
+    fn tells_another(&self, held: Held, value: &Value) -> bool
+        ensures yes { OnTrue result ((before : List ℕ) × (value_read self.now held ≡ Some before)
+            × (before ≢ value.now)) }
+        ensures no { OnFalse result ((before : List ℕ) → value_read self.now held ≡ Some before
+            → before ≡ value.now) }
+    {
+        match self.value_read(held) {
+            Some(before) => *before != *value,
+            None => false,
+        }
+    }
+
     /// Notes a value that was read: all its words belong to one value, and it is the one that was read before.
     pub fn read(&mut self, held: Held, value: Value)
-        ensures { ¬ IsPattern value
-            → self.new.fault ≡ first_fault self.old (Fault.Wrong (Wrong.Torn self.old.pass held.hold.key)) }
+        ensures { Reads self.old self.new held value }
     {
         self.counts.one(Count::Reads);
         let key = held.hold.key;
@@ -180,14 +220,12 @@ impl Record {
             self.find(Wrong::Torn(self.pass, key));
             return;
         }
-        let Some(line) = self.lines.get_mut(held.line) else {
+        if self.tells_another(held, &value) {
+            self.find(Wrong::Changed(self.pass, key));
             return;
-        };
-        match &line.told {
-            Told::Got(Some(before)) if *before != value => {
-                self.find(Wrong::Changed(self.pass, key));
-            }
-            _ => line.told = Told::Got(Some(value)),
+        }
+        if let Some(line) = self.lines.get_mut(held.line) {
+            line.told = Told::Got(Some(value));
         }
     }
 

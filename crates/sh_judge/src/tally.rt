@@ -1,8 +1,8 @@
 //! What the answers say of the pages.
-ghost use Rattle.std.specs.Prelude.{◌≡◌, ◌==◌, ◌↔◌, IsTrue, OnOk, OnErr, IsSome, slice_get};
+ghost use Rattle.std.specs.Prelude.{◌≡◌, ◌==◌, ◌↔◌, IsTrue, IfOk, IfErr, OnOk, OnErr, IsSome, slice_get};
 ghost use Rattle.sh_history.specs.History.{value_of};
 ghost use Rattle.sh_judge.specs.Pages.{IsAsTallied, HasNoRoom, with_slot};
-ghost use Rattle.sh_judge.specs.Tallies.{page_place, CountsSlot};
+ghost use Rattle.sh_judge.specs.Tallies.{page_place, CountsSlot, CountsNothing, NamesNoPage};
 
 use crate::fault::{Fault, Wrong};
 use sh_core::Accounts;
@@ -32,7 +32,9 @@ pub struct Tally {
 
 impl Tally {
     /// Of a heap in which nothing was inserted.
-    pub fn new(alloc: Global, shape: &Shape) -> Result<Tally, AllocError> {
+    pub fn new(alloc: Global, shape: &Shape) -> Result<Tally, AllocError>
+        ensures { IfOk result (λ tally. CountsNothing shape.now tally) }
+    {
         let none = PageTally {
             live: 0,
             marked: 0,
@@ -64,6 +66,8 @@ impl Tally {
         ensures issued { OnOk result
             (IsSome (value_of history.now key) → CountsSlot L.layout self.old self.new key history.now) }
         ensures err { OnErr result (self.new ≡ self.old) }
+        ensures why { IfErr result (λ fault. (fault ≡ Fault.Wrong (Wrong.NoKey key))
+            × NamesNoPage L.layout self.old key history.now) }
     {
         if value_of(history, key).is_none() {
             return Ok(());

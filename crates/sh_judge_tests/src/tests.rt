@@ -109,6 +109,30 @@ fn one_of_two_marks_removes(rt: HostRuntime) {
     assert!(rt; !is_legal(rt.alloc(), &too_late));
 }
 
+// A mark that was answered before another call removed the key found it removed by nobody, though the key was not yet
+// inserted when it began; nor did it find a key gone that is got later.
+#[test]
+fn a_mark_before_the_removal_is_found(rt: HostRuntime) {
+    let before = [
+        line(1, 1, 4, Told::Marked),
+        inserted(2, 6),
+        line(2, 7, 9, Told::Removed),
+    ];
+    assert!(rt; !is_legal(rt.alloc(), &before));
+    let got_later = [
+        line(1, 1, 4, Told::Marked),
+        inserted(2, 6),
+        line(2, 7, 9, Told::Got(None)),
+    ];
+    assert!(rt; !is_legal(rt.alloc(), &got_later));
+    let behind = [
+        inserted(2, 6),
+        line(2, 7, 9, Told::Removed),
+        line(1, 8, 10, Told::Marked),
+    ];
+    assert!(rt; is_legal(rt.alloc(), &behind));
+}
+
 #[test]
 fn a_release_without_a_hold_is_found(rt: HostRuntime) {
     let lines = [inserted(1, 2), line(1, 3, 4, Told::Released)];
@@ -127,6 +151,18 @@ fn crowded_needs_holds(rt: HostRuntime) {
     ];
     assert!(rt; is_legal(rt.alloc(), &lines));
     assert!(rt; !is_legal(rt.alloc(), &[inserted(1, 2), line(2, 6, 8, Told::Crowded)]));
+}
+
+// A get that is refused as crowded may stand where others hold the key, and not only where its call began.
+#[test]
+fn a_crowded_get_stands_where_most_hold(rt: HostRuntime) {
+    let lines = [
+        inserted(1, 2),
+        line(2, 3, 10, Told::Crowded),
+        line(0, 4, 5, Told::Got(None)),
+        line(1, 6, 7, Told::Got(None)),
+    ];
+    assert!(rt; is_legal(rt.alloc(), &lines));
 }
 
 #[test]

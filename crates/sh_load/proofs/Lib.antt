@@ -1,1 +1,4 @@
 pub mod Filling
+pub mod ArgumentLemmas
+pub mod NameLemmas
+pub mod BenchLemmas

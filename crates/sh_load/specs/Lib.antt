@@ -4,3 +4,4 @@ pub mod Outcomes
 pub mod Plans
 pub mod Samples
 pub mod CommandLine
+pub mod BenchLine

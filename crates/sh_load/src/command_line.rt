@@ -1,7 +1,12 @@
 //! The command line.
-ghost use Rattle.std.specs.Prelude.{◌≡◌, ◌≤◌, codes};
-ghost use Rattle.clap.specs.Words.{found_of, one_text};
+ghost use Rattle.std.specs.Prelude.{◌≡◌, ◌≤◌, Some, IfOk, IfErr, codes, map};
+ghost use Rattle.clap.specs.Words.{app_of, first_value, found_of, kind_of, one_text, rule_of};
+ghost use Rattle.sh_load.specs.BenchLine.{IsRefused, LineSays, bench_app, bench_line, layout_rule, mixed_rule};
+ghost use Rattle.sh_load.specs.BenchLine.{number_rule, with_numbers, workload_rule};
 ghost use Rattle.sh_load.specs.CommandLine.{ReadsLengths, ReadsNumber, ReadsNumbers};
+ghost use Rattle.sh_load.specs.Names.{layout_name, workload_name};
+ghost use Rattle.sh_load.specs.declared.layout.Layout.{Layout as AnyLayout};
+ghost use Rattle.sh_load.specs.declared.workload.Workload.{Workload as AnyWorkload};
 
 use crate::layout::{Layout, layout_named};
 use crate::options::{MOST_VALUES, Options};
@@ -29,7 +34,9 @@ fn number_option<'a>(
     most: u64,
     usual: &'a str,
     help: &'a str,
-) -> Arg<'a> {
+) -> Arg<'a>
+    ensures { rule_of result ≡ number_rule id.now least most usual.now }
+{
     Arg::new(alloc, id)
         .long(id)
         .action(ArgAction::Set)
@@ -38,7 +45,10 @@ fn number_option<'a>(
         .help(help)
 }
 
-fn with_numbers<'a>(alloc: Global, command: Command<'a>) -> Result<Command<'a>, AllocError> {
+// The command with each option that is a number.
+fn with_numbers<'a>(alloc: Global, command: Command<'a>) -> Result<Command<'a>, AllocError>
+    ensures { IfOk result (λ c. app_of c ≡ with_numbers (app_of command.entry)) }
+{
     command
         .arg(number_option(
             alloc,
@@ -76,34 +86,61 @@ fn with_numbers<'a>(alloc: Global, command: Command<'a>) -> Result<Command<'a>, 
         ))
 }
 
-fn command<'a>(
-    alloc: Global,
-    workloads: &'a [&'a str],
-    layouts: &'a [&'a str],
-) -> Result<Command<'a>, AllocError> {
-    let chosen = Arg::new(alloc, "workload")
+// The workload, which has to be given.
+fn workload_argument<'a>(alloc: Global, workloads: &'a [&'a str]) -> Arg<'a>
+    ensures { rule_of result ≡ workload_rule workloads.entry }
+{
+    Arg::new(alloc, "workload")
         .required(true)
         .action(ArgAction::Set)
         .value_parser(workloads)
-        .help("What the threads do");
-    let keys = Arg::new(alloc, "layout")
+        .help("What the threads do")
+}
+
+// The layout of the keys.
+fn layout_argument<'a>(alloc: Global, layouts: &'a [&'a str]) -> Arg<'a>
+    ensures { rule_of result ≡ layout_rule layouts.entry }
+{
+    Arg::new(alloc, "layout")
         .long("layout")
         .action(ArgAction::Set)
         .value_parser(layouts)
         .default_value("wide")
-        .help("The layout of the keys");
-    let mixed = Arg::new(alloc, "mixed")
+        .help("The layout of the keys")
+}
+
+// The flag for values of all lengths.
+fn mixed_argument<'a>(alloc: Global) -> Arg<'a>
+    ensures { rule_of result ≡ mixed_rule }
+{
+    Arg::new(alloc, "mixed")
         .long("mixed")
         .action(ArgAction::SetTrue)
-        .help("Values of 1 to 16 words, in place of --words");
-    let start = Command::new(alloc, "sh_bench")
+        .help("Values of 1 to 16 words, in place of --words")
+}
+
+// The program, with no argument yet.
+fn program<'a>(alloc: Global) -> Command<'a>
+    ensures { app_of result ≡ bench_app }
+{
+    Command::new(alloc, "sh_bench")
         .about("Measures calls of the sharded heap")
         .version("0.1.0")
         .after_help(AFTER_HELP)
-        .arg(chosen)?
-        .arg(keys)?
-        .arg(mixed)?;
-    with_numbers(alloc, start)
+}
+
+fn command<'a>(
+    alloc: Global,
+    workloads: &'a [&'a str],
+    layouts: &'a [&'a str],
+) -> Result<Command<'a>, AllocError>
+    ensures { IfOk result (λ c. app_of c ≡ bench_line workloads.entry layouts.entry) }
+{
+    let chosen = program(alloc)
+        .arg(workload_argument(alloc, workloads))?
+        .arg(layout_argument(alloc, layouts))?
+        .arg(mixed_argument(alloc))?;
+    with_numbers(alloc, chosen)
 }
 
 // The number of an option, which has a default and is within these bounds.
@@ -125,6 +162,34 @@ fn lengths(matches: &ArgMatches<'_>) -> Lengths
     }
 }
 
+// The workload that is named. A parse that succeeds has one of the names, so that the last two are never taken.
+fn workload_of(matches: &ArgMatches<'_>) -> Workload
+    ensures { (w : AnyWorkload) → first_value (found_of matches.now) (codes "workload") ≡ Some (workload_name w)
+        → result ≡ w }
+{
+    match matches.get_str("workload") {
+        Some(word) => match workload_named(word) {
+            Some(workload) => workload,
+            None => Workload::Get,
+        },
+        None => Workload::Get,
+    }
+}
+
+// The layout that is named, or the usual one.
+fn layout_of(matches: &ArgMatches<'_>) -> Layout
+    ensures { (l : AnyLayout) → first_value (found_of matches.now) (codes "layout") ≡ Some (layout_name l)
+        → result ≡ l }
+{
+    match matches.get_str("layout") {
+        Some(word) => match layout_named(word) {
+            Some(layout) => layout,
+            None => Layout::Wide,
+        },
+        None => Layout::Wide,
+    }
+}
+
 fn chosen(matches: &ArgMatches<'_>, workload: Workload, layout: Layout) -> Options
     ensures numbers { ReadsNumbers (one_text (found_of matches.now)) result }
     ensures workload { result.workload ≡ workload }
@@ -142,8 +207,17 @@ fn chosen(matches: &ArgMatches<'_>, workload: Workload, layout: Layout) -> Optio
     }
 }
 
-/// What a command line asks for, whose first word is the program's name. An error is clap's.
-pub fn options_of<'a>(alloc: Global, words: &'a [&'a str]) -> Result<Options, Error> {
+/// What a command line asks for, whose first word is the program's name. An error is clap's: its own for words that its
+/// rules refuse, for `--help` and for `--version`, and `OutOfMemory`.
+///
+/// The workload is required. Where nothing else is said, the layout is `wide`, one thread does 1,000 operations, values
+/// have one word, one stands, none is freed, and the heap has one pass at least. There are from 1 to 16 threads, 1 to
+/// 1,000,000,000 operations, 0 to 16 words, 1 to 98,304 values that stand, 0 to 98,304 that are freed, and 1 to 64
+/// passes.
+pub fn options_of<'a>(alloc: Global, words: &'a [&'a str]) -> Result<Options, Error>
+    ensures ok { IfOk result (λ options. LineSays (map (λ w. w.now) words.entry.now) options) }
+    ensures err { IfErr result (λ e. IsRefused (map (λ w. w.now) words.entry.now) (kind_of e)) }
+{
     let workloads = [
         workload::name(Workload::Get),
         workload::name(Workload::Read),
@@ -158,12 +232,5 @@ pub fn options_of<'a>(alloc: Global, words: &'a [&'a str]) -> Result<Options, Er
     let matches = command(alloc, workloads.as_slice(), layouts.as_slice())?.try_get_matches_from(
         words,
     )?;
-    // A parse that succeeds has one of these names for each, so the defaults below are never taken.
-    let workload = matches.get_str("workload").and_then(workload_named);
-    let layout = matches.get_str("layout").and_then(layout_named);
-    Ok(chosen(
-        &matches,
-        workload.unwrap_or(Workload::Get),
-        layout.unwrap_or(Layout::Wide),
-    ))
+    Ok(chosen(&matches, workload_of(&matches), layout_of(&matches)))
 }

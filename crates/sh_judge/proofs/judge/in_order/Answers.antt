@@ -1,8 +1,6 @@
 use Rattle.std.proofs.Common.{◌≡◌, List, map, arith, rules, subst}
 use Rattle.std.proofs.lemmas.Grind.{common_steps}
-use Rattle.std.proofs.lemmas.List.Elements.{All-same}
 use Rattle.std.proofs.lemmas.List.Sorted.{IsPermutation-map, All-permutation}
-use Rattle.std.specs.List.{All}
 use Rattle.std.specs.List.Sorted.{IsPermutation}
 use Rattle.sh_judge.specs.contracts.point.PointOrd.TheImpl.Laws.{total-law}
 use Rattle.sh_judge.specs.declared.judge.Placed.{Placed}

@@ -1,4 +1,4 @@
-use Rattle.std.proofs.Common.{rules, refl, sym}
+use Rattle.std.proofs.Common.{rules, refl}
 use Rattle.std.proofs.lemmas.Option.{slice_get_read}
 use Rattle.sh_judge.proofs.tally.Tally.add.Goals as goal
 
