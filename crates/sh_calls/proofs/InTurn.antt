@@ -2,7 +2,9 @@
 use Rattle.std.proofs.Common.{◌≡◌, ◌≢◌, ℕ, zero, suc, ◌+◌, ◌<◌, ◌≤◌, List, [], ◌∷◌, ◌++◌, length, take, set, map}
 use Rattle.std.proofs.Common.{slice_get, Option, Some, None, sym, refl, ap, ◌∙◌, subst, arith, append_assoc, append-nil}
 use Rattle.std.proofs.Common.{IfSome, length-append, length-set, ◌⊎◌, inl, inr, ⊎_elim}
-use Rattle.std.specs.Prelude.{IfNone, IsSome}
+use Rattle.std.specs.Prelude.{IfNone, Err}
+use Rattle.sh_value.specs.declared.refusal.Refusal.TheVariants as refusal
+use Rattle.sh_calls.specs.Standing.{Standing, ShardLeaves}
 use Rattle.std.specs.Option.{option_map}
 use Rattle.std.proofs.lemmas.Option.{none-some, same_Some, slice_get-map}
 use mathlib.Core.Logic.{dite}
@@ -16,7 +18,7 @@ use Rattle.sh_output.specs.Replies.{reply_line, replies_text}
 use Rattle.sh_calls.specs.Runs.{CallsRun, LineAnswered, LinesAnswered, opening_calls, next_run, with_part, with_number}
 use Rattle.sh_calls.specs.Runs.{number_meant}
 use Rattle.sh_calls.specs.Told.{AreReplies, IsTold, part_told}
-use Rattle.sh_calls.specs.Meeting.{CarriesTale, MeetsCarrier, OwnsNone, HasMet, SomeOwns, tales_told, AllOfHeap}
+use Rattle.sh_calls.specs.Meeting.{CarriesTale, MeetsCarrier, OwnsNone, HasMet, SomeWaits, tales_told, AllOfHeap}
 use Rattle.sh_calls.specs.Alone.{seen_with_part, AnsweredSoFar}
 use Rattle.sh_calls.specs.Finished.{CarrierRan, LinesRan}
 use Rattle.sh_calls.proofs.ListLemmas.{get_set_same, get_set_other, take_at, take_past, next, map_more, up_length}
@@ -98,7 +100,7 @@ pub begins_alone : (heap : Option Heap) (terms : RunTerms) (tag : Option ℕ) (l
     → AnsweredSoFar heap terms tag lines 0 [] sides []
 begins_alone heap terms tag lines sides e = record {
   answers = [];
-  run = opening_calls;
+  run = opening_calls heap;
   ran = refl;
   numbers_are = refl;
   text = refl;
@@ -149,8 +151,8 @@ module _ (heap : Option Heap) (terms : RunTerms) (tag : Option ℕ) (lines : Lis
       ≡ with_number numbers l.call a → new ≡ set sides l.pass now → longer ≡ output ++ reply_line l a
       → AnsweredSoFar heap terms tag lines (i + 1) after new longer
   answered_more after new longer named put printed =
-      let more = one_more terms tag opening_calls was.run then (take i lines) was.answers l a was.ran steps in
-      let R : List CallLine → Type 0 = λ ls. LinesAnswered terms tag opening_calls ls (was.answers ++ a ∷ []) then in
+      let more = one_more terms tag (opening_calls heap) was.run then (take i lines) was.answers l a was.ran steps in
+      let R : List CallLine → Type 0 = λ ls. LinesAnswered terms tag (opening_calls heap) ls (was.answers ++ a ∷ []) then in
       record {
         answers = was.answers ++ a ∷ [];
         run = then;
@@ -226,10 +228,10 @@ all_are heap terms tag lines i numbers sides output h = subst (AllOfHeap heap te
 
 abbrev pub ends_alone : (heap : Option Heap) (terms : RunTerms) (tag : Option ℕ) (lines : List CallLine) (i : ℕ)
     (numbers : List (Option ℕ)) (sides : List SeenPass) (output : List ℕ) → length lines ≤ i
-    → AnsweredSoFar heap terms tag lines i numbers sides output → AreReplies terms tag lines output
+    → AnsweredSoFar heap terms tag lines i numbers sides output → AreReplies heap terms tag lines output
 ends_alone heap terms tag lines i numbers sides output past h =
     let whole : take i lines ≡ lines = take_past lines i past in
-    let R : List CallLine → Type 0 = λ ls. LinesAnswered terms tag opening_calls ls h.answers h.run in
+    let R : List CallLine → Type 0 = λ ls. LinesAnswered terms tag (opening_calls heap) ls h.answers h.run in
     record {
       answers = h.answers;
       after = h.run;
@@ -240,7 +242,7 @@ ends_alone heap terms tag lines i numbers sides output past h =
 told_alone : (heap : Option Heap) (terms : RunTerms) (tag : Option ℕ) (lines : List CallLine) (i : ℕ)
     (numbers : List (Option ℕ)) (sides : List SeenPass) (output : List ℕ) (s : SeenPass) → length lines ≤ i
     → AnsweredSoFar heap terms tag lines i numbers sides output
-    → HasMet heap terms s (tales_told sides) → IsTold terms tag lines output (tale_told s)
+    → HasMet heap terms s (tales_told sides) → IsTold heap terms tag lines output (tale_told s)
     × CarriesTale heap terms (Some s) (tale_told s) × OwnsNone (Some s)
 told_alone heap terms tag lines i numbers sides output s past h m =
     let tale : tales_told sides ≡ map (part_told h.run.parts) (passes_below terms.shape.passes) = ap tales_told
@@ -261,16 +263,17 @@ some_met : {S : Type 0} {P : S → Type 0} (seen : S → SeenPass) (Q : SeenPass
 some_met seen Q f None h = h
 some_met seen Q f (Some s) h = f s h
 
--- the next one of these passes owns a shard
-pub next_owns : {S : Type 0} (seen : S → SeenPass) (all ys rest its : List S) (s : S) → all ≡ ys ++ its
-    → its ≡ s ∷ rest → IsSome (seen s).part.shard → SomeOwns (map seen all)
-next_owns seen all ys rest its s e f owns =
+-- the next one of these passes was refused when it left its shard
+pub next_waits : {S : Type 0} (seen : S → SeenPass) (all ys rest its : List S) (s : S) (stays : Standing)
+    → all ≡ ys ++ its → its ≡ s ∷ rest → ShardLeaves (seen s).part.stands (Err refusal.Waiting) stays
+    → SomeWaits (map seen all)
+next_waits seen all ys rest its s stays e f waits =
     let at : slice_get all (length ys) ≡ Some s = ap (λ z. slice_get z (length ys)) (e ∙ ap (λ z. ys ++ z) f)
     ∙ get_middle ys s rest in (
       length ys,
       seen s,
       slice_get-map seen all (length ys) ∙ ap (option_map seen) at,
-      owns,
+      (stays, waits),
     )
 
 -- where nobody carries a tale once all have met, there is no pass
@@ -288,21 +291,22 @@ none_met : {S : Type 0} {P Q : Type 0} (seen : S → SeenPass) → (P → Q) →
 none_met seen f None h = f h
 none_met seen f (Some s) h = h
 
--- what the carrier has, if all could meet, and else who still owned a shard
+-- what the carrier has, if all could meet, and else whose leave was refused
 pub lines_ran : {S : Type 0} (seen : S → SeenPass) (heap : Option Heap) (terms : RunTerms) (tag : Option ℕ)
     (lines : List CallLine) (i : ℕ) (numbers : List (Option ℕ)) (sides : List SeenPass) (output : List ℕ)
     (carrier : Option S) → length lines ≤ i → AnsweredSoFar heap terms tag lines i numbers sides output
     → IfSome carrier (λ s. HasMet heap terms (seen s) (tales_told sides))
-    → IfNone carrier (SomeOwns sides ⊎ (sides ≡ []))
+    → IfNone carrier (SomeWaits sides ⊎ (sides ≡ []))
     → LinesRan heap terms tag lines output (option_map seen carrier)
 lines_ran seen heap terms tag lines i numbers sides output carrier past h met stays = record {
   met = some_met seen (CarrierRan heap terms tag lines output) (λ s m.
       let t = told_alone heap terms tag lines i numbers sides output (seen s) past h m in
       record { told = t.0; carries = t.1; none = t.2 }) carrier met;
-  stays = none_met seen (⊎_elim (λ (o : SomeOwns sides). inl (record {
+  stays = none_met seen (⊎_elim (λ (o : SomeWaits sides). inl (record {
     replies = ends_alone heap terms tag lines i numbers sides output past h;
-    owner = o.0;
-    owns = subst (λ (s : SeenPass). IsSome s.part.shard) (h.each o.0 o.1 o.2) o.3;
+    pass = o.0;
+    stays = o.3.0;
+    waits = subst (λ (s : SeenPass). ShardLeaves s.part.stands (Err refusal.Waiting) o.3.0) (h.each o.0 o.1 o.2) o.3.1;
   })) (λ (e : sides ≡ []). inr (sym h.all ∙ ap length e))) carrier stays;
 }
 

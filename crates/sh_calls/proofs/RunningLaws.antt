@@ -35,13 +35,14 @@ use Rattle.sh_pass.proofs.OwnMay.{home_is}
 use Rattle.sh_shard.specs.Pages.{ShardLeft}
 use Rattle.sh_shard.specs.Shards.{Sharded, AdoptServes, LeaveServes, InsertServes}
 use Rattle.sh_pass.specs.Passes.{Caller, IsKeyOfHeap, GetDoes, ReadDoes, RemoveDoes, ReleaseDoes, holds}
-use Rattle.sh_calls.specs.Parts.{PassTold, SeenPass, SamePass, tale_told, is_placed_key}
+use Rattle.sh_calls.specs.Standing.{Standing, Alone, Owning, Serves, PassAdopts, ShardLeaves, AdoptServed, LeaveServed}
+use Rattle.sh_calls.specs.Parts.{PassPart, PassTold, SeenPass, SamePass, Becomes, tale_told, is_placed_key}
 use Rattle.sh_calls.specs.Parts.{is_key_of_shard, heap_terms, with_entry}
 use Rattle.sh_calls.specs.Calls.{UnlessRefused, GetAnswers, HoldGot, get_refusal, ReadAnswers, ValueRead, hold_refusal}
 use Rattle.sh_calls.specs.Calls.{RemoveAnswers, KeyRemoved, remove_refusal, ReleaseAnswers, HoldReleased, AdoptAnswers}
 use Rattle.sh_calls.specs.Calls.{PartAdopted, adopt_refusal, LeaveAnswers, PartLeft, needs_shard, ValueInserted}
 use Rattle.sh_calls.specs.Calls.{IsOwnKey}
-use Rattle.sh_calls.specs.Running.{part_of_caller, seen_of_caller, log_told}
+use Rattle.sh_calls.specs.Running.{part_of_caller, seen_standing, seen_of_caller, seen_of_shard, log_told}
 
 -- ---- which numbers are keys
 
@@ -126,27 +127,28 @@ of_shard layout shape key n x e h = go (unpacked layout key) refl
 -- ---- a call of a pass, or of an owner
 
 module _ (layout : Layout) (v w : Caller) (stands : ViewStands layout v.view) (shape_is : v.view.shape ≡ v.heap.shape)
-    (owned : w.view.own.body.owned ≡ v.view.own.body.owned) where
+    (owned : w.view.own.body.owned ≡ v.view.own.body.owned) (s t : Standing) where
   abbrev seen_before : SeenPass
-  seen_before = seen_of_caller layout v
+  seen_before = seen_standing layout v s
 
   abbrev seen_after : SeenPass
-  seen_after = seen_of_caller layout w
+  seen_after = seen_standing layout w t
 
   same_seen : w.heap ≡ v.heap → SameTale v.view w.view → SamePass seen_before seen_after
   same_seen heap same = λ i. record {
     heap = Some (heap i);
     terms = heap_terms layout (same.shape i);
     pass = same.pass i;
-    part = part_of_caller w;
+    part = part_of_caller w t;
     told = map log_told (same.told i);
   }
 
-  adds : (e : LogEntry) → w.view.own.log ≡ v.view.own.log ++ e ∷ [] → part_of_caller w ≡ with_entry (part_of_caller v) e
-  adds e log = λ i. record { log = log i; shard = owned i }
+  adds : (e : LogEntry) → w.view.own.log ≡ v.view.own.log ++ e ∷ []
+      → Becomes (with_entry (part_of_caller v s) e) (part_of_caller w t)
+  adds e log = λ i. record { log = log i; shard = owned i; stands = t }
 
-  nothing : w ≡ v → part_of_caller w ≡ part_of_caller v
-  nothing e = ap part_of_caller e
+  nothing : w ≡ v → Becomes (part_of_caller v s) (part_of_caller w t)
+  nothing e = ap (λ (c : Caller). part_of_caller c t) e
 
   same_tale : w ≡ v → SameTale v.view w.view
   same_tale e = record {
@@ -187,43 +189,48 @@ module _ (layout : Layout) (v w : Caller) (stands : ViewStands layout v.view) (s
   none_first key k f = rw (a_key key k, room f) refl
 
   abbrev GetIs : ℕ → Result Hold Refusal → Option Refusal → Type 0
-  GetIs key r first = UnlessRefused first seen_before.part r seen_after.part
+  GetIs key r first = UnlessRefused first r (Becomes seen_before.part seen_after.part)
       (HoldGot seen_before.pass seen_before.part key r seen_after.part)
 
-  pub get_answers : (key : ℕ) (r : Result Hold Refusal) → GetDoes layout key v r w
-      → GetAnswers seen_before.terms seen_before.pass seen_before.part key r seen_after.part
-      × SamePass seen_before seen_after
-  get_answers key (Ok hold) h = (
+  get_parts : (key : ℕ) (r : Result Hold Refusal) → GetDoes layout key v r w
+      → GetIs key r (get_refusal seen_before.terms seen_before.pass seen_before.part key) × SamePass seen_before seen_after
+  get_parts key (Ok hold) h = (
     subst (GetIs key (Ok hold)) (sym (none_first key h.1 h.2))
         (h.0, (Unread v.view.pass key, (refl, refl), adds (Unread v.view.pass key) h.3.log)),
     same_seen h.3.heap h.3.same,
   )
-  get_answers key (Err refusal.BadKey) h = (
+  get_parts key (Err refusal.BadKey) h = (
     subst (GetIs key (Err refusal.BadKey)) (sym (bad key h.0))
         (refl, nothing h.1),
     unseen h.1,
   )
-  get_answers key (Err refusal.HoldsFull) h = (
+  get_parts key (Err refusal.HoldsFull) h = (
     subst (GetIs key (Err refusal.HoldsFull)) (sym (holds_full key h.0 h.1))
         (refl, nothing h.2),
     unseen h.2,
   )
-  get_answers key (Err refusal.Gone) h = (
+  get_parts key (Err refusal.Gone) h = (
     subst (GetIs key (Err refusal.Gone)) (sym (none_first key h.0 h.1))
         (adds (Known (entry.Gone v.view.pass key)) h.2.log),
     same_seen h.2.heap h.2.same,
   )
-  get_answers key (Err refusal.Crowded) h = (
+  get_parts key (Err refusal.Crowded) h = (
     subst (GetIs key (Err refusal.Crowded)) (sym (none_first key h.0 h.1))
         (adds (Known (entry.Crowded v.view.pass key)) h.2.log),
     same_seen h.2.heap h.2.same,
   )
-  get_answers key (Err _) h = absurd h
+  get_parts key (Err _) h = absurd h
+
+  pub get_answers : (key : ℕ) (r : Result Hold Refusal) → GetDoes layout key v r w
+      → Serves layout (λ x y. GetDoes layout key x r y) s t
+      → GetAnswers seen_before.terms seen_before.pass seen_before.part key r seen_after.part
+      × SamePass seen_before seen_after
+  get_answers key r h served = let p = get_parts key r h in ((p.0, served), p.1)
 
   -- ---- remove
 
   abbrev RemoveIs : ℕ → Result (Unit {0}) Refusal → Option Refusal → Type 0
-  RemoveIs key r first = UnlessRefused first seen_before.part r seen_after.part
+  RemoveIs key r first = UnlessRefused first r (Becomes seen_before.part seen_after.part)
       (KeyRemoved seen_before.pass seen_before.part key r seen_after.part)
 
   removes_key : (key : ℕ) → IsKeyOfHeap layout v key → remove_refusal seen_before.terms key ≡ None
@@ -233,25 +240,30 @@ module _ (layout : Layout) (v w : Caller) (stands : ViewStands layout v.view) (s
       ≡ Some refusal.BadKey
   removes_none key k = rw (no_such_key key k) refl
 
-  pub remove_answers : (key : ℕ) (r : Result (Unit {0}) Refusal) → RemoveDoes layout key v r w
-      → RemoveAnswers seen_before.terms seen_before.pass seen_before.part key r seen_after.part
-      × SamePass seen_before seen_after
-  remove_answers key (Ok u) h = (
+  remove_parts : (key : ℕ) (r : Result (Unit {0}) Refusal) → RemoveDoes layout key v r w
+      → RemoveIs key r (remove_refusal seen_before.terms key) × SamePass seen_before seen_after
+  remove_parts key (Ok u) h = (
     subst (RemoveIs key (Ok u)) (sym (removes_key key h.0))
         (adds (Known (entry.Removed v.view.pass key)) h.1.log),
     same_seen h.1.heap h.1.same,
   )
-  remove_answers key (Err refusal.BadKey) h = (
+  remove_parts key (Err refusal.BadKey) h = (
     subst (RemoveIs key (Err refusal.BadKey)) (sym (removes_none key h.0))
         (refl, nothing h.1),
     unseen h.1,
   )
-  remove_answers key (Err refusal.Gone) h = (
+  remove_parts key (Err refusal.Gone) h = (
     subst (RemoveIs key (Err refusal.Gone)) (sym (removes_key key h.0))
         (adds (Known (entry.Gone v.view.pass key)) h.1.log),
     same_seen h.1.heap h.1.same,
   )
-  remove_answers key (Err _) h = absurd h
+  remove_parts key (Err _) h = absurd h
+
+  pub remove_answers : (key : ℕ) (r : Result (Unit {0}) Refusal) → RemoveDoes layout key v r w
+      → Serves layout (λ x y. RemoveDoes layout key x r y) s t
+      → RemoveAnswers seen_before.terms seen_before.pass seen_before.part key r seen_after.part
+      × SamePass seen_before seen_after
+  remove_answers key r h served = let p = remove_parts key r h in ((p.0, served), p.1)
 
   -- ---- holds
 
@@ -279,44 +291,56 @@ module _ (layout : Layout) (v w : Caller) (stands : ViewStands layout v.view) (s
   holds_not key e = rw (none_held key e) refl
 
   abbrev ReleaseIs : ℕ → Result (Unit {0}) Refusal → Option Refusal → Type 0
-  ReleaseIs key r first = UnlessRefused first seen_before.part r seen_after.part
+  ReleaseIs key r first = UnlessRefused first r (Becomes seen_before.part seen_after.part)
       (HoldReleased seen_before.pass seen_before.part key r seen_after.part)
 
-  pub release_answers : (key : ℕ) (r : Result (Unit {0}) Refusal) → ReleaseDoes key v r w
-      → ReleaseAnswers seen_before.pass seen_before.part key r seen_after.part × SamePass seen_before seen_after
-  release_answers key (Ok u) h = (
+  release_parts : (key : ℕ) (r : Result (Unit {0}) Refusal) → ReleaseDoes layout key v r w
+      → ReleaseIs key r (hold_refusal seen_before.pass seen_before.part key) × SamePass seen_before seen_after
+  release_parts key (Ok u) h = (
     subst (ReleaseIs key (Ok u)) (sym (holds_it key h.0))
         (adds (Known (entry.Released v.view.pass key)) h.1.log),
     same_seen h.1.heap h.1.same,
   )
-  release_answers key (Err refusal.NotHeld) h = (
+  release_parts key (Err refusal.NotHeld) h = (
     subst (ReleaseIs key (Err refusal.NotHeld)) (sym (holds_not key h.0))
         (refl, nothing h.1),
     unseen h.1,
   )
-  release_answers key (Err _) h = absurd h
+  release_parts key (Err _) h = absurd h
+
+  pub release_answers : (key : ℕ) (r : Result (Unit {0}) Refusal) → ReleaseDoes layout key v r w
+      → Serves layout (λ x y. ReleaseDoes layout key x r y) s t
+      → ReleaseAnswers seen_before.terms seen_before.pass seen_before.part key r seen_after.part
+      × SamePass seen_before seen_after
+  release_answers key r h served = let p = release_parts key r h in ((p.0, served), p.1)
 
   abbrev ReadIs : ℕ → Result (List ℕ) Refusal → Option Refusal → Type 0
-  ReadIs key r first = UnlessRefused first seen_before.part r seen_after.part
+  ReadIs key r first = UnlessRefused first r (Becomes seen_before.part seen_after.part)
       (ValueRead seen_before.part key r seen_after.part)
 
-  reads_log : (key : ℕ) (value : List ℕ) → w.view.own.log ≡ map (filled key value) v.view.own.log → part_of_caller w
-      ≡ record (part_of_caller v) { log = map (filled key value) v.view.own.log }
-  reads_log key value log = λ i. record { log = log i; shard = owned i }
+  reads_log : (key : ℕ) (value : List ℕ) → w.view.own.log ≡ map (filled key value) v.view.own.log
+      → Becomes (record (part_of_caller v s) { log = map (filled key value) v.view.own.log }) (part_of_caller w t)
+  reads_log key value log = λ i. record { log = log i; shard = owned i; stands = t }
 
-  pub read_answers : (key : ℕ) (r : Result (List ℕ) Refusal) → ReadDoes key v r w
-      → ReadAnswers seen_before.pass seen_before.part key r seen_after.part × SamePass seen_before seen_after
-  read_answers key (Ok value) h = (
+  read_parts : (key : ℕ) (r : Result (List ℕ) Refusal) → ReadDoes key v r w
+      → ReadIs key r (hold_refusal seen_before.pass seen_before.part key) × SamePass seen_before seen_after
+  read_parts key (Ok value) h = (
     subst (ReadIs key (Ok value)) (sym (holds_it key h.0))
         (reads_log key value h.1.log, h.1.value_is),
     same_seen h.1.heap h.1.same,
   )
-  read_answers key (Err refusal.NotHeld) h = (
+  read_parts key (Err refusal.NotHeld) h = (
     subst (ReadIs key (Err refusal.NotHeld)) (sym (holds_not key h.0))
         (refl, nothing h.1),
     unseen h.1,
   )
-  read_answers key (Err _) h = absurd h
+  read_parts key (Err _) h = absurd h
+
+  pub read_answers : (key : ℕ) (r : Result (List ℕ) Refusal) → ReadDoes key v r w
+      → Serves layout (λ x y. ReadDoes key x r y) s t
+      → ReadAnswers seen_before.terms seen_before.pass seen_before.part key r seen_after.part
+      × SamePass seen_before seen_after
+  read_answers key r h served = let p = read_parts key r h in ((p.0, served), p.1)
 
 -- ---- becoming the owner of a shard, and leaving it
 
@@ -324,17 +348,18 @@ module _ (layout : Layout) (v : Caller) where
   abbrev seen_caller : SeenPass
   seen_caller = seen_of_caller layout v
 
-  same_of : (w : Caller) → w.heap ≡ v.heap → SameTale v.view w.view → SamePass seen_caller (seen_of_caller layout w)
-  same_of w heap same = λ i. record {
+  same_of : (w : Caller) (s t : Standing) → w.heap ≡ v.heap → SameTale v.view w.view
+      → SamePass (seen_standing layout v s) (seen_standing layout w t)
+  same_of w s t heap same = λ i. record {
     heap = Some (heap i);
     terms = heap_terms layout (same.shape i);
     pass = same.pass i;
-    part = part_of_caller w;
+    part = part_of_caller w t;
     told = map log_told (same.told i);
   }
 
   kept : (w : Caller) → w ≡ v → SamePass seen_caller (seen_of_caller layout w)
-  kept w e = same_of w (ap (λ (c : Caller). c.heap) e) (record {
+  kept w e = same_of w (Alone v) (Alone w) (ap (λ (c : Caller). c.heap) e) (record {
     shape = ap (λ (c : Caller). c.view.shape) e;
     pass = ap (λ (c : Caller). c.view.pass) e;
     told = ap (λ (c : Caller). c.view.told) e;
@@ -353,78 +378,109 @@ module _ (layout : Layout) (v : Caller) where
       let many : nat_le v.view.shape.shards k ≡ true = grind (arith, nat_tests) in
       ap (λ (o : Option ℕ). adopt_refusal seen_caller.terms o k) none ∙ rw many refl
 
-  abbrev AdoptIs : ℕ → Result (Unit {0}) Refusal → Caller → Option Refusal → Type 0
-  AdoptIs k r w first = UnlessRefused first seen_caller.part r (part_of_caller w)
-      (PartAdopted seen_caller.part k r (part_of_caller w))
+  abbrev AdoptIs : ℕ → Result (Unit {0}) Refusal → PassPart → Option Refusal → Type 0
+  AdoptIs k r w first = UnlessRefused first r (Becomes seen_caller.part w) (PartAdopted seen_caller.part k r w)
 
-  part_as_was : (w : Caller) → v.view.own.body.owned ≡ None → ShardLeft v w → part_of_caller w ≡ part_of_caller v
-  part_as_was w none l = λ i. record { log = l.log i; shard = (l.owned ∙ sym none) i }
+  part_as_was : (w : Caller) → v.view.own.body.owned ≡ None → ShardLeft v w
+      → Becomes seen_caller.part (part_of_caller w (Alone w))
+  part_as_was w none l = λ i. record { log = l.log i; shard = (l.owned ∙ sym none) i; stands = Alone w }
+
+  -- the pass owns no shard, so the contract of adopting holds
+  adopts : (k : ℕ) (r : Result (Unit {0}) Refusal) (t : Standing) → v.view.own.body.owned ≡ None
+      → PassAdopts k (Alone v) r t → AdoptServed seen_caller.part.shard k seen_caller.part.stands r t
+  adopts k r t none h = subst (λ (o : Option ℕ). AdoptServed o k (Alone v) r t) (sym none) h
 
   pub adopt_answers : (k : ℕ) (r : Result Sharded (Caller × Refusal)) → v.view.own.body.owned ≡ None → AdoptServes k v r
       → MatchResult r
-      (λ n. AdoptAnswers seen_caller.terms seen_caller.part k (Ok tt) (part_of_caller n.pages.owner)
-      × SamePass seen_caller (seen_of_caller layout n.pages.owner))
-      (λ e. AdoptAnswers seen_caller.terms seen_caller.part k (Err e.1) (part_of_caller e.0)
+      (λ n. AdoptAnswers seen_caller.terms seen_caller.part k (Ok tt) (seen_of_shard layout n).part
+      × SamePass seen_caller (seen_of_shard layout n))
+      (λ e. AdoptAnswers seen_caller.terms seen_caller.part k (Err e.1) (seen_of_caller layout e.0).part
       × SamePass seen_caller (seen_of_caller layout e.0))
   adopt_answers k (Ok n) none h = (
-    subst (AdoptIs k (Ok tt) n.pages.owner) (sym (there_is k none h.0))
-        (λ i. record { log = h.1.log i; shard = h.1.owned i }),
-    same_of n.pages.owner h.1.heap h.1.same,
+    (
+      subst (AdoptIs k (Ok tt) (part_of_caller n.pages.owner (Owning n))) (sym (there_is k none h.0))
+          (λ i. record { log = h.1.log i; shard = h.1.owned i; stands = Owning n }),
+      adopts k (Ok tt) (Owning n) none h,
+    ),
+    same_of n.pages.owner (Alone v) (Owning n) h.1.heap h.1.same,
   )
   adopt_answers k (Err (w, refusal.NoShard)) none h = (
-    subst (AdoptIs k (Err refusal.NoShard) w)
-        (sym (there_is_not k none h.0)) (refl, ap part_of_caller h.1),
+    (
+      subst (AdoptIs k (Err refusal.NoShard) (part_of_caller w (Alone w))) (sym (there_is_not k none h.0))
+          (refl, ap (λ (c : Caller). part_of_caller c (Alone w)) h.1),
+      adopts k (Err refusal.NoShard) (Alone w) none h,
+    ),
     kept w h.1,
   )
   adopt_answers k (Err (w, refusal.Taken)) none h = (
-    subst (AdoptIs k (Err refusal.Taken) w) (sym (there_is k none h.0))
-        (part_as_was w none h.1),
-    same_of w h.1.heap h.1.same,
+    (
+      subst (AdoptIs k (Err refusal.Taken) (part_of_caller w (Alone w))) (sym (there_is k none h.0))
+          (part_as_was w none h.1),
+      adopts k (Err refusal.Taken) (Alone w) none h,
+    ),
+    same_of w (Alone v) (Alone w) h.1.heap h.1.same,
   )
   adopt_answers k (Err (w, refusal.Memory)) none h = (
-    subst (AdoptIs k (Err refusal.Memory) w)
-        (sym (there_is k none h.0)) (part_as_was w none h.1),
-    same_of w h.1.heap h.1.same,
+    (
+      subst (AdoptIs k (Err refusal.Memory) (part_of_caller w (Alone w))) (sym (there_is k none h.0))
+          (part_as_was w none h.1),
+      adopts k (Err refusal.Memory) (Alone w) none h,
+    ),
+    same_of w (Alone v) (Alone w) h.1.heap h.1.same,
   )
   adopt_answers k (Err (w, _)) none h = absurd h
 
 module _ (layout : Layout) (o : Sharded) (owned : o.pages.owner.view.own.body.owned ≡ Some o.pages.shard) where
   abbrev seen_owner : SeenPass
-  seen_owner = seen_of_caller layout o.pages.owner
+  seen_owner = seen_of_shard layout o
 
   has_one : needs_shard seen_owner.part.shard ≡ None
   has_one = ap needs_shard owned
 
-  abbrev LeaveIs : Result (Unit {0}) Refusal → Caller → Option Refusal → Type 0
-  LeaveIs r w first = UnlessRefused first seen_owner.part r (part_of_caller w)
-      (PartLeft seen_owner.part r (part_of_caller w))
+  abbrev LeaveIs : Result (Unit {0}) Refusal → PassPart → Option Refusal → Type 0
+  LeaveIs r w first = UnlessRefused first r (Becomes seen_owner.part w) (PartLeft seen_owner.part r w)
+
+  -- the pass owns a shard, so the contract of leaving holds
+  leaves : (r : Result (Unit {0}) Refusal) (t : Standing) → ShardLeaves (Owning o) r t
+      → LeaveServed seen_owner.part.shard seen_owner.part.stands r t
+  leaves r t h = subst (λ (z : Option ℕ). LeaveServed z (Owning o) r t) (sym owned) h
 
   pub leave_answers : (r : Result Caller (Sharded × Refusal)) → LeaveServes o r
       → MatchResult r
-      (λ w. LeaveAnswers seen_owner.part (Ok tt) (part_of_caller w) × SamePass seen_owner (seen_of_caller layout w))
-      (λ e. LeaveAnswers seen_owner.part (Err e.1) (part_of_caller e.0.pages.owner)
-      × SamePass seen_owner (seen_of_caller layout e.0.pages.owner))
+      (λ w. LeaveAnswers seen_owner.part (Ok tt) (seen_of_caller layout w).part
+      × SamePass seen_owner (seen_of_caller layout w))
+      (λ e. LeaveAnswers seen_owner.part (Err e.1) (seen_of_shard layout e.0).part
+      × SamePass seen_owner (seen_of_shard layout e.0))
   leave_answers (Ok w) h = (
-    subst (LeaveIs (Ok tt) w) (sym has_one) (λ i. record { log = h.log i; shard = h.owned i }),
-    same_of layout o.pages.owner w h.heap h.same,
+    (
+      subst (LeaveIs (Ok tt) (part_of_caller w (Alone w))) (sym has_one)
+          (λ i. record { log = h.log i; shard = h.owned i; stands = Alone w }),
+      leaves (Ok tt) (Alone w) h,
+    ),
+    same_of layout o.pages.owner w (Owning o) (Alone w) h.heap h.same,
   )
   leave_answers (Err (n, r)) h =
       let c = h.1.collects.through in
       let w = n.pages.owner in
-      let part : part_of_caller w ≡ part_of_caller o.pages.owner =
-      (λ i. record { log = c.log i; shard = c.aside.owned i }) in
-      let L : Refusal → Type 0 = λ x. LeaveAnswers seen_owner.part (Err x) (part_of_caller w) in (
-        subst L (sym h.0) (subst (LeaveIs (Err refusal.Waiting) w) (sym has_one) part),
-        same_of layout o.pages.owner w
-            c.aside.heap c.aside.same,
+      let part : Becomes seen_owner.part (part_of_caller w (Owning n)) =
+      (λ i. record { log = c.log i; shard = c.aside.owned i; stands = Owning n }) in
+      let L : Refusal → Type 0 = λ x. LeaveIs (Err x) (part_of_caller w (Owning n)) (needs_shard seen_owner.part.shard)
+      in (
+        (
+          subst L (sym h.0) (subst (LeaveIs (Err refusal.Waiting) (part_of_caller w (Owning n))) (sym has_one) part),
+          leaves (Err r) (Owning n) h,
+        ),
+        same_of layout o.pages.owner w (Owning o) (Owning n) c.aside.heap c.aside.same,
       )
 
-  abbrev InsertIs : List ℕ → Result ℕ Refusal → Caller → Type 0
-  InsertIs words r w = ValueInserted seen_owner.terms seen_owner.pass seen_owner.part words r (part_of_caller w)
+  abbrev InsertIs : List ℕ → Result ℕ Refusal → Sharded → Type 0
+  InsertIs words r n = ValueInserted seen_owner.terms seen_owner.pass seen_owner.part words r
+      (seen_of_shard layout n).part
 
-  part_unchanged : (w : Caller) → w.view.own.log ≡ o.pages.owner.view.own.log → w.view.own.body.owned
-      ≡ o.pages.owner.view.own.body.owned → part_of_caller w ≡ part_of_caller o.pages.owner
-  part_unchanged w log owned = λ i. record { log = log i; shard = owned i }
+  part_unchanged : (n : Sharded) → n.pages.owner.view.own.log ≡ o.pages.owner.view.own.log
+      → n.pages.owner.view.own.body.owned ≡ o.pages.owner.view.own.body.owned
+      → Becomes seen_owner.part (seen_of_shard layout n).part
+  part_unchanged n log owned = λ i. record { log = log i; shard = owned i; stands = Owning n }
 
   own_key : (key : ℕ) → IsKeyIn layout o.pages.owner o.pages.shard key
       → IsOwnKey seen_owner.terms seen_owner.part.shard key
@@ -435,21 +491,19 @@ module _ (layout : Layout) (o : Sharded) (owned : o.pages.owner.view.own.body.ow
   }
 
   pub insert_answers : (c : ℕ) (words : List ℕ) (r : Result ℕ Refusal) (n : Sharded) → InsertServes layout c words o r n
-      → InsertIs words r n.pages.owner × SamePass seen_owner (seen_of_caller layout n.pages.owner)
+      → InsertIs words r n × SamePass seen_owner (seen_of_shard layout n)
   insert_answers c words (Ok key) n h = (
-    (own_key key h.1, λ i. record { log = h.0.log i; shard = h.0.aside.owned i }),
-    same_of layout o.pages.owner n.pages.owner h.0.aside.heap h.0.aside.same,
+    (own_key key h.1, λ i. record { log = h.0.log i; shard = h.0.aside.owned i; stands = Owning n }),
+    same_of layout o.pages.owner n.pages.owner (Owning o) (Owning n) h.0.aside.heap h.0.aside.same,
   )
   insert_answers c words (Err refusal.Full) n h =
       let t = h.left.through in (
-        part_unchanged n.pages.owner t.log t.aside.owned,
-        same_of layout o.pages.owner n.pages.owner t.aside.heap
-            t.aside.same,
+        part_unchanged n t.log t.aside.owned,
+        same_of layout o.pages.owner n.pages.owner (Owning o) (Owning n) t.aside.heap t.aside.same,
       )
   insert_answers c words (Err refusal.Memory) n h = (
-    part_unchanged n.pages.owner h.0.log h.0.aside.owned,
-    same_of layout
-        o.pages.owner n.pages.owner h.0.aside.heap h.0.aside.same,
+    part_unchanged n h.0.log h.0.aside.owned,
+    same_of layout o.pages.owner n.pages.owner (Owning o) (Owning n) h.0.aside.heap h.0.aside.same,
   )
   insert_answers c words (Err _) n h = absurd h
 

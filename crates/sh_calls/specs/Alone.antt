@@ -16,7 +16,7 @@ pub record AnsweredSoFar (heap : Option Heap) (terms : RunTerms) (tag : Option �
     (numbers : List (Option ℕ)) (sides : List SeenPass) (output : List ℕ) : Type 0 where
   pub answers : List Answer
   pub run : CallsRun
-  pub ran : LinesAnswered terms tag opening_calls (take i lines) answers run
+  pub ran : LinesAnswered terms tag (opening_calls heap) (take i lines) answers run
   pub numbers_are : numbers ≡ run.numbers
   pub text : output ≡ replies_text (take i lines) answers
   pub all : length sides ≡ terms.shape.passes

@@ -1,5 +1,5 @@
--- What a call of a pass does, given its answer: which refusal comes exactly where, what the log gains, and who owns
--- what.
+-- What a call of a pass does, given its answer: which refusal comes exactly where, what the log gains, who owns what,
+-- and that the contract of the pass, or of its shard, gives this answer.
 use Rattle.std.specs.Prelude.{◌≡◌, ℕ, ◌+◌, ◌<◌, nat_lt, nat_le, not, true, List, map, length, Option, Some}
 use Rattle.std.specs.Prelude.{None, Result, Ok, Err, ok_or, if◌then◌else◌}
 use Rattle.sh_value.specs.declared.hold.Hold.{Hold}
@@ -19,12 +19,14 @@ use Rattle.sh_output.specs.declared.answer.Answer.{Answer}
 use Rattle.sh_output.specs.declared.answer.Answer.TheVariants as answer
 use Rattle.sh_output.specs.Keys.{key_shown}
 use Rattle.sh_output.specs.Results.{done_answer, value_answer, key_answer}
-use Rattle.sh_calls.specs.Parts.{RunTerms, PassPart, with_entry, is_run_key, is_own_key}
+use Rattle.sh_pass.specs.Passes.{GetDoes, ReadDoes, RemoveDoes, ReleaseDoes}
+use Rattle.sh_calls.specs.Standing.{Serves, AdoptServed, LeaveServed, InsertServed}
+use Rattle.sh_calls.specs.Parts.{RunTerms, PassPart, Becomes, with_entry, is_placed_key, is_key_of_shard}
 
 -- a refusal that comes before all else, with nothing changed; where there is none, the rest holds
-abbrev pub UnlessRefused : {A : Type 0} → Option Refusal → PassPart → Result A Refusal → PassPart → Type 0 → Type 0
-UnlessRefused (Some e) v r w Rest = (r ≡ Err e) × (w ≡ v)
-UnlessRefused None v r w Rest = Rest
+abbrev pub UnlessRefused : {A : Type 0} → Option Refusal → Result A Refusal → (Unchanged Rest : Type 0) → Type 0
+UnlessRefused (Some e) r Unchanged Rest = (r ≡ Err e) × Unchanged
+UnlessRefused None r Unchanged Rest = Rest
 
 -- ---- adopt
 
@@ -34,13 +36,15 @@ adopt_refusal terms (Some own) shard = Some refusal.Taken
 adopt_refusal terms None shard = if nat_le terms.shape.shards shard then Some refusal.NoShard else None
 
 abbrev pub PartAdopted : PassPart → ℕ → Result (Unit {0}) Refusal → PassPart → Type 0
-PartAdopted v shard (Ok _) w = w ≡ record v { shard = Some shard }
-PartAdopted v shard (Err refusal.Taken) w = w ≡ v
-PartAdopted v shard (Err refusal.Memory) w = w ≡ v
+PartAdopted v shard (Ok _) w = Becomes (record v { shard = Some shard }) w
+PartAdopted v shard (Err refusal.Taken) w = Becomes v w
+PartAdopted v shard (Err refusal.Memory) w = Becomes v w
 PartAdopted v shard (Err _) w = ⊥
 
 abbrev pub AdoptAnswers : RunTerms → PassPart → ℕ → Result (Unit {0}) Refusal → PassPart → Type 0
-AdoptAnswers terms v shard r w = UnlessRefused (adopt_refusal terms v.shard shard) v r w (PartAdopted v shard r w)
+AdoptAnswers terms v shard r w =
+    UnlessRefused (adopt_refusal terms v.shard shard) r (Becomes v w) (PartAdopted v shard r w)
+    × AdoptServed v.shard shard v.stands r w.stands
 
 -- ---- leave
 
@@ -49,53 +53,60 @@ needs_shard (Some own) = None
 needs_shard None = Some refusal.NoShard
 
 abbrev pub PartLeft : PassPart → Result (Unit {0}) Refusal → PassPart → Type 0
-PartLeft v (Ok _) w = w ≡ record v { shard = None }
-PartLeft v (Err refusal.Waiting) w = w ≡ v
+PartLeft v (Ok _) w = Becomes (record v { shard = None }) w
+PartLeft v (Err refusal.Waiting) w = Becomes v w
 PartLeft v (Err _) w = ⊥
 
 abbrev pub LeaveAnswers : PassPart → Result (Unit {0}) Refusal → PassPart → Type 0
-LeaveAnswers v r w = UnlessRefused (needs_shard v.shard) v r w (PartLeft v r w)
+LeaveAnswers v r w = UnlessRefused (needs_shard v.shard) r (Becomes v w) (PartLeft v r w)
+    × LeaveServed v.shard v.stands r w.stands
 
 -- ---- insert
 
 -- the key is one that an insert may give where this shard is owned
 pub record IsOwnKey (terms : RunTerms) (shard : Option ℕ) (key : ℕ) : Type 0 where
-  pub own : is_own_key terms shard key ≡ true
+  pub own : is_key_of_shard terms.layout shard key ≡ true
   pub small : key < first_key terms.layout + key_count terms.layout
 
 abbrev pub ValueInserted : RunTerms → ℕ → PassPart → List ℕ → Result ℕ Refusal → PassPart → Type 0
 ValueInserted terms pass v words (Ok key) w = IsOwnKey terms v.shard key
-    × (w ≡ with_entry v (Known (Insert pass key words)))
-ValueInserted terms pass v words (Err refusal.Full) w = w ≡ v
-ValueInserted terms pass v words (Err refusal.Memory) w = w ≡ v
+    × Becomes (with_entry v (Known (Insert pass key words))) w
+ValueInserted terms pass v words (Err refusal.Full) w = Becomes v w
+ValueInserted terms pass v words (Err refusal.Memory) w = Becomes v w
 ValueInserted terms pass v words (Err _) w = ⊥
 
 abbrev pub InsertAnswers : RunTerms → ℕ → PassPart → List ℕ → Result ℕ Refusal → PassPart → Type 0
-InsertAnswers terms pass v words r w = UnlessRefused (needs_shard v.shard) v r w (ValueInserted terms pass v words r w)
+InsertAnswers terms pass v words r w =
+    UnlessRefused (needs_shard v.shard) r (Becomes v w) (ValueInserted terms pass v words r w)
+    × InsertServed terms.layout v.shard words v.stands r w.stands
 
 -- the words of a script may be too many for a value, which comes before all else
 abbrev pub words_refusal : List ℕ → Option Refusal
 words_refusal words = if nat_lt 16 (length words) then Some refusal.TooLong else None
 
 abbrev pub WordsAnswers : RunTerms → ℕ → PassPart → List ℕ → Result ℕ Refusal → PassPart → Type 0
-WordsAnswers terms pass v words r w = UnlessRefused (words_refusal words) v r w (InsertAnswers terms pass v words r w)
+WordsAnswers terms pass v words r w =
+    UnlessRefused (words_refusal words) r (w ≡ v) (InsertAnswers terms pass v words r w)
 
 -- ---- get
 
 abbrev pub get_refusal : RunTerms → ℕ → PassPart → ℕ → Option Refusal
 get_refusal terms pass v key =
-    if not (is_run_key terms key) then Some refusal.BadKey
+    if not (is_placed_key terms.layout terms.shape key) then Some refusal.BadKey
     else if nat_le 16 (logged_hold_count v.log pass) then Some refusal.HoldsFull
     else None
 
 abbrev pub HoldGot : ℕ → PassPart → ℕ → Result Hold Refusal → PassPart → Type 0
-HoldGot pass v key (Ok hold) w = (hold.key ≡ key) × ((got : LogEntry) × IsGotBy pass key got × (w ≡ with_entry v got))
-HoldGot pass v key (Err refusal.Gone) w = w ≡ with_entry v (Known (Gone pass key))
-HoldGot pass v key (Err refusal.Crowded) w = w ≡ with_entry v (Known (Crowded pass key))
+HoldGot pass v key (Ok hold) w = (hold.key ≡ key)
+    × ((got : LogEntry) × IsGotBy pass key got × Becomes (with_entry v got) w)
+HoldGot pass v key (Err refusal.Gone) w = Becomes (with_entry v (Known (Gone pass key))) w
+HoldGot pass v key (Err refusal.Crowded) w = Becomes (with_entry v (Known (Crowded pass key))) w
 HoldGot pass v key (Err _) w = ⊥
 
 abbrev pub GetAnswers : RunTerms → ℕ → PassPart → ℕ → Result Hold Refusal → PassPart → Type 0
-GetAnswers terms pass v key r w = UnlessRefused (get_refusal terms pass v key) v r w (HoldGot pass v key r w)
+GetAnswers terms pass v key r w =
+    UnlessRefused (get_refusal terms pass v key) r (Becomes v w) (HoldGot pass v key r w)
+    × Serves terms.layout (λ x y. GetDoes terms.layout key x r y) v.stands w.stands
 
 -- ---- read and release
 
@@ -104,31 +115,37 @@ hold_refusal pass v key = if nat_lt 0 (logged_holds_by v.log pass key) then None
 
 -- the value is that of each get of the key
 abbrev pub ValueRead : PassPart → ℕ → Result (List ℕ) Refusal → PassPart → Type 0
-ValueRead v key (Ok value) w = (w ≡ record v { log = map (filled key value) v.log }) × AllHaveValue key value w.log
+ValueRead v key (Ok value) w = Becomes (record v { log = map (filled key value) v.log }) w
+    × AllHaveValue key value w.log
 ValueRead v key (Err _) w = ⊥
 
-abbrev pub ReadAnswers : ℕ → PassPart → ℕ → Result (List ℕ) Refusal → PassPart → Type 0
-ReadAnswers pass v key r w = UnlessRefused (hold_refusal pass v key) v r w (ValueRead v key r w)
+abbrev pub ReadAnswers : RunTerms → ℕ → PassPart → ℕ → Result (List ℕ) Refusal → PassPart → Type 0
+ReadAnswers terms pass v key r w = UnlessRefused (hold_refusal pass v key) r (Becomes v w) (ValueRead v key r w)
+    × Serves terms.layout (λ x y. ReadDoes key x r y) v.stands w.stands
 
 abbrev pub HoldReleased : ℕ → PassPart → ℕ → Result (Unit {0}) Refusal → PassPart → Type 0
-HoldReleased pass v key (Ok _) w = w ≡ with_entry v (Known (Released pass key))
+HoldReleased pass v key (Ok _) w = Becomes (with_entry v (Known (Released pass key))) w
 HoldReleased pass v key (Err _) w = ⊥
 
-abbrev pub ReleaseAnswers : ℕ → PassPart → ℕ → Result (Unit {0}) Refusal → PassPart → Type 0
-ReleaseAnswers pass v key r w = UnlessRefused (hold_refusal pass v key) v r w (HoldReleased pass v key r w)
+abbrev pub ReleaseAnswers : RunTerms → ℕ → PassPart → ℕ → Result (Unit {0}) Refusal → PassPart → Type 0
+ReleaseAnswers terms pass v key r w =
+    UnlessRefused (hold_refusal pass v key) r (Becomes v w) (HoldReleased pass v key r w)
+    × Serves terms.layout (λ x y. ReleaseDoes terms.layout key x r y) v.stands w.stands
 
 -- ---- remove
 
 abbrev pub remove_refusal : RunTerms → ℕ → Option Refusal
-remove_refusal terms key = if is_run_key terms key then None else Some refusal.BadKey
+remove_refusal terms key = if is_placed_key terms.layout terms.shape key then None else Some refusal.BadKey
 
 abbrev pub KeyRemoved : ℕ → PassPart → ℕ → Result (Unit {0}) Refusal → PassPart → Type 0
-KeyRemoved pass v key (Ok _) w = w ≡ with_entry v (Known (Removed pass key))
-KeyRemoved pass v key (Err refusal.Gone) w = w ≡ with_entry v (Known (Gone pass key))
+KeyRemoved pass v key (Ok _) w = Becomes (with_entry v (Known (Removed pass key))) w
+KeyRemoved pass v key (Err refusal.Gone) w = Becomes (with_entry v (Known (Gone pass key))) w
 KeyRemoved pass v key (Err _) w = ⊥
 
 abbrev pub RemoveAnswers : RunTerms → ℕ → PassPart → ℕ → Result (Unit {0}) Refusal → PassPart → Type 0
-RemoveAnswers terms pass v key r w = UnlessRefused (remove_refusal terms key) v r w (KeyRemoved pass v key r w)
+RemoveAnswers terms pass v key r w =
+    UnlessRefused (remove_refusal terms key) r (Becomes v w) (KeyRemoved pass v key r w)
+    × Serves terms.layout (λ x y. RemoveDoes terms.layout key x r y) v.stands w.stands
 
 -- ---- how a result is told
 
@@ -172,11 +189,11 @@ CallAnswers terms tag pass v (call.Insert words) bound a w = AnswerSays (key_ans
 CallAnswers terms tag pass v (call.Get r) bound a w = OnKey (key_meant tag bound r) v
     (λ key. AnswerSays done_answer (GetAnswers terms pass v key)) a w
 CallAnswers terms tag pass v (call.Read r) bound a w = OnKey (key_meant tag bound r) v
-    (λ key. AnswerSays value_answer (ReadAnswers pass v key)) a w
+    (λ key. AnswerSays value_answer (ReadAnswers terms pass v key)) a w
 CallAnswers terms tag pass v (call.Remove r) bound a w = OnKey (key_meant tag bound r) v
     (λ key. AnswerSays done_answer (RemoveAnswers terms pass v key)) a w
 CallAnswers terms tag pass v (call.Release r) bound a w = OnKey (key_meant tag bound r) v
-    (λ key. AnswerSays done_answer (ReleaseAnswers pass v key)) a w
+    (λ key. AnswerSays done_answer (ReleaseAnswers terms pass v key)) a w
 CallAnswers terms tag pass v call.Post bound a w = (a ≡ answer.Done) × (w ≡ v)
 CallAnswers terms tag pass v (call.Wait name) bound a w = (a ≡ answer.Done) × (w ≡ v)
 

@@ -1,7 +1,9 @@
 -- What came of the lines of a script on the passes of a heap.
-use Rattle.std.specs.Prelude.{◌≡◌, ℕ, List, [], ◌∷◌, ◌⊎◌, Option, Some, None, IfSome, IfNone, IsSome}
+use Rattle.std.specs.Prelude.{◌≡◌, ℕ, List, [], ◌∷◌, ◌⊎◌, Option, Some, None, IfSome, IfNone, Err}
+use Rattle.sh_value.specs.declared.refusal.Refusal.TheVariants as refusal
 use Rattle.sh_script.specs.declared.calls.CallLine.{CallLine}
 use Rattle.sh_table.specs.Seats.{Heap}
+use Rattle.sh_calls.specs.Standing.{Standing, ShardLeaves}
 use Rattle.sh_calls.specs.Parts.{SeenPass, RunTerms, no_terms, new_passes, tale_told}
 use Rattle.sh_calls.specs.Told.{AreReplies, IsTold}
 use Rattle.sh_calls.specs.Meeting.{CarriesTale, OwnsNone}
@@ -22,19 +24,21 @@ AreAllNew ss = ss ≡ new_passes (heap_seen ss) (terms_seen ss) (terms_seen ss).
 -- the replies were told, and this pass owns no shard and carries the tale of all
 pub record CarrierRan (heap : Option Heap) (terms : RunTerms) (tag : Option ℕ) (lines : List CallLine) (output : List ℕ)
     (c : SeenPass) : Type 0 where
-  pub told : IsTold terms tag lines output (tale_told c)
+  pub told : IsTold heap terms tag lines output (tale_told c)
   pub carries : CarriesTale heap terms (Some c) (tale_told c)
   pub none : OwnsNone (Some c)
 
--- the replies were told, and this pass still owned a shard when the lines had run
-pub record AreWaiting (terms : RunTerms) (tag : Option ℕ) (lines : List CallLine) (output : List ℕ) : Type 0 where
-  pub replies : AreReplies terms tag lines output
-  pub owner : ℕ
-  pub owns : IsSome (replies.after.parts owner).shard
+-- the replies were told, and this pass was refused when it left its shard after them, as the contract of leaving says
+pub record AreWaiting (heap : Option Heap) (terms : RunTerms) (tag : Option ℕ) (lines : List CallLine)
+    (output : List ℕ) : Type 0 where
+  pub replies : AreReplies heap terms tag lines output
+  pub pass : ℕ
+  pub stays : Standing
+  pub waits : ShardLeaves (replies.after.parts pass).stands (Err refusal.Waiting) stays
 
--- the replies were told; if there is a carrier, it carries the tale of all, and there is none only where some pass
--- still owned a shard, which it could not leave, or where there is no pass
+-- the replies were told; if there is a carrier, it carries the tale of all, and there is none only where a pass was
+-- refused when it left its shard, or where there is no pass
 pub record LinesRan (heap : Option Heap) (terms : RunTerms) (tag : Option ℕ) (lines : List CallLine) (output : List ℕ)
     (carrier : Option SeenPass) : Type 0 where
   pub met : IfSome carrier (CarrierRan heap terms tag lines output)
-  pub stays : IfNone carrier (AreWaiting terms tag lines output ⊎ (terms.shape.passes ≡ 0))
+  pub stays : IfNone carrier (AreWaiting heap terms tag lines output ⊎ (terms.shape.passes ≡ 0))

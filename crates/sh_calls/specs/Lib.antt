@@ -1,3 +1,4 @@
+pub mod Standing
 pub mod Parts
 pub mod Calls
 pub mod Runs

@@ -1,5 +1,7 @@
 -- Passes that meet: one of them carries the tale of all.
-use Rattle.std.specs.Prelude.{◌≡◌, ℕ, List, [], ◌∷◌, ◌++◌, slice_get, Option, Some, None, IsSome}
+use Rattle.std.specs.Prelude.{◌≡◌, ℕ, List, [], ◌∷◌, ◌++◌, slice_get, Option, Some, None, Err}
+use Rattle.sh_value.specs.declared.refusal.Refusal.TheVariants as refusal
+use Rattle.sh_calls.specs.Standing.{Standing, ShardLeaves}
 use Rattle.sh_calls.specs.Parts.{RunTerms, SeenPass, PassTold, HasWholeTale, tale_told}
 use Rattle.sh_table.specs.Seats.{Heap}
 
@@ -39,6 +41,7 @@ abbrev pub AllOfHeap : Option Heap → RunTerms → List SeenPass → Type 0
 AllOfHeap heap terms [] = Unit {0}
 AllOfHeap heap terms (s ∷ ss) = (s.heap ≡ heap) × (s.terms ≡ terms) × AllOfHeap heap terms ss
 
--- one of these passes owns a shard
-abbrev pub SomeOwns : List SeenPass → Type 0
-SomeOwns ss = (i : ℕ) × (s : SeenPass) × (slice_get ss i ≡ Some s) × IsSome s.part.shard
+-- one of these passes was refused when it left its shard
+abbrev pub SomeWaits : List SeenPass → Type 0
+SomeWaits ss = (i : ℕ) × (s : SeenPass) × (slice_get ss i ≡ Some s)
+    × ((stays : Standing) × ShardLeaves s.part.stands (Err refusal.Waiting) stays)

@@ -1,6 +1,6 @@
 -- What is known of a pass of a heap.
-use Rattle.std.specs.Prelude.{◌≡◌, ℕ, zero, suc, ◌==◌, nat_lt, not, is_some, Bool, true, false, List, [], ◌∷◌, ◌++◌}
-use Rattle.std.specs.Prelude.{Option, Some, None, if◌then◌else◌}
+use Rattle.std.specs.Prelude.{◌≡◌, ℕ, zero, suc, ◌==◌, nat_lt, not, Bool, false, List, [], ◌∷◌, ◌++◌}
+use Rattle.std.specs.Prelude.{Option, Some, None}
 use Rattle.std.specs.List.{AllZip}
 use Rattle.sh_key.specs.Layout.{Layout, unpacked}
 use Rattle.sh_shape.specs.Shape.{Numbers}
@@ -10,20 +10,22 @@ use Rattle.sh_history.specs.History.{Legal}
 use Rattle.sh_history.specs.Log.{Agrees, entries_of}
 use Rattle.sh_step.specs.Moves.{has_place}
 use Rattle.sh_table.specs.Seats.{Heap}
+use Rattle.sh_calls.specs.Standing.{Standing, new_standing}
 
--- what stays the same over a run; keys are placed where the store has shards and pages, as the running heap
+-- what stays the same over a run
 pub record RunTerms : Type 0 where
   pub layout : Layout
   pub shape : Numbers
-  pub placed : Bool
 
--- its entries, in order, and the shard that it owns
+-- its entries, in order, the shard that it owns, and what of both stands between calls
 pub record PassPart : Type 0 where
   pub log : List LogEntry
   pub shard : Option ℕ
+  pub stands : Standing
 
-abbrev pub no_part : PassPart
-no_part = record { log = []; shard = None }
+-- the part of a pass that has done nothing yet
+abbrev pub new_part : Option Heap → ℕ → PassPart
+new_part heap pass = record { log = []; shard = None; stands = new_standing heap pass }
 
 -- a pass, and its entries
 pub record PassTold : Type 0 where
@@ -40,7 +42,13 @@ pub record SeenPass : Type 0 where
 
 -- the pass has done nothing yet
 abbrev pub new_pass : Option Heap → RunTerms → ℕ → SeenPass
-new_pass heap terms pass = record { heap = heap; terms = terms; pass = pass; part = no_part; told = [] }
+new_pass heap terms pass = record {
+  heap = heap;
+  terms = terms;
+  pass = pass;
+  part = new_part heap pass;
+  told = [];
+}
 
 -- passes 0 to n - 1 of a heap
 abbrev pub new_passes : Option Heap → RunTerms → ℕ → List SeenPass
@@ -89,27 +97,18 @@ abbrev pub is_key_of_shard : Layout → Option ℕ → ℕ → Bool
 is_key_of_shard layout None key = false
 is_key_of_shard layout (Some shard) key = elim (unpacked layout key) [ Some p ↦ p.shard == shard | None ↦ false ]
 
--- which numbers are keys
-abbrev pub is_run_key : RunTerms → ℕ → Bool
-is_run_key terms key = if terms.placed then is_placed_key terms.layout terms.shape key else is_some
-    (unpacked terms.layout key)
-
--- which keys an insert may give where this shard is owned
-abbrev pub is_own_key : RunTerms → Option ℕ → ℕ → Bool
-is_own_key terms shard key = if terms.placed then is_key_of_shard terms.layout shard key else true
-
--- of the running heap
+-- of a heap of this shape
 abbrev pub heap_terms : Layout → Numbers → RunTerms
-heap_terms layout shape = record { layout = layout; shape = shape; placed = true }
+heap_terms layout shape = record { layout = layout; shape = shape }
 
 -- of no heap
 abbrev pub no_terms : RunTerms
 no_terms = heap_terms (record { shard_bits = 0; page_bits = 0; gen_max = 0; guard_max = 0 })
     (record { shards = 0; segments = 0; passes = 0 })
 
--- of the plain store, which knows no shape
-abbrev pub plain_terms : Layout → Numbers → RunTerms
-plain_terms layout shape = record { layout = layout; shape = shape; placed = false }
-
 abbrev pub with_entry : PassPart → LogEntry → PassPart
 with_entry v e = record v { log = v.log ++ e ∷ [] }
+
+-- it is this, but for what stands, of which the call's own contract tells
+abbrev pub Becomes : PassPart → PassPart → Type 0
+Becomes u w = w ≡ record u { stands = w.stands }

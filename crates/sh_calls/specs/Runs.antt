@@ -1,9 +1,11 @@
 -- A run of lines of several passes: what each was answered.
-use Rattle.std.specs.Prelude.{◌≡◌, ℕ, ◌==◌, cond, List, [], ◌∷◌, ◌++◌, slice_get, Option, Some, None}
+use Rattle.std.specs.Prelude.{◌≡◌, ℕ, ◌+◌, ◌<◌, ◌≤◌, ◌⊎◌, ◌==◌, true, cond, length, List, [], ◌∷◌, ◌++◌, slice_get, Option, Some, None}
 use Rattle.sh_script.specs.declared.calls.Call.{Call}
 use Rattle.sh_script.specs.declared.calls.CallLine.{CallLine}
 use Rattle.sh_output.specs.declared.answer.Answer.{Answer}
-use Rattle.sh_calls.specs.Parts.{RunTerms, PassPart, no_part}
+use Rattle.sh_output.specs.Replies.{reply_line}
+use Rattle.sh_table.specs.Seats.{Heap}
+use Rattle.sh_calls.specs.Parts.{RunTerms, PassPart, new_part}
 use Rattle.sh_calls.specs.Calls.{CallAnswers, name_used, binds, number_told}
 
 -- for each name that is bound the number that it stands for, if its insert was answered one; for each pass its part
@@ -11,9 +13,9 @@ pub record CallsRun : Type 0 where
   pub numbers : List (Option ℕ)
   pub parts : ℕ → PassPart
 
--- no name is bound, and no pass has done anything
-abbrev pub opening_calls : CallsRun
-opening_calls = record { numbers = []; parts = λ _. no_part }
+-- no name is bound, and no pass of the heap has done anything
+abbrev pub opening_calls : Option Heap → CallsRun
+opening_calls heap = record { numbers = []; parts = new_part heap }
 
 abbrev pub number_bound : List (Option ℕ) → Option ℕ → Option ℕ
 number_bound numbers None = None
@@ -35,6 +37,12 @@ next_run run line a part = record {
   parts = with_part run.parts line.pass
       part;
 }
+
+-- The line, with this answer, ends a run: its reply finds no room behind the output, or the number that its name stands
+-- for finds none behind the numbers. An answer alone ends none.
+abbrev pub EndsAt : (room name_room : ℕ) → List ℕ → List (Option ℕ) → CallLine → Answer → Type 0
+EndsAt room name_room output numbers line a =
+    (room < length output + length (reply_line line a)) ⊎ ((binds line.call ≡ true) × (name_room ≤ length numbers))
 
 -- The line is answered so. It sees the part of its own pass alone, and the numbers of the names bound before.
 pub record LineAnswered (terms : RunTerms) (tag : Option ℕ) (run : CallsRun) (line : CallLine) (a : Answer)

@@ -3,6 +3,7 @@ use Rattle.std.specs.Prelude.{◌≡◌, ℕ, List, map, Option}
 use Rattle.sh_script.specs.declared.calls.CallLine.{CallLine}
 use Rattle.sh_output.specs.declared.answer.Answer.{Answer}
 use Rattle.sh_output.specs.Replies.{replies_text}
+use Rattle.sh_table.specs.Seats.{Heap}
 use Rattle.sh_calls.specs.Parts.{RunTerms, PassPart, PassTold, HasWholeTale, passes_below}
 use Rattle.sh_calls.specs.Runs.{CallsRun, LinesAnswered, opening_calls}
 
@@ -11,17 +12,18 @@ abbrev pub part_told : (ℕ → PassPart) → ℕ → PassTold
 part_told parts pass = record { pass = pass; log = (parts pass).log }
 
 -- The output is the reply lines of answers to these lines, in their order. Each answer is one that the line's call may
--- have, by what its own pass did on the lines before and by the numbers that names were answered.
-pub record AreReplies (terms : RunTerms) (tag : Option ℕ) (lines : List CallLine) (output : List ℕ) : Type 0 where
+-- have, by what its own pass of the heap did on the lines before and by the numbers that names were answered.
+pub record AreReplies (heap : Option Heap) (terms : RunTerms) (tag : Option ℕ) (lines : List CallLine)
+    (output : List ℕ) : Type 0 where
   pub answers : List Answer
   pub after : CallsRun
-  pub ran : LinesAnswered terms tag opening_calls lines answers after
+  pub ran : LinesAnswered terms tag (opening_calls heap) lines answers after
   pub is : output ≡ replies_text lines answers
 
 -- The same, where all passes met at the end: this is their tale. There is one legal history in which the entries of
 -- each pass are just those that its answers say, in order, and there are no others.
-pub record IsTold (terms : RunTerms) (tag : Option ℕ) (lines : List CallLine) (output : List ℕ) (tale : List PassTold) :
-    Type 0 where
-  pub replies : AreReplies terms tag lines output
+pub record IsTold (heap : Option Heap) (terms : RunTerms) (tag : Option ℕ) (lines : List CallLine) (output : List ℕ)
+    (tale : List PassTold) : Type 0 where
+  pub replies : AreReplies heap terms tag lines output
   pub tale_is : tale ≡ map (part_told replies.after.parts) (passes_below terms.shape.passes)
   pub whole : HasWholeTale terms tale

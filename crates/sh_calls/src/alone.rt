@@ -7,26 +7,26 @@ ghost use Rattle.sh_output.specs.Keys.{HasTagRoom};
 ghost use Rattle.sh_calls.specs.Parts.{RunTerms, new_passes};
 ghost use Rattle.sh_calls.specs.Finished.{heap_seen, terms_seen, AreAllNew, LinesRan};
 
-use crate::line::{answered, binds, number_meant, number_told};
+use crate::line::{answered, number_meant};
 use crate::meeting::met;
 use crate::side::Side;
-use sh_output::push_reply;
+use crate::telling::{NoRoom, tell};
 use sh_script::{CallLine, Fault};
 use std::alloc::Global;
 
-// Runs the lines in their order, on the passes of a heap that is named.
+// Runs the lines in their order, on the passes of a heap that is named. No answer ends it: only where a line finds no room
+// is there a `NoRoom`.
 fn lines_in_turn<S: Side>(
     alloc: Global,
     lines: &[CallLine],
     tag: Option<u8>,
     mut sides: Vec<S>,
-) -> Result<(Vec<u8>, Option<S>), Fault>
+) -> Result<(Vec<u8>, Option<S>), NoRoom>
     ghost at: { Option Heap × RunTerms }
     requires room { HasTagRoom at.1.layout tag }
     requires sides { map S.seen sides.items ≡ new_passes at.0 at.1 at.1.shape.passes }
     requires passes { All (λ (l : CallLine). l.pass < at.1.shape.passes) lines.now }
     ensures ran { IfOk result (λ ran. LinesRan at.0 at.1 tag lines.now ran.0.items (option_map S.seen ran.1)) }
-    ensures fault { IfErr result (λ fault. fault ≡ Fault.Memory) }
 {
     let mut numbers: Vec<Option<u64>> = Vec::new(alloc);
     let mut output = Vec::new(alloc);
@@ -36,12 +36,7 @@ fn lines_in_turn<S: Side>(
         };
         let bound = number_meant(numbers.as_slice(), &line.call);
         let answer = answered(alloc, side, tag, &line.call, bound);
-        if binds(&line.call) && numbers.push(number_told(&answer)).is_err() {
-            return Err(Fault::Memory);
-        }
-        if push_reply(&mut output, line, &answer).is_err() {
-            return Err(Fault::Memory);
-        }
+        tell(&mut output, &mut numbers, line, &answer)?;
     }
     Ok((output, met(sides)))
 }
@@ -61,5 +56,5 @@ pub fn alone_lines<S: Side>(
         (terms_seen (map S.seen sides.items)) tag lines.now ran.0.items (option_map S.seen ran.1)) }
     ensures fault { IfErr result (λ fault. fault ≡ Fault.Memory) }
 {
-    lines_in_turn(alloc, lines, tag, sides)
+    Ok(lines_in_turn(alloc, lines, tag, sides)?)
 }

@@ -1,6 +1,7 @@
 //! A pass or a shard: a side made of the two.
 ghost use Rattle.std.specs.Prelude.{◌≡◌, ◌<◌, ◌+◌, ◌++◌, IfOk, MatchResult, Ok, Err, None, map};
 ghost use Rattle.sh_key.specs.Layout.{first_key, key_count};
+ghost use Rattle.sh_calls.specs.Standing.{ShardInserts};
 ghost use Rattle.sh_calls.specs.Parts.{SeenPass, SamePass, HasWholeTale, tale_told, told_pass, passes_below};
 ghost use Rattle.sh_calls.specs.Calls.{AdoptAnswers, LeaveAnswers, ValueInserted, GetAnswers, ReadAnswers};
 ghost use Rattle.sh_calls.specs.Calls.{RemoveAnswers, ReleaseAnswers};
@@ -25,7 +26,8 @@ pub trait Calls: Drop {
 
     /// The value of the key that it holds.
     fn read(&mut self, hold: Hold) -> Result<Value, Refusal>
-        ensures does { ReadAnswers (seen self.old).pass (seen self.old).part hold.key result (seen self.new).part }
+        ensures does { ReadAnswers (seen self.old).terms (seen self.old).pass (seen self.old).part hold.key result
+            (seen self.new).part }
         ensures same { SamePass (seen self.old) (seen self.new) }
         ensures shard { (seen self.new).part.shard ≡ (seen self.old).part.shard };
 
@@ -38,7 +40,8 @@ pub trait Calls: Drop {
 
     /// Gives a hold back.
     fn release(&mut self, hold: Hold) -> Result<(), Refusal>
-        ensures does { ReleaseAnswers (seen self.old).pass (seen self.old).part hold.key result (seen self.new).part }
+        ensures does { ReleaseAnswers (seen self.old).terms (seen self.old).pass (seen self.old).part hold.key result
+            (seen self.new).part }
         ensures same { SamePass (seen self.old) (seen self.new) }
         ensures shard { (seen self.new).part.shard ≡ (seen self.old).part.shard };
 
@@ -78,6 +81,8 @@ pub trait Adopts<S: Calls>: Calls + Sized {
     fn insert(shard: &mut S, value: &Value) -> Result<u64, Refusal>
         ensures does { ValueInserted (S.seen shard.old).terms (S.seen shard.old).pass (S.seen shard.old).part value.now
             result (S.seen shard.new).part }
+        ensures serves { ShardInserts (S.seen shard.old).terms.layout value.now (S.seen shard.old).part.stands result
+            (S.seen shard.new).part.stands }
         ensures small { IfOk result (λ key. key
             < first_key (S.seen shard.old).terms.layout + key_count (S.seen shard.old).terms.layout) }
         ensures same { SamePass (S.seen shard.old) (S.seen shard.new) }
@@ -214,26 +219,6 @@ impl<P: Adopts<S>, S: Calls> Side for Holder<P, S> {
         match &mut self.state {
             State::Pass(pass) => pass.release(hold),
             State::Shard(owner) => owner.release(hold),
-            State::Moving => unreachable!(),
-        }
-    }
-
-    fn retire(&mut self) -> bool {
-        match mem::replace(&mut self.state, State::Moving) {
-            State::Pass(pass) => {
-                self.state = State::Pass(pass);
-                true
-            }
-            State::Shard(owner) => match P::leave(owner) {
-                Ok(pass) => {
-                    self.state = State::Pass(pass);
-                    true
-                }
-                Err((owner, _)) => {
-                    self.state = State::Shard(owner);
-                    false
-                }
-            },
             State::Moving => unreachable!(),
         }
     }

@@ -7,3 +7,4 @@ pub mod line;
 pub mod meeting;
 pub mod running;
 pub mod side;
+pub mod telling;

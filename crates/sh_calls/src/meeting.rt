@@ -1,11 +1,13 @@
 //! Passes that meet.
-ghost use Rattle.std.specs.Prelude.{◌≡◌, ◌⊎◌, [], Option, None, IfSome, IfNone, map, option_map};
+ghost use Rattle.std.specs.Prelude.{◌≡◌, ◌⊎◌, [], Option, None, Err, IfSome, IfNone, map, option_map, true, false};
 ghost use Rattle.sh_table.specs.Seats.{Heap};
-ghost use Rattle.sh_calls.specs.Parts.{RunTerms, told_pass, passes_below};
-ghost use Rattle.sh_calls.specs.Meeting.{MeetsCarrier, OwnsNone, IsOfHeap, HasMet, SomeOwns, tales_told};
+ghost use Rattle.sh_calls.specs.Standing.{ShardLeaves};
+ghost use Rattle.sh_calls.specs.Parts.{RunTerms, SamePass, told_pass, passes_below};
+ghost use Rattle.sh_calls.specs.Meeting.{MeetsCarrier, OwnsNone, IsOfHeap, HasMet, SomeWaits, tales_told};
 ghost use Rattle.sh_calls.specs.Meeting.{AllOfHeap};
 
 use crate::side::Side;
+use sh_value::Refusal;
 
 /// The carrier, if there is one, which now speaks for the side too; else the side. None owns a shard.
 pub fn meet<S: Side>(carrier: Option<S>, side: S) -> S
@@ -20,19 +22,33 @@ pub fn meet<S: Side>(carrier: Option<S>, side: S) -> S
     }
 }
 
-/// What one of the passes carries once all have met: nobody owns a shard any more. None where an owner could not leave,
-/// or where there is no pass.
+// Whether it owns no shard, where leaving was tried if it owned one.
+fn retire<S: Side>(side: &mut S) -> bool
+    ensures none { result ≡ true → (S.seen side.new).part.shard ≡ None }
+    ensures waits { result ≡ false → ShardLeaves (S.seen side.old).part.stands (Err Refusal.Waiting)
+        (S.seen side.new).part.stands }
+    ensures log { (S.seen side.new).part.log ≡ (S.seen side.old).part.log }
+    ensures same { SamePass (S.seen side.old) (S.seen side.new) }
+{
+    match side.leave() {
+        Ok(()) | Err(Refusal::NoShard) => true,
+        Err(_) => false,
+    }
+}
+
+/// What one of the passes carries once all have met: nobody owns a shard any more. None where an owner was refused when
+/// it left, or where there is no pass.
 pub fn met<S: Side>(sides: Vec<S>) -> Option<S>
     ghost at: { Option Heap × RunTerms }
     requires of { AllOfHeap at.0 at.1 (map S.seen sides.items) }
     requires all { map told_pass (tales_told (map S.seen sides.items)) ≡ passes_below at.1.shape.passes }
     ensures met { IfSome result (λ carrier. HasMet at.0 at.1 (S.seen carrier) (tales_told (map S.seen sides.items))) }
-    ensures stays { IfNone result (SomeOwns (map S.seen sides.items) ⊎ (map S.seen sides.items ≡ [])) }
+    ensures stays { IfNone result (SomeWaits (map S.seen sides.items) ⊎ (map S.seen sides.items ≡ [])) }
 {
     let mut carrier: Option<S> = None;
     for side in sides {
         let mut side = side;
-        if !side.retire() {
+        if !retire(&mut side) {
             return None;
         }
         carrier = Some(meet(carrier, side));

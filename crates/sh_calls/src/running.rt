@@ -1,6 +1,6 @@
 //! Passes of the running heap: what a script's calls are made on.
 ghost use Rattle.std.specs.Prelude.{◌≡◌, map};
-ghost use Rattle.sh_calls.specs.Running.{seen_of_caller};
+ghost use Rattle.sh_calls.specs.Running.{seen_of_caller, seen_of_shard};
 
 use crate::holder::{Adopts, Calls};
 use sh_key::KeyLayout;
@@ -48,7 +48,7 @@ impl<'a, L: KeyLayout> Calls for Pass<'a, L> {
 
 // What an owner knows stands before a call: `shape` tells it.
 impl<'a, L: KeyLayout> Calls for Shard<'a, L> {
-    ghost seen = { λ s. seen_of_caller L.layout s.pages.owner };
+    ghost seen = { λ s. seen_of_shard L.layout s };
 
     fn get(&mut self, key: u64) -> Result<Hold, Refusal> {
         let _ = self.shape();

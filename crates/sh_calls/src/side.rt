@@ -1,5 +1,5 @@
 //! A pass of a heap, with or without a shard: what runs the calls of a script.
-ghost use Rattle.std.specs.Prelude.{◌≡◌, ◌<◌, ◌+◌, ◌∷◌, ◌++◌, IfOk, true, false, None, IsSome, map};
+ghost use Rattle.std.specs.Prelude.{◌≡◌, ◌<◌, ◌+◌, ◌∷◌, ◌++◌, IfOk, None, map};
 ghost use Rattle.sh_key.specs.Layout.{first_key, key_count};
 ghost use Rattle.sh_calls.specs.Parts.{SeenPass, SamePass, HasWholeTale, tale_told, told_pass, passes_below};
 ghost use Rattle.sh_calls.specs.Calls.{AdoptAnswers, LeaveAnswers, InsertAnswers, GetAnswers, ReadAnswers};
@@ -8,25 +8,25 @@ ghost use Rattle.sh_calls.specs.Calls.{RemoveAnswers, ReleaseAnswers};
 use sh_value::{Hold, Refusal, Value};
 use std::alloc::Global;
 
-/// A pass, which may own a shard. Its clauses say of each call which refusal comes exactly where, and what its log
-/// gains.
+/// A pass, which may own a shard. Its clauses say of each call which refusal comes exactly where, what its log gains,
+/// and that the contract of the pass, or of its shard, gives this answer.
 pub trait Side: Drop {
     // What a contract sees.
     ghost seen: { Self → SeenPass };
 
     /// Adopts the shard. Refused as `Taken` where it owns one, as `NoShard` where there is no such shard, as `Taken`
-    /// where another owns it, and as `Memory`.
+    /// by one step that met another owner, and as `Memory`.
     fn adopt(&mut self, alloc: Global, shard: u64) -> Result<(), Refusal>
         ensures does { AdoptAnswers (seen self.old).terms (seen self.old).part shard result (seen self.new).part }
         ensures same { SamePass (seen self.old) (seen self.new) };
 
-    /// Leaves its shard. Refused as `NoShard` where it owns none, and as `Waiting`.
+    /// Leaves its shard. Refused as `NoShard` where it owns none, and as `Waiting` where it met what others have begun.
     fn leave(&mut self) -> Result<(), Refusal>
         ensures does { LeaveAnswers (seen self.old).part result (seen self.new).part }
         ensures same { SamePass (seen self.old) (seen self.new) };
 
-    /// Stores the value in its shard, and answers its key. Refused as `NoShard` where it owns none, as `Full`, and as
-    /// `Memory`.
+    /// Stores the value in its shard, and answers its key. Refused as `NoShard` where it owns none, as `Full` where the
+    /// shard has no room, and as `Memory` where a segment is unopened.
     fn insert(&mut self, value: &Value) -> Result<u64, Refusal>
         ensures does { InsertAnswers (seen self.old).terms (seen self.old).pass (seen self.old).part value.now result
             (seen self.new).part }
@@ -42,7 +42,8 @@ pub trait Side: Drop {
 
     /// The value of the key that it holds. Refused as `NotHeld`.
     fn read(&mut self, hold: Hold) -> Result<Value, Refusal>
-        ensures does { ReadAnswers (seen self.old).pass (seen self.old).part hold.key result (seen self.new).part }
+        ensures does { ReadAnswers (seen self.old).terms (seen self.old).pass (seen self.old).part hold.key result
+            (seen self.new).part }
         ensures same { SamePass (seen self.old) (seen self.new) };
 
     /// Removes the key. Refused as `BadKey` or `Gone`.
@@ -53,14 +54,8 @@ pub trait Side: Drop {
 
     /// Gives a hold back. Refused as `NotHeld`.
     fn release(&mut self, hold: Hold) -> Result<(), Refusal>
-        ensures does { ReleaseAnswers (seen self.old).pass (seen self.old).part hold.key result (seen self.new).part }
-        ensures same { SamePass (seen self.old) (seen self.new) };
-
-    /// Whether it owns no shard, where leaving was tried if it owned one.
-    fn retire(&mut self) -> bool
-        ensures none { result ≡ true → (seen self.new).part.shard ≡ None }
-        ensures owned { result ≡ false → IsSome (seen self.old).part.shard }
-        ensures log { (seen self.new).part.log ≡ (seen self.old).part.log }
+        ensures does { ReleaseAnswers (seen self.old).terms (seen self.old).pass (seen self.old).part hold.key result
+            (seen self.new).part }
         ensures same { SamePass (seen self.old) (seen self.new) };
 
     /// The first side, which now speaks for both. Neither owns a shard.

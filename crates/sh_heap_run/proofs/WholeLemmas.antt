@@ -162,6 +162,8 @@ module _ (layout : Layout) (heap : Heap) (tag : Option ℕ) (lines : List CallLi
       let tells : TellsTale layout heap.shape (tale_told (seen_of_caller layout v)) t.0 =
       subst (λ (h : Heap). TellsTale layout h.shape (tale_told (seen_of_caller layout v)) t.0) carrier_heap t.2 in
       record {
+        heap = heap;
+        of_shape = refl;
         replies = output;
         tale = tale_told (seen_of_caller layout v);
         told = record { replies = ran.told.replies; tale_is = ran.told.tale_is; whole = tells.whole };
@@ -172,6 +174,8 @@ module _ (layout : Layout) (heap : Heap) (tag : Option ℕ) (lines : List CallLi
 
   pub without_accounts : IsHeapOutput layout heap.shape tag lines false output
   without_accounts = record {
+    heap = heap;
+    of_shape = refl;
     replies = output;
     tale = tale_told (seen_of_caller layout v);
     told = ran.told;

@@ -1,6 +1,6 @@
 -- What modes heap and threads write for a script of calls: the reply lines, and then, where they are asked for and
 -- every owner could leave, the accounts of the pages.
-use Rattle.std.specs.Prelude.{◌≡◌, ℕ, Bool, true, false, List, [], ◌++◌, Option}
+use Rattle.std.specs.Prelude.{◌≡◌, ℕ, Bool, true, false, List, [], ◌++◌, Option, Some}
 use Rattle.sh_key.specs.Layout.{Layout}
 use Rattle.sh_shape.specs.Shape.{Numbers}
 use Rattle.sh_history.specs.declared.entry.Entry.{Entry}
@@ -8,6 +8,7 @@ use Rattle.sh_script.specs.HeaderMeaning.{layout_of}
 use Rattle.sh_script.specs.Scripts.{IsCalls}
 use Rattle.sh_script.specs.declared.calls.CallLine.{CallLine}
 use Rattle.sh_script.specs.declared.header.Header.{Header}
+use Rattle.sh_table.specs.Seats.{Heap}
 use Rattle.sh_calls.specs.Parts.{PassTold, HasWholeTale, heap_terms}
 use Rattle.sh_calls.specs.Told.{IsTold}
 use Rattle.sh_calls.specs.Finished.{AreWaiting}
@@ -23,13 +24,15 @@ abbrev pub AccountsAsked : (asked : Bool) → Layout → Numbers → List Entry 
 AccountsAsked true layout shape history text = AreAccountLines layout shape history text
 AccountsAsked false layout shape history text = text ≡ []
 
--- The replies are told by the tale of all passes, and after them come the account lines by its history, where they are
--- asked for.
+-- The replies are told by the tale of all passes of a heap of this shape, and after them come the account lines by its
+-- history, where they are asked for.
 pub record IsHeapOutput (layout : Layout) (shape : Numbers) (tag : Option ℕ) (lines : List CallLine) (asked : Bool)
     (output : List ℕ) : Type 0 where
+  pub heap : Heap
+  pub of_shape : heap.shape ≡ shape
   pub replies : List ℕ
   pub tale : List PassTold
-  pub told : IsTold (heap_terms layout shape) tag lines replies tale
+  pub told : IsTold (Some heap) (heap_terms layout shape) tag lines replies tale
   pub accounts : List ℕ
   pub is : output ≡ replies ++ accounts
   pub are : AccountsAsked asked layout shape told.whole.history accounts
@@ -41,19 +44,26 @@ pub record IsHeap (asked : Bool) (text output : List ℕ) : Type 0 where
   pub is_calls : IsCalls text header lines
   pub is_output : IsHeapOutput (layout_of header.layout) header.shape header.tag lines asked output
 
--- The text is a script of calls, and these are the replies of a run of it at whose end a pass still owned a shard, and
--- could not leave it: there is no account line then.
+-- These are the replies of a run on a heap of this shape, after which a pass was refused when it left its shard.
+pub record IsStopped (layout : Layout) (shape : Numbers) (tag : Option ℕ) (lines : List CallLine) (output : List ℕ) :
+    Type 0 where
+  pub heap : Heap
+  pub of_shape : heap.shape ≡ shape
+  pub waiting : AreWaiting (Some heap) (heap_terms layout shape) tag lines output
+
+-- The text is a script of calls, and these are the replies of a run of it at whose end a pass was refused when it left
+-- its shard: there is no account line then.
 pub record IsHeapWaiting (text output : List ℕ) : Type 0 where
   pub header : Header
   pub lines : List CallLine
   pub is_calls : IsCalls text header lines
-  pub waiting : AreWaiting (heap_terms (layout_of header.layout) header.shape) header.tag lines output
+  pub stopped : IsStopped (layout_of header.layout) header.shape header.tag lines output
 
 -- ---- how it is made
 
 -- what came of the lines, and whether an owner could not leave
 abbrev pub IsRan : Layout → Numbers → Option ℕ → List CallLine → (asked : Bool) → List ℕ → (is_waiting : Bool) → Type 0
-IsRan layout shape tag lines asked output true = AreWaiting (heap_terms layout shape) tag lines output
+IsRan layout shape tag lines asked output true = IsStopped layout shape tag lines output
 IsRan layout shape tag lines asked output false = IsHeapOutput layout shape tag lines asked output
 
 -- what came of a script on the running heap, and whether an owner could not leave

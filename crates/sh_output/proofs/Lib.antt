@@ -1,4 +1,5 @@
 pub mod KeyLemmas
+pub mod NumberLemmas
 pub mod EndLemmas
 pub mod RangeLemmas
 pub mod Telling

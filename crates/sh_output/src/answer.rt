@@ -1,5 +1,6 @@
 //! What a call of a script is answered, and how a reply line says it.
-ghost use Rattle.std.specs.Prelude.{◌≡◌, ◌++◌, OnOk};
+ghost use Rattle.std.specs.Prelude.{◌≡◌, ◌+◌, ◌<◌, ◌≤◌, ◌++◌, length, OnOk, OnErr};
+ghost use Rattle.std.specs.Vec.{vec_capacity, vec_len};
 ghost use Rattle.sh_output.specs.Replies.{call_text, answer_text, reply_line};
 
 use crate::numbers::{push_number, push_value};
@@ -23,7 +24,9 @@ pub enum Answer {
 }
 
 fn push_call(out: &mut Vec<u8>, call: &Call) -> Result<(), AllocError>
-    ensures { OnOk result (out.new.items ≡ out.old.items ++ call_text call.now) }
+    ensures text { OnOk result (out.new.items ≡ out.old.items ++ call_text call.now) }
+    ensures room { vec_capacity out.old ≤ vec_capacity out.new }
+    ensures full { OnErr result (vec_capacity out.old < vec_len out.old + length (call_text call.now)) }
 {
     match call {
         Call::Adopt(_) => out.extend_from_slice(b"adopt"),
@@ -39,7 +42,9 @@ fn push_call(out: &mut Vec<u8>, call: &Call) -> Result<(), AllocError>
 }
 
 fn push_answer(out: &mut Vec<u8>, answer: &Answer) -> Result<(), AllocError>
-    ensures { OnOk result (out.new.items ≡ out.old.items ++ answer_text answer.now) }
+    ensures text { OnOk result (out.new.items ≡ out.old.items ++ answer_text answer.now) }
+    ensures room { vec_capacity out.old ≤ vec_capacity out.new }
+    ensures full { OnErr result (vec_capacity out.old < vec_len out.old + length (answer_text answer.now)) }
 {
     match answer {
         Answer::Done => out.extend_from_slice(b"ok"),
@@ -51,7 +56,9 @@ fn push_answer(out: &mut Vec<u8>, answer: &Answer) -> Result<(), AllocError>
 }
 
 fn push_refusal(out: &mut Vec<u8>, refusal: Refusal) -> Result<(), AllocError>
-    ensures { OnOk result (out.new.items ≡ out.old.items ++ answer_text (Answer.Refused refusal)) }
+    ensures text { OnOk result (out.new.items ≡ out.old.items ++ answer_text (Answer.Refused refusal)) }
+    ensures room { vec_capacity out.old ≤ vec_capacity out.new }
+    ensures full { OnErr result (vec_capacity out.old < vec_len out.old + length (answer_text (Answer.Refused refusal))) }
 {
     out.extend_from_slice(b"refused ")?;
     push_number(out, refusal.number() as u64)?;
@@ -59,9 +66,11 @@ fn push_refusal(out: &mut Vec<u8>, refusal: Refusal) -> Result<(), AllocError>
     out.extend_from_slice(refusal.name().as_bytes())
 }
 
-/// Adds the reply line of a call.
+/// Adds the reply line of a call. It is refused only where there is no room for the line.
 pub fn push_reply(out: &mut Vec<u8>, line: &CallLine, answer: &Answer) -> Result<(), AllocError>
-    ensures { OnOk result (out.new.items ≡ out.old.items ++ reply_line line.now answer.now) }
+    ensures text { OnOk result (out.new.items ≡ out.old.items ++ reply_line line.now answer.now) }
+    ensures room { vec_capacity out.old ≤ vec_capacity out.new }
+    ensures full { OnErr result (vec_capacity out.old < vec_len out.old + length (reply_line line.now answer.now)) }
 {
     push_number(out, line.pass as u64)?;
     out.extend_from_slice(b" ")?;

@@ -1,22 +1,33 @@
 -- How the program ends, by its words, the bytes that it can read and what it has written.
-use Rattle.std.specs.Prelude.{◌≡◌, ◌≢◌, ◌⊎◌, ℕ, Bool, List, Option}
+use Rattle.std.specs.Prelude.{◌≡◌, ◌≢◌, ◌⊎◌, ℕ, Bool, List, [], Option}
+use Rattle.std.specs.Io.KnownBytes.{Appends}
 use Rattle.clap.specs.Words.{Text}
 use Rattle.clap.specs.declared.error.kind.ErrorKind.{ErrorKind}
 use Rattle.clap.specs.declared.error.kind.ErrorKind.TheVariants.{DisplayHelp, DisplayVersion, OutOfMemory}
 use Rattle.sh_script.specs.declared.fault.Fault.{Fault}
 use Rattle.sh_output.specs.declared.mode.Mode.{Mode}
+use Rattle.sh_output.specs.Ends.{WroteBeginning}
 use Rattle.sh_output.specs.Faults.{IsFaultOf, IsRunFault, IsScriptOf}
 use Rattle.sh_replay.specs.Output.{WritesOutput, Stops}
 use Rattle.sh_program.specs.Faults.{status_of}
 use Rattle.sh_program.specs.Options.{IsRefused, CommandSays}
 
--- the exit status where clap gave no options for this reason: 0 after help, or 3 where help could not be written; 3
--- where memory ran out; and 2 after a mistake in the words
-abbrev pub EndsBy : ErrorKind → ℕ → Type 0
-EndsBy DisplayHelp status = (status ≡ 0) ⊎ (status ≡ 3)
-EndsBy DisplayVersion status = (status ≡ 0) ⊎ (status ≡ 3)
-EndsBy OutOfMemory status = status ≡ 3
-EndsBy _ status = status ≡ 2
+-- a text is shown: 0 where all of it was written, and 3 where a write failed and a beginning of it was written
+abbrev pub ShowsText : (text : List ℕ) → ℕ → (old new : Option (List ℕ)) → Type 0
+ShowsText text status old new = ((status ≡ 0) × Appends old new text) ⊎ ((status ≡ 3) × WroteBeginning old new text)
+
+-- some text is shown, or there was no memory for it and nothing is written
+abbrev pub EndsShown : ℕ → (old new : Option (List ℕ)) → Type 0
+EndsShown status old new =
+    ((text : List ℕ) × (text ≢ []) × ShowsText text status old new) ⊎ ((status ≡ 3) × (new ≡ old))
+
+-- the exit status where clap gave no options for this reason: that of the text that is shown for help and the version;
+-- 3 where memory ran out; and 2 after a mistake in the words
+abbrev pub EndsBy : ErrorKind → ℕ → (old new : Option (List ℕ)) → Type 0
+EndsBy DisplayHelp status old new = EndsShown status old new
+EndsBy DisplayVersion status old new = EndsShown status old new
+EndsBy OutOfMemory status old new = status ≡ 3
+EndsBy _ status old new = status ≡ 2
 
 -- the words are refused for a reason, the exit status is that reason's, nothing of the input is read, and only help is
 -- output
@@ -24,7 +35,7 @@ pub record EndsRefused (words : List Text) (before after : Option (List ℕ)) (o
     Type 0 where
   pub kind : ErrorKind
   pub refused : IsRefused words kind
-  pub ends : EndsBy kind status
+  pub ends : EndsBy kind status old new
   pub unread : after ≡ before
   pub quiet : kind ≢ DisplayHelp → kind ≢ DisplayVersion → new ≡ old
 

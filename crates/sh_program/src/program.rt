@@ -3,12 +3,13 @@ ghost use Rattle.std.specs.Prelude.{◌≡◌, ◌≢◌, ◌⊎◌, ℕ, List, 
 ghost use Rattle.clap.specs.Words.{kind_of};
 ghost use Rattle.sh_output.specs.Ends.{ReadsAtMostBytes};
 ghost use Rattle.sh_program.specs.Faults.{status_of};
-ghost use Rattle.sh_program.specs.Program.{EndsBy, EndsRefused, EndsRun, IsStatus};
+ghost use Rattle.sh_program.specs.Program.{EndsBy, EndsRefused, EndsRun, IsStatus, ShowsText};
 
 use crate::faults::{fault_line, status};
 use crate::options::options;
 use clap::Error;
 use clap::error::ErrorKind;
+use sh_output::ends::write_text;
 use sh_replay::replay;
 use sh_script::Fault;
 use std::alloc::Global;
@@ -25,10 +26,20 @@ pub fn report<E: Write>(fault: Fault, errors: &mut E) -> u8
     status(fault)
 }
 
+/// Writes help or the version, and gives the exit status: 0 where all of it went out, and 3 where a write failed.
+fn show_text<W: Write, E: Write>(text: &str, output: &mut W, errors: &mut E) -> u8
+    ensures { ShowsText text.now result (W.contents output.old) (W.contents output.new) }
+{
+    match write_text(output, text.as_bytes()) {
+        Ok(()) => 0,
+        Err(fault) => report(fault, errors),
+    }
+}
+
 /// Shows why clap gave no options, and gives the exit status: help goes to `output`, a mistake in the words to
 /// `errors`.
-fn show<W: Write, E: Write>(error: &Error, output: &mut W, errors: &mut E) -> u8
-    ensures ends { EndsBy (kind_of error.now) result }
+fn show<W: Write, E: Write>(alloc: Global, error: &Error, output: &mut W, errors: &mut E) -> u8
+    ensures ends { EndsBy (kind_of error.now) result (W.contents output.old) (W.contents output.new) }
     ensures quiet { kind_of error.now ≢ ErrorKind.DisplayHelp → kind_of error.now ≢ ErrorKind.DisplayVersion
         → output.new ≡ output.old }
 {
@@ -39,9 +50,10 @@ fn show<W: Write, E: Write>(error: &Error, output: &mut W, errors: &mut E) -> u8
         let _ = write!(errors, "{error}");
         return 2;
     }
-    match write!(output, "{error}") {
-        Ok(()) => 0,
-        Err(_) => report(Fault::Io, errors),
+    // Help and the version are never empty, so that 0 says that something was shown.
+    match format!(in alloc; "{error}") {
+        Ok(text) if !text.is_empty() => show_text(text.as_str(), output, errors),
+        _ => report(Fault::Memory, errors),
     }
 }
 
@@ -69,7 +81,7 @@ pub fn run<R: Read, W: Write, E: Write, T: Threads + Wait + Sync>(
 {
     let (mode, accounts) = match options(alloc, words) {
         Ok(chosen) => chosen,
-        Err(error) => return show(&error, output, errors),
+        Err(error) => return show(alloc, &error, output, errors),
     };
     match replay(rt, alloc, input, output, mode, accounts) {
         Ok(()) => 0,

@@ -64,6 +64,27 @@ fn fault_lines(rt: HostRuntime) -> Result<(), Fail> {
 }
 
 #[test]
+fn each_fault_is_one_line_on_the_errors(rt: HostRuntime) -> Result<(), Fail> {
+    let table = [
+        (Fault::Memory, "shardheap: fault 8 Memory\n", 3),
+        (Fault::Waiting, "shardheap: fault 11 Waiting\n", 3),
+        (Fault::BadShape, "shardheap: fault 12 BadShape\n", 2),
+        (
+            Fault::Script(3, Cause::Unbound),
+            "shardheap: fault 14 Script line 3 Unbound\n",
+            2,
+        ),
+        (Fault::Io, "shardheap: fault 15 Io\n", 3),
+    ];
+    for (fault, line, ends_with) in table {
+        let mut errors = Vec::new(rt.alloc());
+        assert_eq!(rt; report(fault, &mut errors), ends_with, "{line}");
+        assert!(rt; errors.as_slice() == line.as_bytes(), "{line}");
+    }
+    Ok(())
+}
+
+#[test]
 fn options_are_taken(rt: HostRuntime) -> Result<(), Fail> {
     let alloc = rt.alloc();
     assert!(rt; options(alloc, &["shardheap", "plain"])? == (Mode::Plain, false));

@@ -1,7 +1,6 @@
 //! Runs of scripts: a script is read and parsed whole, run in the mode that is chosen, and its replies are written.
 #![tactic(auto)]
 
-pub mod laws;
 mod replaying;
 mod threads_output;
 

@@ -3,7 +3,7 @@ use Rattle.std.proofs.Common.{◌≡◌, ℕ, zero, suc, ◌+◌, List, [], ◌�
 use Rattle.std.proofs.Common.{ap, ◌∙◌, subst, ⊎_elim, arith, length-append}
 use Rattle.std.proofs.lemmas.Option.{none-some}
 use Rattle.sh_script.specs.declared.calls.CallLine.{CallLine}
-use Rattle.sh_calls.specs.Parts.{RunTerms, SeenPass, no_part, passes_below}
+use Rattle.sh_calls.specs.Parts.{RunTerms, SeenPass, new_part, passes_below}
 use Rattle.sh_calls.proofs.ListLemmas.{get_snoc, up_length}
 use Rattle.sh_calls.proofs.Newcomers.{get_middle}
 use Rattle.sh_workers.specs.declared.worker.Made.{Made}
@@ -21,7 +21,7 @@ none_ended heap terms tag lines = record {
 
 pub one_more_ended : (heap : Option Heap) (terms : RunTerms) (tag : Option ℕ) (lines : List CallLine) (n : ℕ)
     (sides : List SeenPass) (rests : List (List Made)) (side : SeenPass) (made : List Made)
-    → HaveEnded heap terms tag lines n sides rests → IsWork heap terms tag lines n no_part side made
+    → HaveEnded heap terms tag lines n sides rests → IsWork heap terms tag lines n (new_part heap n) side made
     → HaveEnded heap terms tag lines (n + 1) (sides ++ side ∷ []) (rests ++ made ∷ [])
 one_more_ended heap terms tag lines n sides rests side made h work = record {
   sides_all = omega (arith, h.sides_all, length-append sides (side ∷ []));
@@ -36,7 +36,7 @@ one_more_ended heap terms tag lines n sides rests side made h work = record {
       (λ (known : slice_get rests p ≡ Some m). absurd (short rests p m known
       (new.0 ∙ (h.sides_all ∙ sym h.rests_all))))
       (λ (last : (p ≡ length rests) × (made ≡ m)).
-      let W : ℕ × SeenPass × List Made → Type 0 = λ z. IsWork heap terms tag lines z.0 no_part z.1 z.2 in
+      let W : ℕ × SeenPass × List Made → Type 0 = λ z. IsWork heap terms tag lines z.0 (new_part heap z.0) z.1 z.2 in
       let at : n ≡ p = sym (new.0 ∙ h.sides_all) in
       subst W (λ i. (at i, new.1 i, last.1 i)) work)
       (get_snoc rests made m p f))

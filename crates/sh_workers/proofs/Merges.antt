@@ -116,8 +116,8 @@ module _ (heap : Option Heap) (terms : RunTerms) (tag : Option ℕ) (lines : Lis
         next_is = refl;
       }
 
-  more : OneMore terms tag opening_calls (take i lines) was.answers l m.answer then
-  more = one_more terms tag opening_calls was.run then (take i lines) was.answers l m.answer was.ran steps
+  more : OneMore terms tag (opening_calls heap) (take i lines) was.answers l m.answer then
+  more = one_more terms tag (opening_calls heap) was.run then (take i lines) was.answers l m.answer was.ran steps
 
   here : (p : ℕ) (side : SeenPass) (qs : List Made) → p ≡ l.pass → slice_get sides p ≡ Some side
       → slice_get (set rests l.pass ms) p ≡ Some qs
@@ -144,7 +144,7 @@ module _ (heap : Option Heap) (terms : RunTerms) (tag : Option ℕ) (lines : Lis
       → after ≡ with_number numbers l.call m.answer → new ≡ set rests l.pass ms
       → longer ≡ output ++ reply_line l m.answer → MergedSoFar heap terms tag lines (i + 1) after sides new longer
   merged_more after new longer named popped printed =
-      let R : List CallLine → Type 0 = λ ls. LinesAnswered terms tag opening_calls ls (was.answers ++ m.answer ∷ [])
+      let R : List CallLine → Type 0 = λ ls. LinesAnswered terms tag (opening_calls heap) ls (was.answers ++ m.answer ∷ [])
       then in
       record {
         answers = was.answers ++ m.answer ∷ [];
@@ -182,7 +182,7 @@ pub merging_begins : (heap : Option Heap) (terms : RunTerms) (tag : Option ℕ) 
     → MergedSoFar heap terms tag lines 0 [] sides rests []
 merging_begins heap terms tag lines sides rests h = record {
   answers = [];
-  run = opening_calls;
+  run = opening_calls heap;
   ran = refl;
   numbers_are = refl;
   text = refl;
@@ -204,7 +204,7 @@ pub merging_ends : (heap : Option Heap) (terms : RunTerms) (tag : Option ℕ) (l
 merging_ends heap terms tag lines i numbers sides rests output past h =
     let whole : take i lines ≡ take (length lines) lines =
     take_past lines i past ∙ sym (take_past lines (length lines) (omega arith)) in
-    let R : List CallLine → Type 0 = λ ls. LinesAnswered terms tag opening_calls ls h.answers h.run in (
+    let R : List CallLine → Type 0 = λ ls. LinesAnswered terms tag (opening_calls heap) ls h.answers h.run in (
       numbers,
       record {
         answers = h.answers;

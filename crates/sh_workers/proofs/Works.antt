@@ -7,7 +7,7 @@ use Rattle.std.proofs.lemmas.List.Sums.{length-filter}
 use Rattle.std.proofs.lemmas.Option.{none-some, same_Some}
 use Rattle.sh_script.specs.declared.calls.Call.{Call}
 use Rattle.sh_script.specs.declared.calls.CallLine.{CallLine}
-use Rattle.sh_calls.specs.Parts.{RunTerms, PassPart, SeenPass, SamePass, no_part}
+use Rattle.sh_calls.specs.Parts.{RunTerms, PassPart, SeenPass, SamePass, new_part}
 use Rattle.sh_calls.specs.Calls.{CallAnswers}
 use Rattle.sh_calls.proofs.ListLemmas.{next}
 use Rattle.sh_workers.specs.declared.worker.Made.{Made}
@@ -86,30 +86,30 @@ answered_next terms tag p v u w (k ∷ ks) (x ∷ xs) c m h d =
     (h.0, h.1, answered_next terms tag p h.0 u w ks xs c m h.2 d)
 
 module _ (heap : Option Heap) (terms : RunTerms) (tag : Option ℕ) (lines : List CallLine) (n i : ℕ)
-    (side : SeenPass) (ms : List Made) (h : IsWork heap terms tag (take i lines) n no_part side ms) (l : CallLine)
+    (side : SeenPass) (ms : List Made) (h : IsWork heap terms tag (take i lines) n (new_part heap n) side ms) (l : CallLine)
     (at : slice_get lines i ≡ Some l) where
   -- there is room for the answer to a line of its own
   pub work_room : l.pass ≡ n → length ms < length (own_calls n lines)
   work_room own =
       let below = own_below n lines i l at own in
-      let made = answered_length terms tag n no_part side.part (own_calls n (take i lines)) ms h.answered in
+      let made = answered_length terms tag n (new_part heap n) side.part (own_calls n (take i lines)) ms h.answered in
       omega (arith, below, made)
 
   -- a line of its own, whose call was made
   pub work_then : (after : SeenPass) (m : Made) → l.pass ≡ n → SamePass side after
       → CallAnswers side.terms tag side.pass side.part l.call m.bound m.answer after.part
-      → IsWork heap terms tag (take (i + 1) lines) n no_part after (ms ++ m ∷ [])
+      → IsWork heap terms tag (take (i + 1) lines) n (new_part heap n) after (ms ++ m ∷ [])
   work_then after m own same does =
       let P : SeenPass → Type 0 = λ z. CallAnswers z.terms tag z.pass z.part l.call m.bound m.answer after.part in
-      let Q : List Call → Type 0 = λ cs. CallsAnswered terms tag n no_part cs (ms ++ m ∷ []) after.part in
+      let Q : List Call → Type 0 = λ cs. CallsAnswered terms tag n (new_part heap n) cs (ms ++ m ∷ []) after.part in
       record {
         is = same ∙ ap (λ (z : SeenPass). record z { part = after.part }) h.is;
-        answered = subst Q (sym (own_then n lines i l at own)) (answered_next terms tag n no_part side.part after.part
+        answered = subst Q (sym (own_then n lines i l at own)) (answered_next terms tag n (new_part heap n) side.part after.part
             (own_calls n (take i lines)) ms l.call m h.answered (subst P h.is does));
       }
 
   -- a line of another pass
-  pub work_else : l.pass ≢ n → IsWork heap terms tag (take (i + 1) lines) n no_part side ms
+  pub work_else : l.pass ≢ n → IsWork heap terms tag (take (i + 1) lines) n (new_part heap n) side ms
   work_else other =
-      let Q : List Call → Type 0 = λ cs. CallsAnswered terms tag n no_part cs ms side.part in
+      let Q : List Call → Type 0 = λ cs. CallsAnswered terms tag n (new_part heap n) cs ms side.part in
       record { is = h.is; answered = subst Q (sym (own_else n lines i l at other)) h.answered }

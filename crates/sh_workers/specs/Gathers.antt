@@ -1,7 +1,7 @@
 -- Workers that have ended.
 use Rattle.std.specs.Prelude.{◌≡◌, ℕ, List, Option, Some, slice_get, length}
 use Rattle.sh_script.specs.declared.calls.CallLine.{CallLine}
-use Rattle.sh_calls.specs.Parts.{RunTerms, SeenPass, no_part}
+use Rattle.sh_calls.specs.Parts.{RunTerms, SeenPass, new_part}
 use Rattle.sh_workers.specs.declared.worker.Made.{Made}
 use Rattle.sh_workers.specs.Works.{IsWork}
 use Rattle.sh_table.specs.Seats.{Heap}
@@ -12,4 +12,4 @@ pub record HaveEnded (heap : Option Heap) (terms : RunTerms) (tag : Option ℕ) 
   pub sides_all : length sides ≡ n
   pub rests_all : length rests ≡ n
   pub each : (p : ℕ) (side : SeenPass) (made : List Made) → slice_get sides p ≡ Some side
-      → slice_get rests p ≡ Some made → IsWork heap terms tag lines p no_part side made
+      → slice_get rests p ≡ Some made → IsWork heap terms tag lines p (new_part heap p) side made

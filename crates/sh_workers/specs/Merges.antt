@@ -15,7 +15,7 @@ pub record MergedSoFar (heap : Option Heap) (terms : RunTerms) (tag : Option ℕ
     (numbers : List (Option ℕ)) (sides : List SeenPass) (rests : List (List Made)) (output : List ℕ) : Type 0 where
   pub answers : List Answer
   pub run : CallsRun
-  pub ran : LinesAnswered terms tag opening_calls (take i lines) answers run
+  pub ran : LinesAnswered terms tag (opening_calls heap) (take i lines) answers run
   pub numbers_are : numbers ≡ run.numbers
   pub text : output ≡ replies_text (take i lines) answers
   pub sides_all : length sides ≡ terms.shape.passes

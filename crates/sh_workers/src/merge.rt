@@ -8,26 +8,56 @@ ghost use Rattle.sh_workers.specs.Merges.{AllAnswered};
 
 use crate::gather::Ended;
 use crate::room::Room;
-use sh_calls::line::{binds, number_meant, number_told};
+use sh_calls::line::number_meant;
 use sh_calls::side::Side;
-use sh_output::push_reply;
+use sh_calls::telling::{NoRoom, tell};
 use sh_script::{CallLine, Fault};
 use std::alloc::Global;
 
+/// Why answers are not put in order.
+#[derive(Clone, Copy, Debug, Drop)]
+pub enum Unmerged {
+    /// A line found no room.
+    NoRoom(NoRoom),
+    /// A call was made with another number than its name was answered.
+    Differ,
+}
+
+impl From<NoRoom> for Unmerged {
+    ghost from_gives = { λ _ _. Unit {0} };
+
+    fn from(none: NoRoom) -> Unmerged {
+        Unmerged::NoRoom(none)
+    }
+}
+
+impl From<Unmerged> for Fault {
+    ghost use Rattle.sh_output.specs.Ends.{IsEndFault};
+
+    ghost from_gives = { λ _ fault. IsEndFault fault };
+
+    fn from(why: Unmerged) -> Fault {
+        match why {
+            Unmerged::NoRoom(none) => Fault::from(none),
+            Unmerged::Differ => Fault::Io,
+        }
+    }
+}
+
 /// The reply lines in the order of the script's lines, and the passes. The number that each name stood for is compared
-/// with what its insert was answered: `Io` where they differ, which a board that keeps what was bound never comes to.
+/// with what its insert was answered: `Differ` where they differ, which a board that keeps what was bound never comes to.
+/// `NoRoom` where a line finds no room.
 pub fn merged<S: Side, B: Room>(
     alloc: Global,
     lines: &[CallLine],
     ended: Ended<S>,
-) -> Result<(Vec<u8>, Vec<S>), Fault>
+) -> Result<(Vec<u8>, Vec<S>), Unmerged>
     requires lines { lines.now ≡ B.lines }
     requires passes { All (λ (l : CallLine). l.pass < B.terms.shape.passes) lines.now }
     requires ended { HaveEnded B.heap B.terms B.tag B.lines B.terms.shape.passes (map S.seen ended.sides.items)
         ended.rests.items }
     ensures answered { IfOk result (λ merged. AllAnswered B.heap B.terms B.tag lines.now
         (map S.seen merged.1.items) merged.0.items) }
-    ensures fault { IfErr result IsEndFault }
 {
     let Ended { sides, mut rests } = ended;
     let mut numbers: Vec<Option<u64>> = Vec::new(alloc);
@@ -40,14 +70,9 @@ pub fn merged<S: Side, B: Room>(
             unreachable!()
         };
         if made.bound != number_meant(numbers.as_slice(), &line.call) {
-            return Err(Fault::Io);
+            return Err(Unmerged::Differ);
         }
-        if binds(&line.call) && numbers.push(number_told(&made.answer)).is_err() {
-            return Err(Fault::Memory);
-        }
-        if push_reply(&mut output, line, &made.answer).is_err() {
-            return Err(Fault::Memory);
-        }
+        tell(&mut output, &mut numbers, line, &made.answer)?;
     }
     Ok((output, sides))
 }

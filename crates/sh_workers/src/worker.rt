@@ -2,7 +2,7 @@
 ghost use Rattle.std.specs.Prelude.{◌≡◌, ◌≤◌, length, [], IfSome};
 ghost use Rattle.std.specs.Vec.{vec_capacity};
 ghost use Rattle.sh_output.specs.Keys.{HasTagRoom};
-ghost use Rattle.sh_calls.specs.Parts.{no_part, new_pass};
+ghost use Rattle.sh_calls.specs.Parts.{new_part, new_pass};
 ghost use Rattle.sh_workers.specs.Works.{own_calls, IsWork};
 
 use crate::board::Board;
@@ -48,15 +48,16 @@ pub struct Worker<S: Side, B: Room> {
 impl<S: Side, B: Room> Model for Worker<S, B> {
     ghost use Rattle.std.specs.Prelude.{ℕ, ◌≤◌, take, length};
     ghost use Rattle.std.specs.Vec.{vec_capacity};
-    ghost use Rattle.sh_calls.specs.Parts.{no_part};
+    ghost use Rattle.sh_calls.specs.Parts.{new_part};
     ghost use Rattle.sh_workers.specs.Works.{own_calls, IsWork};
 
     ghost Value = { ℕ };
 
     ghost view = { λ w. w.number };
 
-    ghost invariant = { λ w. IsWork B.heap B.terms B.tag (take w.next B.lines) w.number no_part (S.seen w.side)
-        w.made.items × (w.names ≤ w.next) × (length (own_calls w.number B.lines) ≤ vec_capacity w.made) };
+    ghost invariant = { λ w. IsWork B.heap B.terms B.tag (take w.next B.lines) w.number
+        (new_part B.heap w.number) (S.seen w.side) w.made.items × (w.names ≤ w.next)
+        × (length (own_calls w.number B.lines) ≤ vec_capacity w.made) };
 }
 
 // The number that the name of the call stands for: waited for, if the call is on a name. `None` where the board is
@@ -155,7 +156,8 @@ impl<S: Side, B: Room> Worker<S, B> {
     /// Its pass and the calls that it made, where it made all of them.
     pub fn finish(self, count: usize) -> Option<(S, Vec<Made>)>
         requires { count ≡ length B.lines }
-        ensures { IfSome result (λ r. IsWork B.heap B.terms B.tag B.lines self no_part (S.seen r.0) r.1.items) }
+        ensures { IfSome result (λ r. IsWork B.heap B.terms B.tag B.lines self (new_part B.heap self)
+            (S.seen r.0) r.1.items) }
     {
         if self.next != count {
             return None;

@@ -112,6 +112,48 @@ fn refused_memory_in_mode_threads(rt: HostRuntime) -> Result<(), Fail> {
     Ok(())
 }
 
+/// Runs the script of two owners once. It ends well, and the output is as ever, or the one in which this growth was
+/// refused and told as a reply. So it must be where an allocation of that growth is refused: `scripts/refuse-memory` has
+/// their numbers.
+fn tells<R: Threads + Wait + Sync + Abort>(rt: &R, alloc: Global, mode: Mode, growth: usize) {
+    let mut reader = OWNERS.as_bytes();
+    let mut out = Vec::new(alloc);
+    let end = replay(rt, alloc, &mut reader, &mut out, mode, true);
+    assert_eq!(rt; end, Ok(()));
+    let refused = OWNERS_REFUSED[growth.min(2)];
+    assert!(rt; out.as_slice() == OWNERS_OUTPUT.as_bytes() || out.as_slice() == refused.as_bytes());
+}
+
+#[test]
+fn a_refused_adopt_is_told_in_mode_heap(rt: HostRuntime) {
+    tells(&rt, rt.alloc(), Mode::Heap, 0);
+}
+
+#[test]
+fn a_refused_insert_is_told_in_mode_heap(rt: HostRuntime) {
+    tells(&rt, rt.alloc(), Mode::Heap, 1);
+}
+
+#[test]
+fn a_refused_second_adopt_is_told_in_mode_heap(rt: HostRuntime) {
+    tells(&rt, rt.alloc(), Mode::Heap, 2);
+}
+
+#[test]
+fn a_refused_adopt_is_told_in_mode_threads(rt: HostRuntime) {
+    tells(&rt, rt.alloc(), Mode::Threads, 0);
+}
+
+#[test]
+fn a_refused_insert_is_told_in_mode_threads(rt: HostRuntime) {
+    tells(&rt, rt.alloc(), Mode::Threads, 1);
+}
+
+#[test]
+fn a_refused_second_adopt_is_told_in_mode_threads(rt: HostRuntime) {
+    tells(&rt, rt.alloc(), Mode::Threads, 2);
+}
+
 /// A script that fills a slot, gets it and removes it, and its output.
 const EVENTS: &str =
     "heap tiny 1 1 2\n0 Adopt 0\n0 Read 0.0\n0 SetClass 0.0 7\n0 Fill 0.0.0 5\n0 Fill\n0 Publish\n1 Enter get 4096\n\

@@ -71,17 +71,43 @@ fn each_command(rt: HostRuntime) {
     assert!(rt; matches!(calls.lines[8].call, Call::Leave));
 }
 
-// The search for a name takes no longer where many are bound.
+// The search for a name takes no longer where many are bound: as many as a script of 1,048,576 bytes has room for, where
+// each is n and its number.
 #[test]
 fn many_names(rt: HostRuntime) -> Result<(), Fail> {
     let alloc = rt.alloc();
     let mut text = Vec::from_slice(alloc, b"heap tiny 1 1 1\n")?;
-    for i in 0..60_000 {
+    for i in 0..75_689 {
         text.extend_from_slice(format!(in alloc; "0 post n{i}\n")?.as_bytes())?;
     }
-    text.extend_from_slice(b"0 wait n59999\n")?;
+    text.extend_from_slice(b"0 wait n75688\n")?;
+    for _ in text.len()..1_048_576 {
+        text.push(b'\n')?;
+    }
+    assert_eq!(rt; text.len(), 1_048_576);
     let calls = parse_calls(alloc, text.as_slice()).expect(&rt, "it is a script");
-    assert_eq!(rt; calls.lines.len(), 60_001);
-    assert!(rt; matches!(calls.lines[60_000].call, Call::Wait(59_999)));
+    assert_eq!(rt; calls.lines.len(), 75_690);
+    assert!(rt; matches!(calls.lines[75_689].call, Call::Wait(75_688)));
+    Ok(())
+}
+
+// A line of 512 bytes has at most 251 words of a value, which are more than a value may have.
+#[test]
+fn many_words(rt: HostRuntime) -> Result<(), Fail> {
+    let alloc = rt.alloc();
+    let mut text = Vec::from_slice(alloc, b"heap tiny 1 1 1\n0 insert a")?;
+    for _ in 0..251 {
+        text.extend_from_slice(b" 1")?;
+    }
+    text.push(b'\n')?;
+    assert_eq!(rt; text.len(), 529);
+    let calls = parse_calls(alloc, text.as_slice()).expect(&rt, "it is a script");
+    let Some(line) = calls.lines.first() else {
+        return Err(Fail::from("a line"));
+    };
+    let Call::Insert(words) = &line.call else {
+        return Err(Fail::from("an insert"));
+    };
+    assert_eq!(rt; words.as_slice().len(), 251);
     Ok(())
 }

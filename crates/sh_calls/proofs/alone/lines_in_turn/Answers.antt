@@ -1,4 +1,4 @@
-use Rattle.std.proofs.Common.{rules, arith, ◌≡◌, ◌≤◌, ◌∙◌, ℕ, sym, ap, subst, true, false, map, ◌++◌, ◌∷◌, [], length}
+use Rattle.std.proofs.Common.{rules, arith, ◌≡◌, ◌≤◌, ◌∙◌, ℕ, sym, ap, subst, map, ◌++◌, length}
 use Rattle.std.proofs.Common.{Some, Option, slice_get}
 use Rattle.std.specs.Option.{option_map}
 use Rattle.std.proofs.lemmas.Grind.{common_steps}
@@ -6,12 +6,11 @@ use Rattle.std.proofs.lemmas.Option.{gets, slice_get-map}
 use Rattle.sh_script.specs.declared.calls.CallLine.{CallLine}
 use Rattle.sh_output.specs.Keys.{HasTagRoom}
 use Rattle.sh_calls.specs.Parts.{RunTerms, new_passes}
-use Rattle.sh_calls.specs.Calls.{CallAnswers, binds, number_told}
+use Rattle.sh_calls.specs.Calls.{CallAnswers}
 use Rattle.sh_output.specs.Replies.{reply_line}
 use Rattle.sh_calls.specs.Runs.{number_meant, with_number}
 use Rattle.sh_calls.proofs.InTurn.{begins_alone, answered_more, map_set, all_are, all_speak, lines_ran}
 use Rattle.sh_calls.proofs.InTurn.{terms_at}
-use Rattle.sh_calls.proofs.alone.lines_in_turn.Goals.{else-binds-via-then-binds+else-is_err, else-binds-via-else-binds}
 use Rattle.sh_calls.proofs.alone.lines_in_turn.Goals as goal
 
 pub loop-line-init : goal.loop-line-init
@@ -48,22 +47,13 @@ loop-line-preserved g c =
     let now = seen c.answered-answer.new.side in
     let a = c.answered-answer.result in
     let bound : c.number_meant-bound.result ≡ number_meant c.loop-line.numbers.items l.call = search rules in
-    let named : c.else-binds.numbers.items ≡ with_number c.loop-line.numbers.items l.call a = elim c.else-binds.branch [
-      | else-binds-via-then-binds+else-is_err w ↦
-          let yes : binds l.call ≡ true = search rules in
-          let grown : c.else-binds.numbers.items ≡ c.loop-line.numbers.items ++ number_told a ∷ [] = search rules in
-          rw yes grown
-      | else-binds-via-else-binds w ↦
-          let no : binds l.call ≡ false = search rules in
-          let same : c.else-binds.numbers.items ≡ c.loop-line.numbers.items = search rules in
-          rw no same
-    ] in
-    let printed : c.push_reply.new.out.items ≡ c.loop-line.output.items ++ reply_line l a = search rules in
+    let named : c.tell.new.numbers.items ≡ with_number c.loop-line.numbers.items l.call a = search rules in
+    let printed : c.tell.new.output.items ≡ c.loop-line.output.items ++ reply_line l a = search rules in
     let D : Option ℕ → Type 0 = λ b. CallAnswers side.terms c.args.tag side.pass side.part l.call b a now.part in
     answered_more g.at.0 g.at.1 c.args.tag c.args.lines.now c.loop-line.line-index c.loop-line.numbers.items
     (map seen c.loop-line.sides.items) c.loop-line.output.items c.loop-line.invariant l at side now own
     c.answered-answer.ensures.same a (subst D bound c.answered-answer.ensures.does)
-    c.else-binds.numbers.items _ c.push_reply.new.out.items named
+    c.tell.new.numbers.items _ c.tell.new.output.items named
     (map_set seen c.loop-line.sides.items l.pass c.answered-answer.new.side) printed
 
 pub met-requires : goal.met-requires
@@ -78,9 +68,12 @@ met-requires g c κs within =
       ),
     )
 
-pub returns-clause-ran : goal.returns-clause-ran
-returns-clause-ran g c =
+pub returns : goal.returns
+returns g c =
     let past : length c.args.lines.now ≤ c.loop-line.line-index = search rules in
     let sides = map g.S.Side.seen c.loop-line.sides.items in
-    lines_ran g.S.Side.seen g.at.0 g.at.1 c.args.tag c.args.lines.now c.loop-line.line-index c.loop-line.numbers.items
-    sides c.loop-line.output.items c.met.result past c.loop-line.invariant c.met.ensures.met c.met.ensures.stays
+    record {
+      ran = lines_ran g.S.Side.seen g.at.0 g.at.1 c.args.tag c.args.lines.now c.loop-line.line-index
+          c.loop-line.numbers.items sides c.loop-line.output.items c.met.result past c.loop-line.invariant
+          c.met.ensures.met c.met.ensures.stays;
+    }

@@ -1,10 +1,12 @@
 use Rattle.std.proofs.Common.{arith, rules, ◌≡◌, ◌∙◌, sym, ap, subst, inl, inr, ◌++◌, ◌∷◌, [], append_assoc}
 use Rattle.std.proofs.Common.{length-append, map, Option, Some, None}
-use Rattle.std.specs.Prelude.{IfNone, IsSome}
+use Rattle.std.specs.Prelude.{IfNone, Err}
+use Rattle.sh_value.specs.declared.refusal.Refusal.TheVariants as refusal
+use Rattle.sh_calls.specs.Standing.{ShardLeaves}
 use Rattle.std.specs.Vec.Iter.{into_iter_len}
 use Rattle.sh_calls.specs.Meeting.{CarriesTale, tales_told}
 use Rattle.std.specs.Option.{option_map}
-use Rattle.sh_calls.proofs.InTurn.{carries_more, rest_of, next_owns, none_there}
+use Rattle.sh_calls.proofs.InTurn.{carries_more, rest_of, next_waits, none_there}
 use Rattle.sh_calls.proofs.meeting.met.Goals as goal
 
 pub loop-side-preserved : goal.loop-side-preserved
@@ -14,7 +16,7 @@ loop-side-preserved g c =
     let seen = g.S.Side.seen in
     let step = c.in-Some.ensures.steps.0 in
     record {
-      carries = carries_more seen g.at.0 g.at.1 y c.in-Some.side _ _ (seen c.retire.new.self) (seen c.meet.result)
+      carries = carries_more seen g.at.0 g.at.1 y c.in-Some.side _ _ (seen c.retire.new.side) (seen c.meet.result)
           (option_map seen c.loop-side.carrier) was.carries was.of step c.retire.ensures.same c.retire.ensures.log
           c.meet.ensures.meets;
       none = c.meet.ensures.none;
@@ -32,8 +34,10 @@ pub returns-then-not-retire-clause-stays : goal.returns-then-not-retire-clause-s
 returns-then-not-retire-clause-stays g c =
     let seen = g.S.Side.seen in
     let step = c.in-Some.ensures.steps.0 in
-    let owns : IsSome (seen c.in-Some.side).part.shard = search rules in
-    inl (next_owns seen c.args.sides.items c.loop-side.yielded _ _ c.in-Some.side c.loop-side.invariant.rest step owns)
+    let now = seen c.retire.new.side in
+    let waits : ShardLeaves (seen c.in-Some.side).part.stands (Err refusal.Waiting) now.part.stands = search rules in
+    inl (next_waits seen c.args.sides.items c.loop-side.yielded _ _ c.in-Some.side now.part.stands
+    c.loop-side.invariant.rest step waits)
 
 pub returns-in_err-carrier-clause-stays : goal.returns-in_err-carrier-clause-stays
 returns-in_err-carrier-clause-stays g c =

@@ -1,6 +1,6 @@
 use Rattle.std.proofs.Common.{rules, arith, ◌≡◌, ◌∙◌, ◌+◌, ℕ, sym, ap, subst, List, ◌++◌, ◌∷◌, [], map, length}
 use Rattle.std.proofs.Common.{append_assoc, length-append}
-use Rattle.sh_calls.specs.Parts.{SeenPass, no_part}
+use Rattle.sh_calls.specs.Parts.{SeenPass, new_part}
 use Rattle.sh_calls.proofs.ListLemmas.{map_more, up_length}
 use Rattle.sh_workers.specs.declared.worker.Made.{Made}
 use Rattle.sh_workers.specs.Gathers.{HaveEnded}
@@ -18,7 +18,7 @@ loop-worker-preserved g c =
     let made : List Made = c.in-Some-finish.made.items in
     let w : ℕ = c.in-Some.worker in
     let step = c.in-Some.ensures.steps in
-    let W : ℕ → Type 0 = λ p. IsWork room.heap room.terms room.tag room.lines p no_part side made in
+    let W : ℕ → Type 0 = λ p. IsWork room.heap room.terms room.tag room.lines p (new_part room.heap p) side made in
     let next : w ≡ length y = next_worker room.terms.shape.passes c.args.workers.items y _ _ w c.requires.all was.rest
     step.0 in
     let work = subst W next c.in-Some-finish.ensures in

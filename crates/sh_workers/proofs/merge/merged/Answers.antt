@@ -1,15 +1,13 @@
-use Rattle.std.proofs.Common.{rules, arith, ◌≡◌, ◌≤◌, ◌∙◌, sym, ap, subst, refl, true, false, List, ◌++◌, ◌∷◌, []}
+use Rattle.std.proofs.Common.{rules, arith, ◌≡◌, ◌≤◌, ◌∙◌, sym, ap, subst, refl, List, ◌++◌, ◌∷◌, []}
 use Rattle.std.proofs.Common.{length, Some, slice_get, map}
 use Rattle.std.proofs.lemmas.Grind.{common_steps}
 use Rattle.std.proofs.lemmas.Option.{gets}
 use Rattle.sh_script.specs.declared.calls.CallLine.{CallLine}
-use Rattle.sh_calls.specs.Calls.{binds, number_told}
 use Rattle.sh_output.specs.Replies.{reply_line}
 use Rattle.sh_calls.specs.Runs.{number_meant, with_number}
 use Rattle.sh_workers.specs.declared.worker.Made.{Made}
 use Rattle.sh_workers.specs.Merges.{MergedSoFar}
 use Rattle.sh_workers.proofs.Merges.{merged_more, merging_ends, never_empty}
-use Rattle.sh_workers.proofs.merge.merged.Goals.{else-binds-via-then-binds+else-is_err, else-binds-via-else-binds}
 use Rattle.sh_workers.proofs.merge.merged.Goals as goal
 
 pub loop-line-preserved : goal.loop-line-preserved
@@ -26,32 +24,24 @@ loop-line-preserved g c =
     in
     let own : slice_get c.loop-line.rests.items l.pass ≡ Some (m ∷ ms) = found ∙ ap (λ (z : List Made). Some z) all in
     let bound : m.bound ≡ number_meant c.loop-line.numbers.items l.call = search rules in
-    let named : c.else-binds.numbers.items ≡ with_number c.loop-line.numbers.items l.call m.answer =
-    elim c.else-binds.branch [
-      | else-binds-via-then-binds+else-is_err w ↦
-          let yes : binds l.call ≡ true = search rules in
-          let grown : c.else-binds.numbers.items ≡ c.loop-line.numbers.items ++ number_told m.answer ∷ [] =
-          search rules in
-          rw yes grown
-      | else-binds-via-else-binds w ↦
-          let no : binds l.call ≡ false = search rules in
-          let same : c.else-binds.numbers.items ≡ c.loop-line.numbers.items = search rules in
-          rw no same
-    ] in
-    let printed : c.push_reply.new.out.items ≡ c.loop-line.output.items ++ reply_line l m.answer = search rules in
+    let named : c.tell.new.numbers.items ≡ with_number c.loop-line.numbers.items l.call m.answer = search rules in
+    let printed : c.tell.new.output.items ≡ c.loop-line.output.items ++ reply_line l m.answer = search rules in
     merged_more room.heap room.terms room.tag room.lines c.loop-line.line-index c.loop-line.numbers.items sides
-    c.loop-line.rests.items c.loop-line.output.items was l at m ms own bound c.else-binds.numbers.items _
-    c.push_reply.new.out.items named refl printed
+    c.loop-line.rests.items c.loop-line.output.items was l at m ms own bound c.tell.new.numbers.items _
+    c.tell.new.output.items named refl printed
 
-pub returns-clause-answered : goal.returns-clause-answered
-returns-clause-answered g c =
+pub returns : goal.returns
+returns g c =
     let room = g.B.Room in
     let sides = map g.S.Side.seen c.args.ended.sides.items in
     let past : length c.args.lines.now ≤ c.loop-line.line-index = search rules in
     let M : List CallLine → Type 0 = λ ls. MergedSoFar room.heap room.terms room.tag ls c.loop-line.line-index
     c.loop-line.numbers.items sides c.loop-line.rests.items c.loop-line.output.items in
-    merging_ends room.heap room.terms room.tag c.args.lines.now c.loop-line.line-index c.loop-line.numbers.items sides
-    c.loop-line.rests.items c.loop-line.output.items past (subst M (sym c.requires.lines) c.loop-line.invariant)
+    record {
+      answered = merging_ends room.heap room.terms room.tag c.args.lines.now c.loop-line.line-index
+          c.loop-line.numbers.items sides c.loop-line.rests.items c.loop-line.output.items past
+          (subst M (sym c.requires.lines) c.loop-line.invariant);
+    }
 
 pub unreachable-requires-in_default-take : goal.unreachable-requires-in_default-take
 unreachable-requires-in_default-take g c =

@@ -1,9 +1,11 @@
 use Rattle.std.proofs.Common.{sym, ◌∙◌}
+use Rattle.sh_calls.specs.Standing.{Alone}
 use Rattle.sh_calls.proofs.RunningLaws.{release_answers}
 use Rattle.sh_calls.proofs.running.PassCalls.release.Goals as goal
 
 pub returns-clause-does : goal.returns-clause-does
 returns-clause-does g c =
+    let does = c.release-result.ensures.does in
     (release_answers g.L.KeyLayout.layout c.args.self.now c.release-result.new.self c.shape.ensures.stands
-    c.shape.ensures.rest.shape (c.shape-2.ensures.rest.left ∙ sym c.shape.ensures.rest.left) c.args.hold.key
-    c.release-result.result c.release-result.ensures.does).0
+    c.shape.ensures.rest.shape (c.shape-2.ensures.rest.left ∙ sym c.shape.ensures.rest.left) (Alone c.args.self.now)
+    (Alone c.release-result.new.self) c.args.hold.key c.release-result.result does does).0

@@ -1,0 +1,55 @@
+-- What of a pass stands between its calls, and which answers the contracts of passes and shards give.
+use Rattle.std.specs.Prelude.{◌≡◌, ℕ, List, Option, Some, None, Result, Ok, Err}
+use Rattle.sh_key.specs.Layout.{Layout}
+use Rattle.sh_value.specs.declared.refusal.Refusal.{Refusal}
+use Rattle.sh_table.specs.Seats.{Heap}
+use Rattle.sh_table.specs.Views.{newly}
+use Rattle.sh_pass.specs.Passes.{Caller}
+use Rattle.sh_shard.specs.Shards.{Sharded, StaysOwner, AdoptServes, LeaveServes, InsertServes, value_class}
+
+-- a pass that owns no shard, or the shard that a pass owns, each as its own contracts see it; of no heap nothing stands
+pub data Standing : Type 0 where
+  Alone : Caller → Standing
+  Owning : Sharded → Standing
+  Nowhere : Standing
+
+-- a pass of the heap that has done nothing yet
+abbrev pub new_standing : Option Heap → ℕ → Standing
+new_standing (Some heap) pass = Alone (record { heap = heap; view = newly heap.shape pass })
+new_standing None pass = Nowhere
+
+-- a call that a pass and an owner have alike: the pass does this, and an owner stays the owner of its shard
+abbrev pub Serves : Layout → (Caller → Caller → Type 0) → Standing → Standing → Type 0
+Serves layout Does (Alone v) (Alone w) = Does v w
+Serves layout Does (Owning o) (Owning n) = Does o.pages.owner n.pages.owner × StaysOwner layout o n
+Serves layout Does _ _ = ⊥
+
+-- adopting makes a shard of the pass, or gives the pass back, as the contract of a shard says
+abbrev pub PassAdopts : ℕ → Standing → Result (Unit {0}) Refusal → Standing → Type 0
+PassAdopts shard (Alone v) (Ok _) (Owning n) = AdoptServes shard v (Ok n)
+PassAdopts shard (Alone v) (Err e) (Alone w) = AdoptServes shard v (Err (w, e))
+PassAdopts shard _ _ _ = ⊥
+
+-- leaving makes a pass of the shard, or gives the shard back
+abbrev pub ShardLeaves : Standing → Result (Unit {0}) Refusal → Standing → Type 0
+ShardLeaves (Owning o) (Ok _) (Alone w) = LeaveServes o (Ok w)
+ShardLeaves (Owning o) (Err e) (Owning n) = LeaveServes o (Err (n, e))
+ShardLeaves _ _ _ = ⊥
+
+abbrev pub ShardInserts : Layout → List ℕ → Standing → Result ℕ Refusal → Standing → Type 0
+ShardInserts layout words (Owning o) r (Owning n) = InsertServes layout (value_class words) words o r n
+ShardInserts layout words _ _ _ = ⊥
+
+-- ---- the same, where a pass may own a shard or none: what it may not do leaves all as it was
+
+abbrev pub AdoptServed : Option ℕ → ℕ → Standing → Result (Unit {0}) Refusal → Standing → Type 0
+AdoptServed None shard s r t = PassAdopts shard s r t
+AdoptServed (Some own) shard s r t = t ≡ s
+
+abbrev pub LeaveServed : Option ℕ → Standing → Result (Unit {0}) Refusal → Standing → Type 0
+LeaveServed (Some own) s r t = ShardLeaves s r t
+LeaveServed None s r t = t ≡ s
+
+abbrev pub InsertServed : Layout → Option ℕ → List ℕ → Standing → Result ℕ Refusal → Standing → Type 0
+InsertServed layout (Some own) words s r t = ShardInserts layout words s r t
+InsertServed layout None words s r t = t ≡ s

@@ -1,0 +1,121 @@
+//! What a gate is told: each call of each pass by its number, before it and after it.
+use sh_replay::{Gate, Mode, replay_gated};
+use std::sync::atomic::{AtomicU64, Ordering};
+use std::thread::yield_now;
+
+/// The passes, the calls of each, and how often each call is told of.
+const PASSES: usize = 2;
+
+const CALLS: usize = 3;
+
+const TOLD: usize = PASSES * CALLS * 2;
+
+/// How often a gate looks whether another pass has come to a place.
+const LOOKS: u64 = 10_000_000;
+
+/// A gate that notes when it was told of each call, counted from 1 over all passes.
+#[derive(Drop)]
+struct Notes {
+    times: [AtomicU64; TOLD],
+    count: AtomicU64,
+    missed: AtomicU64,
+}
+
+impl Notes {
+    fn new() -> Notes {
+        Notes {
+            times: [const { AtomicU64::new(0) }; TOLD],
+            count: AtomicU64::new(0),
+            missed: AtomicU64::new(0),
+        }
+    }
+
+    /// When the gate was told of the call, 0 where it was not.
+    fn time(&self, pass: usize, call: usize, is_after: bool) -> u64 {
+        if pass >= PASSES || call >= CALLS {
+            return 0;
+        }
+        match self
+            .times
+            .get((pass * CALLS + call) * 2 + is_after as usize)
+        {
+            Some(time) => time.load(Ordering::SeqCst),
+            None => 0,
+        }
+    }
+
+    fn note(&self, pass: usize, call: usize, is_after: bool) {
+        let now = self.count.fetch_add(1, Ordering::SeqCst) + 1;
+        if pass >= PASSES || call >= CALLS || self.time(pass, call, is_after) != 0 {
+            self.missed.store(1, Ordering::SeqCst);
+            return;
+        }
+        if let Some(time) = self
+            .times
+            .get((pass * CALLS + call) * 2 + is_after as usize)
+        {
+            time.store(now, Ordering::SeqCst);
+        }
+    }
+
+    /// Looks until the gate was told of the call.
+    fn wait(&self, pass: usize, call: usize, is_after: bool) {
+        for _ in 0..LOOKS {
+            if self.time(pass, call, is_after) != 0 {
+                return;
+            }
+            yield_now();
+        }
+        self.missed.store(1, Ordering::SeqCst);
+    }
+}
+
+// Pass 0 binds a name by its call 1, on which pass 1's call 0 is. Before that call pass 0 looks for pass 1 at its call,
+// ahead of the wait for the name; and after it, for pass 1 behind its call.
+impl Gate for Notes {
+    fn before(&self, pass: usize, call: usize) {
+        self.note(pass, call, false);
+        if pass == 0 && call == 1 {
+            self.wait(1, 0, false);
+        }
+    }
+
+    fn after(&self, pass: usize, call: usize) {
+        self.note(pass, call, true);
+        if pass == 0 && call == 1 {
+            self.wait(1, 0, true);
+        }
+    }
+}
+
+#[test]
+fn a_gate_is_told_of_each_call_before_and_after_it(rt: HostRuntime) {
+    let script =
+        "heap tiny 1 1 2\n0 adopt 0\n0 insert a 7\n1 get a\n1 read a\n0 leave\n1 release a\n";
+    let gate = Notes::new();
+    let mut reader = script.as_bytes();
+    let mut out = Vec::new(rt.alloc());
+    let end = replay_gated(
+        &rt,
+        rt.alloc(),
+        &mut reader,
+        &mut out,
+        Mode::Threads,
+        false,
+        &gate,
+    );
+    assert_eq!(rt; end, Ok(()));
+    assert_eq!(rt; gate.missed.load(Ordering::SeqCst), 0);
+    assert_eq!(rt; gate.count.load(Ordering::SeqCst), TOLD as u64);
+    for pass in 0..PASSES {
+        let mut last = 0;
+        for call in 0..CALLS {
+            let before = gate.time(pass, call, false);
+            let after = gate.time(pass, call, true);
+            assert!(rt; last < before && before < after, "pass {pass} call {call}");
+            last = after;
+        }
+    }
+    let output = "0 adopt ok\n0 insert 4096\n1 get ok\n1 read 1 7\n0 leave ok\n1 release ok\n";
+    assert_eq!(rt; out.as_slice(), output.as_bytes());
+}
