@@ -16,29 +16,48 @@ const LOOKS: u64 = 10_000_000;
 /// A gate that notes when it was told of each call, counted from 1 over all passes.
 #[derive(Drop)]
 struct Notes {
-    times: [AtomicU64; TOLD],
+    times: [[AtomicU64; CALLS * 2]; PASSES],
     count: AtomicU64,
     missed: AtomicU64,
+}
+
+fn untold() -> AtomicU64 {
+    AtomicU64::new(0)
+}
+
+// The times of one pass.
+fn untold_calls() -> [AtomicU64; CALLS * 2] {
+    [
+        untold(),
+        untold(),
+        untold(),
+        untold(),
+        untold(),
+        untold(),
+    ]
 }
 
 impl Notes {
     fn new() -> Notes {
         Notes {
-            times: [const { AtomicU64::new(0) }; TOLD],
-            count: AtomicU64::new(0),
-            missed: AtomicU64::new(0),
+            times: [untold_calls(), untold_calls()],
+            count: untold(),
+            missed: untold(),
         }
+    }
+
+    // Where the time of a call is kept, if there is such a call.
+    fn told(&self, pass: usize, call: usize, is_after: bool) -> Option<&AtomicU64> {
+        if call >= CALLS {
+            return None;
+        }
+        let times = self.times.get(pass)?;
+        times.get(call * 2 + is_after as usize)
     }
 
     /// When the gate was told of the call, 0 where it was not.
     fn time(&self, pass: usize, call: usize, is_after: bool) -> u64 {
-        if pass >= PASSES || call >= CALLS {
-            return 0;
-        }
-        match self
-            .times
-            .get((pass * CALLS + call) * 2 + is_after as usize)
-        {
+        match self.told(pass, call, is_after) {
             Some(time) => time.load(Ordering::SeqCst),
             None => 0,
         }
@@ -46,15 +65,9 @@ impl Notes {
 
     fn note(&self, pass: usize, call: usize, is_after: bool) {
         let now = self.count.fetch_add(1, Ordering::SeqCst) + 1;
-        if pass >= PASSES || call >= CALLS || self.time(pass, call, is_after) != 0 {
-            self.missed.store(1, Ordering::SeqCst);
-            return;
-        }
-        if let Some(time) = self
-            .times
-            .get((pass * CALLS + call) * 2 + is_after as usize)
-        {
-            time.store(now, Ordering::SeqCst);
+        match self.told(pass, call, is_after) {
+            Some(time) if time.load(Ordering::SeqCst) == 0 => time.store(now, Ordering::SeqCst),
+            _ => self.missed.store(1, Ordering::SeqCst),
         }
     }
 
