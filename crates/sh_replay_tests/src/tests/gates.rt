@@ -27,14 +27,7 @@ fn untold() -> AtomicU64 {
 
 // The times of one pass.
 fn untold_calls() -> [AtomicU64; CALLS * 2] {
-    [
-        untold(),
-        untold(),
-        untold(),
-        untold(),
-        untold(),
-        untold(),
-    ]
+    [untold(), untold(), untold(), untold(), untold(), untold()]
 }
 
 impl Notes {
@@ -64,7 +57,7 @@ impl Notes {
     }
 
     fn note(&self, pass: usize, call: usize, is_after: bool) {
-        let now = self.count.fetch_add(1, Ordering::SeqCst) + 1;
+        let now = self.count.fetch_add(1, Ordering::SeqCst).saturating_add(1);
         match self.told(pass, call, is_after) {
             Some(time) if time.load(Ordering::SeqCst) == 0 => time.store(now, Ordering::SeqCst),
             _ => self.missed.store(1, Ordering::SeqCst),
