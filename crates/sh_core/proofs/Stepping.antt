@@ -18,7 +18,7 @@ use Rattle.sh_core.specs.Words.{opening, read}
 use Rattle.sh_core.specs.Worlds.{World, step, apply, run, run_from, open_world, joined, entry_of, value_at_place}
 use Rattle.sh_step.specs.Parts.{newcomer}
 use Rattle.sh_core.specs.Outcomes.{row_of_event, outcome_of, done}
-use Rattle.sh_core.specs.Kept.{KeptWorld, StandsFor, HoldsWords, FromEvents}
+use Rattle.sh_core.specs.Kept.{KeptWorld, StandsFor, FromEvents, OpensWith}
 use Rattle.sh_core.specs.Opening.{opening_words}
 use Rattle.sh_core.proofs.OpeningWords.{opening_holds}
 use Rattle.sh_core.proofs.KeptWords.{hold_write}
@@ -116,14 +116,10 @@ reached_on layout k k' e r same on =
     }
 
 -- the world as it opens
-pub stands_open : (layout : Layout) (shape : Numbers) (words : List ℕ) (parts : List Body) (log : List Entry) → words
-    ≡ opening_words (all_pages shape) (words_of shape) → parts ≡ replicate shape.passes newcomer → log ≡ []
+pub stands_open : (layout : Layout) (shape : Numbers) (words : List ℕ) (parts : List Body) (log : List Entry)
+    → OpensWith layout shape words → parts ≡ replicate shape.passes newcomer → log ≡ []
     → StandsFor (record { shape = shape; words = words; parts = parts; log = log }) (open_world (plan_of layout shape))
-stands_open layout shape words parts log w p l = record {
-  words = let P : List ℕ → Type 0 = λ xs. HoldsWords shape xs opening in subst P (sym w) (opening_holds shape);
-  parts = p;
-  log = l;
-}
+stands_open layout shape words parts log o p l = record { words = o.words; parts = p; log = l }
 
 pub reached_open : (layout : Layout) (k : KeptWorld) → IsLayout layout → IsShape k.shape → Fits layout k.shape
     → StandsFor k (open_world (plan_of layout k.shape)) → FromEvents layout k

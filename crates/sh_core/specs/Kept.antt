@@ -126,6 +126,19 @@ Opens layout shape (Err BadShape) = ¬ Fits layout shape
 Opens layout shape (Err Memory) = Fits layout shape
 Opens layout shape (Err _) = ⊥
 
+-- a heap of this shape, which fits the layout, opens with these words
+pub record OpensWith (layout : Layout) (shape : Numbers) (list : List ℕ) : Type 0 where
+  pub is_layout : IsLayout layout
+  pub is_shape : IsShape shape
+  pub fits : Fits layout shape
+  pub words : HoldsWords shape list (open_world (plan_of layout shape)).words
+
+-- why a heap of this shape is not opened: the shape does not fit the layout, or memory is refused
+abbrev pub RefusesToOpen : Layout → Numbers → Refusal → Type 0
+RefusesToOpen layout shape BadShape = ¬ Fits layout shape
+RefusesToOpen layout shape Memory = Fits layout shape
+RefusesToOpen layout shape _ = ⊥
+
 -- a heap of this shape after these events, unless the shape does not fit the layout or memory is refused
 abbrev pub RunsWorld : Layout → Numbers → List Event → Result KeptWorld Refusal → Type 0
 RunsWorld layout shape es (Ok k) = Fits layout shape × (k.shape ≡ shape) × StandsFor k (run (plan_of layout shape) es)

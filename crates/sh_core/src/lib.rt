@@ -10,7 +10,7 @@ pub mod claims;
 mod entry;
 pub mod laws;
 mod moving;
-mod opening;
+pub mod opening;
 pub mod outcome;
 pub mod refuted;
 pub mod world;
@@ -20,6 +20,7 @@ pub use claims::refines_map;
 pub use laws::{
     counts_leave_room, deciding_events_reply, plans_have_the_places_of_shapes, trails_grow,
 };
+pub use opening::opening_of;
 pub use outcome::Outcome;
 pub use refuted::refutes_wrong_tables;
 pub use world::{World, run};

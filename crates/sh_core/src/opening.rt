@@ -1,10 +1,13 @@
 //! The words of a heap as it opens.
-ghost use Rattle.std.specs.Prelude.{◌≡◌, ◌*◌, ◌≤◌, ◌<◌, IfOk};
+ghost use Rattle.std.specs.Prelude.{◌≡◌, ◌*◌, ◌≤◌, ◌<◌, IfOk, IfErr};
 ghost use Rattle.sh_shape.specs.Shape.{IsShape};
 ghost use Rattle.sh_shape.specs.Places.{all_pages, words_of};
 ghost use Rattle.sh_core.specs.Opening.{opening_word, opening_words};
+ghost use Rattle.sh_core.specs.Kept.{OpensWith, RefusesToOpen};
 
-use sh_shape::Shape;
+use sh_key::KeyLayout;
+use sh_shape::{Shape, fits};
+use sh_value::Refusal;
 use std::alloc::{AllocError, Global};
 
 // How many words a page has, and between which of them its state words stand.
@@ -30,15 +33,32 @@ fn word_at(pages: u32, number: u32) -> u64
     }
 }
 
-/// The words of a heap of this shape as it opens.
+// The words of a heap of this shape as it opens. All their memory is asked for at once.
 #[tactic(auto, using(crate::proofs::OpeningWords::opening_none, crate::proofs::OpeningWords::opening_more))]
-pub fn opening_of(alloc: Global, shape: &Shape) -> Result<Vec<u64>, AllocError>
+fn words_of(alloc: Global, shape: &Shape) -> Result<Vec<u64>, AllocError>
     ensures { IfOk result (λ words. words.items ≡ opening_words (all_pages shape.now) (words_of shape.now)) }
 {
     let pages = shape.shards() * shape.pages();
-    let mut words = Vec::new(alloc);
-    for number in 0..shape.words() {
-        words.push(word_at(pages, number))?;
+    let count = shape.words();
+    let mut words = Vec::with_capacity(alloc, count as usize)?;
+    for number in 0..count {
+        words.push_reserved(word_at(pages, number));
     }
     Ok(words)
+}
+
+/// The words with which a heap of this shape opens, each at the number of its place. Refused as `BadShape` where the
+/// shape does not fit the layout, and as `Memory` where memory for the words is refused.
+pub fn opening_of<L: KeyLayout>(alloc: Global, shape: &Shape) -> Result<Vec<u64>, Refusal>
+    ensures opens { IfOk result (λ words. OpensWith L.layout shape.now words.items) }
+    ensures refused { IfErr result (RefusesToOpen L.layout shape.now) }
+{
+    if !fits::<L>(shape) {
+        return Err(Refusal::BadShape);
+    }
+    let _passes = shape.passes();
+    match words_of(alloc, shape) {
+        Ok(words) => Ok(words),
+        Err(_) => Err(Refusal::Memory),
+    }
 }

@@ -14,7 +14,7 @@ use crate::moving::do_move;
 use crate::opening::opening_of;
 use sh_history::Entry;
 use sh_key::KeyLayout;
-use sh_shape::{Shape, fits};
+use sh_shape::Shape;
 use sh_step::{Event, Move, Part};
 use sh_value::Refusal;
 use std::alloc::{AllocError, Global};
@@ -67,12 +67,7 @@ impl<L: KeyLayout> World<L> {
         ensures opens { Opens L.layout shape result }
         ensures reached { IfOk result (FromEvents L.layout) }
     {
-        if !fits::<L>(&shape) {
-            return Err(Refusal::BadShape);
-        }
-        let Ok(words) = opening_of(alloc, &shape) else {
-            return Err(Refusal::Memory);
-        };
+        let words = opening_of::<L>(alloc, &shape)?;
         let Ok(parts) = newcomers(alloc, shape.passes()) else {
             return Err(Refusal::Memory);
         };

@@ -1,15 +1,18 @@
 // The calls of a pass, whether it owns a shard or not. Each answers also the slot of its shard that came to be its own.
-ghost use Rattle.std.specs.Prelude.{◌≡◌, ◌==◌, None, position, []};
+ghost use Rattle.std.specs.Prelude.{◌≡◌, ◌==◌, None, position};
 ghost use Rattle.sh_slots.specs.declared.hand.Hand.TheVariants.{Idle};
+ghost use Rattle.sh_step.specs.Moves.{place_named};
+ghost use Rattle.sh_step.specs.Plans.{plan_of};
 ghost use Rattle.sh_table.specs.Seats.{IsSeat};
 ghost use Rattle.sh_pass.specs.Passes.{GetDoes, ReadIntoDoes, RemoveDoes, ReleaseDoes, HoldsKept, caller_of};
 ghost use Rattle.sh_pass.specs.Owners.{CallLeaves};
 
+use crate::guard::Guard;
 use crate::entering::{get_at, release_at, remove_at};
 use crate::reading::read_at;
 use arrayvec::ArrayVec;
 use sh_key::KeyLayout;
-use sh_slots::{GetAnswer, Spot};
+use sh_slots::{GetAnswer, Name, Spot};
 use sh_step::operands::place_of_key;
 use sh_table::{HeapTable, Token};
 use sh_value::{Hold, Refusal, Value};
@@ -19,6 +22,41 @@ pub(crate) fn find(held: &[u64], key: u64) -> Option<usize>
     ensures { result ≡ position (λ k. k == key) held.now }
 {
     held.iter().position(|k| *k == key)
+}
+
+/// Takes a hold on a key, and answers it with the key's place.
+#[inline(always)]
+pub(crate) fn get_guard_of<L: KeyLayout>(
+    table: &HeapTable<L>,
+    seat: &mut Token,
+    held: &mut ArrayVec<u64, 16>,
+    key: u64,
+    owned: Option<u64>,
+) -> (Result<Guard<L>, Refusal>, Option<Spot>)
+    requires seat { IsSeat L.layout table.now seat.old }
+    requires idle { seat.old.me.0.own.body.hand ≡ Idle }
+    requires owned { seat.old.me.0.own.body.owned ≡ owned }
+    requires kept { HoldsKept held.old.items seat.old.me.0.own.body.holds }
+    ensures seat { IsSeat L.layout table.now seat.new }
+    ensures kept { HoldsKept held.new.items seat.new.me.0.own.body.holds }
+    ensures does { GetDoes L.layout key (caller_of seat.old) result.0 (caller_of seat.new) }
+    ensures leaves { CallLeaves L.layout result.1 (caller_of seat.old) (caller_of seat.new) }
+{
+    let Some(name) = place_of_key::<L>(table.shape(), key) else {
+        return (Err(Refusal::BadKey), None);
+    };
+    if held.is_full() {
+        return (Err(Refusal::HoldsFull), None);
+    }
+    let got = get_at(table, seat, key, name, owned);
+    match got.0 {
+        GetAnswer::Got => {
+            held.push(key);
+            (Ok(Guard::new(key, name, table.shape())), got.1)
+        }
+        GetAnswer::Crowded => (Err(Refusal::Crowded), got.1),
+        GetAnswer::Gone => (Err(Refusal::Gone), got.1),
+    }
 }
 
 /// Takes a hold on a key.
@@ -39,20 +77,10 @@ pub(crate) fn get_key<L: KeyLayout>(
     ensures does { GetDoes L.layout key (caller_of seat.old) result.0 (caller_of seat.new) }
     ensures leaves { CallLeaves L.layout result.1 (caller_of seat.old) (caller_of seat.new) }
 {
-    let Some(name) = place_of_key::<L>(table.shape(), key) else {
-        return (Err(Refusal::BadKey), None);
-    };
-    if held.is_full() {
-        return (Err(Refusal::HoldsFull), None);
-    }
-    let got = get_at(table, seat, key, name, owned);
-    match got.0 {
-        GetAnswer::Got => {
-            held.push(key);
-            (Ok(Hold { key }), got.1)
-        }
-        GetAnswer::Crowded => (Err(Refusal::Crowded), got.1),
-        GetAnswer::Gone => (Err(Refusal::Gone), got.1),
+    let (answer, slot) = get_guard_of(table, seat, held, key, owned);
+    match answer {
+        Ok(guard) => (Ok(guard.hold()), slot),
+        Err(refusal) => (Err(refusal), slot),
     }
 }
 
@@ -83,19 +111,21 @@ pub(crate) fn remove_key<L: KeyLayout>(
     }
 }
 
-/// Gives one hold on a key back.
+/// Gives one hold on a key back, of which the place is known, if it has one.
 #[inline(always)]
 pub(crate) fn release_key<L: KeyLayout>(
     table: &HeapTable<L>,
     seat: &mut Token,
     held: &mut ArrayVec<u64, 16>,
     key: u64,
+    place: Option<Name>,
     owned: Option<u64>,
 ) -> (Result<(), Refusal>, Option<Spot>)
     requires seat { IsSeat L.layout table.now seat.old }
     requires idle { seat.old.me.0.own.body.hand ≡ Idle }
     requires owned { seat.old.me.0.own.body.owned ≡ owned }
     requires kept { HoldsKept held.old.items seat.old.me.0.own.body.holds }
+    requires place { place ≡ place_named (plan_of L.layout table.now.shape) key }
     ensures seat { IsSeat L.layout table.now seat.new }
     ensures kept { HoldsKept held.new.items seat.new.me.0.own.body.holds }
     ensures does { ReleaseDoes L.layout key (caller_of seat.old) result.0 (caller_of seat.new) }
@@ -104,7 +134,7 @@ pub(crate) fn release_key<L: KeyLayout>(
     let Some(at) = find(held.as_slice(), key) else {
         return (Err(Refusal::NotHeld), None);
     };
-    let Some(name) = place_of_key::<L>(table.shape(), key) else {
+    let Some(name) = place else {
         unreachable!()
     };
     let slot = release_at(table, seat, key, name, owned);
@@ -113,31 +143,33 @@ pub(crate) fn release_key<L: KeyLayout>(
     (Ok(()), slot)
 }
 
-/// Reads the value of a key that the pass holds into an empty one. The call of a pass that answers it wraps it, once: a
-/// value that is answered is copied by each call on its way.
+/// Reads the value of a key that the pass holds, and of which the place is known, into a value of the caller's, in place
+/// of what that was: a value that is answered is copied by each call on its way.
 #[inline(always)]
 pub(crate) fn read_key<L: KeyLayout>(
     table: &HeapTable<L>,
     seat: &mut Token,
     held: &ArrayVec<u64, 16>,
     key: u64,
+    place: Option<Name>,
     value: &mut Value,
 ) -> Result<(), Refusal>
     requires seat { IsSeat L.layout table.now seat.old }
     requires idle { seat.old.me.0.own.body.hand ≡ Idle }
     requires kept { HoldsKept held.now.items seat.old.me.0.own.body.holds }
-    requires empty { value.old ≡ [] }
+    requires place { place ≡ place_named (plan_of L.layout table.now.shape) key }
     ensures seat { IsSeat L.layout table.now seat.new }
     ensures kept { seat.new.me.0.own.body.holds ≡ seat.old.me.0.own.body.holds }
-    ensures does { ReadIntoDoes key (caller_of seat.old) result value.new (caller_of seat.new) }
+    ensures does { ReadIntoDoes key (caller_of seat.old) value.old result value.new (caller_of seat.new) }
     ensures leaves { CallLeaves L.layout None (caller_of seat.old) (caller_of seat.new) }
 {
     let Some(_at) = find(held.as_slice(), key) else {
         return Err(Refusal::NotHeld);
     };
-    let Some(name) = place_of_key::<L>(table.shape(), key) else {
+    let Some(name) = place else {
         unreachable!()
     };
+    *value = Value::empty();
     read_at(table, seat, key, name, value);
     Ok(())
 }

@@ -1,14 +1,16 @@
 //! The calls of an owner: those of a pass, each with the slot of its shard that came to be its own.
-ghost use Rattle.std.specs.Prelude.{◌≡◌, None, []};
+ghost use Rattle.std.specs.Prelude.{◌≡◌, None};
 ghost use Rattle.sh_slots.specs.declared.hand.Hand.TheVariants.{Idle};
 ghost use Rattle.sh_table.specs.Tales.{ViewStands};
 ghost use Rattle.sh_pass.specs.Passes.{GetDoes, ReadDoes, ReadIntoDoes, RemoveDoes, ReleaseDoes};
 ghost use Rattle.sh_pass.specs.Owners.{CallLeaves, own_body};
 
-use crate::calls::{get_key, read_key, release_key, remove_key};
+use crate::calls::{get_guard_of, get_key, read_key, release_key, remove_key};
+use crate::guard::Guard;
 use crate::owner::Owner;
 use sh_key::KeyLayout;
 use sh_slots::Spot;
+use sh_step::operands::place_of_key;
 use sh_value::{Hold, Refusal, Value};
 
 impl<'a, L: KeyLayout> Owner<'a, L> {
@@ -23,6 +25,18 @@ impl<'a, L: KeyLayout> Owner<'a, L> {
     {
         let heap = self.heap;
         get_key(&heap.table, &mut self.seat, &mut self.held, key, self.owned)
+    }
+
+    /// The same as `get`, but the hold keeps the place of the key's slot.
+    #[inline(always)]
+    pub fn get_guard(&mut self, key: u64) -> (Result<Guard<L>, Refusal>, Option<Spot>)
+        requires idle { (own_body self.old).hand ≡ Idle }
+        ensures does { GetDoes L.layout key self.old result.0 self.new }
+        ensures leaves { CallLeaves L.layout result.1 self.old self.new }
+        ensures stands { ViewStands L.layout self.new.view }
+    {
+        let heap = self.heap;
+        get_guard_of(&heap.table, &mut self.seat, &mut self.held, key, self.owned)
     }
 
     /// Removes a key: no later get finds it, and its value stays until the last hold goes. Refused as `BadKey` or
@@ -50,6 +64,26 @@ impl<'a, L: KeyLayout> Owner<'a, L> {
             &mut self.seat,
             &mut self.held,
             hold.key,
+            place_of_key::<L>(heap.table.shape(), hold.key),
+            self.owned,
+        )
+    }
+
+    /// The same as `release`, of a hold that keeps its place.
+    #[inline(always)]
+    pub fn release_guard(&mut self, guard: Guard<L>) -> (Result<(), Refusal>, Option<Spot>)
+        requires idle { (own_body self.old).hand ≡ Idle }
+        ensures does { ReleaseDoes L.layout guard.key self.old result.0 self.new }
+        ensures leaves { CallLeaves L.layout result.1 self.old self.new }
+        ensures stands { ViewStands L.layout self.new.view }
+    {
+        let heap = self.heap;
+        release_key(
+            &heap.table,
+            &mut self.seat,
+            &mut self.held,
+            guard.key(),
+            guard.place(heap.table.shape()),
             self.owned,
         )
     }
@@ -66,17 +100,31 @@ impl<'a, L: KeyLayout> Owner<'a, L> {
         Ok(value)
     }
 
-    /// Reads the value of a key that the owner holds into an empty one, which is not copied on its way. Refused as
-    /// `NotHeld`, exactly where it has no hold on the key.
+    /// Reads the value of a key that the owner holds into a value of the caller's, in place of what that was, so that it
+    /// is copied nowhere. Refused as `NotHeld`, exactly where the owner has no hold on the key: then the caller's value
+    /// stays as it was.
     #[inline(always)]
     pub fn read_into(&mut self, hold: Hold, value: &mut Value) -> Result<(), Refusal>
         requires idle { (own_body self.old).hand ≡ Idle }
-        requires empty { value.old ≡ [] }
-        ensures does { ReadIntoDoes hold.key self.old result value.new self.new }
+        ensures does { ReadIntoDoes hold.key self.old value.old result value.new self.new }
         ensures leaves { CallLeaves L.layout None self.old self.new }
         ensures stands { ViewStands L.layout self.new.view }
     {
         let heap = self.heap;
-        read_key(&heap.table, &mut self.seat, &self.held, hold.key, value)
+        let place = place_of_key::<L>(heap.table.shape(), hold.key);
+        read_key(&heap.table, &mut self.seat, &self.held, hold.key, place, value)
+    }
+
+    /// The same as `read_into`, by a hold that keeps its place.
+    #[inline(always)]
+    pub fn read_guard(&mut self, guard: &Guard<L>, value: &mut Value) -> Result<(), Refusal>
+        requires idle { (own_body self.old).hand ≡ Idle }
+        ensures does { ReadIntoDoes guard.now.key self.old value.old result value.new self.new }
+        ensures leaves { CallLeaves L.layout None self.old self.new }
+        ensures stands { ViewStands L.layout self.new.view }
+    {
+        let heap = self.heap;
+        let place = guard.place(heap.table.shape());
+        read_key(&heap.table, &mut self.seat, &self.held, guard.key(), place, value)
     }
 }

@@ -1,14 +1,16 @@
 //! What a pass is, apart from the heap that it steps on.
-ghost use Rattle.std.specs.Prelude.{◌≡◌, []};
+ghost use Rattle.std.specs.Prelude.{◌≡◌};
 ghost use Rattle.sh_slots.specs.declared.hand.Hand.TheVariants.{Idle};
 ghost use Rattle.sh_table.specs.Tales.{ViewStands};
 ghost use Rattle.sh_pass.specs.Passes.{GetDoes, ReadDoes, ReadIntoDoes, RemoveDoes, ReleaseDoes, IsAtRest};
 
-use crate::calls::{get_key, read_key, release_key, remove_key};
+use crate::calls::{get_guard_of, get_key, read_key, release_key, remove_key};
+use crate::guard::Guard;
 use crate::heap::Heap;
 use arrayvec::ArrayVec;
 use sh_key::KeyLayout;
 use sh_shape::Shape;
+use sh_step::operands::place_of_key;
 use sh_table::Token;
 use sh_value::{Hold, Refusal, Value};
 use std::marker::{Model, PhantomData};
@@ -63,6 +65,18 @@ impl<L: KeyLayout> PassState<L> {
         get_key(&heap.table, &mut self.seat, &mut self.held, key, None).0
     }
 
+    /// The same as `get`, but the hold keeps the place of the key's slot.
+    #[inline(always)]
+    pub fn get_guard(&mut self, heap: &Heap<L>, key: u64) -> Result<Guard<L>, Refusal>
+        requires { self.old.heap ≡ heap.now }
+        ensures does { GetDoes L.layout key self.old result self.new }
+        ensures stands { ViewStands L.layout self.new.view }
+        ensures same { self.new.heap ≡ self.old.heap }
+        ensures idle { self.new.view.own.body.hand ≡ Idle }
+    {
+        get_guard_of(&heap.table, &mut self.seat, &mut self.held, key, None).0
+    }
+
     /// Removes a key: no later get finds it, and its value stays until the last hold goes. Refused as `BadKey` or
     /// `Gone`.
     pub fn remove(&mut self, heap: &Heap<L>, key: u64) -> Result<(), Refusal>
@@ -83,7 +97,21 @@ impl<L: KeyLayout> PassState<L> {
         ensures same { self.new.heap ≡ self.old.heap }
         ensures idle { self.new.view.own.body.hand ≡ Idle }
     {
-        release_key(&heap.table, &mut self.seat, &mut self.held, hold.key, None).0
+        let place = place_of_key::<L>(heap.table.shape(), hold.key);
+        release_key(&heap.table, &mut self.seat, &mut self.held, hold.key, place, None).0
+    }
+
+    /// The same as `release`, of a hold that keeps its place.
+    #[inline(always)]
+    pub fn release_guard(&mut self, heap: &Heap<L>, guard: Guard<L>) -> Result<(), Refusal>
+        requires { self.old.heap ≡ heap.now }
+        ensures does { ReleaseDoes L.layout guard.key self.old result self.new }
+        ensures stands { ViewStands L.layout self.new.view }
+        ensures same { self.new.heap ≡ self.old.heap }
+        ensures idle { self.new.view.own.body.hand ≡ Idle }
+    {
+        let place = guard.place(heap.table.shape());
+        release_key(&heap.table, &mut self.seat, &mut self.held, guard.key(), place, None).0
     }
 
     /// The value of a key that the pass holds. Refused as `NotHeld`, exactly where it has no hold on the key.
@@ -99,21 +127,40 @@ impl<L: KeyLayout> PassState<L> {
         Ok(value)
     }
 
-    // Reads the value of a key that the pass holds into an empty one.
+    /// Reads the value of a key that the pass holds into a value of the caller's, in place of what that was. Refused as
+    /// `NotHeld`, exactly where it has no hold on the key: then the caller's value stays as it was.
     #[inline(always)]
-    pub(crate) fn read_into(
+    pub fn read_into(
         &mut self,
         heap: &Heap<L>,
         hold: Hold,
         value: &mut Value,
     ) -> Result<(), Refusal>
-        requires heap { self.old.heap ≡ heap.now }
-        requires empty { value.old ≡ [] }
-        ensures does { ReadIntoDoes hold.key self.old result value.new self.new }
+        requires { self.old.heap ≡ heap.now }
+        ensures does { ReadIntoDoes hold.key self.old value.old result value.new self.new }
         ensures stands { ViewStands L.layout self.new.view }
         ensures same { self.new.heap ≡ self.old.heap }
         ensures idle { self.new.view.own.body.hand ≡ Idle }
     {
-        read_key(&heap.table, &mut self.seat, &self.held, hold.key, value)
+        let place = place_of_key::<L>(heap.table.shape(), hold.key);
+        read_key(&heap.table, &mut self.seat, &self.held, hold.key, place, value)
+    }
+
+    /// The same as `read_into`, by a hold that keeps its place.
+    #[inline(always)]
+    pub fn read_guard(
+        &mut self,
+        heap: &Heap<L>,
+        guard: &Guard<L>,
+        value: &mut Value,
+    ) -> Result<(), Refusal>
+        requires { self.old.heap ≡ heap.now }
+        ensures does { ReadIntoDoes guard.now.key self.old value.old result value.new self.new }
+        ensures stands { ViewStands L.layout self.new.view }
+        ensures same { self.new.heap ≡ self.old.heap }
+        ensures idle { self.new.view.own.body.hand ≡ Idle }
+    {
+        let place = guard.place(heap.table.shape());
+        read_key(&heap.table, &mut self.seat, &self.held, guard.key(), place, value)
     }
 }

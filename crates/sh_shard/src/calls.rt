@@ -1,11 +1,12 @@
 // The four calls of a pass, for an owner: a slot of its shard that it freed itself comes to its page's lists.
-ghost use Rattle.std.specs.Prelude.{◌≡◌, ◌+◌, ◌*◌, ◌≤◌, None, length, []};
+ghost use Rattle.std.specs.Prelude.{◌≡◌, ◌+◌, ◌*◌, ◌≤◌, None, length};
 ghost use Rattle.sh_pass.specs.Passes.{GetDoes, ReadIntoDoes, RemoveDoes, ReleaseDoes};
 ghost use Rattle.sh_shard.specs.Kept.{MayCome, Came};
 ghost use Rattle.sh_shard.specs.Pages.{SlotComes};
 
 use crate::pages::{PageState, Pages};
 use sh_key::KeyLayout;
+use sh_pass::Guard;
 use sh_slots::Spot;
 use sh_value::{Hold, Refusal, Value};
 
@@ -36,14 +37,33 @@ impl<'a, L: KeyLayout> Pages<'a, L> {
         (answer, page)
     }
 
-    /// Reads the value of a key that the owner holds into an empty one. Refused as `NotHeld`.
+    /// The same as `get`, but the hold keeps the place of the key's slot.
+    #[inline(always)]
+    pub(crate) fn get_guard(&mut self, key: u64) -> (Result<Guard<L>, Refusal>, Option<u64>)
+        ensures does { GetDoes L.layout key self.old.owner result.0 self.new.owner }
+        ensures came { SlotComes result.1 self.old self.new }
+    {
+        let (answer, came) = self.owner.get_guard(key);
+        let page = keep(&mut self.states, self.shard, came);
+        (answer, page)
+    }
+
+    /// Reads the value of a key that the owner holds into a value of the caller's. Refused as `NotHeld`.
     #[inline(always)]
     pub(crate) fn read_into(&mut self, hold: Hold, value: &mut Value) -> Result<(), Refusal>
-        requires empty { value.old ≡ [] }
-        ensures does { ReadIntoDoes hold.key self.old.owner result value.new self.new.owner }
+        ensures does { ReadIntoDoes hold.key self.old.owner value.old result value.new self.new.owner }
         ensures came { SlotComes None self.old self.new }
     {
         self.owner.read_into(hold, value)
+    }
+
+    /// The same as `read_into`, by a hold that keeps its place.
+    #[inline(always)]
+    pub(crate) fn read_guard(&mut self, guard: &Guard<L>, value: &mut Value) -> Result<(), Refusal>
+        ensures does { ReadIntoDoes guard.now.key self.old.owner value.old result value.new self.new.owner }
+        ensures came { SlotComes None self.old self.new }
+    {
+        self.owner.read_guard(guard, value)
     }
 
     /// Removes a key. Refused as `BadKey` or `Gone`. Answers also the page to which a slot came.
@@ -62,6 +82,16 @@ impl<'a, L: KeyLayout> Pages<'a, L> {
         ensures came { SlotComes result.1 self.old self.new }
     {
         let (answer, came) = self.owner.release(hold);
+        let page = keep(&mut self.states, self.shard, came);
+        (answer, page)
+    }
+    /// The same as `release`, of a hold that keeps its place.
+    #[inline(always)]
+    pub(crate) fn release_guard(&mut self, guard: Guard<L>) -> (Result<(), Refusal>, Option<u64>)
+        ensures does { ReleaseDoes L.layout guard.key self.old.owner result.0 self.new.owner }
+        ensures came { SlotComes result.1 self.old self.new }
+    {
+        let (answer, came) = self.owner.release_guard(guard);
         let page = keep(&mut self.states, self.shard, came);
         (answer, page)
     }

@@ -1,13 +1,14 @@
 //! Shards: the pages of an owner, and the queues in which they stand.
 ghost use Rattle.std.specs.Prelude.{◌+◌, length};
 ghost use Rattle.sh_queue.specs.Queues.{EachOnce};
-ghost use Rattle.sh_pass.specs.Passes.{GetDoes, ReadDoes, RemoveDoes, ReleaseDoes};
+ghost use Rattle.sh_pass.specs.Passes.{GetDoes, ReadDoes, ReadIntoDoes, RemoveDoes, ReleaseDoes};
 ghost use Rattle.sh_shard.specs.Bounds.{InsertIsBounded};
 ghost use Rattle.sh_shard.specs.Shards.{SortedPages, StaysOwner, InsertServes, IsQuick, DoneIn, value_class};
 
 use crate::pages::Pages;
 use crate::returning::return_one;
 use sh_key::KeyLayout;
+use sh_pass::Guard;
 use sh_queue::Queues;
 use sh_shape::classes;
 use sh_value::{Hold, Refusal, Value};
@@ -72,17 +73,49 @@ impl<'a, L: KeyLayout> Shard<'a, L> {
         answer
     }
 
+    /// The same as `get`, but the hold keeps the place of the key's slot, so that its calls are faster.
+    pub fn get_guard(&mut self, key: u64) -> Result<Guard<L>, Refusal>
+        ensures does { GetDoes L.layout key self.old.pages.owner result self.new.pages.owner }
+        ensures stays { StaysOwner L.layout self.old self.new }
+    {
+        let _queues = &self.queues;
+        let (answer, came) = self.pages.get_guard(key);
+        return_one(&self.pages, &mut self.queues, came);
+        self.standing();
+        answer
+    }
+
     /// The value of a key that the owner holds. Refused as `NotHeld`.
     pub fn read(&mut self, hold: Hold) -> Result<Value, Refusal>
         ensures does { ReadDoes hold.key self.old.pages.owner result self.new.pages.owner }
         ensures stays { StaysOwner L.layout self.old self.new }
     {
-        let _queues = &self.queues;
         let mut value = Value::empty();
-        let answer = self.pages.read_into(hold, &mut value);
-        self.standing();
-        answer?;
+        self.read_into(hold, &mut value)?;
         Ok(value)
+    }
+
+    /// Reads the value of a key that the owner holds into a value of the caller's, in place of what that was, so that it
+    /// is copied nowhere. Refused as `NotHeld`: then the caller's value stays as it was.
+    pub fn read_into(&mut self, hold: Hold, value: &mut Value) -> Result<(), Refusal>
+        ensures does { ReadIntoDoes hold.key self.old.pages.owner value.old result value.new self.new.pages.owner }
+        ensures stays { StaysOwner L.layout self.old self.new }
+    {
+        let _queues = &self.queues;
+        let answer = self.pages.read_into(hold, value);
+        self.standing();
+        answer
+    }
+
+    /// The same as `read_into`, by a hold that keeps its place.
+    pub fn read_guard(&mut self, guard: &Guard<L>, value: &mut Value) -> Result<(), Refusal>
+        ensures does { ReadIntoDoes guard.now.key self.old.pages.owner value.old result value.new self.new.pages.owner }
+        ensures stays { StaysOwner L.layout self.old self.new }
+    {
+        let _queues = &self.queues;
+        let answer = self.pages.read_guard(guard, value);
+        self.standing();
+        answer
     }
 
     /// Removes a key. Refused as `BadKey` or `Gone`.
@@ -104,6 +137,18 @@ impl<'a, L: KeyLayout> Shard<'a, L> {
     {
         let _queues = &self.queues;
         let (answer, came) = self.pages.release(hold);
+        return_one(&self.pages, &mut self.queues, came);
+        self.standing();
+        answer
+    }
+
+    /// The same as `release`, of a hold that keeps its place.
+    pub fn release_guard(&mut self, guard: Guard<L>) -> Result<(), Refusal>
+        ensures does { ReleaseDoes L.layout guard.key self.old.pages.owner result self.new.pages.owner }
+        ensures stays { StaysOwner L.layout self.old self.new }
+    {
+        let _queues = &self.queues;
+        let (answer, came) = self.pages.release_guard(guard);
         return_one(&self.pages, &mut self.queues, came);
         self.standing();
         answer

@@ -6,8 +6,11 @@ use Rattle.sh_pass.proofs.calls.read_key.Goals as goal
 
 pub returns-in_default-clause-does : goal.returns-in_default-clause-does
 returns-in_default-clause-does g c = (
-  no_hold c.args.held.now.items _ c.args.seat.now.me.0.own.body.holds c.args.key _
-      c.requires.kept.holds c.as_slice.ensures.value c.find.ensures c.in_default.is,
+  (
+    no_hold c.args.held.now.items _ c.args.seat.now.me.0.own.body.holds c.args.key _
+        c.requires.kept.holds c.as_slice.ensures.value c.find.ensures c.in_default.is,
+    refl,
+  ),
   refl,
 )
 
@@ -15,8 +18,8 @@ pub unreachable-requires : goal.unreachable-requires
 unreachable-requires g c =
     let f = hold_found c.args.held.now.items _ c.args.seat.now.me.0.own.body.holds c.args.key c.in-Some._at _
     c.requires.kept.holds c.as_slice.ensures.value c.find.ensures c.in-Some.is in
-    held_named c.args.key _ _ c.requires.seat f.1 (c.shape.ensures ∙ sym c.requires.seat.shape) c.place_of_key.ensures
-    c.in_default-place_of_key.is
+    held_named c.args.key _ _ c.requires.seat f.1 (sym c.requires.seat.shape) c.requires.place
+    c.in_default-place.is
 
 pub read_at-requires-clause-held : goal.read_at-requires-clause-held
 read_at-requires-clause-held g c = (hold_found c.args.held.now.items _ c.args.seat.now.me.0.own.body.holds c.args.key

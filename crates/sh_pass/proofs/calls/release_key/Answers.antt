@@ -21,8 +21,8 @@ pub unreachable-requires : goal.unreachable-requires
 unreachable-requires g c =
     let f = hold_found c.args.held.now.items _ c.args.seat.now.me.0.own.body.holds c.args.key c.in-Some.at _
     c.requires.kept.holds c.as_slice.ensures.value c.find.ensures c.in-Some.is in
-    held_named c.args.key _ _ c.requires.seat f.1 (c.shape.ensures ∙ sym c.requires.seat.shape) c.place_of_key.ensures
-    c.in_default-place_of_key.is
+    held_named c.args.key _ _ c.requires.seat f.1 (sym c.requires.seat.shape) c.requires.place
+    c.in_default-place.is
 
 pub release_at-slot-requires-clause-held : goal.release_at-slot-requires-clause-held
 release_at-slot-requires-clause-held g c = (hold_found c.args.held.now.items _ c.args.seat.now.me.0.own.body.holds
@@ -54,10 +54,10 @@ returns-clause-does g c =
     c.release_at-slot.ensures.seat in
     let v = c.args.seat.now.me.0 in
     let plan = plan_of g.L.KeyLayout.layout v.shape in
-    let named = name_found c.args.key c.shape.result.now c.place_of_key.result c.in-Some-place_of_key.name
-    c.requires.seat c.shape.ensures c.place_of_key.ensures c.in-Some-place_of_key.is in
+    let named = name_found c.args.key c.args.table.now.shape c.args.place c.in-Some-place.name c.requires.seat refl
+    c.requires.place c.in-Some-place.is in
     let first = of_key v c.release_at-slot.new.seat.me.0 plan c.args.key (λ x. Begins (action.DropHold c.args.key) x)
-    c.in-Some-place_of_key.name named c.release_at-slot.ensures.first in (
+    c.in-Some-place.name named c.release_at-slot.ensures.first in (
       f.1,
       adds_of (heap_of c.args.seat.now) (heap_of c.release_at-slot.new.seat) _ (DropsHold plan c.args.key) same refl
           c.release_at-slot.ensures.grows first,

@@ -1,5 +1,6 @@
 use Rattle.std.proofs.Common.{◌<◌, ℕ, List, length, refl, ap, sym, subst, arith}
 use Rattle.std.specs.Prelude.{is_some}
+use Rattle.sh_value.specs.declared.hold.Hold.{Hold}
 use Rattle.sh_slots.specs.declared.enter.GetAnswer.TheVariants as answer
 use Rattle.sh_step.specs.Plans.{plan_of}
 use Rattle.sh_pass.specs.Deciding.{Stepped, EntryDecides, DecidedByEntry, InOneStep}
@@ -11,7 +12,7 @@ use Rattle.sh_pass.specs.Growing.{GetGrows}
 use Rattle.sh_pass.specs.Passes.{HoldsKept, caller_of, heap_of}
 use Rattle.sh_pass.proofs.HeldLaws.{kept_more, adds_of, same_home}
 use Rattle.sh_pass.proofs.OwnCalls.{leaves_grown}
-use Rattle.sh_pass.proofs.calls.get_key.Goals as goal
+use Rattle.sh_pass.proofs.calls.get_guard_of.Goals as goal
 
 pub returns-in-Got-clause-kept : goal.returns-in-Got-clause-kept
 returns-in-Got-clause-kept g c =
@@ -69,7 +70,7 @@ returns-in-Got-clause-does g c =
     let count = c.requires.kept.count in
     let few : length v.own.body.holds < 16 = grind (arith, nat_tests) in
     let first = in_one_step v w plan c.args.key c.in-Some.name named (subst Q c.in-Got.is e.first) grows in (
-      refl,
+      ap (λ (h : Hold). h.key) c.new.ensures,
       ap is_some named,
       few,
       adds_of (heap_of c.args.seat.now) (heap_of c.get_at-got.new.seat) _ (InOneStep plan c.args.key)

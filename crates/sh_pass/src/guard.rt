@@ -1,0 +1,91 @@
+//! Holds that know where their key's slot is.
+ghost use Rattle.std.specs.Prelude.{◌≡◌};
+ghost use Rattle.sh_step.specs.Moves.{place_named};
+ghost use Rattle.sh_step.specs.Plans.{plan_of};
+
+use sh_key::KeyLayout;
+use sh_shape::Shape;
+use sh_slots::Name;
+use sh_step::operands::place_of_key;
+use sh_value::Hold;
+use std::marker::{Model, PhantomData};
+
+/// A hold on a key that keeps the place of the key's slot, so that a read and a release by it need not unpack the key.
+///
+/// It is for whoever reads a value more than once, or as fast as can be. `get_guard` of a pass or of a shard answers
+/// it, and `read_guard` and `release_guard` take it. It stands for the same hold as the plain `Hold` of its key: a
+/// contract sees no more of it, `hold` answers it, and the two kinds may be mixed as one likes. A guard releases
+/// nothing where it is dropped: it does not know the pass that holds. (So a name says what it guards: the place.)
+///
+/// The place goes by the shape of the heap. A guard from a heap of another shape does what its plain hold would do.
+#[derive(Drop)]
+pub struct Guard<L: KeyLayout> {
+    key: u64,
+    name: Name,
+    shape: Shape,
+    layout: PhantomData<L>,
+}
+
+impl<L: KeyLayout> Model for Guard<L> {
+    ghost use Rattle.std.specs.Prelude.{◌≡◌, Some};
+    ghost use Rattle.sh_value.specs.declared.hold.Hold.{Hold};
+    ghost use Rattle.sh_step.specs.Moves.{place_named};
+    ghost use Rattle.sh_step.specs.Plans.{plan_of};
+
+    ghost Value = { Hold };
+
+    ghost view = { λ g. record { key = g.key } };
+
+    ghost invariant = { λ g. place_named (plan_of L.layout g.shape) g.key ≡ Some g.name };
+}
+
+impl<L: KeyLayout> Guard<L> {
+    // The guard of a key whose place in the shape is this.
+    #[inline(always)]
+    pub(crate) fn new(key: u64, name: Name, shape: &Shape) -> Self
+        requires { place_named (plan_of L.layout shape.now) key ≡ Some name }
+        ensures { result ≡ record { key = key } }
+    {
+        Guard {
+            key,
+            name,
+            shape: *shape,
+            layout: PhantomData,
+        }
+    }
+
+    /// The key that is held.
+    pub fn key(&self) -> u64
+        ensures { result ≡ self.now.key }
+    {
+        self.key
+    }
+
+    /// The plain hold that it stands for.
+    pub fn hold(&self) -> Hold
+        ensures { result ≡ self.now }
+    {
+        Hold { key: self.key }
+    }
+
+    // The place of the key in this shape. Mostly it is the shape that the guard is for.
+    #[inline(always)]
+    pub(crate) fn place(&self, shape: &Shape) -> Option<Name>
+        ensures { result ≡ place_named (plan_of L.layout shape.now) self.now.key }
+    {
+        if self.shape == *shape {
+            Some(self.name)
+        } else {
+            place_elsewhere::<L>(shape, self.key)
+        }
+    }
+}
+
+// The place of a key in a shape that the guard is not for.
+#[cold]
+#[inline(never)]
+fn place_elsewhere<L: KeyLayout>(shape: &Shape, key: u64) -> Option<Name>
+    ensures { result ≡ place_named (plan_of L.layout shape.now) key }
+{
+    place_of_key::<L>(shape, key)
+}
