@@ -4,6 +4,7 @@ ghost use Rattle.std.specs.Prelude.{◌≡◌, ◌<◌};
 
 mod changing_hands;
 mod filling;
+mod guards;
 mod largest;
 mod memory;
 mod order;
