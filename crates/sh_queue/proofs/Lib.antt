@@ -3,6 +3,7 @@ pub mod Linking
 pub mod Sections
 pub mod Moves
 pub mod Openings
+pub mod Filings
 pub mod Fronts
 pub mod Times
 pub mod PageLaws

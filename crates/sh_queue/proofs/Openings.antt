@@ -24,7 +24,7 @@ record Opened (w w' : List ℕ) (first n : ℕ) : Type 0 where
   none_ahead : pages_to_mark w' ≡ pages_to_mark w
   pages : (q : ℕ) → has_number (11 + q) w' ≡ nat_lt q (first + n)
 
-less_or_same : (q n : ℕ) → q ≢ n → nat_lt q (suc n) ≡ nat_lt q n
+pub less_or_same : (q n : ℕ) → q ≢ n → nat_lt q (suc n) ≡ nat_lt q n
 less_or_same q n other = ⊎_elim
     (λ (less : q < n). let more : q < suc n = omega arith in lt-ltb q (suc n) more ∙ sym (lt-ltb q n less))
     (λ (from : n ≤ q). let beyond : suc n ≤ q = omega arith in le-ltb q (suc n) beyond ∙ sym (le-ltb q n from))
@@ -89,7 +89,7 @@ opened_all w first (suc n) marked pages =
     subst (λ z. Opened w z first (suc n)) puts (opened_more w (put_before 10 numbers w) first n
     (opened_all w first n marked pages))
 
-get_or-replicate_same : (n i : ℕ) → get_or (replicate n false) i false ≡ false
+pub get_or-replicate_same : (n i : ℕ) → get_or (replicate n false) i false ≡ false
 get_or-replicate_same zero i = refl
 get_or-replicate_same (suc n) zero = refl
 get_or-replicate_same (suc n) (suc i) = get_or-replicate_same n i
@@ -107,7 +107,7 @@ classes_same (suc n) k w w' others =
     ap (λ x. x ∷ queues_from n (suc k) w') (others k (omega arith))
     ∙ ap (λ xs. pages_behind k w ∷ xs) (classes_same n (suc k) w w' (λ i upto. others i (omega arith)))
 
-class_queues_same : (w w' : List ℕ) → ((i : ℕ) → i < 8 → pages_behind i w' ≡ pages_behind i w) → class_queues w'
+pub class_queues_same : (w w' : List ℕ) → ((i : ℕ) → i < 8 → pages_behind i w' ≡ pages_behind i w) → class_queues w'
     ≡ class_queues w
 unfolding class_queues
 class_queues_same w w' others = classes_same 8 0 w w' (λ i upto. others i (omega arith))

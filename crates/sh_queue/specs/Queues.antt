@@ -65,10 +65,27 @@ abbrev pub one_more_segment : PageQueues → PageQueues
 one_more_segment q =
     record q { opened = q.opened + 8; unopened = q.unopened - 1; blank = q.blank ++ upward q.opened 8 }
 
+-- ---- queues that are being filled
+
+-- the pages that are filed so far, in their queues, and how many there will be
+pub record FilingQueues : Type 0 where
+  pub queues : PageQueues
+  pub pages : ℕ
+
+-- one page more is opened, the next one: it is blank, or the last of a class
+abbrev pub next_filed : Option ℕ → PageQueues → PageQueues
+next_filed None q = record q { opened = q.opened + 1; blank = q.blank ++ q.opened ∷ [] }
+next_filed (Some c) q = with_class c (class_queue q c ++ q.opened ∷ []) (record q { opened = q.opened + 1 })
+
 -- ---- how one chain of numbers holds the queues
 
 -- The numbers below 11 are marks: 0 to 7 stand ahead of the queues of the classes, 8 ahead of the full queue, 9 ahead
 -- of the blank pages, 10 at the end. Page p is the number 11 + p.
+
+-- the mark behind the blank pages, and the one behind the pages of a class
+abbrev pub mark_behind : Option ℕ → ℕ
+mark_behind None = 10
+mark_behind (Some c) = c + 1
 
 -- the page that a number stands for; a mark stands for none
 abbrev pub page_numbered : ℕ → Option ℕ
@@ -108,6 +125,13 @@ queues_shown numbers opened unopened = record {
   blank = pages_behind 9 numbers;
 }
 
+-- what the chain says while pages are filed, with a note for each page that there will be
+abbrev pub filing_shown : List ℕ → ℕ → ℕ → List Bool → FilingQueues
+filing_shown numbers filed unopened notes = record {
+  queues = queues_shown numbers filed unopened;
+  pages = length notes;
+}
+
 -- what is true of the chain: it has room for the opened pages, and for no more than one segment beyond them; it has the
 -- marks in ascending order, the opened pages between them, and the blank pages rise; the notes tell which pages are in
 -- the full queue
@@ -123,3 +147,12 @@ pub record KeepsQueues (numbers : List ℕ) (size opened unopened : ℕ) (notes 
   pub rising : RisesFrom 0 (pages_behind 9 numbers)
   pub each_noted : length notes ≡ opened
   pub noted : (page : ℕ) → get_or notes page false ≡ has_number page (pages_behind 8 numbers)
+
+-- what is true while pages are filed: there is room for all of them, and no more; those filed so far are in the chain; no
+-- page is full
+pub record KeepsFiling (numbers : List ℕ) (size filed unopened : ℕ) (notes : List Bool) : Type 0 where
+  pub room : size ≡ 11 + length notes
+  pub some_left : filed ≤ length notes
+  pub few : length notes + 8 * unopened ≤ 2048
+  pub none_noted : notes ≡ replicate (length notes) false
+  pub kept : KeepsQueues numbers (11 + filed) filed unopened (replicate filed false)

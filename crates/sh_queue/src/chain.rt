@@ -39,12 +39,13 @@ impl Model for Chain {
 }
 
 impl Chain {
-    // The numbers 0 and `END`, with room for those between.
-    pub fn new(alloc: Global) -> Result<Self, AllocError>
-        ensures { IfOk result (λ chain. chain ≡ record { numbers = 0 ∷ 10 ∷ []; size = 11 }) }
+    // The numbers 0 and `END`, with room for the numbers below `size`.
+    pub fn new(alloc: Global, size: usize) -> Result<Self, AllocError>
+        requires { 11 ≤ size }
+        ensures { IfOk result (λ chain. chain ≡ record { numbers = 0 ∷ 10 ∷ []; size = size }) }
     {
-        let next = vec![in alloc; END; 11]?;
-        let prev = vec![in alloc; 0; 11]?;
+        let next = vec![in alloc; END; size]?;
+        let prev = vec![in alloc; 0; size]?;
         Ok(Chain {
             next,
             prev,

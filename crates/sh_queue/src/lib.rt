@@ -2,6 +2,8 @@
 #![tactic(auto)]
 
 mod chain;
+pub mod filing;
 pub mod queues;
 
+pub use filing::Filing;
 pub use queues::Queues;

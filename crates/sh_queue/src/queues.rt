@@ -2,10 +2,9 @@
 ghost use Rattle.std.specs.Prelude.{◌≡◌, ◌≢◌, ℕ, ◌+◌, ◌-◌, ◌*◌, ◌<◌, ◌≤◌, ◌++◌, true, false, length, max, replicate, None};
 ghost use Rattle.std.specs.Prelude.{slice_get, IfSome, IfOk, IfErr, OnOk, OnErr};
 ghost use Rattle.std.specs.List.{last_or};
-ghost use Rattle.sh_lists.specs.Numbers.{upward};
 ghost use Rattle.sh_queue.specs.Numbers.{has_number};
 ghost use Rattle.sh_queue.specs.Chain.{ChainNumbers};
-ghost use Rattle.sh_queue.specs.Queues.{EachOnce, page_numbered, class_queue, none_opened, at_front, at_back};
+ghost use Rattle.sh_queue.specs.Queues.{EachOnce, page_numbered, class_queue, at_front, at_back};
 ghost use Rattle.sh_queue.specs.Queues.{among_full, one_more_segment};
 
 use crate::chain::Chain;
@@ -13,29 +12,29 @@ use sh_value::Refusal;
 use std::alloc::{AllocError, Global};
 use std::marker::Model;
 
-const SEGMENT_PAGES: u32 = 8;
+pub(crate) const SEGMENT_PAGES: u32 = 8;
 
 // All queues are one chain. A number below 11 marks where a queue begins: 0 to 7 stand ahead of the queues of the
 // classes, these two ahead of the full queue and of the blank pages, and the last number of the chain behind these.
 // Page p is the number 11 + p.
 const FULL: u32 = 8;
 
-const BLANK: u32 = 9;
+pub(crate) const BLANK: u32 = 9;
 
-const FIRST_PAGE: u32 = 11;
+pub(crate) const FIRST_PAGE: u32 = 11;
 
 /// The pages that an owner has opened, in queues.
 ///
 /// A page is a number. Pages are opened 8 at a time, which is a segment, in ascending order. An opened page is blank,
-/// or stands in the queue of one class from 0 to 7, or in the full queue. Memory is taken by `new` and `open_segment`
-/// alone, for one segment at a time. No other call takes any.
+/// or stands in the queue of one class from 0 to 7, or in the full queue. They begin as a `Filing`, which takes memory
+/// once for all pages that are opened then. Later `open_segment` alone takes any, for one segment at a time.
 #[derive(Drop)]
 pub struct Queues {
-    chain: Chain,
+    pub(crate) chain: Chain,
     // For each opened page, whether it stands in the full queue.
-    full: Vec<bool>,
-    opened: u32,
-    unopened: u32,
+    pub(crate) full: Vec<bool>,
+    pub(crate) opened: u32,
+    pub(crate) unopened: u32,
 }
 
 impl Model for Queues {
@@ -49,23 +48,6 @@ impl Model for Queues {
 }
 
 impl Queues {
-    /// No page is opened yet, of this many segments, at most 256. Refused as `Memory`.
-    pub fn new(alloc: Global, segments: u32) -> Result<Self, Refusal>
-        requires { segments ≤ 256 }
-        ensures ok { IfOk result (λ queues. queues ≡ none_opened segments) }
-        ensures err { IfErr result (λ refusal. refusal ≡ Refusal.Memory) }
-    {
-        match marks(alloc) {
-            Ok(chain) => Ok(Queues {
-                chain,
-                full: Vec::new(alloc),
-                opened: 0,
-                unopened: segments,
-            }),
-            Err(_) => Err(Refusal::Memory),
-        }
-    }
-
     /// How many pages are opened: the pages 0 to `opened() - 1`.
     pub fn opened(&self) -> u32
         ensures opened { result ≡ self.now.opened }
@@ -172,15 +154,6 @@ impl Queues {
         self.chain.unlink(number);
         self.chain.put_before(FULL + 1, number);
     }
-}
-
-// The chain of the marks alone.
-fn marks(alloc: Global) -> Result<Chain, AllocError>
-    ensures { IfOk result (λ chain. chain ≡ record { numbers = upward 0 11; size = 11 }) }
-{
-    let mut chain = Chain::new(alloc)?;
-    chain.append(1, BLANK);
-    Ok(chain)
 }
 
 // Makes room for this many pages. Where memory is refused, the pages and the notes on them stay as they were.

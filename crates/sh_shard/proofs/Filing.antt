@@ -1,19 +1,17 @@
 -- Pages that are filed in ascending order.
-use Rattle.std.proofs.Common.{◌≡◌, ◌≢◌, ℕ, suc, ◌+◌, ◌-◌, ◌*◌, ◌<◌, ◌≤◌, ◌||◌, ◌⊎◌, inl, inr, ⊎_elim, Bool, true, false, cond}
-use Rattle.std.proofs.Common.{Some, List, [], ◌∷◌, ◌++◌, append_assoc, append-nil, length, refl, ap, ◌∙◌, sym, subst}
+use Rattle.std.proofs.Common.{◌≡◌, ◌≢◌, ℕ, suc, ◌+◌, ◌-◌, ◌<◌, ◌≤◌, ◌||◌, ◌⊎◌, inl, inr, ⊎_elim, Bool, true, false}
+use Rattle.std.proofs.Common.{List, [], ◌∷◌, ◌++◌, append_assoc, append-nil, length, refl, ap, ◌∙◌, sym, subst}
 use Rattle.std.proofs.Common.{arith}
-use Rattle.std.specs.Prelude.{◌==◌}
 use Rattle.std.proofs.lemmas.Bool.{cases_eq, false≢true}
-use Rattle.std.proofs.lemmas.Bool.Decides.{nat_tests}
 use Rattle.sh_queue.specs.Numbers.{has_number, RisesFrom}
 use Rattle.sh_queue.specs.Queues.{PageQueues, EachOnce, class_queue, at_back}
 use Rattle.sh_queue.proofs.Numbers.{has_number-append, has_number-here, has_number-there}
 use Rattle.sh_queue.proofs.PageLaws.{class_apart, class_queue-at_back_same, class_queue-at_back_other, has_number-only}
 use Rattle.sh_queue.proofs.PageLaws.{without_number-hasnt}
 use Rattle.sh_shard.specs.Pages.{Paged, page_at, seen_class}
-use Rattle.sh_shard.specs.Shards.{SortedPages, FullPage}
-use Rattle.sh_shard.specs.Filing.{OpensClassed, ReturnsRising}
-use Rattle.sh_shard.specs.Returning.{ReturnsPage, ReturnedBelow, IsClassedEnd}
+use Rattle.sh_shard.specs.Shards.{FullPage}
+use Rattle.sh_shard.specs.Filing.{ReturnsRising}
+use Rattle.sh_shard.specs.Returning.{ReturnsPage, ReturnedBelow}
 
 -- a number above all stands behind them
 pub rises_append : (low k : ℕ) (xs : List ℕ) → RisesFrom low xs → low ≤ k
@@ -25,22 +23,24 @@ rises_append low k (x ∷ xs) r l below = (
       (λ p here. below p (has_number-there p x xs here)),
 )
 
--- where nothing stands, all rises
-pub rises_nothing : (xs : List ℕ) → ((p : ℕ) → has_number p xs ≡ false) → RisesFrom 0 xs
-rises_nothing [] none = tt
-rises_nothing (x ∷ xs) none = absurd (false≢true (sym (none x) ∙ has_number-here x xs))
-
 either : (a b : Bool) → a || b ≡ true → (a ≡ true) ⊎ (b ≡ true)
 either true b e = inl refl
 either false b e = inr e
 
--- what stands there, or is the number behind it, is below the next number
+-- what stands there with k behind stood there, or is k
+pub is_behind : (p k : ℕ) (xs : List ℕ) → has_number p (xs ++ k ∷ []) ≡ true → (has_number p xs ≡ true) ⊎ (p ≡ k)
+is_behind p k xs here = ⊎_elim
+    (λ (h : has_number p xs ≡ true). inl h)
+    (λ (h : has_number p (k ∷ []) ≡ true). inr (has_number-only p k h))
+    (either (has_number p xs) (has_number p (k ∷ [])) (sym (has_number-append p xs (k ∷ [])) ∙ here))
+
+-- and is below the next number
 pub below_append : (k : ℕ) (xs : List ℕ) → ((p : ℕ) → has_number p xs ≡ true → p < k) → (p : ℕ)
     → has_number p (xs ++ k ∷ []) ≡ true → p < k + 1
 below_append k xs below p here = ⊎_elim
     (λ (h : has_number p xs ≡ true). let b = below p h in omega arith)
-    (λ (h : has_number p (k ∷ []) ≡ true). let b = has_number-only p k h in omega arith)
-    (either (has_number p xs) (has_number p (k ∷ [])) (sym (has_number-append p xs (k ∷ [])) ∙ here))
+    (λ (h : p ≡ k). omega arith)
+    (is_behind p k xs here)
 
 -- ---- the queue of each class once page k went to the back of class d, and stood in no class
 
@@ -115,29 +115,3 @@ returns_rising k q r b = record {
   opened = b.opened;
   classes = λ c. let z = b.classes c in (z.0, z.1, z.2);
 }
-
--- ---- how many segments are opened
-
-pub end_next : (end next page word : ℕ) (v : Paged) → IsClassedEnd end v → (page_at v page).class ≡ Some word
-    → next ≡ cond (word == 0) end (page + 1) → IsClassedEnd next v
-end_next end next page word v before class is = go (word == 0) refl where
-  go : (b : Bool) → (word == 0) ≡ b → IsClassedEnd next v
-  go true e = subst (λ z. IsClassedEnd z v) (sym (is ∙ ap (λ b. cond b end (page + 1)) e)) before
-  go false e = inr (
-    page,
-    is ∙ ap (λ b. cond b end (page + 1)) e,
-    λ blank.
-        let f : Some word ≡ Some 0 = sym class ∙ blank in
-        let z : word ≡ 0 = cc in
-        false≢true (sym e ∙ (grind (arith, nat_tests))),
-  )
-
-pub opens_classed : (v : Paged) (q : PageQueues) (end k : ℕ) → SortedPages v q → v.count ≡ 8 * k → IsClassedEnd end v
-    → end ≤ q.opened → q.opened < end + 8 → OpensClassed v q
-opens_classed v q end k sorted size before enough needed = record { later = sorted.later; last = last } where
-  last : (q.opened ≡ 0) ⊎ ((p : ℕ) × (p < q.opened) × (q.opened ≤ p + 8) × ((page_at v p).class ≢ Some 0))
-  last = ⊎_elim
-      (λ (none : end ≡ 0). inl (let a = sorted.all in omega arith))
-      (λ (h : (p : ℕ) × (end ≡ p + 1) × ((page_at v p).class ≢ Some 0)).
-      inr (h.0, (let e = h.1 in omega arith), (let e = h.1 in omega arith), h.2))
-      before

@@ -1,16 +1,20 @@
 -- Pages come back from the full queue, and the pages of a shard that is adopted come to their queues.
-use Rattle.std.proofs.Common.{◌≡◌, ◌≢◌, ℕ, zero, suc, ◌+◌, ◌-◌, ◌*◌, ◌<◌, ◌≤◌, ◌⊎◌, inl, inr, ⊎_elim, Bool, true, false}
-use Rattle.std.proofs.Common.{Option, Some, None, length, refl, ap, ◌∙◌, sym, subst, arith}
-use Rattle.std.proofs.lemmas.Bool.{cases_eq, cases_lt, false≢true}
+use Rattle.std.proofs.Common.{◌≡◌, ◌≢◌, ℕ, ◌+◌, ◌-◌, ◌<◌, ◌⊎◌, inl, inr, ⊎_elim, Bool, true, false}
+use Rattle.std.proofs.Common.{Option, Some, None, MatchOption, IfSome, [], ◌∷◌, ◌++◌, refl, ap, ◌∙◌, sym}
+use Rattle.std.proofs.Common.{subst, arith}
+use Rattle.std.proofs.lemmas.Bool.{cases_eq, false≢true}
+use Rattle.std.proofs.lemmas.List.{length-set}
 use Rattle.sh_queue.specs.Numbers.{has_number, RisesFrom}
-use Rattle.sh_queue.specs.Queues.{PageQueues, EachOnce, class_queue, at_back, none_opened, one_more_segment}
-use Rattle.sh_queue.proofs.PageLaws.{has_number-from_without, has_number-at_back, full_opened, blank_opened}
+use Rattle.sh_queue.specs.Queues.{PageQueues, FilingQueues, EachOnce, class_queue, at_back, next_filed}
+use Rattle.sh_queue.proofs.Filings.{next_filed-opened, next_filed-unopened, class_queue-next_filed_same}
+use Rattle.sh_queue.proofs.Filings.{class_queue-next_filed_other}
+use Rattle.sh_queue.proofs.PageLaws.{has_number-from_without, has_number-at_back, full_opened}
 use Rattle.sh_pass.specs.Owners.{SeenPage}
 use Rattle.sh_shard.specs.Pages.{Paged, page_at, seen_class, SlotComes}
 use Rattle.sh_shard.specs.Shards.{SortedPages, FullPage}
-use Rattle.sh_shard.specs.Returning.{SortedBut, ReturnsPage, AllBlank, FiledBelow}
+use Rattle.sh_shard.specs.Returning.{SortedBut, ReturnsPage, FiledPages, FilesFirst}
 use Rattle.sh_shard.proofs.Sorting.{stands_at_back}
-use Rattle.sh_shard.proofs.Filing.{rises_nothing, rises_append, back_same, back_other}
+use Rattle.sh_shard.proofs.Filing.{rises_append, below_append, is_behind}
 
 word_of : (g : SeenPage) (word : ℕ) → g.class ≡ Some word → seen_class g ≡ word
 word_of g word is = ap (λ (o : Option ℕ). elim o as (λ _. ℕ) [ Some m ↦ m | None ↦ 0 ]) is
@@ -154,122 +158,64 @@ returns_opened p v q q' k = ⊎_elim
 
 -- ---- the pages of a shard that is adopted
 
-pub blank_none : (segments : ℕ) → AllBlank (8 * segments) (none_opened segments)
-blank_none segments = record { all = omega arith; classes = λ c p. none c p; full = λ p. refl } where
-  none : (c p : ℕ) → has_number p (class_queue (none_opened segments) c) ≡ false
-  none zero p = refl
-  none (suc zero) p = refl
-  none (suc (suc zero)) p = refl
-  none (suc (suc (suc zero))) p = refl
-  none (suc (suc (suc (suc zero)))) p = refl
-  none (suc (suc (suc (suc (suc zero))))) p = refl
-  none (suc (suc (suc (suc (suc (suc zero)))))) p = refl
-  none (suc (suc (suc (suc (suc (suc (suc zero))))))) p = refl
-  none (suc (suc (suc (suc (suc (suc (suc (suc c)))))))) p = refl
-
-pub blank_more : (count : ℕ) (q q' : PageQueues) → AllBlank count q → q.unopened ≢ 0 → q' ≡ one_more_segment q
-    → AllBlank count q'
-blank_more count q q' b some is = subst (AllBlank count) (sym is)
-    (record {
-      all = let a = b.all in let s = some_more q.unopened some
-          in omega arith;
-      classes = b.classes;
-      full = b.full;
-    }) where
-      some_more : (n : ℕ) → n ≢ 0 → 1 ≤ n
-      some_more zero none = absurd (none refl)
-      some_more (suc n) none = omega arith
-
-pub filed_none : (v : Paged) (q : PageQueues) → AllBlank v.count q → FiledBelow 0 v q
-filed_none v q b = record {
-  all = b.all;
-  classes = λ c p here. absurd (false≢true (sym (b.classes c p) ∙ here));
-  full =
-      b.full;
-  blank = λ p here below. absurd (omega arith);
-  rising = λ c. rises_nothing (class_queue q c) (b.classes c);
-  below = λ c p here. absurd (false≢true (sym (b.classes c p) ∙ here));
-}
-
-below_next : (p k : ℕ) → p < k + 1 → (p ≡ k) ⊎ (p < k)
-below_next p k l = ⊎_elim (λ (h : p < k). inr h) (λ (h : k ≤ p). inl (omega arith)) (cases_lt p k)
-
-pub filed_blank : (k : ℕ) (v : Paged) (q : PageQueues) → FiledBelow k v q → (page_at v k).class ≡ Some 0
-    → FiledBelow (k + 1) v q
-filed_blank k v q f is = record {
-  all = f.all;
+filed_blank : (v : Paged) (q : PageQueues) → FiledPages v q → (page_at v q.opened).class ≡ Some 0
+    → FiledPages v (next_filed None q)
+filed_blank v q f is = record {
+  many = f.many;
   classes = f.classes;
   full = f.full;
-  blank = λ p here below. ⊎_elim
-      (λ (e : p ≡ k). subst (λ z. (page_at v z).class ≡ Some 0) (sym e) is)
-      (λ (l : p < k). f.blank p here l)
-      (below_next p k below);
+  blank = λ p here. ⊎_elim
+      (λ (h : has_number p q.blank ≡ true). f.blank p h)
+      (λ (h : p ≡ q.opened). subst (λ z. (page_at v z).class ≡ Some 0) (sym h) is)
+      (is_behind p q.opened q.blank here);
   rising = f.rising;
   below = λ c p here. let l = f.below c p here in omega arith;
 }
 
-pub filed_more : (k word : ℕ) (v : Paged) (q q' : PageQueues) → FiledBelow k v q → EachOnce q → k < q.opened
-    → (page_at v k).class ≡ Some word → word ≢ 0 → word ≤ 8 → q' ≡ at_back (word - 1) k q → FiledBelow (k + 1) v q'
-filed_more k word v q q' f once inside class some few is = subst (FiledBelow (k + 1) v) (sym is) (record {
-  all = f.all;
-  classes = λ e r h. ⊎_elim
-      (λ (t : has_number r (class_queue q e) ≡ true). f.classes e r t)
-      (λ (t : (e ≡ d) × (r ≡ k)). let P : ℕ × ℕ → Type 0 = λ z. (page_at v z.1).class ≡ Some (z.0 + 1)
-      in subst P (λ i. (sym t.0 i, sym t.1 i)) (class ∙ ap (λ (z : ℕ). Some z) next))
-      (has_number-at_back d k q e r (let m = once.classes in let z = less in omega arith) h);
-  full = λ r. none r (has_number r now.full) refl;
-  blank = λ r h below. ⊎_elim
-      (λ (e : r ≡ k). absurd (false≢true (sym gone ∙ subst (λ z. has_number z now.blank ≡ true) e h)))
-      (λ (l : r < k). f.blank r (has_number-from_without r k q.blank h) l)
-      (below_next r k below);
-  rising = λ e. ⊎_elim
-      (λ (t : e ≡ d). subst (RisesFrom 0) (sym (ap (class_queue now) t ∙ back_same d k q inside_classes apart))
-      (rises_append 0 k (class_queue q d) (f.rising d) (omega arith) (f.below d)))
-      (λ (t : e ≢ d). subst (RisesFrom 0) (sym (back_other d k q inside_classes apart e t)) (f.rising e))
-      (cases_eq e d);
-  below = λ e r h. ⊎_elim
-      (λ (t : has_number r (class_queue q e) ≡ true). let l = f.below e r t in omega arith)
-      (λ (t : (e ≡ d) × (r ≡ k)). let l = t.1 in omega arith)
-      (has_number-at_back d k q e r inside_classes h);
-}) where
-  d : ℕ
-  d = word - 1
+filed_class : (v : Paged) (q : PageQueues) (c : ℕ) → FiledPages v q → c < 8 → (page_at v q.opened).class ≡ Some (c + 1)
+    → FiledPages v (next_filed (Some c) q)
+filed_class v q c f class is = record {
+  many = length-set q.classes c (class_queue q c ++ q.opened ∷ []) ∙ f.many;
+  classes = λ d p here. ⊎_elim
+      (λ (e : d ≡ c). ⊎_elim
+      (λ (h : has_number p (class_queue q c) ≡ true). subst (λ z. (page_at v p).class ≡ Some (z + 1)) (sym e)
+      (f.classes c p h))
+      (λ (h : p ≡ q.opened). let P : ℕ × ℕ → Type 0 = λ z. (page_at v z.1).class ≡ Some (z.0 + 1)
+      in subst P (λ i. (sym e i, sym h i)) is)
+      (is_behind p q.opened (class_queue q c) (sym (ap (has_number p) (same d e)) ∙ here)))
+      (λ (e : d ≢ c). f.classes d p (sym (ap (has_number p) (class_queue-next_filed_other c d q e)) ∙ here))
+      (cases_eq d c);
+  full = f.full;
+  blank = f.blank;
+  rising = λ d. ⊎_elim
+      (λ (e : d ≡ c). subst (RisesFrom 0) (sym (same d e))
+      (rises_append 0 q.opened (class_queue q c) (f.rising c) (omega arith) (f.below c)))
+      (λ (e : d ≢ c). subst (RisesFrom 0) (sym (class_queue-next_filed_other c d q e)) (f.rising d))
+      (cases_eq d c);
+  below = λ d p here. ⊎_elim
+      (λ (e : d ≡ c). below_append q.opened (class_queue q c) (f.below c) p
+      (sym (ap (has_number p) (same d e)) ∙ here))
+      (λ (e : d ≢ c). let l = f.below d p (sym (ap (has_number p) (class_queue-next_filed_other c d q e)) ∙ here)
+      in omega arith)
+      (cases_eq d c);
+} where
+  same : (d : ℕ) → d ≡ c → class_queue (next_filed (Some c) q) d ≡ class_queue q c ++ q.opened ∷ []
+  same d e = ap (class_queue (next_filed (Some c) q)) e
+      ∙ class_queue-next_filed_same c q (let m = f.many in omega arith)
 
-  now : PageQueues
-  now = at_back d k q
+filed_next : (class : Option ℕ) (v : Paged) (q : PageQueues) → FiledPages v q
+    → MatchOption class ((page_at v q.opened).class ≡ Some 0) (λ c. (page_at v q.opened).class ≡ Some (c + 1))
+    → IfSome class (λ c. c < 8) → FiledPages v (next_filed class q)
+filed_next None v q f is few = filed_blank v q f is
+filed_next (Some c) v q f is few = filed_class v q c f few is
 
-  positive : (n : ℕ) → n ≢ 0 → 1 ≤ n
-  positive zero none = absurd (none refl)
-  positive (suc n) none = omega arith
-
-  less : d < 8
-  less = let s = positive word some in omega arith
-
-  inside_classes : d < length q.classes
-  inside_classes = let m = once.classes in let z = less in omega arith
-
-  apart : (c : ℕ) → has_number k (class_queue q c) ≡ false
-  apart c = go (has_number k (class_queue q c)) refl where
-    go : (b : Bool) → has_number k (class_queue q c) ≡ b → b ≡ false
-    go false is = refl
-    go true is = absurd (let l = f.below c k is in omega arith)
-
-  next : word ≡ d + 1
-  next = let s = positive word some in omega arith
-
-  gone : has_number k now.blank ≡ false
-  gone = (stands_at_back q k d once less inside).1
-
-  none : (r : ℕ) (b : Bool) → has_number r now.full ≡ b → has_number r now.full ≡ false
-  none r false e = e
-  none r true e = absurd (false≢true (sym (f.full r) ∙ has_number-from_without r k q.full e))
-
-pub filed_all : (v : Paged) (q : PageQueues) (k : ℕ) → FiledBelow k v q → EachOnce q → q.opened ≤ k
-    → ((p : ℕ) → q.opened ≤ p → p < v.count → (page_at v p).class ≡ Some 0) → SortedPages v q
-filed_all v q k f once end later = record {
-  all = f.all;
-  later = later;
-  classes = f.classes;
-  full = λ p here. absurd (false≢true (sym (f.full p) ∙ here));
-  blank = λ p here. f.blank p here (let l = blank_opened p q once here in omega arith);
-}
+pub files_next : (class : Option ℕ) (k : ℕ) (v : Paged) (f g h : FilingQueues) → FilesFirst k v f g
+    → MatchOption class ((page_at v k).class ≡ Some 0) (λ c. (page_at v k).class ≡ Some (c + 1))
+    → IfSome class (λ c. c < 8) → h ≡ record g { queues = next_filed class g.queues } → FilesFirst (k + 1) v f h
+files_next class k v f g h first is few next = subst (FilesFirst (k + 1) v f) (sym next) (record {
+  filed = filed_next class v g.queues first.filed (subst (λ z. MatchOption class ((page_at v z).class ≡ Some 0)
+      (λ c. (page_at v z).class ≡ Some (c + 1))) (sym first.opened) is) few;
+  opened = next_filed-opened class g.queues ∙ ap (λ z. z + 1) first.opened;
+  unopened = next_filed-unopened class g.queues ∙ first.unopened;
+  pages = first.pages;
+})

@@ -1,7 +1,7 @@
 -- How pages come back from the full queue, and how the pages of a shard that is adopted come to their queues.
-use Rattle.std.specs.Prelude.{◌≡◌, ◌≢◌, ℕ, ◌+◌, ◌-◌, ◌*◌, ◌<◌, ◌≤◌, ◌⊎◌, true, false, List, ◌++◌, Some}
+use Rattle.std.specs.Prelude.{◌≡◌, ◌≢◌, ℕ, ◌+◌, ◌-◌, ◌*◌, ◌<◌, ◌≤◌, ◌⊎◌, true, false, List, [], ◌++◌, length, Some}
 use Rattle.sh_queue.specs.Numbers.{has_number, RisesFrom}
-use Rattle.sh_queue.specs.Queues.{PageQueues, class_queue, at_back}
+use Rattle.sh_queue.specs.Queues.{PageQueues, FilingQueues, class_queue, at_back}
 use Rattle.sh_shard.specs.Pages.{Paged, page_at, seen_class}
 use Rattle.sh_shard.specs.Filing.{FilesRising}
 use Rattle.sh_shard.specs.Shards.{FullPage}
@@ -21,20 +21,21 @@ abbrev pub ReturnsPage : ℕ → Paged → PageQueues → PageQueues → Type 0
 ReturnsPage p v q q' = ((q' ≡ q) × ((has_number p q.full ≡ false) ⊎ FullPage (page_at v p)))
     ⊎ ((has_number p q.full ≡ true) × (q' ≡ at_back (seen_class (page_at v p) - 1) p q))
 
--- no page is in a class yet, and none is full
-pub record AllBlank (count : ℕ) (q : PageQueues) : Type 0 where
-  pub all : q.opened + 8 * q.unopened ≡ count
-  pub classes : (c p : ℕ) → has_number p (class_queue q c) ≡ false
-  pub full : (p : ℕ) → has_number p q.full ≡ false
-
--- the pages below k stand in the queues of their classes, and no page is full
-pub record FiledBelow (k : ℕ) (v : Paged) (q : PageQueues) : Type 0 where
-  pub all : q.opened + 8 * q.unopened ≡ v.count
+-- the pages that are filed so far are blank or stand in the queues of their classes, in ascending order; none is full
+pub record FiledPages (v : Paged) (q : PageQueues) : Type 0 where
+  pub many : length q.classes ≡ 8
   pub classes : (c p : ℕ) → has_number p (class_queue q c) ≡ true → (page_at v p).class ≡ Some (c + 1)
-  pub full : (p : ℕ) → has_number p q.full ≡ false
-  pub blank : (p : ℕ) → has_number p q.blank ≡ true → p < k → (page_at v p).class ≡ Some 0
+  pub full : q.full ≡ []
+  pub blank : (p : ℕ) → has_number p q.blank ≡ true → (page_at v p).class ≡ Some 0
   pub rising : FilesRising q
-  pub below : (c p : ℕ) → has_number p (class_queue q c) ≡ true → p < k
+  pub below : (c p : ℕ) → has_number p (class_queue q c) ≡ true → p < q.opened
+
+-- the first k pages are filed, and there will be as many as before
+pub record FilesFirst (k : ℕ) (v : Paged) (f g : FilingQueues) : Type 0 where
+  pub filed : FiledPages v g.queues
+  pub opened : g.queues.opened ≡ k
+  pub unopened : g.queues.unopened ≡ f.queues.unopened
+  pub pages : g.pages ≡ f.pages
 
 -- the number is 0, or that behind a page with a class
 abbrev pub IsClassedEnd : ℕ → Paged → Type 0

@@ -1,16 +1,16 @@
 // Becoming the owner of a shard: its pages that have a class come to the queues of their classes.
-ghost use Rattle.std.specs.Prelude.{◌≡◌, ℕ, ◌+◌, ◌*◌, ◌<◌, ◌≤◌, ◌==◌, cond, Some, IfOk, IfErr, OnOk};
-ghost use Rattle.sh_shard.specs.Pages.{page_at, BarePage};
+ghost use Rattle.std.specs.Prelude.{◌≡◌, ℕ, ◌+◌, ◌*◌, ◌<◌, ◌≤◌, Some, MatchOption, IfSome, IfOk, IfErr};
+ghost use Rattle.sh_shard.specs.Pages.{page_at};
 ghost use Rattle.sh_shard.specs.Shards.{SortedPages, HoldsShard, AdoptServes};
 ghost use Rattle.sh_shard.specs.Bounds.{AdoptIsBounded};
-ghost use Rattle.sh_shard.specs.Returning.{AllBlank, FiledBelow, IsClassedEnd};
+ghost use Rattle.sh_shard.specs.Returning.{FiledPages, FilesFirst, IsClassedEnd};
 ghost use Rattle.sh_shard.specs.Filing.{OpensClassed, FilesRising};
 
 use crate::pages::Pages;
 use crate::shard::Shard;
 use sh_key::KeyLayout;
 use sh_pass::Pass;
-use sh_queue::Queues;
+use sh_queue::{Filing, Queues};
 use sh_value::Refusal;
 use std::alloc::Global;
 
@@ -38,90 +38,56 @@ impl<'a, L: KeyLayout> Shard<'a, L> {
 
 // The queues of the pages, of which the segments are opened up to the last page that has a class.
 fn queues_of<L: KeyLayout>(alloc: Global, pages: &Pages<'_, L>) -> Result<Queues, Refusal>
-    requires bare { (p : ℕ) → p < pages.now.count → BarePage (page_at pages.now p) }
     requires segments { (k : ℕ) × (pages.now.count ≡ 8 * k) }
     ensures sorted { IfOk result (λ queues. SortedPages pages.now queues) }
     ensures opened { IfOk result (λ queues. OpensClassed pages.now queues) }
     ensures rising { IfOk result (λ queues. FilesRising queues) }
     ensures memory { IfErr result (λ refusal. refusal ≡ Refusal.Memory) }
 {
-    let segments = (pages.count() / 8) as u32;
-    let mut queues = Queues::new(alloc, segments)?;
-    let end = classed_end(pages);
-    open_up_to(&mut queues, end)?;
-    file_pages(pages, &mut queues);
-    Ok(queues)
+    let segments = pages.count() / 8;
+    let opened = (classed_end(pages) + 7) / 8;
+    let mut filing = Filing::new(alloc, opened as u32, (segments - opened) as u32)?;
+    file_pages(pages, &mut filing);
+    Ok(filing.into_queues())
 }
 
-// The number behind the last page that has a class, 0 where none has.
+// The number behind the last page that has a class, 0 where none has. It is looked for from the back.
 fn classed_end<L: KeyLayout>(pages: &Pages<'_, L>) -> u64
     ensures few { result ≤ pages.now.count }
     ensures later { (p : ℕ) → result ≤ p → p < pages.now.count → (page_at pages.now p).class ≡ Some 0 }
     ensures classed { IsClassedEnd result pages.now }
 {
-    let mut end = 0;
     let count = pages.count();
-    for page in 0..count {
-        end = end_with(end, page, pages.class_word(page));
-    }
-    end
-}
-
-// The number behind the page, where it has a class.
-fn end_with(end: u64, page: u64, word: u64) -> u64
-    requires { page < 2048 }
-    ensures { result ≡ cond (word == 0) end (page + 1) }
-{
-    if word == 0 { end } else { page + 1 }
-}
-
-// Opens segments until this many pages are opened.
-fn open_up_to(queues: &mut Queues, end: u64) -> Result<(), Refusal>
-    requires blank { AllBlank (queues.old.opened + 8 * queues.old.unopened) queues.old }
-    requires few { end ≤ queues.old.opened + 8 * queues.old.unopened }
-    requires none { queues.old.opened ≡ 0 }
-    ensures blank { AllBlank (queues.old.opened + 8 * queues.old.unopened) queues.new }
-    ensures opened { OnOk result (end ≤ queues.new.opened) }
-    ensures needed { queues.new.opened < end + 8 }
-    ensures memory { IfErr result (λ refusal. refusal ≡ Refusal.Memory) }
-{
-    let segments = queues.unopened();
-    for _segment in 0..segments {
-        if end <= queues.opened() as u64 {
-            return Ok(());
+    for above in 0..count {
+        let end = count - above;
+        if pages.class_word(end - 1) != 0 {
+            return end;
         }
-        let _first = queues.open_segment()?;
     }
-    Ok(())
+    0
 }
 
-// Each opened page that has a class goes to the back of it, in ascending order.
-fn file_pages<L: KeyLayout>(pages: &Pages<'_, L>, queues: &mut Queues)
-    requires blank { AllBlank pages.now.count queues.old }
-    requires later { (p : ℕ) → queues.old.opened ≤ p → p < pages.now.count → (page_at pages.now p).class ≡ Some 0 }
-    ensures sorted { SortedPages pages.now queues.new }
-    ensures rising { FilesRising queues.new }
-    ensures opened { queues.new.opened ≡ queues.old.opened }
+// Files each page that there will be, in ascending order.
+fn file_pages<L: KeyLayout>(pages: &Pages<'_, L>, filing: &mut Filing)
+    requires few { filing.old.pages ≤ pages.now.count }
+    requires none { FilesFirst 0 pages.now filing.old filing.old }
+    ensures { FilesFirst filing.old.pages pages.now filing.old filing.new }
 {
-    let opened = queues.opened();
-    for page in 0..opened {
-        let _opened = queues.opened();
-        file_page(pages, queues, page);
+    for page in 0..filing.pages() {
+        filing.file(class_of(pages, page as u64));
     }
-    let _filed = queues.opened();
 }
 
-// The opened page, where it has a class, goes to the back of it.
-fn file_page<L: KeyLayout>(pages: &Pages<'_, L>, queues: &mut Queues, page: u32)
-    requires inside { page < queues.old.opened }
-    requires filed { FiledBelow page pages.now queues.old }
-    ensures filed { FiledBelow (page + 1) pages.now queues.new }
-    ensures opened { queues.new.opened ≡ queues.old.opened }
+// The class of a page, where it is not blank.
+fn class_of<L: KeyLayout>(pages: &Pages<'_, L>, page: u64) -> Option<u32>
+    requires { page < pages.now.count }
+    ensures class { MatchOption result ((page_at pages.now page).class ≡ Some 0)
+        (λ c. (page_at pages.now page).class ≡ Some (c + 1)) }
+    ensures few { IfSome result (λ c. c < 8) }
 {
-    let _opened = queues.opened();
-    let word = pages.class_word(page as u64);
+    let word = pages.class_word(page);
     if word == 0 {
-        return;
+        return None;
     }
-    queues.to_back((word - 1) as u32, page);
+    Some((word - 1) as u32)
 }

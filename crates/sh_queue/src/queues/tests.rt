@@ -2,12 +2,21 @@ ghost use Rattle.std.specs.Prelude.{◌≡◌, ◌≢◌, ◌≤◌, IfOk, OnOk}
 ghost use Rattle.sh_queue.specs.Queues.{none_opened, one_more_segment};
 
 use super::*;
+use crate::filing::Filing;
 use std::process::Abort;
 use std::test::Fail;
 
+// No page is opened yet, of this many segments.
+fn none_of(alloc: Global, segments: u32) -> Result<Queues, Refusal>
+    requires { segments ≤ 256 }
+    ensures { IfOk result (λ queues. queues ≡ none_opened segments) }
+{
+    Ok(Filing::new(alloc, 0, segments)?.into_queues())
+}
+
 #[test]
 fn pages_move_between_queues(rt: HostRuntime) {
-    let mut queues = Queues::new(rt.alloc(), 1).expect(&rt, "there is memory");
+    let mut queues = none_of(rt.alloc(), 1).expect(&rt, "there is memory");
     assert_eq!(rt; queues.unopened(), 1);
     assert_eq!(rt; queues.blank(), None);
     assert_eq!(rt; queues.open_segment(), Ok(0));
@@ -28,7 +37,7 @@ fn pages_move_between_queues(rt: HostRuntime) {
 
 #[test]
 fn a_page_comes_back_from_the_full_queue(rt: HostRuntime) {
-    let mut queues = Queues::new(rt.alloc(), 2).expect(&rt, "there is memory");
+    let mut queues = none_of(rt.alloc(), 2).expect(&rt, "there is memory");
     assert_eq!(rt; queues.open_segment(), Ok(0));
     queues.to_front(0, 0);
     queues.to_front(0, 1);
@@ -46,7 +55,7 @@ fn a_page_comes_back_from_the_full_queue(rt: HostRuntime) {
 
 #[test]
 fn blank_pages_are_used_lowest_first(rt: HostRuntime) {
-    let mut queues = Queues::new(rt.alloc(), 2).expect(&rt, "there is memory");
+    let mut queues = none_of(rt.alloc(), 2).expect(&rt, "there is memory");
     assert_eq!(rt; queues.open_segment(), Ok(0));
     assert_eq!(rt; queues.open_segment(), Ok(8));
     assert_eq!(rt; queues.unopened(), 0);
@@ -63,8 +72,8 @@ fn new_with_memory(rt: &HostRuntime, segments: u32) -> Result<Queues, Refusal>
     requires { segments ≤ 256 }
     ensures { IfOk result (λ queues. queues ≡ none_opened segments) }
 {
-    match Queues::new(rt.alloc(), segments) {
-        Err(Refusal::Memory) => Queues::new(rt.alloc(), segments),
+    match none_of(rt.alloc(), segments) {
+        Err(Refusal::Memory) => none_of(rt.alloc(), segments),
         answer => answer,
     }
 }
@@ -110,7 +119,7 @@ fn a_segment_refused_for_memory_changes_nothing(rt: HostRuntime) -> Result<(), F
 // As many segments as a heap may have are opened one after the other, and each page has its place.
 #[test]
 fn all_segments_are_opened(rt: HostRuntime) {
-    let mut queues = Queues::new(rt.alloc(), 256).expect(&rt, "there is memory");
+    let mut queues = none_of(rt.alloc(), 256).expect(&rt, "there is memory");
     for first in 0..256u32 {
         assert!(rt; queues.unopened() != 0);
         assert_eq!(rt; queues.open_segment(), Ok(first.wrapping_mul(8)));
