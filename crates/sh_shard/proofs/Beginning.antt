@@ -71,6 +71,7 @@ kept_first g n h l = record {
   armed = h.armed;
   mine = λ s. sym (h.mine s);
   blank = λ e. refl;
+  unread = λ e. refl;
 }
 
 pub reading_more : {layout : Layout} (shard n : ℕ) (v w x : Caller) (states : List PageState)

@@ -318,3 +318,21 @@ two_acts {u} {v} g h idle = record {
 
 pub page_then : {u v w : Caller} {q : ℕ} {g : SeenPage} → OnPage q g u v → SamePages v w → OnPage q g u w
 page_then {q = q} on same = record { here = same q ∙ on.here; others = λ r ne. same r ∙ on.others r ne }
+
+-- of a blank page nothing is its owner's
+pub blank_nothing : {layout : Layout} {v : Caller} {shard : ℕ} {rings : Option ℕ} {states : List PageState} (p : ℕ)
+    → KeepsPages layout v shard rings states → p < length states → (page_of v shard p).class ≡ Some 0
+    → HasNothing (page_of v shard p)
+blank_nothing {v = v} {shard = shard} {states = states} p k l is =
+    let a = k.pages p l in
+    let word : (get_or states p blank_state).class_word ≡ 0 =
+    (let e : Some (get_or states p blank_state).class_word ≡ Some 0 = sym a.class ∙ is in cc) in
+    record {
+      mine = λ s. go s ((page_of v shard p).mine s) refl;
+      cursor = a.cursor ∙ a.unread word;
+      armed = a.armed ∙ a.blank word;
+    } where
+      go : (s : ℕ) (b : Bool) → (page_of v shard p).mine s ≡ b → (page_of v shard p).mine s ≡ false
+      go s true e = absurd (let below = k.stands.owner.mine_below
+          (record { page = heap_page v (shard_page shard p); slot = s }) 0 e is in omega arith)
+      go s false e = e

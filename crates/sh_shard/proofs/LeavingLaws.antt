@@ -3,14 +3,14 @@ use Rattle.std.proofs.Common.{◌≡◌, ◌≢◌, ℕ, zero, suc, ◌+◌, ◌
 use Rattle.std.proofs.Common.{false, Option, Some, None, MatchOption, refl, ap, ◌∙◌}
 use Rattle.std.proofs.Common.{sym, subst, arith}
 use Rattle.std.specs.Prelude.{not}
-use Rattle.std.proofs.lemmas.Bool.{cases_eq, false≢true}
+use Rattle.std.proofs.lemmas.Bool.{cases_eq, cases_lt, false≢true}
 use Rattle.std.proofs.lemmas.Bool.Decides.{nat_tests}
 use Rattle.sh_step.specs.Collections.{if1}
 use Rattle.sh_pass.specs.Passes.{Caller}
-use Rattle.sh_pass.specs.Owners.{SeenPage, SeenBell, Aside, page_without}
+use Rattle.sh_pass.specs.Owners.{SeenPage, SeenBell, Aside, HasNothing, page_without}
 use Rattle.sh_shard.specs.Pages.{Paged, page_at, count_below, own_slots, armed_pages, CursorStands, NothingMine}
 use Rattle.sh_shard.specs.Pages.{TakesPage, CursorStops, BellTakes, BellStops, BellReads}
-use Rattle.sh_shard.specs.Pages.{ShardLeft, TakesSteps, StepsForRings}
+use Rattle.sh_shard.specs.Pages.{ShardLeft, TakesSteps, StepsForRings, BlankFrom, BlankHasNothing}
 use Rattle.sh_shard.specs.Steps.{StepsAtMost}
 use Rattle.sh_shard.specs.Bounds.{leave_steps}
 use Rattle.sh_shard.specs.Works.{BellDone}
@@ -218,14 +218,33 @@ emptying_more page o n m f e = record {
       (omega arith);
 }
 
-pub pages_emptied : (page : ℕ) (o n : Paged) → Emptying page o n → o.count ≤ page → page ≤ o.count → PagesEmptied o n
-pages_emptied page o n f l most = record {
+-- a page of which the owner has nothing is empty
+empty_page : (g h : SeenPage) → HasNothing h → PageEmptied g h
+empty_page g h none = record {
+  waits = subst (λ (z : Option ℕ). MatchOption z (Unit {0}) (λ _. g.met < h.met)) (sym none.cursor) tt;
+  taken = λ c a. absurd (false≢true (sym none.armed ∙ a));
+}
+
+pub pages_emptied : (opened page : ℕ) (o n : Paged) → Emptying page o n → BlankFrom opened o → BlankHasNothing n
+    → opened ≤ page → page ≤ o.count → PagesEmptied o n
+pages_emptied opened page o n f blank none l most = record {
   steps = let g = f.steps in omega arith;
   collects = f.collects;
   bell = f.bell;
-  pages = λ p k. f.pages p
-      (let e = f.collects.through.count in omega arith);
+  pages = λ p k. ⊎_elim
+      (λ (before : p < page). f.pages p before)
+      (λ (from : page ≤ p). empty_page (page_at o p) (page_at n p) (none p k (f.collects.through.classes p
+      ∙ blank p (omega arith) (let e = f.collects.through.count in omega arith))))
+      (cases_lt p page);
 }
+
+-- all pages are at rest, where those up to a blank one are
+pub all_rest : (opened page : ℕ) (v : Paged) → ((p : ℕ) → p < page → AtRest (page_at v p)) → BlankFrom opened v
+    → BlankHasNothing v → opened ≤ page → (p : ℕ) → p < v.count → AtRest (page_at v p)
+all_rest opened page v rest blank none l p k = ⊎_elim
+    (λ (before : p < page). rest p before)
+    (λ (from : page ≤ p). let h = none p k (blank p (omega arith) k) in record { cursor = h.cursor; armed = h.armed })
+    (cases_lt p page)
 
 -- ---- why it waits
 
@@ -383,6 +402,7 @@ pub record Returning (page : ℕ) (o n : Paged) : Type 0 where
   pub bell : n.bell ≡ o.bell
   pub rest : (p : ℕ) → p < o.count → AtRest (page_at n p)
   pub mine : (p : ℕ) → p < page → NothingMine (page_at n p)
+  pub later : (p : ℕ) → page ≤ p → page_at n p ≡ page_at o p
   pub steps : StepsAtMost (96 * page) o.owner n.owner
 
 pub returning_none : (o : Paged) → AllAtRest o → Returning 0 o o
@@ -392,9 +412,9 @@ returning_none o a = record {
   shard = refl;
   count = refl;
   bell = refl;
-  rest =
-      a.pages;
+  rest = a.pages;
   mine = λ p l. absurd (omega arith);
+  later = λ p l. refl;
   steps = steps_none 0 o.owner;
 }
 
@@ -417,18 +437,23 @@ returning_more page o m n g l h = record {
       (λ (ne : p ≢ page). subst NothingMine (sym (h.others p ne))
       (g.mine p (more p page (let z = k in omega arith) (λ is. ne (sym is)))))
       (cases_eq p page);
+  later = λ p k. h.others p (λ (is : p ≡ page). omega arith) ∙ g.later p (omega arith);
 }
 
-pub returned : (page : ℕ) (o n : Paged) → Returning page o n → o.bell.cursor ≡ None → o.count ≤ page → page ≤ o.count
-    → PutsAllBack o n
-returned page o n g bell l most = record {
+pub returned : (opened page : ℕ) (o n : Paged) → Returning page o n → o.bell.cursor ≡ None → BlankFrom opened o
+    → BlankHasNothing o → opened ≤ page → page ≤ o.count → PutsAllBack o n
+returned opened page o n g bell blank none l most = record {
   steps = let h = g.steps in omega arith;
   aside = g.aside;
   log = g.log;
   shard = g.shard;
   bell = ap (λ (b : SeenBell). b.cursor) g.bell ∙ bell;
   pages = λ p k. let e = g.count in record {
-    mine = g.mine p (omega arith);
+    mine = ⊎_elim
+        (λ (before : p < page). g.mine p before)
+        (λ (from : page ≤ p). subst NothingMine (sym (g.later p from))
+        (none p (omega arith) (blank p (omega arith) (omega arith))).mine)
+        (cases_lt p page);
     cursor = (g.rest p (omega arith)).cursor;
     armed = (g.rest p (omega arith)).armed;
   };

@@ -24,16 +24,18 @@ never_armed false = refl
 pub class_kept : (st : PageState) (g : SeenPage) → KeepsPage st g → seen_class g ≡ st.class_word
 class_kept st g a = ap (λ (c : Option ℕ). elim c [ Some n ↦ n | None ↦ 0 ]) a.class
 
-pub kept_taken : (st : PageState) (g : SeenPage) (n : ℕ) (l : Lists) (c : Option ℕ) (b : Bool) → KeepsPage st g → l
-    ≡ record st.lists { cursor = c } → c ≡ top_item (top_of n) → b ≡ cond (is_armed n) false st.armed
+pub kept_taken : (st : PageState) (g : SeenPage) (n : ℕ) (l : Lists) (c : Option ℕ) (b : Bool) → KeepsPage st g
+    → 0 < seen_class g → l ≡ record st.lists { cursor = c } → c ≡ top_item (top_of n)
+    → b ≡ cond (is_armed n) false st.armed
     → KeepsPage (record { lists = l; class_word = st.class_word; armed = b }) (page_taken g n)
-kept_taken st g n l c b a e f h = record {
+kept_taken st g n l c b a some e f h = record {
   class = a.class;
   few = a.few;
   cursor = sym f ∙ ap (λ (z : Lists). z.cursor) (sym e);
   armed = ap (λ z. cond (is_armed n) false z) a.armed ∙ sym h;
   mine = λ s. ap (λ (z : Lists). has_number s (z.free ++ z.local)) e ∙ a.mine s;
   blank = λ z. h ∙ (ap (λ t. cond (is_armed n) false t) (a.blank z) ∙ never_armed (is_armed n));
+  unread = λ z. let k = class_kept st g a in absurd (omega arith);
 }
 
 pub kept_armed : (st : PageState) (g : SeenPage) (n : ℕ) (l : Lists) (c : Option ℕ) → KeepsPage st g → 0 < seen_class g
@@ -46,6 +48,7 @@ kept_armed st g n l c a some e f = record {
   armed = refl;
   mine = λ s. ap (λ (z : Lists). has_number s (z.free ++ z.local)) e ∙ a.mine s;
   blank = λ z. let k = class_kept st g a in absurd (omega arith);
+  unread = λ z. let k = class_kept st g a in absurd (omega arith);
 }
 
 -- ---- slots that come to the lists
@@ -72,10 +75,10 @@ eqb_sym a b = go (a == b) refl where
   go true e = let z : (b == a) ≡ true = grind (arith, nat_tests) in sym z
   go false e = let z : (b == a) ≡ false = grind (arith, nat_tests) in sym z
 
-pub kept_followed : (st : PageState) (g : SeenPage) (s n : ℕ) (l : Lists) → KeepsPage st g → (n ≡ 0 → ⊥) → l
-    ≡ record { free = st.lists.free ++ s ∷ []; local = st.lists.local; cursor = link_item n }
+pub kept_followed : (st : PageState) (g : SeenPage) (s n : ℕ) (l : Lists) → KeepsPage st g → (n ≡ 0 → ⊥)
+    → g.cursor ≡ Some s → l ≡ record { free = st.lists.free ++ s ∷ []; local = st.lists.local; cursor = link_item n }
     → KeepsPage (record { lists = l; class_word = st.class_word; armed = st.armed }) (page_followed g s n)
-kept_followed st g s n l a some e = go (n == 0) refl where
+kept_followed st g s n l a some at e = go (n == 0) refl where
   go : (b : Bool) → (n == 0) ≡ b → KeepsPage (record { lists = l; class_word = st.class_word; armed = st.armed })
       (cond b (record g { met = g.met + 1 }) (record g { mine = λ t. (t == s) || g.mine t; cursor = link_item n }))
   go true z = absurd (some (let y : n ≡ 0 = grind (arith, nat_tests) in y))
@@ -91,6 +94,7 @@ kept_followed st g s n l a some e = go (n == 0) refl where
         ∙ (ap (λ b. b || (has_number t st.lists.free || has_number t st.lists.local)) (eqb_sym s t)
         ∙ ap (λ b. (t == s) || b) (sym (has_append t st.lists.free st.lists.local) ∙ a.mine t)))));
     blank = a.blank;
+    unread = λ z. let none : None ≡ Some s = sym (a.unread z) ∙ (sym a.cursor ∙ at) in cc;
   }
 
 pub kept_met : (st : PageState) (g : SeenPage) (s n : ℕ) → KeepsPage st g → n ≡ 0 → KeepsPage st (page_followed g s n)
@@ -104,8 +108,8 @@ kept_met st g s n a e =
       cursor = a.cursor;
       armed = a.armed;
       mine = a.mine;
-      blank =
-          a.blank;
+      blank = a.blank;
+      unread = a.unread;
     })
 
 -- a slot that came stands in front of `local`
@@ -123,6 +127,7 @@ kept_with st g s l a e = record {
       ∙ (ap (λ b. b || (has_number t st.lists.free || has_number t st.lists.local)) (eqb_sym s t)
       ∙ ap (λ b. (t == s) || b) (sym (has_append t st.lists.free st.lists.local) ∙ a.mine t))));
   blank = a.blank;
+  unread = λ z. ap (λ (z : Lists). z.cursor) e ∙ a.unread z;
 }
 
 misses_head : (x y : ℕ) (ys : List ℕ) (t : Bool) → (y == x) ≡ t → (t || has_number x ys) ≡ false
@@ -174,6 +179,7 @@ kept_without st g x l a u = record {
   armed = a.armed;
   mine = λ t. go t (t == x) refl;
   blank = a.blank;
+  unread = λ z. u.cursor ∙ a.unread z;
 } where
   last : (b : Bool) → b ≡ (b && true)
   last true = refl
@@ -237,6 +243,7 @@ kept_given st g c n l a small e is = record {
       ∙ ((let x : nat_le 0 s ≡ true = grind (arith, nat_tests) in ap (λ b. b && nat_lt s (0 + n)) x)
       ∙ (let y : 0 + n ≡ slots c = omega arith in ap (nat_lt s) y))));
   blank = λ z. absurd (omega arith);
+  unread = λ z. absurd (omega arith);
 }
 
 -- ---- a page that was read from the bell
@@ -254,6 +261,7 @@ kept_rung st g n a some = go (n == 0) refl where
     armed = refl;
     mine = a.mine;
     blank = λ z. refl;
+    unread = a.unread;
   }
 
 pub kept_waiting : (st : PageState) (g : SeenPage) (n : ℕ) → KeepsPage st g → n ≡ 0 → KeepsPage st (page_rung g n)

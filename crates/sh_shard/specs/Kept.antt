@@ -21,7 +21,7 @@ abbrev pub blank_state : PageState
 blank_state = record { lists = bare_lists; class_word = 0; armed = false }
 
 -- what is kept of a page is what its owner knows of it: each slot of the lists is its own, and no other is; a blank
--- page is not armed
+-- page is not armed, and has no cursor
 pub record KeepsPage (st : PageState) (g : SeenPage) : Type 0 where
   pub class : g.class ≡ Some st.class_word
   pub few : st.class_word ≤ 8
@@ -29,6 +29,7 @@ pub record KeepsPage (st : PageState) (g : SeenPage) : Type 0 where
   pub armed : g.armed ≡ st.armed
   pub mine : (s : ℕ) → has_number s (st.lists.free ++ st.lists.local) ≡ g.mine s
   pub blank : st.class_word ≡ 0 → st.armed ≡ false
+  pub unread : st.class_word ≡ 0 → st.lists.cursor ≡ None
 
 -- the number over the whole heap of a page of the shard, if there is one
 abbrev pub rings_at : Caller → ℕ → Option ℕ → Option ℕ

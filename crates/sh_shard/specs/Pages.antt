@@ -14,8 +14,8 @@ use Rattle.sh_value.specs.declared.refusal.Refusal.{Refusal}
 use Rattle.sh_value.specs.declared.refusal.Refusal.TheVariants as refusal
 use Rattle.sh_pass.specs.Growing.{SameTale}
 use Rattle.sh_pass.specs.Passes.{Caller}
-use Rattle.sh_pass.specs.Owners.{SeenPage, SeenBell, Aside, NonePut, NoneArmed, heap_page, own_body, page_given}
-use Rattle.sh_pass.specs.Owners.{page_with, seen_page, IsKeyIn, IsKeyOn}
+use Rattle.sh_pass.specs.Owners.{SeenPage, SeenBell, Aside, NonePut, NoneArmed, HasNothing, heap_page, own_body}
+use Rattle.sh_pass.specs.Owners.{page_given, page_with, seen_page, IsKeyIn, IsKeyOn}
 
 -- what the owner knows, its shard, how many pages that has, and its bell as the owner sees it
 pub record Paged : Type 0 where
@@ -53,6 +53,14 @@ pub record WhollyMine (g : SeenPage) : Type 0 where
   pub class : ℕ
   pub classed : g.class ≡ Some (suc class)
   pub mine : (s : ℕ) → s < slots class → g.mine s ≡ true
+
+-- the pages from k on are blank
+abbrev pub BlankFrom : ℕ → Paged → Type 0
+BlankFrom k v = (p : ℕ) → k ≤ p → p < v.count → (page_at v p).class ≡ Some 0
+
+-- of a blank page nothing is its owner's
+abbrev pub BlankHasNothing : Paged → Type 0
+BlankHasNothing v = (p : ℕ) → p < v.count → (page_at v p).class ≡ Some 0 → HasNothing (page_at v p)
 
 abbrev pub CursorStands : Option ℕ → Type 0
 CursorStands c = MatchOption c ⊥ (λ _. Unit {0})

@@ -19,8 +19,8 @@ impl<'a, L: KeyLayout> Shard<'a, L> {
         ensures holds { IfErr result (λ r. HoldsShard L.layout r.0) }
     {
         let Shard { pages, mut queues } = self;
-        let _opened = queues.opened();
-        match pages.leave() {
+        let opened = queues.opened();
+        match pages.leave(opened as u64) {
             Ok(pass) => Ok(pass),
             Err(pages) => {
                 return_all(&pages, &mut queues);

@@ -1,10 +1,11 @@
 // Leaving the shard: what others put is collected, what the owner has is put back, and the shard is given up.
-ghost use Rattle.std.specs.Prelude.{◌≡◌, ℕ, ◌<◌, ◌⊎◌, None, MatchBool, MatchResult, true, false};
+ghost use Rattle.std.specs.Prelude.{◌≡◌, ℕ, ◌<◌, ◌≤◌, ◌⊎◌, None, MatchBool, MatchResult, true, false};
 ghost use Rattle.sh_pass.specs.Owners.{HasNothing, heap_page as number_of};
 ghost use Rattle.sh_shard.specs.Works.{BellDone};
 ghost use Rattle.sh_shard.specs.Leaving.{LeaveDoes, Collecting, BellFollowed, EmptiesPage, PagesEmptied};
 ghost use Rattle.sh_shard.specs.Leaving.{AtRest, AllAtRest, NotAtRest, PutsOne, PutsBack, PutsAllBack};
-ghost use Rattle.sh_shard.specs.Pages.{page_at, shard_page, CursorStands, NothingMine, ShardLeft, StepsForRings};
+ghost use Rattle.sh_shard.specs.Pages.{page_at, shard_page, BlankFrom, CursorStands, NothingMine, ShardLeft};
+ghost use Rattle.sh_shard.specs.Pages.{StepsForRings};
 ghost use Rattle.sh_shard.specs.Steps.{StepsAtMost};
 ghost use Rattle.sh_shard.specs.Bounds.{leave_steps};
 
@@ -59,13 +60,16 @@ impl<'a, L: KeyLayout> Pages<'a, L> {
         self.follow_all(page);
     }
 
-    // Empties each page, in ascending order.
-    fn empty_pages(&mut self)
+    // Empties each page, in ascending order. The pages from `opened` on are blank: there is nothing to do.
+    fn empty_pages(&mut self, opened: u64)
+        requires few { opened ≤ self.old.count }
+        requires later { BlankFrom opened self.old }
         ensures { PagesEmptied self.old self.new }
     {
-        for page in 0..self.count() {
+        for page in 0..opened {
             self.empty_page(page);
         }
+        self.blank_pages();
     }
 
     // Whether the page has no cursor and is not armed.
@@ -81,18 +85,21 @@ impl<'a, L: KeyLayout> Pages<'a, L> {
         !self.is_armed(page)
     }
 
-    // Whether the bell has no cursor, and no page has one or is armed.
-    fn is_at_rest(&self) -> bool
+    // Whether the bell has no cursor, and no page has one or is armed. The pages from `opened` on are blank.
+    fn is_at_rest(&self, opened: u64) -> bool
+        requires few { opened ≤ self.now.count }
+        requires later { BlankFrom opened self.now }
         ensures { MatchBool result (AllAtRest self.now) (NotAtRest self.now) }
     {
         if self.has_rings() {
             return false;
         }
-        for page in 0..self.count() {
+        for page in 0..opened {
             if !self.rests(page) {
                 return false;
             }
         }
+        self.blank_pages();
         true
     }
 
@@ -141,12 +148,15 @@ impl<'a, L: KeyLayout> Pages<'a, L> {
         }
     }
 
-    // Puts the slots of each page back, in ascending order.
-    fn put_all_back(&mut self)
-        requires { AllAtRest self.old }
+    // Puts the slots of each page back, in ascending order. The pages from `opened` on are blank, and have none.
+    fn put_all_back(&mut self, opened: u64)
+        requires few { opened ≤ self.old.count }
+        requires later { BlankFrom opened self.old }
+        requires rest { AllAtRest self.old }
         ensures { PutsAllBack self.old self.new }
     {
-        for page in 0..self.count() {
+        self.blank_pages();
+        for page in 0..opened {
             self.put_back(page);
         }
     }
@@ -171,18 +181,20 @@ impl<'a, L: KeyLayout> Pages<'a, L> {
     /// Leaves the shard: the bell is followed, taken and followed, cursors are followed, and each page still armed that
     /// has no cursor is taken and followed. Where a cursor stands then or a page is armed, others have yet to end what
     /// they began: nothing is put, and the pages come back. Else the owner's slots are put on their pages, and the
-    /// shard is given up.
-    pub(crate) fn leave(mut self) -> Result<Pass<'a, L>, Self>
+    /// shard is given up. The pages from `opened` on are blank, and are not looked at.
+    pub(crate) fn leave(mut self, opened: u64) -> Result<Pass<'a, L>, Self>
+        requires few { opened ≤ self.count }
+        requires later { BlankFrom opened self }
         ensures does { LeaveDoes self.entry result }
         ensures steps { MatchResult result (λ v. StepsAtMost (leave_steps self.entry.count) self.entry.owner v)
             (λ n. StepsAtMost (leave_steps self.entry.count) self.entry.owner n.owner) }
     {
         self.empty_bell();
-        self.empty_pages();
-        if !self.is_at_rest() {
+        self.empty_pages(opened);
+        if !self.is_at_rest(opened) {
             return Err(self);
         }
-        self.put_all_back();
+        self.put_all_back(opened);
         Ok(self.give_up())
     }
 }

@@ -4,7 +4,7 @@ ghost use Rattle.sh_slots.specs.declared.hand.Hand.TheVariants.{Idle};
 ghost use Rattle.sh_table.specs.Tales.{ViewStands};
 ghost use Rattle.sh_pass.specs.Owners.{HasNothing, own_body, seen_page};
 ghost use Rattle.sh_shard.specs.Pages.{page_at, AdoptsPages, AdoptsShard, CursorStands, NothingMine, ShardLeft};
-ghost use Rattle.sh_shard.specs.Pages.{WhollyMine, seen_class};
+ghost use Rattle.sh_shard.specs.Pages.{WhollyMine, BlankHasNothing, seen_class};
 ghost use Rattle.sh_shard.specs.Steps.{StepsAtMost};
 
 use sh_key::KeyLayout;
@@ -170,5 +170,12 @@ impl<'a, L: KeyLayout> Pages<'a, L> {
             return false;
         }
         state.lists.len() == classes::slots((state.class_word - 1) as u32)
+    }
+
+    // What is known of blank pages.
+    pub(crate) fn blank_pages(&self)
+        ensures { BlankHasNothing self.now }
+    {
+        let _states = &self.states;
     }
 }

@@ -6,7 +6,7 @@ pub loop-page-init : goal.loop-page-init
 loop-page-init g c = emptying_none c.args.self.now
 
 pub empty_page-requires : goal.empty_page-requires
-empty_page-requires g c = let e = c.count-page-end.ensures.count in let z = c.loop-page-test.true
+empty_page-requires g c = let e = c.requires.few in let z = c.loop-page-test.true
     in let s = c.loop-page.invariant.collects.through.count in omega arith
 
 pub loop-page-preserved : goal.loop-page-preserved
@@ -14,6 +14,6 @@ loop-page-preserved g c = emptying_more c.loop-page.page c.args.self.now c.loop-
     c.loop-page.invariant c.empty_page.ensures
 
 pub returns : goal.returns
-returns g c = pages_emptied c.loop-page.page c.args.self.now c.loop-page.self c.loop-page.invariant
-    (let e = c.count-page-end.ensures.count in let z = c.loop-page-test.false in omega arith)
-    (let e = c.count-page-end.ensures.count in let z = c.loop-page.auto.page-end in omega arith)
+returns g c = pages_emptied c.args.opened c.loop-page.page c.args.self.now c.loop-page.self c.loop-page.invariant
+    c.requires.later c.blank_pages.ensures (let z = c.loop-page-test.false in omega arith)
+    (let e = c.requires.few in let z = c.loop-page.auto.page-end in omega arith)

@@ -44,6 +44,9 @@ invariant_of-self-2 g c =
     (sym c.self.view_is) c.requires.inside in
     let st : PageState = c.index_mut-state.result.now in
     let a = state_kept c.args.page st k l c.index_mut-state.ensures.value in
+    let cursor : (page_of c.self.inside.owner c.self.inside.shard c.args.page).cursor
+    ≡ Some c.in-Some.slot = (state_kept c.args.page c.index.result.now k l c.index.ensures).cursor
+    ∙ (sym c.cursor.ensures.cursor ∙ c.in-Some.is) in
     let is : c.set_cursor.new.self ≡ record {
       free = st.lists.free
           ++ c.in-Some.slot ∷ [];
@@ -57,7 +60,7 @@ invariant_of-self-2 g c =
     }) in
     keeps_set c.args.page _ k c.follow-found.ensures.acts c.follow-found.ensures.bells c.follow-found.ensures.page
     c.follow-found.ensures.does.stands l
-    (kept_followed st _ c.in-Some.slot c.follow-found.result c.set_cursor.new.self a c.if-found-eq0.false is)
+    (kept_followed st _ c.in-Some.slot c.follow-found.result c.set_cursor.new.self a c.if-found-eq0.false cursor is)
 
 pub returns : goal.returns
 returns g c =

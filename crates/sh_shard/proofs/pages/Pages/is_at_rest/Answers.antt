@@ -1,5 +1,5 @@
 use Rattle.std.proofs.Common.{arith}
-use Rattle.sh_shard.proofs.LeavingLaws.{rests_more}
+use Rattle.sh_shard.proofs.LeavingLaws.{rests_more, all_rest}
 use Rattle.sh_shard.proofs.pages.Pages.is_at_rest.Goals as goal
 
 pub loop-page-init : goal.loop-page-init
@@ -11,6 +11,6 @@ loop-page-preserved g c = rests_more c.args.self.now c.loop-page.page c.loop-pag
 pub returns : goal.returns
 returns g c = record {
   bell = c.if-has_rings.ensures;
-  pages = λ p l. c.loop-page.invariant p
-      (let e = c.count-page-end.ensures.count in let z = c.loop-page-test.false in omega arith);
+  pages = all_rest c.args.opened c.loop-page.page c.args.self.now c.loop-page.invariant c.requires.later
+      c.blank_pages.ensures (let z = c.loop-page-test.false in omega arith);
 }

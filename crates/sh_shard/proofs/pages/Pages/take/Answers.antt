@@ -2,9 +2,9 @@ use Rattle.std.proofs.Common.{◌<◌, length, set, ◌∙◌, sym, subst}
 use Rattle.std.proofs.lemmas.List.{length-set}
 use Rattle.sh_stack.specs.Stack.{top_item}
 use Rattle.sh_shard.specs.declared.pages.PageState.{PageState}
-use Rattle.sh_shard.specs.Pages.{Paged, TakesPage}
+use Rattle.sh_shard.specs.Pages.{Paged, TakesPage, page_at, seen_class}
 use Rattle.sh_shard.proofs.PageLaws.{kept_taken}
-use Rattle.sh_shard.proofs.Keeping.{state_kept, keeps_set, small_cursor}
+use Rattle.sh_shard.proofs.Keeping.{state_kept, keeps_set, small_cursor, page_of}
 use Rattle.sh_shard.proofs.Working.{paged_of, taken}
 use Rattle.sh_shard.proofs.pages.Pages.take.Goals as goal
 
@@ -23,11 +23,13 @@ invariant_of-self g c =
     let k = c.self.invariant in
     let l : c.args.page < length c.self.inside.states.items = subst (λ (z : Paged). c.args.page < z.count)
     (sym c.self.view_is) c.requires.inside in
+    let some : 0 < seen_class (page_of c.self.inside.owner c.self.inside.shard c.args.page) = subst
+    (λ (z : Paged). 0 < seen_class (page_at z c.args.page)) (sym c.self.view_is) c.requires.classed in
     let st : PageState = c.index_mut-state.result.now in
     let a = state_kept c.args.page st k l c.index_mut-state.ensures.value in
     keeps_set c.args.page _ k c.take-found.ensures.acts c.take-found.ensures.bells c.take-found.ensures.page
     c.take-found.ensures.does.stands l
-    (kept_taken st _ c.take-found.result c.set_cursor.new.self c.small-cursor.result c.still_armed-state.result a
+    (kept_taken st _ c.take-found.result c.set_cursor.new.self c.small-cursor.result c.still_armed-state.result a some
     c.set_cursor.ensures (c.small-cursor.ensures ∙ (c.top_item.ensures ∙ (λ i. top_item (c.top_of.ensures i))))
     c.still_armed-state.ensures)
 
