@@ -82,6 +82,16 @@ prev_is next prev m a (y ∷ ys) linked here = ⊎_elim
     ))
     (cases_eq y m)
 
+-- from m to the number ahead of it, and back
+next_of_prev
+    : (next prev : List ℕ) (m a : ℕ) (xs : List ℕ)
+    → ChainLinked next prev a xs → has_number m xs ≡ true → get_or next (get_or prev m 0) 0 ≡ m
+next_of_prev next prev m a [] linked here = absurd (false≢true here)
+next_of_prev next prev m a (y ∷ ys) linked here = ⊎_elim
+    (λ (is : y ≡ m). ap (λ k. get_or next k 0) (ap (λ k. get_or prev k 0) (sym is) ∙ linked.1) ∙ linked.0 ∙ is)
+    (λ (other : y ≢ m). next_of_prev next prev m y ys linked.2 (has_number-rest m y ys other here))
+    (cases_eq y m)
+
 -- ---- a number is taken out
 
 out_here
@@ -274,6 +284,7 @@ pub record Ahead (next prev : List ℕ) (m x : ℕ) (v : ChainNumbers) : Type 0 
   pub is : get_or prev m 0 ≡ preceding m v.numbers
   pub here : has_number (get_or prev m 0) v.numbers ≡ true
   pub inner : get_or prev m 0 ≢ 10
+  pub leads : get_or next (get_or prev m 0) 0 ≡ m
   pub puts : put_after (get_or prev m 0) x v.numbers ≡ put_before m (x ∷ []) v.numbers
 
 pub ahead
@@ -292,6 +303,7 @@ ahead next prev count m x v is h here inner =
       is = leads.0 ∙ sym (ap (λ b. cond b 0 (preceding_from 0 m rest)) first);
       here = leads.1;
       inner = λ same. preceding_is_inner 0 m 10 rest h.distinct there h.last (sym leads.0 ∙ same);
+      leads = next_of_prev next prev m 0 rest h.linked there;
       puts = ap (λ s. put_after s x (0 ∷ rest)) leads.0
           ∙ put_after-preceding 0 m x rest h.distinct there
           ∙ sym (ap (λ b. cond b (x ∷ 0 ∷ rest) (0 ∷ put_before m (x ∷ []) rest)) first);

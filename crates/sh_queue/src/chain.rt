@@ -107,11 +107,7 @@ impl Chain {
         ensures distinct { Distinct self.new.numbers }
     {
         let behind = self.next[s as usize];
-        self.next[s as usize] = x;
-        self.prev[behind as usize] = x;
-        self.next[x as usize] = behind;
-        self.prev[x as usize] = s;
-        self.count += 1;
+        self.put_between(s, behind, x);
     }
 
     // Puts x ahead of m.
@@ -124,7 +120,25 @@ impl Chain {
         ensures distinct { Distinct self.new.numbers }
     {
         let before = self.prev[m as usize];
-        self.put_after(before, x);
+        self.put_between(before, m, x);
+    }
+
+    // Puts x between s and the number behind it. Whoever puts it in has found one of the two beside the other: no link
+    // is read here.
+    fn put_between(&mut self, s: u32, behind: u32, x: u32)
+        requires here { has_number s self.old.numbers ≡ true }
+        requires inner { s ≢ 10 }
+        requires next { behind ≡ following s self.old.numbers }
+        requires apart { has_number x self.old.numbers ≡ false }
+        requires inside { x < self.old.size }
+        ensures put { self.new ≡ record self.old { numbers = put_after s x self.old.numbers } }
+        ensures distinct { Distinct self.new.numbers }
+    {
+        self.next[s as usize] = x;
+        self.prev[behind as usize] = x;
+        self.next[x as usize] = behind;
+        self.prev[x as usize] = s;
+        self.count += 1;
     }
 
     // Puts the numbers from `first` on, this many, ahead of `END`.

@@ -1,6 +1,6 @@
-use Rattle.std.proofs.Common.{arith}
+use Rattle.std.proofs.Common.{◌∙◌, arith}
 use Rattle.std.proofs.lemmas.List.{get_or_read}
-use Rattle.sh_queue.proofs.Linking.{inside, puts}
+use Rattle.sh_queue.proofs.Linking.{inside, follows}
 use Rattle.sh_queue.proofs.chain.Chain.put_after.Goals as goal
 
 pub index-behind-requires : goal.index-behind-requires
@@ -11,65 +11,11 @@ index-behind-requires c =
     let small = inside n p count c.args.s c.args.self.now c.self.view_is c.self.invariant c.requires.here in
     omega (arith, c.self.inside.next.ok.0)
 
-pub index_mut-requires : goal.index_mut-requires
-index_mut-requires c =
+pub put_between-requires-clause-next : goal.put_between-requires-clause-next
+put_between-requires-clause-next c =
     let n = c.self.inside.next.items in
     let p = c.self.inside.prev.items in
     let count = c.self.inside.count in
     let small = inside n p count c.args.s c.args.self.now c.self.view_is c.self.invariant c.requires.here in
-    omega (arith, c.self.inside.next.ok.0)
-
-pub index_mut-requires-2 : goal.index_mut-requires-2
-index_mut-requires-2 c =
-    let n = c.self.inside.next.items in
-    let p = c.self.inside.prev.items in
-    let count = c.self.inside.count in
-    let small = inside n p count c.args.s c.args.self.now c.self.view_is c.self.invariant c.requires.here in
-    let u = puts n p count c.args.s c.args.x c.index-behind.result.now c.args.self.now c.self.view_is c.self.invariant
-    c.requires.here c.requires.inner c.requires.apart c.requires.inside
-    (get_or_read n c.args.s _ small.0 c.index-behind.ensures 0) in
-    omega (arith, u.behind_in, c.self.inside.prev.ok.0)
-
-pub overflow_add-self : goal.overflow_add-self
-overflow_add-self c =
-    let n = c.self.inside.next.items in
-    let p = c.self.inside.prev.items in
-    let count = c.self.inside.count in
-    let small = inside n p count c.args.s c.args.self.now c.self.view_is c.self.invariant c.requires.here in
-    let u = puts n p count c.args.s c.args.x c.index-behind.result.now c.args.self.now c.self.view_is c.self.invariant
-    c.requires.here c.requires.inner c.requires.apart c.requires.inside
-    (get_or_read n c.args.s _ small.0 c.index-behind.ensures 0) in
-    omega (arith, u.room, c.self.inside.next.ok.0)
-
-pub invariant_of-self : goal.invariant_of-self
-invariant_of-self c =
-    let n = c.self.inside.next.items in
-    let p = c.self.inside.prev.items in
-    let count = c.self.inside.count in
-    let small = inside n p count c.args.s c.args.self.now c.self.view_is c.self.invariant c.requires.here in
-    let u = puts n p count c.args.s c.args.x c.index-behind.result.now c.args.self.now c.self.view_is c.self.invariant
-    c.requires.here c.requires.inner c.requires.apart c.requires.inside
-    (get_or_read n c.args.s _ small.0 c.index-behind.ensures 0) in
-    u.holds.links
-
-pub returns-clause-put : goal.returns-clause-put
-returns-clause-put c =
-    let n = c.self.inside.next.items in
-    let p = c.self.inside.prev.items in
-    let count = c.self.inside.count in
-    let small = inside n p count c.args.s c.args.self.now c.self.view_is c.self.invariant c.requires.here in
-    let u = puts n p count c.args.s c.args.x c.index-behind.result.now c.args.self.now c.self.view_is c.self.invariant
-    c.requires.here c.requires.inner c.requires.apart c.requires.inside
-    (get_or_read n c.args.s _ small.0 c.index-behind.ensures 0) in
-    u.holds.shows
-
-pub returns-clause-distinct : goal.returns-clause-distinct
-returns-clause-distinct c =
-    let n = c.self.inside.next.items in
-    let p = c.self.inside.prev.items in
-    let count = c.self.inside.count in
-    let small = inside n p count c.args.s c.args.self.now c.self.view_is c.self.invariant c.requires.here in
-    let u = puts n p count c.args.s c.args.x c.index-behind.result.now c.args.self.now c.self.view_is c.self.invariant
-    c.requires.here c.requires.inner c.requires.apart c.requires.inside
-    (get_or_read n c.args.s _ small.0 c.index-behind.ensures 0) in
-    u.holds.links.distinct
+    get_or_read n c.args.s _ small.0 c.index-behind.ensures 0
+    ∙ follows n p count c.args.s c.args.self.now c.self.view_is c.self.invariant c.requires.here c.requires.inner
