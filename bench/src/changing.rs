@@ -18,7 +18,11 @@ fn hand_over(words: &Words, samples: &Samples, row: &Row, keys: &mut [u64]) -> D
     let leaving = Instant::now();
     owner.leave();
     let end = Instant::now();
-    if row.workload == Workload::Adopt { adopted - start } else { end - leaving }
+    if row.workload == Workload::Adopt {
+        adopted - start
+    } else {
+        end - leaving
+    }
 }
 
 /// The nanoseconds of one operation.

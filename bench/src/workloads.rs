@@ -95,7 +95,11 @@ fn one_batch<H: Rival>(
         rival.remove_own(owner, *key);
     }
     let end = Instant::now();
-    if row.workload == Workload::Remove { end - middle } else { middle - start }
+    if row.workload == Workload::Remove {
+        end - middle
+    } else {
+        middle - start
+    }
 }
 
 fn batches<H: Rival>(rival: &H, owner: &mut H::Owner<'_>, samples: &Samples, row: &Row) -> Duration {

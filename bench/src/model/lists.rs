@@ -23,7 +23,6 @@ impl Lists {
         Lists { next, free, local: NO_SLOTS }
     }
 
-
     fn pop(&mut self) -> Option<usize> {
         if self.free.count == 0 {
             return None;

@@ -205,5 +205,4 @@ impl<'a> Owner<'a> {
         }
         self.words.owner(self.shard).store(0, SeqCst);
     }
-
 }

@@ -1,5 +1,5 @@
 //! What any thread does: the steps of get, release, read and remove.
-use super::words::{Spot, Words, width, COUNT, FLAGS, GENERATION, MARKED, PRESENT};
+use super::words::{width, Spot, Words, COUNT, FLAGS, GENERATION, MARKED, PRESENT};
 use std::sync::atomic::Ordering::SeqCst;
 
 fn is_live(found: u64, generation: u64) -> bool {
