@@ -1,17 +1,23 @@
-//! Measures the library's heap beside `sharded_slab`, a `Mutex` over `slab`, and the heap's steps as bare atomics: all
-//! in one run, in turn. Prints a table of ratios and one of growth. `README.md` says how it is run.
+//! Measures the library's heap beside what one would pick otherwise, and beside its own steps as bare atomics: all in
+//! one run, in turn. Prints a table of ratios and one of growth. `README.md` says how it is run.
 mod changing;
+mod dash;
 mod gate;
 mod model;
 mod mutex_slab;
+mod mutex_slot_map;
 mod ours;
 mod payload;
 mod ring;
 mod rival;
+mod rivals;
 mod row;
 mod rows;
+mod rw_slot_map;
 mod samples;
 mod sharded;
+mod sides;
+mod slot_keys;
 mod table;
 mod workloads;
 
@@ -23,7 +29,7 @@ const PROGRAM: &str = concat!(env!("CARGO_MANIFEST_DIR"), "/../crates/sh_bench/o
 const ROUNDS: usize = 7;
 
 fn print_ratios(rounds: usize) -> Result<(), String> {
-    println!("{}", table::HEAD);
+    println!("{}", table::head());
     for row in rows::ratios() {
         println!("{}", table::measure(PROGRAM, row, rounds)?.text());
     }

@@ -5,13 +5,13 @@ use slab::Slab;
 use std::hint::black_box;
 use std::sync::{Mutex, MutexGuard};
 
-pub struct Locked<V> {
+pub struct MutexSlab<V> {
     slab: Mutex<Slab<V>>,
 }
 
-impl<V: Payload> Locked<V> {
+impl<V: Payload> MutexSlab<V> {
     pub fn new() -> Self {
-        Locked { slab: Mutex::new(Slab::new()) }
+        MutexSlab { slab: Mutex::new(Slab::new()) }
     }
 
     fn lock(&self) -> MutexGuard<'_, Slab<V>> {
@@ -19,7 +19,7 @@ impl<V: Payload> Locked<V> {
     }
 }
 
-impl<V: Payload> Rival for Locked<V> {
+impl<V: Payload> Rival for MutexSlab<V> {
     type Owner<'a> = ();
 
     fn owner(&self, _shard: usize) {}

@@ -1,5 +1,6 @@
 //! The rows of the table: what is measured, and how it is told to `sh_bench`.
 use crate::samples::Lengths;
+use crate::sides::Side;
 
 #[derive(Clone, Copy, Debug, PartialEq, Eq)]
 pub enum Workload {
@@ -78,6 +79,15 @@ impl Row {
 
     pub fn aim_at_model(self, model: f64) -> Self {
         Row { aims: Aims { sharded: None, model: Some(model) }, ..self }
+    }
+
+    /// The ratio to a rival that was aimed at.
+    pub fn aim(&self, rival: Side) -> Option<f64> {
+        match rival {
+            Side::Sharded => self.aims.sharded,
+            Side::Model => self.aims.model,
+            _ => None,
+        }
     }
 
     /// How many pages have values or free slots, where these have one word.

@@ -1,72 +1,12 @@
 //! Rounds, medians and the lines of the table.
-use crate::changing;
-use crate::model::{pages_for, Words};
-use crate::mutex_slab::Locked;
 use crate::ours;
-use crate::payload::{Payload, UpTo16};
-use crate::row::{Row, Workload};
-use crate::samples::Lengths;
-use crate::sharded::Sharded;
-use crate::workloads;
-
-/// The four sides, of which the first is the library.
-#[derive(Clone, Copy, PartialEq, Eq)]
-pub enum Side {
-    Ours,
-    Sharded,
-    Locked,
-    Model,
-}
-
-const SIDES: [Side; 4] = [Side::Ours, Side::Sharded, Side::Locked, Side::Model];
+use crate::row::Row;
+use crate::sides::{Side, RIVALS, SIDES};
 
 /// The nanoseconds of one operation of each side, as medians of rounds.
 pub struct Line {
-    pub row: Row,
-    pub ours: f64,
-    pub sharded: Option<f64>,
-    pub locked: Option<f64>,
-    pub model: f64,
-}
-
-// A model with room for the values of all threads, and for those of a batch or on their way.
-fn model_for(row: &Row) -> Words {
-    let values = row.live + 5000;
-    let pages = match row.lengths {
-        Lengths::Each(len) => pages_for(len..=len, values),
-        Lengths::Mixed => pages_for(1..=16, values),
-    };
-    Words::new(row.threads, pages)
-}
-
-fn crates_with<V: Payload>(side: Side, row: &Row) -> f64 {
-    match side {
-        Side::Sharded => workloads::measure(&Sharded::<V>::new(), row),
-        _ => workloads::measure(&Locked::<V>::new(), row),
-    }
-}
-
-fn crates(side: Side, row: &Row) -> f64 {
-    match row.lengths {
-        Lengths::Each(1) => crates_with::<[u64; 1]>(side, row),
-        Lengths::Each(16) => crates_with::<[u64; 16]>(side, row),
-        _ => crates_with::<UpTo16>(side, row),
-    }
-}
-
-fn changes_hands(row: &Row) -> bool {
-    matches!(row.workload, Workload::Adopt | Workload::Leave)
-}
-
-// One round of one side; nothing where the side has no such workload.
-fn once(side: Side, program: &str, row: &Row) -> Result<Option<f64>, String> {
-    match side {
-        Side::Ours => ours::measure(program, row).map(Some),
-        Side::Model if changes_hands(row) => Ok(Some(changing::measure(row))),
-        Side::Model => Ok(Some(workloads::measure(&model_for(row), row))),
-        _ if changes_hands(row) => Ok(None),
-        side => Ok(Some(crates(side, row))),
-    }
+    row: Row,
+    medians: [Option<f64>; SIDES.len()],
 }
 
 fn median(mut times: Vec<f64>) -> Option<f64> {
@@ -76,30 +16,25 @@ fn median(mut times: Vec<f64>) -> Option<f64> {
 
 /// Measures a row: in each round all sides have a turn, each time another one first.
 pub fn measure(program: &str, row: Row, rounds: usize) -> Result<Line, String> {
-    let mut times: [Vec<f64>; 4] = Default::default();
+    let mut times: [Vec<f64>; SIDES.len()] = Default::default();
     for round in 0..rounds {
         for turn in 0..SIDES.len() {
             let at = (round + turn) % SIDES.len();
-            times[at].extend(once(SIDES[at], program, &row)?);
+            times[at].extend(SIDES[at].turn(program, &row)?);
         }
     }
-    let [ours, sharded, locked, model] = times.map(median);
-    let (Some(ours), Some(model)) = (ours, model) else {
-        return Err("there was no round".to_string());
-    };
-    Ok(Line { row, ours, sharded, locked, model })
-}
-
-// A ratio, and behind it what was aimed at.
-fn ratio(ours: f64, rival: Option<f64>, aim: Option<f64>) -> String {
-    let behind = aim.map_or(String::new(), |aim| format!(" ({aim})"));
-    rival.map_or("none".to_string(), |rival| format!("{:.2}{behind}", ours / rival))
+    Ok(Line { row, medians: times.map(median) })
 }
 
 /// The head of the table of ratios.
-pub const HEAD: &str = "\
-| Workload | Threads | ns | to `sharded_slab` (aim) | to `Mutex` and `slab` | to bare atomics (aim) |
-|---|---|---|---|---|---|";
+pub fn head() -> String {
+    let of = |side: Side| match side {
+        Side::Sharded | Side::Model => format!(" to {} (aim) |", side.name()),
+        _ => format!(" to {} |", side.name()),
+    };
+    let columns: String = RIVALS.map(of).concat();
+    format!("| Workload | Threads | ns |{columns}\n|---|---|---|{}", "---|".repeat(RIVALS.len()))
+}
 
 /// The head of the table of growth.
 pub const GROWTH_HEAD: &str = "\
@@ -114,12 +49,25 @@ pub fn growth_line(program: &str, row: Row, rounds: usize) -> Result<String, Str
 }
 
 impl Line {
+    fn of(&self, side: Side) -> Option<f64> {
+        let place = SIDES.iter().position(|at| *at == side)?;
+        self.medians[place]
+    }
+
+    // A ratio, and behind it what was aimed at.
+    fn ratio(&self, rival: Side) -> String {
+        let behind = self.row.aim(rival).map_or(String::new(), |aim| format!(" ({aim})"));
+        match (self.of(Side::Ours), self.of(rival)) {
+            (Some(ours), Some(rival)) => format!(" {:.2}{behind} |", ours / rival),
+            _ => " none |".to_string(),
+        }
+    }
+
     /// The line of the table of ratios.
     pub fn text(&self) -> String {
         let (title, threads) = (self.row.title(), self.row.running());
-        let sharded = ratio(self.ours, self.sharded, self.row.aims.sharded);
-        let locked = ratio(self.ours, self.locked, None);
-        let model = ratio(self.ours, Some(self.model), self.row.aims.model);
-        format!("| {title} | {threads} | {:.1} | {sharded} | {locked} | {model} |", self.ours)
+        let ours = self.of(Side::Ours).unwrap_or_default();
+        let ratios = RIVALS.map(|rival| self.ratio(rival)).concat();
+        format!("| {title} | {threads} | {ours:.1} |{ratios}")
     }
 }

@@ -1,0 +1,86 @@
+//! The sides that are measured, and one turn of each.
+use crate::changing;
+use crate::ours;
+use crate::rival::Rival;
+use crate::rivals::{with_rival, Room, Task};
+use crate::row::{Row, Workload};
+use crate::workloads;
+
+/// The sides, of which the first is the library.
+#[derive(Clone, Copy, Debug, PartialEq, Eq)]
+pub enum Side {
+    Ours,
+    Sharded,
+    MutexSlab,
+    Dash,
+    MutexSlotMap,
+    RwSlotMap,
+    Model,
+}
+
+pub const SIDES: [Side; 7] =
+    [Side::Ours, Side::Sharded, Side::MutexSlab, Side::Dash, Side::MutexSlotMap, Side::RwSlotMap, Side::Model];
+
+/// The sides beside which the library is measured.
+pub const RIVALS: [Side; 6] =
+    [Side::Sharded, Side::MutexSlab, Side::Dash, Side::MutexSlotMap, Side::RwSlotMap, Side::Model];
+
+// In a batch, or on their way in a ring, there are fewer values than this.
+const BESIDES: usize = 5000;
+
+struct Measures<'a>(&'a Row);
+
+impl Task for Measures<'_> {
+    type Answer = f64;
+
+    fn with<H: Rival>(self, open: impl FnOnce() -> H) -> f64 {
+        workloads::measure(&open(), self.0)
+    }
+}
+
+fn changes_hands(row: &Row) -> bool {
+    matches!(row.workload, Workload::Adopt | Workload::Leave)
+}
+
+impl Side {
+    /// Its name in the head of a table.
+    pub fn name(self) -> &'static str {
+        match self {
+            Side::Ours => "ours",
+            Side::Sharded => "`sharded_slab`",
+            Side::MutexSlab => "`Mutex` and `slab`",
+            Side::Dash => "`DashMap` of `Arc`",
+            Side::MutexSlotMap => "`Mutex` and `SlotMap`",
+            Side::RwSlotMap => "`RwLock` and `SlotMap`",
+            Side::Model => "bare atomics",
+        }
+    }
+
+    fn rival_turn(self, row: &Row) -> Option<f64> {
+        let room = Room { shards: row.threads, values: row.live + BESIDES, lengths: row.lengths };
+        match (self, changes_hands(row)) {
+            (Side::Model, true) => Some(changing::measure(row)),
+            (_, true) => None,
+            (_, false) => with_rival(self, &room, Measures(row)),
+        }
+    }
+
+    /// The nanoseconds of one operation, in one turn; nothing where the side has no such workload.
+    pub fn turn(self, program: &str, row: &Row) -> Result<Option<f64>, String> {
+        match self {
+            Side::Ours => ours::measure(program, row).map(Some),
+            _ => Ok(self.rival_turn(row)),
+        }
+    }
+}
+
+#[cfg(test)]
+mod tests {
+    use super::*;
+
+    #[test]
+    fn the_library_is_the_first_side_and_the_others_are_its_rivals() {
+        assert_eq!(SIDES[0], Side::Ours);
+        assert_eq!(SIDES[1..], RIVALS);
+    }
+}
