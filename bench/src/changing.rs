@@ -1,8 +1,9 @@
 //! Adopt and leave, over the model, which alone has them.
 use crate::model::{pages_for, Owner, Words};
 use crate::rival::Rival;
-use crate::row::{Row, Workload};
+use crate::row::Row;
 use crate::samples::Samples;
+use crate::workload::Workload;
 use std::time::{Duration, Instant};
 
 fn hand_over(words: &Words, samples: &Samples, row: &Row, keys: &mut [u64]) -> Duration {

@@ -19,6 +19,8 @@ mod sharded;
 mod sides;
 mod slot_keys;
 mod table;
+mod title;
+mod workload;
 mod workloads;
 
 use std::process::ExitCode;
@@ -30,7 +32,7 @@ const ROUNDS: usize = 7;
 
 fn print_ratios(rounds: usize) -> Result<(), String> {
     println!("{}", table::head());
-    for row in rows::ratios() {
+    for row in [rows::calls(), rows::changes()].concat() {
         println!("{}", table::measure(PROGRAM, row, rounds)?.text());
     }
     Ok(())
@@ -38,7 +40,7 @@ fn print_ratios(rounds: usize) -> Result<(), String> {
 
 fn print_growth(rounds: usize) -> Result<(), String> {
     println!("\n{}", table::GROWTH_HEAD);
-    for row in rows::growth() {
+    for row in rows::passes() {
         println!("{}", table::growth_line(PROGRAM, row, rounds)?);
     }
     Ok(())

@@ -1,34 +1,7 @@
 //! The rows of the table: what is measured, and how it is told to `sh_bench`.
 use crate::samples::Lengths;
 use crate::sides::Side;
-
-#[derive(Clone, Copy, Debug, PartialEq, Eq)]
-pub enum Workload {
-    Get,
-    Read,
-    Insert,
-    Remove,
-    Churn,
-    Hand,
-    Adopt,
-    Leave,
-}
-
-impl Workload {
-    /// Its name, to `sh_bench`.
-    pub fn name(self) -> &'static str {
-        match self {
-            Workload::Get => "get",
-            Workload::Read => "read",
-            Workload::Insert => "insert",
-            Workload::Remove => "remove",
-            Workload::Churn => "churn",
-            Workload::Hand => "hand",
-            Workload::Adopt => "adopt",
-            Workload::Leave => "leave",
-        }
-    }
-}
+use crate::workload::Workload;
 
 /// One row: the same numbers as the options of `sh_bench`.
 #[derive(Clone, Copy, Debug)]
@@ -95,7 +68,8 @@ impl Row {
         (self.live + self.freed).div_ceil(48)
     }
 
-    /// The words of the command line of `sh_bench`.
+    /// The words of the command line of `sh_bench`: its workload, and all of its numbers as options, which each workload
+    /// takes. `--live` is how many values stand beside what is inserted or churned.
     pub fn arguments(&self) -> Vec<String> {
         let mut words = vec![self.workload.name().to_string()];
         let numbers = [
@@ -113,33 +87,29 @@ impl Row {
         words
     }
 
-    /// What the row is, in words.
-    pub fn title(&self) -> String {
-        let words = match self.lengths {
-            Lengths::Each(1) => "1 word".to_string(),
-            Lengths::Each(len) => format!("{len} words"),
-            Lengths::Mixed => "1 to 16 words".to_string(),
-        };
-        match self.workload {
-            Workload::Get if self.passes > 1 => format!("get + release, one key, {} passes", self.passes),
-            Workload::Get if self.live == 1 => "get + release, one key".to_string(),
-            Workload::Get => format!("get + release, {} keys", self.live),
-            Workload::Read => format!("get + read + release, {words}"),
-            Workload::Insert if self.live > 1 => format!("insert, {words}, beside {} others", self.live),
-            Workload::Insert => format!("insert, {words}"),
-            Workload::Remove => format!("remove by the owner, {words}"),
-            Workload::Churn => format!("churn, {} live, {words}", self.live * self.threads),
-            Workload::Hand => format!("producer and consumer, {words}"),
-            Workload::Adopt => format!("adopt, {} pages", self.pages()),
-            Workload::Leave => format!("leave, {} pages, {} slots put", self.pages(), self.freed),
-        }
-    }
-
     /// How many threads run.
     pub fn running(&self) -> usize {
         match self.workload {
             Workload::Hand => 2 * self.threads,
             _ => self.threads,
         }
+    }
+}
+
+#[cfg(test)]
+mod tests {
+    use super::*;
+
+    #[test]
+    fn a_row_is_told_to_the_program_by_its_name_and_options() {
+        let row = Row::new(Workload::ReadInto, 2, 300).live(1000).lengths(Lengths::Each(16));
+        let told = "read-into --threads 2 --operations 300 --live 1000 --freed 0 --passes 1 --words 16";
+        assert_eq!(row.arguments().join(" "), told);
+    }
+
+    #[test]
+    fn values_of_all_lengths_are_a_flag() {
+        let told = Row::new(Workload::Churn, 1, 5).lengths(Lengths::Mixed).arguments();
+        assert_eq!(told.last().map(String::as_str), Some("--mixed"));
     }
 }

@@ -1,6 +1,7 @@
 //! Which rows the tables have.
-use crate::row::{Row, Workload};
+use crate::row::Row;
 use crate::samples::Lengths;
+use crate::workload::Workload;
 
 const THREADS: [usize; 3] = [1, 2, 4];
 
@@ -15,25 +16,39 @@ fn aimed(mut rows: Vec<Row>, threads: usize, sharded: f64, model: f64) -> Vec<Ro
     rows
 }
 
+fn gets(workload: Workload, live: usize) -> Vec<Row> {
+    by_threads(|threads| Row::new(workload, threads, 1_000_000 / threads).live(live))
+}
+
 fn getting() -> Vec<Row> {
-    let row = |live| by_threads(|threads| Row::new(Workload::Get, threads, 1_000_000 / threads).live(live));
-    let one = aimed(aimed(row(1), 1, 0.9, 1.1), 2, 0.55, 1.1);
-    let many = aimed(aimed(row(10_000), 1, 0.9, 1.1), 2, 0.8, 1.1);
-    [one, many].concat()
+    let one = aimed(aimed(gets(Workload::Get, 1), 1, 0.9, 1.1), 2, 0.55, 1.1);
+    let many = aimed(aimed(gets(Workload::Get, 10_000), 1, 0.9, 1.1), 2, 0.8, 1.1);
+    let guards = [gets(Workload::GetGuard, 1), gets(Workload::GetGuard, 10_000)].concat();
+    [one, many, guards].concat()
+}
+
+fn reads(workload: Workload, words: usize) -> Vec<Row> {
+    let row = |threads| Row::new(workload, threads, 400_000 / threads).live(1000);
+    by_threads(|threads| row(threads).lengths(Lengths::Each(words)))
 }
 
 fn reading() -> Vec<Row> {
-    let row = |threads| Row::new(Workload::Read, threads, 400_000 / threads).live(1000);
-    let short = aimed(by_threads(row), 1, 1.0, 1.2);
-    let long = by_threads(|threads| row(threads).lengths(Lengths::Each(16)));
-    [short, aimed(long, 1, 1.7, 1.2)].concat()
+    let short = aimed(reads(Workload::Read, 1), 1, 1.0, 1.2);
+    let long = aimed(reads(Workload::Read, 16), 1, 1.7, 1.2);
+    let others = [Workload::ReadInto, Workload::ReadGuard].map(|way| [reads(way, 1), reads(way, 16)].concat());
+    [short, long, others.concat()].concat()
+}
+
+fn insert(threads: usize) -> Row {
+    Row::new(Workload::Insert, threads, 200_000)
 }
 
 fn inserting() -> Vec<Row> {
-    let row = |length| by_threads(|threads| Row::new(Workload::Insert, threads, 200_000).lengths(length));
+    let row = |length| by_threads(|threads| insert(threads).lengths(length));
     let short = aimed(row(Lengths::Each(1)), 1, 1.3, 1.2);
+    let beside = [100, 1000, 10_000, 90_000].map(|live| insert(1).live(live)).to_vec();
     let mixed = aimed(row(Lengths::Mixed), 1, 2.0, 1.2);
-    [short, row(Lengths::Each(16)), mixed].concat()
+    [short, beside, row(Lengths::Each(16)), mixed].concat()
 }
 
 fn removing() -> Vec<Row> {
@@ -42,10 +57,15 @@ fn removing() -> Vec<Row> {
     [aimed(own, 1, 1.4, 1.1), aimed(others, 2, 0.6, 1.1)].concat()
 }
 
+fn churn(threads: usize, live: usize) -> Row {
+    Row::new(Workload::Churn, threads, 200_000).live(live / threads)
+}
+
 fn churning() -> Vec<Row> {
-    let row = |threads| Row::new(Workload::Churn, threads, 200_000).live(10_000 / threads);
-    let mixed = by_threads(|threads| row(threads).lengths(Lengths::Mixed));
-    [aimed(by_threads(row), 1, 1.2, 1.2), aimed(mixed, 1, 1.5, 1.2)].concat()
+    let fewer = [1, 100, 1000].map(|live| churn(1, live)).to_vec();
+    let usual = aimed(by_threads(|threads| churn(threads, 10_000)), 1, 1.2, 1.2);
+    let mixed = by_threads(|threads| churn(threads, 10_000).lengths(Lengths::Mixed));
+    [fewer, usual, vec![churn(1, 90_000)], aimed(mixed, 1, 1.5, 1.2)].concat()
 }
 
 fn changing(pages: usize, freed: usize) -> Vec<Row> {
@@ -53,17 +73,47 @@ fn changing(pages: usize, freed: usize) -> Vec<Row> {
     [Workload::Adopt, Workload::Leave].map(|workload| row(workload).aim_at_model(1.2)).to_vec()
 }
 
-/// The rows of the table of ratios.
-pub fn ratios() -> Vec<Row> {
-    let changes = [changing(64, 0), changing(64, 480)].concat();
-    [getting(), reading(), inserting(), removing(), churning(), changes].concat()
+/// The calls that values are used by, on all sides.
+pub fn calls() -> Vec<Row> {
+    [getting(), reading(), inserting(), removing(), churning()].concat()
 }
 
-/// The rows that show what grows with the heap: inserts beside more and more values, gets with more and more passes
-/// open, and shards of more and more pages that change hands.
-pub fn growth() -> Vec<Row> {
-    let inserts = [100, 1000, 10_000, 96_000].map(|live| Row::new(Workload::Insert, 1, 200_000).live(live));
-    let gets = [2, 4, 16, 64].map(|passes| Row::new(Workload::Get, 1, 1_000_000).passes(passes));
-    let changes = [1, 16, 128, 1000].map(|pages| changing(pages, 0));
-    [inserts.to_vec(), gets.to_vec(), changes.concat()].concat()
+/// Gets beside more and more passes that are open, which the library alone has.
+pub fn passes() -> Vec<Row> {
+    [2, 4, 16, 64].map(|passes| Row::new(Workload::Get, 1, 1_000_000).passes(passes)).to_vec()
+}
+
+/// Shards of more and more pages that change hands, which of the rivals the model alone has.
+pub fn changes() -> Vec<Row> {
+    let kept = [1, 16, 64, 128, 1000].map(|pages| changing(pages, 0)).concat();
+    [kept, changing(64, 480)].concat()
+}
+
+#[cfg(test)]
+mod tests {
+    use super::*;
+    use std::collections::HashSet;
+
+    #[test]
+    fn no_row_stands_twice() {
+        let all = [calls(), passes(), changes()].concat();
+        let names: HashSet<_> = all.iter().map(|row| (row.title(), row.running())).collect();
+        assert_eq!(names.len(), all.len());
+    }
+
+    #[test]
+    fn inserts_and_churns_have_rows_beside_few_and_many_values() {
+        for workload in [Workload::Insert, Workload::Churn] {
+            let of_one_word = |row: &&Row| row.workload == workload && row.lengths == Lengths::Each(1);
+            let single = |row: &&Row| row.threads == 1;
+            let live: Vec<usize> = calls().iter().filter(of_one_word).filter(single).map(|row| row.live).collect();
+            assert_eq!(live, [1, 100, 1000, 10_000, 90_000]);
+        }
+    }
+
+    #[test]
+    fn pages_that_change_hands_are_as_many_as_said() {
+        let pages: Vec<usize> = changes().iter().map(Row::pages).collect();
+        assert_eq!(pages, [1, 1, 16, 16, 64, 64, 128, 128, 1000, 1000, 64, 64]);
+    }
 }

@@ -3,7 +3,7 @@ use crate::changing;
 use crate::ours;
 use crate::rival::Rival;
 use crate::rivals::{with_rival, Room, Task};
-use crate::row::{Row, Workload};
+use crate::row::Row;
 use crate::workloads;
 
 /// The sides, of which the first is the library.
@@ -38,10 +38,6 @@ impl Task for Measures<'_> {
     }
 }
 
-fn changes_hands(row: &Row) -> bool {
-    matches!(row.workload, Workload::Adopt | Workload::Leave)
-}
-
 impl Side {
     /// Its name in the head of a table.
     pub fn name(self) -> &'static str {
@@ -58,7 +54,7 @@ impl Side {
 
     fn rival_turn(self, row: &Row) -> Option<f64> {
         let room = Room { shards: row.threads, values: row.live + BESIDES, lengths: row.lengths };
-        match (self, changes_hands(row)) {
+        match (self, row.workload.changes_hands()) {
             (Side::Model, true) => Some(changing::measure(row)),
             (_, true) => None,
             (_, false) => with_rival(self, &room, Measures(row)),

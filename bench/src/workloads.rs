@@ -2,8 +2,9 @@
 use crate::gate::Gate;
 use crate::ring::Ring;
 use crate::rival::Rival;
-use crate::row::{Row, Workload};
+use crate::row::Row;
 use crate::samples::{mixed_order, Samples};
+use crate::workload::Workload;
 use std::hint::black_box;
 use std::thread;
 use std::time::{Duration, Instant};
@@ -14,7 +15,8 @@ const BATCH: usize = 1000;
 /// The nanoseconds of one operation, by the thread that took longest.
 pub fn measure<H: Rival>(rival: &H, row: &Row) -> f64 {
     let longest = match row.workload {
-        Workload::Get | Workload::Read => getting(rival, row),
+        Workload::Get | Workload::GetGuard => getting(rival, row),
+        Workload::Read | Workload::ReadInto | Workload::ReadGuard => getting(rival, row),
         Workload::Hand => handing(rival, row),
         Workload::Insert | Workload::Remove | Workload::Churn => inserting(rival, row),
         Workload::Adopt | Workload::Leave => unreachable!("the model alone has owners that change"),
@@ -38,12 +40,13 @@ fn insert_each<H: Rival>(rival: &H, owner: &mut H::Owner<'_>, samples: &Samples,
     }
 }
 
+// Gets or reads each key. What differs between a call, a place of the caller's and a guard differs in ours alone.
 fn use_each<H: Rival>(rival: &H, keys: &[u64], workload: Workload) -> u64 {
-    if workload == Workload::Read {
-        return keys.iter().fold(0, |sum, key| sum.wrapping_add(rival.read(*key)));
-    }
     let held = |key: &&u64| rival.hold(**key);
-    keys.iter().filter(held).count() as u64
+    match workload {
+        Workload::Get | Workload::GetGuard => keys.iter().filter(held).count() as u64,
+        _ => keys.iter().fold(0, |sum, key| sum.wrapping_add(rival.read(*key))),
+    }
 }
 
 // Goes through the keys, over and over.

@@ -1,0 +1,97 @@
+//! What a row is, in words.
+use crate::row::Row;
+use crate::samples::Lengths;
+use crate::workload::Workload;
+
+// A number with a comma before each three digits.
+fn grouped(number: usize) -> String {
+    match number {
+        0..=999 => number.to_string(),
+        _ => format!("{},{:03}", grouped(number / 1000), number % 1000),
+    }
+}
+
+// So many of what has this name.
+fn count(number: usize, name: &str) -> String {
+    let end = if number == 1 { "" } else { "s" };
+    format!("{} {name}{end}", grouped(number))
+}
+
+fn words(lengths: Lengths) -> String {
+    match lengths {
+        Lengths::Each(len) => count(len, "word"),
+        Lengths::Mixed => "1 to 16 words".to_string(),
+    }
+}
+
+fn keys(row: &Row) -> String {
+    match (row.live, row.passes) {
+        (1, 1) => "one key".to_string(),
+        (1, passes) => format!("one key, {passes} passes"),
+        (live, _) => count(live, "key"),
+    }
+}
+
+fn put_back(row: &Row) -> String {
+    format!("{}, {} put", count(row.pages(), "page"), count(row.freed, "slot"))
+}
+
+impl Row {
+    /// What the row is, in words.
+    pub fn title(&self) -> String {
+        let words = words(self.lengths);
+        let standing = self.live * self.threads;
+        match self.workload {
+            Workload::Get => format!("get + release, {}", keys(self)),
+            Workload::GetGuard => format!("get by a guard, {}", keys(self)),
+            Workload::Read => format!("get + read + release, {words}"),
+            Workload::ReadInto => format!("get + read into + release, {words}"),
+            Workload::ReadGuard => format!("read by a guard, {words}"),
+            Workload::Insert => format!("insert, {words}, beside {}", count(self.live, "value")),
+            Workload::Remove => format!("remove by the owner, {words}"),
+            Workload::Churn if standing == 1 => format!("remove + insert, one value, {words}"),
+            Workload::Churn => format!("churn, {} live, {words}", grouped(standing)),
+            Workload::Hand => format!("producer and consumer, {words}"),
+            Workload::Adopt => format!("adopt, {}", put_back(self)),
+            Workload::Leave => format!("leave, {}", put_back(self)),
+        }
+    }
+}
+
+#[cfg(test)]
+mod tests {
+    use super::*;
+
+    #[test]
+    fn numbers_have_a_comma_before_each_three_digits() {
+        let table = [
+            (0, "0"),
+            (999, "999"),
+            (1000, "1,000"),
+            (90_000, "90,000"),
+            (1_002_003, "1,002,003"),
+            (100_000, "100,000"),
+        ];
+        for (number, text) in table {
+            assert_eq!(grouped(number), text);
+        }
+    }
+
+    #[test]
+    fn titles_say_what_is_special() {
+        let table = [
+            (Row::new(Workload::Get, 2, 9), "get + release, one key"),
+            (Row::new(Workload::Get, 1, 9).passes(64), "get + release, one key, 64 passes"),
+            (Row::new(Workload::GetGuard, 1, 9).live(10_000), "get by a guard, 10,000 keys"),
+            (Row::new(Workload::ReadInto, 1, 9).lengths(Lengths::Each(16)), "get + read into + release, 16 words"),
+            (Row::new(Workload::Insert, 1, 9), "insert, 1 word, beside 1 value"),
+            (Row::new(Workload::Insert, 4, 9).live(100), "insert, 1 word, beside 100 values"),
+            (Row::new(Workload::Churn, 1, 9), "remove + insert, one value, 1 word"),
+            (Row::new(Workload::Churn, 4, 9).live(2500), "churn, 10,000 live, 1 word"),
+            (Row::new(Workload::Leave, 1, 9).live(47).freed(1), "leave, 1 page, 1 slot put"),
+        ];
+        for (row, title) in table {
+            assert_eq!(row.title(), title);
+        }
+    }
+}

@@ -1,0 +1,46 @@
+//! What the threads do, over and over.
+
+#[derive(Clone, Copy, Debug, PartialEq, Eq)]
+pub enum Workload {
+    /// A key is held and released.
+    Get,
+    /// As `Get`, and the hold is a guard, which releases it where it goes out of scope.
+    GetGuard,
+    /// A key is held, its value read, and released: `sh_bench` reads a value by what the call answers.
+    Read,
+    /// As `Read`, and `sh_bench` reads into one value of the caller's, which is the same in all reads.
+    ReadInto,
+    /// As `Read`, and `sh_bench` holds and reads by a guard.
+    ReadGuard,
+    Insert,
+    Remove,
+    Churn,
+    Hand,
+    Adopt,
+    Leave,
+}
+
+impl Workload {
+    /// Its name, the first argument of `sh_bench`. A workload that is added there is added here by the same name; what
+    /// else it is told are the options of `Row::arguments`.
+    pub fn name(self) -> &'static str {
+        match self {
+            Workload::Get => "get",
+            Workload::GetGuard => "get-guard",
+            Workload::Read => "read",
+            Workload::ReadInto => "read-into",
+            Workload::ReadGuard => "read-guard",
+            Workload::Insert => "insert",
+            Workload::Remove => "remove",
+            Workload::Churn => "churn",
+            Workload::Hand => "hand",
+            Workload::Adopt => "adopt",
+            Workload::Leave => "leave",
+        }
+    }
+
+    /// Whether a shard changes hands, which of the rivals the model alone has.
+    pub fn changes_hands(self) -> bool {
+        matches!(self, Workload::Adopt | Workload::Leave)
+    }
+}
