@@ -1,8 +1,9 @@
 //! Measures the library's heap beside what one would pick otherwise, and beside its own steps as bare atomics: all in
-//! one run, in turn. Prints a table of ratios and one of growth. `README.md` says how it is run.
+//! one run, in turn. `README.md` says how it is run.
 mod changing;
 mod dash;
 mod gate;
+mod measuring;
 mod model;
 mod mutex_slab;
 mod mutex_slot_map;
@@ -19,36 +20,38 @@ mod sharded;
 mod sides;
 mod slot_keys;
 mod table;
+mod times;
 mod title;
 mod workload;
 mod workloads;
 
+use measuring::Plan;
 use std::process::ExitCode;
+use table::TABLES;
 
 const PROGRAM: &str = concat!(env!("CARGO_MANIFEST_DIR"), "/../crates/sh_bench/out/sh_bench");
 
-/// Medians are of so many rounds, if nothing else is said.
-const ROUNDS: usize = 7;
+/// So many rounds, if nothing else is said.
+const ROUNDS: usize = 15;
 
-fn print_ratios(rounds: usize) -> Result<(), String> {
-    println!("{}", table::head());
-    for row in [rows::calls(), rows::changes()].concat() {
-        println!("{}", table::measure(PROGRAM, row, rounds)?.text());
+// Prints each table once its rows are measured. Answers how many rows were left out.
+fn print_tables(plan: &Plan) -> usize {
+    let mut left_out = 0;
+    for table in TABLES {
+        let rows = table.rows();
+        let asked = rows.len();
+        let measured = plan.measure(rows);
+        println!("{}\n", table.text(&measured));
+        left_out += asked - measured.len();
     }
-    Ok(())
+    left_out
 }
 
-fn print_growth(rounds: usize) -> Result<(), String> {
-    println!("\n{}", table::GROWTH_HEAD);
-    for row in rows::passes() {
-        println!("{}", table::growth_line(PROGRAM, row, rounds)?);
+fn measure(rounds: usize) -> Result<(), String> {
+    match print_tables(&Plan { program: PROGRAM, rounds }) {
+        0 => Ok(()),
+        left_out => Err(format!("{left_out} rows were left out")),
     }
-    Ok(())
-}
-
-fn print_tables(rounds: usize) -> Result<(), String> {
-    print_ratios(rounds)?;
-    print_growth(rounds)
 }
 
 fn rounds() -> Result<usize, String> {
@@ -59,7 +62,7 @@ fn rounds() -> Result<usize, String> {
 }
 
 fn main() -> ExitCode {
-    match rounds().and_then(print_tables) {
+    match rounds().and_then(measure) {
         Ok(()) => ExitCode::SUCCESS,
         Err(why) => {
             eprintln!("{why}");

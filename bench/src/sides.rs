@@ -57,6 +57,7 @@ impl Side {
         match (self, row.workload.changes_hands()) {
             (Side::Model, true) => Some(changing::measure(row)),
             (_, true) => None,
+            (_, false) if row.passes > 1 => None,
             (_, false) => with_rival(self, &room, Measures(row)),
         }
     }
@@ -73,6 +74,15 @@ impl Side {
 #[cfg(test)]
 mod tests {
     use super::*;
+    use crate::workload::Workload;
+
+    #[test]
+    fn passes_and_owners_that_change_are_asked_of_those_alone_that_have_them() {
+        let with = |row: Row| RIVALS.map(|side| side.rival_turn(&row).is_some());
+        assert_eq!(with(Row::new(Workload::Get, 1, 10)), [true; 6]);
+        assert_eq!(with(Row::new(Workload::Get, 1, 10).passes(2)), [false; 6]);
+        assert_eq!(with(Row::new(Workload::Adopt, 1, 10)), [false, false, false, false, false, true]);
+    }
 
     #[test]
     fn the_library_is_the_first_side_and_the_others_are_its_rivals() {

@@ -1,73 +1,120 @@
-//! Rounds, medians and the lines of the table.
-use crate::ours;
+//! The tables: their heads and lines. In each place stands what the least of the rounds came to, and the median.
+use crate::measuring::Measured;
 use crate::row::Row;
-use crate::sides::{Side, RIVALS, SIDES};
+use crate::rows;
+use crate::sides::{Side, RIVALS};
+use crate::times::{text, Times};
 
-/// The nanoseconds of one operation of each side, as medians of rounds.
-pub struct Line {
-    row: Row,
-    medians: [Option<f64>; SIDES.len()],
+/// The tables of a run.
+#[derive(Clone, Copy, Debug, PartialEq, Eq)]
+pub enum Table {
+    Calls,
+    Passes,
+    Changes,
 }
 
-fn median(mut times: Vec<f64>) -> Option<f64> {
-    times.sort_by(f64::total_cmp);
-    times.get(times.len() / 2).copied()
+pub const TABLES: [Table; 3] = [Table::Calls, Table::Passes, Table::Changes];
+
+fn line(places: &[String]) -> String {
+    format!("| {} |", places.join(" | "))
 }
 
-/// Measures a row: in each round all sides have a turn, each time another one first.
-pub fn measure(program: &str, row: Row, rounds: usize) -> Result<Line, String> {
-    let mut times: [Vec<f64>; SIDES.len()] = Default::default();
-    for round in 0..rounds {
-        for turn in 0..SIDES.len() {
-            let at = (round + turn) % SIDES.len();
-            times[at].extend(SIDES[at].turn(program, &row)?);
+// A head, and the line below it.
+fn head(places: &[String]) -> String {
+    format!("{}\n{}|", line(places), "|---".repeat(places.len()))
+}
+
+fn nanoseconds(times: &[Times]) -> String {
+    if times.is_empty() {
+        "none".to_string()
+    } else {
+        text(times, 1)
+    }
+}
+
+// The ratio to a rival, and behind it what was aimed at.
+fn ratio(measured: &Measured, rival: Side) -> String {
+    let behind = measured.row.aim(rival).map_or(String::new(), |aim| format!(" ({aim})"));
+    match measured.ratios(rival) {
+        none if none.is_empty() => "none".to_string(),
+        ratios => format!("{}{behind}", text(&ratios, 2)),
+    }
+}
+
+fn ratio_head(rival: Side) -> String {
+    match rival {
+        Side::Sharded | Side::Model => format!("to {} (aim)", rival.name()),
+        _ => format!("to {}", rival.name()),
+    }
+}
+
+fn for_a_page(measured: &Measured, side: Side) -> String {
+    let pages = measured.row.pages();
+    let times: Vec<Times> = measured.times(side).into_iter().map(|times| times.each(pages)).collect();
+    nanoseconds(&times)
+}
+
+fn calls_line(measured: &Measured) -> Vec<String> {
+    let first = [measured.row.title(), measured.row.running().to_string(), nanoseconds(&measured.times(Side::Ours))];
+    first.into_iter().chain(RIVALS.map(|rival| ratio(measured, rival))).collect()
+}
+
+fn changes_line(measured: &Measured) -> Vec<String> {
+    let ours = nanoseconds(&measured.times(Side::Ours));
+    let [our_page, model_page] = [Side::Ours, Side::Model].map(|side| for_a_page(measured, side));
+    vec![measured.row.title(), ours, our_page, model_page, ratio(measured, Side::Model)]
+}
+
+impl Table {
+    pub fn rows(self) -> Vec<Row> {
+        match self {
+            Table::Calls => rows::calls(),
+            Table::Passes => rows::passes(),
+            Table::Changes => rows::changes(),
         }
     }
-    Ok(Line { row, medians: times.map(median) })
-}
 
-/// The head of the table of ratios.
-pub fn head() -> String {
-    let of = |side: Side| match side {
-        Side::Sharded | Side::Model => format!(" to {} (aim) |", side.name()),
-        _ => format!(" to {} |", side.name()),
-    };
-    let columns: String = RIVALS.map(of).concat();
-    format!("| Workload | Threads | ns |{columns}\n|---|---|---|{}", "---|".repeat(RIVALS.len()))
-}
-
-/// The head of the table of growth.
-pub const GROWTH_HEAD: &str = "\
-| Workload | ns |
-|---|---|";
-
-/// The line of the table of growth: the median of ours.
-pub fn growth_line(program: &str, row: Row, rounds: usize) -> Result<String, String> {
-    let times: Result<Vec<f64>, String> = (0..rounds).map(|_| ours::measure(program, &row)).collect();
-    let time = median(times?).ok_or("there was no round")?;
-    Ok(format!("| {} | {time:.1} |", row.title()))
-}
-
-impl Line {
-    fn of(&self, side: Side) -> Option<f64> {
-        let place = SIDES.iter().position(|at| *at == side)?;
-        self.medians[place]
+    fn places(self) -> Vec<String> {
+        let words: &[&str] = match self {
+            Table::Calls => &["Workload", "Threads", "ns"],
+            Table::Passes => &["Workload", "ns"],
+            Table::Changes => &["Workload", "ns", "ns a page", "ns a page, bare atomics", "to bare atomics (aim)"],
+        };
+        let ratios = if self == Table::Calls { RIVALS.map(ratio_head).to_vec() } else { Vec::new() };
+        words.iter().map(|word| word.to_string()).chain(ratios).collect()
     }
 
-    // A ratio, and behind it what was aimed at.
-    fn ratio(&self, rival: Side) -> String {
-        let behind = self.row.aim(rival).map_or(String::new(), |aim| format!(" ({aim})"));
-        match (self.of(Side::Ours), self.of(rival)) {
-            (Some(ours), Some(rival)) => format!(" {:.2}{behind} |", ours / rival),
-            _ => " none |".to_string(),
+    fn line(self, measured: &Measured) -> String {
+        line(&match self {
+            Table::Calls => calls_line(measured),
+            Table::Passes => vec![measured.row.title(), nanoseconds(&measured.times(Side::Ours))],
+            Table::Changes => changes_line(measured),
+        })
+    }
+
+    /// The whole table.
+    pub fn text(self, measured: &[Measured]) -> String {
+        let lines = measured.iter().map(|measured| format!("\n{}", self.line(measured)));
+        format!("{}{}", head(&self.places()), lines.collect::<String>())
+    }
+}
+
+#[cfg(test)]
+mod tests {
+    use super::*;
+
+    #[test]
+    fn a_head_has_a_line_of_as_many_places_below_it() {
+        assert_eq!(head(&["a".to_string(), "b".to_string()]), "| a | b |\n|---|---|");
+    }
+
+    #[test]
+    fn lines_have_as_many_places_as_their_head() {
+        for table in TABLES {
+            for row in table.rows() {
+                let line = table.line(&Measured::new(row));
+                assert_eq!(line.matches(" |").count(), table.places().len(), "{line}");
+            }
         }
-    }
-
-    /// The line of the table of ratios.
-    pub fn text(&self) -> String {
-        let (title, threads) = (self.row.title(), self.row.running());
-        let ours = self.of(Side::Ours).unwrap_or_default();
-        let ratios = RIVALS.map(|rival| self.ratio(rival)).concat();
-        format!("| {title} | {threads} | {ours:.1} |{ratios}")
     }
 }
