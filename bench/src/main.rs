@@ -1,8 +1,13 @@
 //! Measures the library's heap beside what one would pick otherwise, and beside its own steps as bare atomics: all in
 //! one run, in turn. `README.md` says how it is run.
+mod arguments;
+mod bytes;
 mod changing;
+mod counting;
 mod dash;
 mod gate;
+mod layout;
+mod markdown;
 mod measuring;
 mod model;
 mod mutex_slab;
@@ -25,14 +30,15 @@ mod title;
 mod workload;
 mod workloads;
 
+use arguments::Request;
 use measuring::Plan;
 use std::process::ExitCode;
 use table::TABLES;
 
-const PROGRAM: &str = concat!(env!("CARGO_MANIFEST_DIR"), "/../crates/sh_bench/out/sh_bench");
+#[global_allocator]
+static ALLOCATOR: counting::Counting = counting::Counting;
 
-/// So many rounds, if nothing else is said.
-const ROUNDS: usize = 15;
+const PROGRAM: &str = concat!(env!("CARGO_MANIFEST_DIR"), "/../crates/sh_bench/out/sh_bench");
 
 // Prints each table once its rows are measured. Answers how many rows were left out.
 fn print_tables(plan: &Plan) -> usize {
@@ -50,23 +56,40 @@ fn print_tables(plan: &Plan) -> usize {
 fn measure(rounds: usize) -> Result<(), String> {
     match print_tables(&Plan { program: PROGRAM, rounds }) {
         0 => Ok(()),
-        left_out => Err(format!("{left_out} rows were left out")),
+        left_out => Err(format!("rows that were left out: {left_out}")),
     }
 }
 
-fn rounds() -> Result<usize, String> {
-    match std::env::args().nth(1) {
-        None => Ok(ROUNDS),
-        Some(word) => word.parse().map_err(|_| format!("{word} is no number of rounds")),
+fn do_as_asked(request: Request) -> Result<(), String> {
+    match request {
+        Request::Times { rounds } => measure(rounds),
+        Request::Bytes => {
+            println!("{}\n\n{}", bytes::ABOUT, bytes::table());
+            Ok(())
+        }
+        Request::Help => {
+            println!("{}", arguments::HELP);
+            Ok(())
+        }
     }
+}
+
+// What the command line asks for.
+fn request() -> Result<Request, String> {
+    let words: Vec<String> = std::env::args_os().skip(1).map(|word| word.to_string_lossy().into_owned()).collect();
+    let words: Vec<&str> = words.iter().map(String::as_str).collect();
+    arguments::request(&words)
+}
+
+fn tell(why: &str, status: u8) -> ExitCode {
+    eprintln!("bench: {why}");
+    ExitCode::from(status)
 }
 
 fn main() -> ExitCode {
-    match rounds().and_then(measure) {
-        Ok(()) => ExitCode::SUCCESS,
-        Err(why) => {
-            eprintln!("{why}");
-            ExitCode::FAILURE
-        }
+    match request().map(do_as_asked) {
+        Ok(Ok(())) => ExitCode::SUCCESS,
+        Ok(Err(why)) => tell(&why, 1),
+        Err(why) => tell(&why, 2),
     }
 }

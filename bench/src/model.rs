@@ -7,13 +7,18 @@ mod words;
 use crate::rival::Rival;
 pub use owner::Owner;
 use std::hint::black_box;
-pub use words::Words;
 use words::{class_of, slots};
+pub use words::{Words, PAGE_WORDS};
+
+/// How many values of so many words a page has.
+pub fn slots_for(len: usize) -> usize {
+    slots(class_of(len))
+}
 
 /// How many pages the values fill, of which each length from `least` to `most` has its share.
 pub fn pages_for(lengths: std::ops::RangeInclusive<usize>, values: usize) -> usize {
     let each = values / lengths.clone().count() + 1;
-    lengths.map(|len| each.div_ceil(slots(class_of(len)))).sum()
+    lengths.map(|len| each.div_ceil(slots_for(len))).sum()
 }
 
 impl Rival for Words {

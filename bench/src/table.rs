@@ -1,4 +1,5 @@
 //! The tables: their heads and lines. In each place stands what the least of the rounds came to, and the median.
+use crate::markdown::{head, line};
 use crate::measuring::Measured;
 use crate::row::Row;
 use crate::rows;
@@ -14,15 +15,6 @@ pub enum Table {
 }
 
 pub const TABLES: [Table; 3] = [Table::Calls, Table::Passes, Table::Changes];
-
-fn line(places: &[String]) -> String {
-    format!("| {} |", places.join(" | "))
-}
-
-// A head, and the line below it.
-fn head(places: &[String]) -> String {
-    format!("{}\n{}|", line(places), "|---".repeat(places.len()))
-}
 
 fn nanoseconds(times: &[Times]) -> String {
     if times.is_empty() {
@@ -102,11 +94,6 @@ impl Table {
 #[cfg(test)]
 mod tests {
     use super::*;
-
-    #[test]
-    fn a_head_has_a_line_of_as_many_places_below_it() {
-        assert_eq!(head(&["a".to_string(), "b".to_string()]), "| a | b |\n|---|---|");
-    }
 
     #[test]
     fn lines_have_as_many_places_as_their_head() {
