@@ -6,7 +6,9 @@ mod changing;
 mod counting;
 mod dash;
 mod gate;
+mod hash;
 mod layout;
+mod machine;
 mod markdown;
 mod measuring;
 mod model;
@@ -14,6 +16,7 @@ mod mutex_slab;
 mod mutex_slot_map;
 mod ours;
 mod payload;
+mod program;
 mod ring;
 mod rival;
 mod rivals;
@@ -32,13 +35,12 @@ mod workloads;
 
 use arguments::Request;
 use measuring::Plan;
+use program::Program;
 use std::process::ExitCode;
 use table::TABLES;
 
 #[global_allocator]
 static ALLOCATOR: counting::Counting = counting::Counting;
-
-const PROGRAM: &str = concat!(env!("CARGO_MANIFEST_DIR"), "/../crates/sh_bench/out/sh_bench");
 
 // Prints each table once its rows are measured. Answers how many rows were left out.
 fn print_tables(plan: &Plan) -> usize {
@@ -53,10 +55,21 @@ fn print_tables(plan: &Plan) -> usize {
     left_out
 }
 
+// Says what is measured, and where.
+fn print_about(program: &Program, rounds: usize) {
+    println!("{}\n{}\nrounds: {rounds}\n", program.text(), machine::text());
+}
+
 fn measure(rounds: usize) -> Result<(), String> {
-    match print_tables(&Plan { program: PROGRAM, rounds }) {
+    let program = Program::find()?;
+    print_about(&program, rounds);
+    let left_out = print_tables(&Plan { program: &program.path, rounds });
+    if !program.is_unchanged() {
+        return Err(format!("{} was built anew while it was measured", program.path.display()));
+    }
+    match left_out {
         0 => Ok(()),
-        left_out => Err(format!("rows that were left out: {left_out}")),
+        _ => Err(format!("rows that were left out: {left_out}")),
     }
 }
 

@@ -2,6 +2,7 @@
 use crate::row::Row;
 use crate::sides::{Side, SIDES};
 use crate::times::Times;
+use std::path::Path;
 
 /// Rows with several threads do not repeat: they are measured so often.
 const RUNS: usize = 3;
@@ -18,7 +19,7 @@ pub struct Measured {
 
 /// Which program is measured beside the rivals, and in how many rounds.
 pub struct Plan<'a> {
-    pub program: &'a str,
+    pub program: &'a Path,
     pub rounds: usize,
 }
 
@@ -125,7 +126,7 @@ mod tests {
 
     #[test]
     fn a_row_that_the_program_does_not_measure_is_left_out() {
-        let plan = Plan { program: "/nowhere/sh_bench", rounds: 1 };
+        let plan = Plan { program: Path::new("/nowhere/sh_bench"), rounds: 1 };
         assert!(plan.measure(vec![Row::new(Workload::Get, 1, 1)]).is_empty());
     }
 }

@@ -1,18 +1,46 @@
 //! The library's heap: `sh_bench` is run, and its time read from what it writes to the standard error.
 use crate::row::Row;
+use std::path::Path;
 use std::process::Command;
 
-/// The nanoseconds of one operation.
-pub fn measure(program: &str, row: &Row) -> Result<f64, String> {
-    let run = Command::new(program).args(row.arguments()).output().map_err(|error| format!("{program}: {error}"))?;
+// The first line that says something, of what may be many.
+fn first_line(text: &str) -> &str {
+    text.lines().find(|line| !line.trim().is_empty()).unwrap_or("it does not say why")
+}
+
+fn time(times: &str) -> Option<f64> {
+    times.lines().find_map(|line| line.strip_prefix("nanoseconds ")?.parse().ok())
+}
+
+/// The nanoseconds of one operation. An error is one line.
+pub fn measure(program: &Path, row: &Row) -> Result<f64, String> {
+    let words = row.arguments();
+    let run = Command::new(program).args(&words).output().map_err(|error| format!("{}: {error}", program.display()))?;
     let (counts, times) = (String::from_utf8_lossy(&run.stdout), String::from_utf8_lossy(&run.stderr));
+    let told = format!("sh_bench {}", words.join(" "));
     if !run.status.success() {
-        return Err(format!("sh_bench {:?}: {times}", row.arguments()));
+        return Err(format!("{told}: {}", first_line(&times)));
     }
     let wanted = format!("operations {}", row.operations * row.threads);
     if !counts.lines().any(|line| line == wanted) {
-        return Err(format!("sh_bench {:?} did not do its operations: {counts}", row.arguments()));
+        return Err(format!("{told} did not do its operations"));
     }
-    let nanoseconds = times.lines().find_map(|line| line.strip_prefix("nanoseconds ")?.parse::<f64>().ok());
-    nanoseconds.map(|n| n / row.operations as f64).ok_or_else(|| format!("no time: {times}"))
+    time(&times).map(|spent| spent / row.operations as f64).ok_or_else(|| format!("{told} told no time"))
+}
+
+#[cfg(test)]
+mod tests {
+    use super::*;
+
+    #[test]
+    fn a_time_stands_in_its_line() {
+        assert_eq!(time("each 3.0\nnanoseconds 3000\n"), Some(3000.0));
+        assert_eq!(time("nanoseconds\n"), None);
+    }
+
+    #[test]
+    fn of_many_lines_the_first_says_why() {
+        assert_eq!(first_line("\nerror: no workload\n\nusage\n"), "error: no workload");
+        assert_eq!(first_line("\n"), "it does not say why");
+    }
 }

@@ -5,6 +5,7 @@ use crate::rival::Rival;
 use crate::rivals::{with_rival, Room, Task};
 use crate::row::Row;
 use crate::workloads;
+use std::path::Path;
 
 /// The sides, of which the first is the library.
 #[derive(Clone, Copy, Debug, PartialEq, Eq)]
@@ -63,7 +64,7 @@ impl Side {
     }
 
     /// The nanoseconds of one operation, in one turn; nothing where the side has no such workload.
-    pub fn turn(self, program: &str, row: &Row) -> Result<Option<f64>, String> {
+    pub fn turn(self, program: &Path, row: &Row) -> Result<Option<f64>, String> {
         match self {
             Side::Ours => ours::measure(program, row).map(Some),
             _ => Ok(self.rival_turn(row)),
