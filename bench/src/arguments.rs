@@ -1,4 +1,6 @@
 //! The command line.
+use crate::selection::selected;
+use std::slice::Iter;
 
 /// So many rounds, if nothing else is said.
 const ROUNDS: usize = 15;
@@ -6,9 +8,10 @@ const ROUNDS: usize = 15;
 /// What the program is asked for.
 #[derive(Debug, PartialEq, Eq)]
 pub enum Request {
-    /// The tables of times, of so many rounds.
+    /// The tables of times: so many rounds of the rows with the word in their title.
     Times {
         rounds: usize,
+        word: String,
     },
     /// The table of bytes a value.
     Bytes,
@@ -16,13 +19,13 @@ pub enum Request {
 }
 
 pub const HELP: &str = "\
-usage: bench [ROUNDS]
+usage: bench [--rows WORD] [ROUNDS]
        bench bytes
 
-Without a word: the tables of times, of 15 rounds.
+The tables of times, or that of bytes a value.
 
-  ROUNDS       so many rounds, at least 1
-  bytes        the table of bytes a value
+  ROUNDS       so many rounds, at least 1; 15 if it is not said
+  --rows WORD  only the rows with this in their title, such as 'churn' or 'read into'
   -h, --help   this text
 
 The variable SH_BENCH names the program of the library, in place of crates/sh_bench/out/sh_bench.
@@ -37,15 +40,33 @@ fn rounds(word: &str) -> Result<usize, String> {
     }
 }
 
+// What stands behind --rows, if it is in some title.
+fn word(rest: &mut Iter<'_, &str>) -> Result<String, String> {
+    match rest.next() {
+        None => Err("--rows wants a word".to_string()),
+        Some(word) if selected(word).is_empty() => Err(format!("no row has {word} in its title")),
+        Some(word) => Ok(word.to_string()),
+    }
+}
+
+// Notes what was said once.
+fn note<T>(place: &mut Option<T>, said: T, name: &str) -> Result<(), String> {
+    match place.replace(said) {
+        None => Ok(()),
+        Some(_) => Err(format!("{name} are said twice")),
+    }
+}
+
 fn times(words: &[&str]) -> Result<Request, String> {
-    let mut asked = None;
-    for word in words {
-        let rounds = rounds(word)?;
-        if asked.replace(rounds).is_some() {
-            return Err(format!("{word} is one number too many"));
+    let (mut asked, mut selecting) = (None, None);
+    let mut rest = words.iter();
+    while let Some(next) = rest.next() {
+        match *next {
+            "--rows" => note(&mut selecting, word(&mut rest)?, "the rows")?,
+            other => note(&mut asked, rounds(other)?, "the rounds")?,
         }
     }
-    Ok(Request::Times { rounds: asked.unwrap_or(ROUNDS) })
+    Ok(Request::Times { rounds: asked.unwrap_or(ROUNDS), word: selecting.unwrap_or_default() })
 }
 
 /// What the words ask for, of which the first is not the program's name; or, in one line, why they are wrong.
@@ -62,10 +83,17 @@ pub fn request(words: &[&str]) -> Result<Request, String> {
 mod tests {
     use super::*;
 
+    fn times_of(rounds: usize, word: &str) -> Result<Request, String> {
+        Ok(Request::Times { rounds, word: word.to_string() })
+    }
+
     #[test]
     fn usual_words_are_requests() {
-        assert_eq!(request(&[]), Ok(Request::Times { rounds: 15 }));
-        assert_eq!(request(&["3"]), Ok(Request::Times { rounds: 3 }));
+        assert_eq!(request(&[]), times_of(15, ""));
+        assert_eq!(request(&["3"]), times_of(3, ""));
+        assert_eq!(request(&["--rows", "churn"]), times_of(15, "churn"));
+        assert_eq!(request(&["--rows", "read into", "3"]), times_of(3, "read into"));
+        assert_eq!(request(&["3", "--rows", "adopt"]), times_of(3, "adopt"));
         assert_eq!(request(&["bytes"]), Ok(Request::Bytes));
         assert_eq!(request(&["--help"]), Ok(Request::Help));
     }
@@ -77,7 +105,10 @@ mod tests {
             (&["x"], "x is no number of rounds"),
             (&["3.5"], "3.5 is no number of rounds"),
             (&["99999999999999999999999"], "99999999999999999999999 is no number of rounds"),
-            (&["3", "4"], "4 is one number too many"),
+            (&["3", "4"], "the rounds are said twice"),
+            (&["--rows"], "--rows wants a word"),
+            (&["--rows", "nothing like it"], "no row has nothing like it in its title"),
+            (&["--rows", "get", "--rows", "read"], "the rows are said twice"),
             (&["--fast"], "no option --fast"),
             (&["-3"], "no option -3"),
             (&["bytes", "3"], "bytes takes no 3"),

@@ -24,6 +24,7 @@ mod row;
 mod rows;
 mod rw_slot_map;
 mod samples;
+mod selection;
 mod sharded;
 mod sides;
 mod slot_keys;
@@ -36,17 +37,16 @@ mod workloads;
 use arguments::Request;
 use measuring::Plan;
 use program::Program;
+use selection::selected;
 use std::process::ExitCode;
-use table::TABLES;
 
 #[global_allocator]
 static ALLOCATOR: counting::Counting = counting::Counting;
 
 // Prints each table once its rows are measured. Answers how many rows were left out.
-fn print_tables(plan: &Plan) -> usize {
+fn print_tables(plan: &Plan, word: &str) -> usize {
     let mut left_out = 0;
-    for table in TABLES {
-        let rows = table.rows();
+    for (table, rows) in selected(word) {
         let asked = rows.len();
         let measured = plan.measure(rows);
         println!("{}\n", table.text(&measured));
@@ -60,12 +60,12 @@ fn print_about(program: &Program, rounds: usize) {
     println!("{}\n{}\nrounds: {rounds}\n", program.text(), machine::text());
 }
 
-fn measure(rounds: usize) -> Result<(), String> {
+fn measure(rounds: usize, word: &str) -> Result<(), String> {
     let program = Program::find()?;
     print_about(&program, rounds);
-    let left_out = print_tables(&Plan { program: &program.path, rounds });
+    let left_out = print_tables(&Plan { program: &program.path, rounds }, word);
     if !program.is_unchanged() {
-        return Err(format!("{} was built anew while it was measured", program.path.display()));
+        return Err(format!("{} changed while it was measured", program.path.display()));
     }
     match left_out {
         0 => Ok(()),
@@ -75,7 +75,7 @@ fn measure(rounds: usize) -> Result<(), String> {
 
 fn do_as_asked(request: Request) -> Result<(), String> {
     match request {
-        Request::Times { rounds } => measure(rounds),
+        Request::Times { rounds, word } => measure(rounds, &word),
         Request::Bytes => {
             println!("{}\n\n{}", bytes::ABOUT, bytes::table());
             Ok(())
