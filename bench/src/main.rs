@@ -43,13 +43,15 @@ use std::process::ExitCode;
 #[global_allocator]
 static ALLOCATOR: counting::Counting = counting::Counting;
 
-// Prints each table once its rows are measured. Answers how many rows were left out.
+// Prints each table that has a line, once its rows are measured. Answers how many rows were left out.
 fn print_tables(plan: &Plan, word: &str) -> usize {
     let mut left_out = 0;
     for (table, rows) in selected(word) {
         let asked = rows.len();
         let measured = plan.measure(rows);
-        println!("{}\n", table.text(&measured));
+        if !measured.is_empty() {
+            println!("{}\n", table.text(&measured));
+        }
         left_out += asked - measured.len();
     }
     left_out
