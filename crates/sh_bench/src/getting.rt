@@ -53,6 +53,43 @@ fn read_each<L: KeyLayout>(pass: &mut Pass<'_, L>, keys: &[u64]) -> Result<u64, 
     Ok(sum)
 }
 
+// The same, into one value.
+fn read_each_into<L: KeyLayout>(pass: &mut Pass<'_, L>, keys: &[u64]) -> Result<u64, Refusal> {
+    let mut value = Value::empty();
+    let mut sum = 0u64;
+    for key in keys {
+        let hold = pass.get(*key)?;
+        pass.read_into(hold, &mut value)?;
+        pass.release(hold)?;
+        sum = sum.wrapping_add(sum_of(&value));
+    }
+    Ok(sum)
+}
+
+// Takes a hold that keeps its place on each key, and gives it back.
+fn guard_each<L: KeyLayout>(pass: &mut Pass<'_, L>, keys: &[u64]) -> Result<u64, Refusal> {
+    let mut sum = 0u64;
+    for key in keys {
+        let guard = pass.get_guard(*key)?;
+        sum = sum.wrapping_add(guard.key());
+        pass.release_guard(guard)?;
+    }
+    Ok(sum)
+}
+
+// Reads the value of each key into one value, under a hold that keeps its place.
+fn read_each_guarded<L: KeyLayout>(pass: &mut Pass<'_, L>, keys: &[u64]) -> Result<u64, Refusal> {
+    let mut value = Value::empty();
+    let mut sum = 0u64;
+    for key in keys {
+        let guard = pass.get_guard(*key)?;
+        pass.read_guard(&guard, &mut value)?;
+        pass.release_guard(guard)?;
+        sum = sum.wrapping_add(sum_of(&value));
+    }
+    Ok(sum)
+}
+
 fn use_each<L: KeyLayout>(
     pass: &mut Pass<'_, L>,
     keys: &[u64],
@@ -60,6 +97,9 @@ fn use_each<L: KeyLayout>(
 ) -> Result<u64, Refusal> {
     match workload {
         Workload::Read => read_each(pass, keys),
+        Workload::ReadInto => read_each_into(pass, keys),
+        Workload::GetGuard => guard_each(pass, keys),
+        Workload::ReadGuard => read_each_guarded(pass, keys),
         _ => get_each(pass, keys),
     }
 }

@@ -21,7 +21,11 @@ fn measure_with<L: KeyLayout + Send + Sync, R: Threads + Clock + Sync>(
     options: &Options,
 ) -> Result<Outcome, Fault> {
     match options.workload {
-        Workload::Get | Workload::Read => getting::measure::<L, R>(rt, alloc, options),
+        Workload::Get
+        | Workload::Read
+        | Workload::ReadInto
+        | Workload::GetGuard
+        | Workload::ReadGuard => getting::measure::<L, R>(rt, alloc, options),
         Workload::Insert | Workload::Remove | Workload::Churn => {
             inserting::measure::<L, R>(rt, alloc, options)
         }

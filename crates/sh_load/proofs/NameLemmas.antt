@@ -1,5 +1,5 @@
 -- A name is that of one workload, and of one layout.
-use Rattle.std.proofs.Common.{◌≡◌, ◌∙◌, ℕ, ◌==◌, if◌then◌else◌, refl, sym, ap, slice_index}
+use Rattle.std.proofs.Common.{◌≡◌, ◌∙◌, ℕ, ◌==◌, if◌then◌else◌, refl, sym, ap, slice_index, get_or}
 use Rattle.clap.specs.Words.{Text}
 use Rattle.sh_load.specs.declared.workload.Workload.{Workload}
 use Rattle.sh_load.specs.declared.workload.Workload.TheVariants as workload
@@ -7,11 +7,21 @@ use Rattle.sh_load.specs.declared.layout.Layout.{Layout}
 use Rattle.sh_load.specs.declared.layout.Layout.TheVariants as layout
 use Rattle.sh_load.specs.Names.{layout_name, workload_name}
 
--- the workload with this first and this third letter
-abbrev lettered : (first third : ℕ) → Workload
-lettered first third =
-    if first == 103 then workload.Get
-    else if first == 114 then (if third == 97 then workload.Read else workload.Remove)
+-- what gets, by the fourth letter, and what reads, by the sixth
+abbrev getting : (fourth : ℕ) → Workload
+getting fourth = if fourth == 45 then workload.GetGuard else workload.Get
+
+abbrev reading : (sixth : ℕ) → Workload
+reading sixth =
+    if sixth == 105 then workload.ReadInto
+    else if sixth == 103 then workload.ReadGuard
+    else workload.Read
+
+-- the workload with this first and this third letter, and this fourth and this sixth one if it has so many
+abbrev lettered : (first third fourth sixth : ℕ) → Workload
+lettered first third fourth sixth =
+    if first == 103 then getting fourth
+    else if first == 114 then (if third == 97 then reading sixth else workload.Remove)
     else if first == 105 then workload.Insert
     else if first == 99 then workload.Churn
     else if first == 104 then workload.Hand
@@ -19,11 +29,14 @@ lettered first third =
     else workload.Leave
 
 abbrev workload_at : Text → Workload
-workload_at name = lettered (slice_index name 0) (slice_index name 2)
+workload_at name = lettered (slice_index name 0) (slice_index name 2) (get_or name 3 0) (get_or name 5 0)
 
 back : (w : Workload) → workload_at (workload_name w) ≡ w
 back workload.Get = refl
 back workload.Read = refl
+back workload.ReadInto = refl
+back workload.GetGuard = refl
+back workload.ReadGuard = refl
 back workload.Insert = refl
 back workload.Remove = refl
 back workload.Churn = refl

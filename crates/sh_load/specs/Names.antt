@@ -9,6 +9,9 @@ use Rattle.sh_load.specs.declared.layout.Layout.TheVariants as layout
 abbrev pub workload_name : Workload → List ℕ
 workload_name workload.Get = codes "get"
 workload_name workload.Read = codes "read"
+workload_name workload.ReadInto = codes "read-into"
+workload_name workload.GetGuard = codes "get-guard"
+workload_name workload.ReadGuard = codes "read-guard"
 workload_name workload.Insert = codes "insert"
 workload_name workload.Remove = codes "remove"
 workload_name workload.Churn = codes "churn"

@@ -221,6 +221,9 @@ pub fn options_of<'a>(alloc: Global, words: &'a [&'a str]) -> Result<Options, Er
     let workloads = [
         workload::name(Workload::Get),
         workload::name(Workload::Read),
+        workload::name(Workload::ReadInto),
+        workload::name(Workload::GetGuard),
+        workload::name(Workload::ReadGuard),
         workload::name(Workload::Insert),
         workload::name(Workload::Remove),
         workload::name(Workload::Churn),

@@ -9,6 +9,12 @@ pub enum Workload {
     Get,
     /// A pass gets a key, reads its value and releases it.
     Read,
+    /// The same as `Read`, into a value of the caller's.
+    ReadInto,
+    /// The same as `Get`, by a hold that keeps its place.
+    GetGuard,
+    /// The same as `ReadInto`, by a hold that keeps its place.
+    ReadGuard,
     /// An owner inserts.
     Insert,
     /// An owner removes what it inserted.
@@ -30,6 +36,9 @@ pub fn name(workload: Workload) -> &'static str
     match workload {
         Workload::Get => "get",
         Workload::Read => "read",
+        Workload::ReadInto => "read-into",
+        Workload::GetGuard => "get-guard",
+        Workload::ReadGuard => "read-guard",
         Workload::Insert => "insert",
         Workload::Remove => "remove",
         Workload::Churn => "churn",
@@ -47,6 +56,9 @@ pub fn workload_named(word: &str) -> Option<Workload>
     match word {
         "get" => Some(Workload::Get),
         "read" => Some(Workload::Read),
+        "read-into" => Some(Workload::ReadInto),
+        "get-guard" => Some(Workload::GetGuard),
+        "read-guard" => Some(Workload::ReadGuard),
         "insert" => Some(Workload::Insert),
         "remove" => Some(Workload::Remove),
         "churn" => Some(Workload::Churn),

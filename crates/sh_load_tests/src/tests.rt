@@ -44,6 +44,9 @@ fn each_workload_has_its_name(rt: HostRuntime) -> Result<(), Fail> {
     let table = [
         ("get", Workload::Get),
         ("read", Workload::Read),
+        ("read-into", Workload::ReadInto),
+        ("get-guard", Workload::GetGuard),
+        ("read-guard", Workload::ReadGuard),
         ("insert", Workload::Insert),
         ("remove", Workload::Remove),
         ("churn", Workload::Churn),
