@@ -7,8 +7,8 @@ ghost use Rattle.sh_table.specs.Seats.{IsSeat};
 ghost use Rattle.sh_pass.specs.Passes.{GetDoes, ReadIntoDoes, RemoveDoes, ReleaseDoes, HoldsKept, caller_of};
 ghost use Rattle.sh_pass.specs.Owners.{CallLeaves};
 
-use crate::guard::Guard;
 use crate::entering::{get_at, release_at, remove_at};
+use crate::guard::Guard;
 use crate::reading::read_at;
 use arrayvec::ArrayVec;
 use sh_key::KeyLayout;
@@ -134,9 +134,7 @@ pub(crate) fn release_key<L: KeyLayout>(
     let Some(at) = find(held.as_slice(), key) else {
         return (Err(Refusal::NotHeld), None);
     };
-    let Some(name) = place else {
-        unreachable!()
-    };
+    let Some(name) = place else { unreachable!() };
     let slot = release_at(table, seat, key, name, owned);
     // Their order means nothing, so none but the last one moves.
     held.swap_remove(at);
@@ -166,9 +164,7 @@ pub(crate) fn read_key<L: KeyLayout>(
     let Some(_at) = find(held.as_slice(), key) else {
         return Err(Refusal::NotHeld);
     };
-    let Some(name) = place else {
-        unreachable!()
-    };
+    let Some(name) = place else { unreachable!() };
     *value = Value::empty();
     read_at(table, seat, key, name, value);
     Ok(())

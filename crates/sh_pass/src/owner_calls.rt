@@ -112,7 +112,14 @@ impl<'a, L: KeyLayout> Owner<'a, L> {
     {
         let heap = self.heap;
         let place = place_of_key::<L>(heap.table.shape(), hold.key);
-        read_key(&heap.table, &mut self.seat, &self.held, hold.key, place, value)
+        read_key(
+            &heap.table,
+            &mut self.seat,
+            &self.held,
+            hold.key,
+            place,
+            value,
+        )
     }
 
     /// The same as `read_into`, by a hold that keeps its place.
@@ -125,6 +132,13 @@ impl<'a, L: KeyLayout> Owner<'a, L> {
     {
         let heap = self.heap;
         let place = guard.place(heap.table.shape());
-        read_key(&heap.table, &mut self.seat, &self.held, guard.key(), place, value)
+        read_key(
+            &heap.table,
+            &mut self.seat,
+            &self.held,
+            guard.key(),
+            place,
+            value,
+        )
     }
 }

@@ -98,7 +98,15 @@ impl<L: KeyLayout> PassState<L> {
         ensures idle { self.new.view.own.body.hand ≡ Idle }
     {
         let place = place_of_key::<L>(heap.table.shape(), hold.key);
-        release_key(&heap.table, &mut self.seat, &mut self.held, hold.key, place, None).0
+        release_key(
+            &heap.table,
+            &mut self.seat,
+            &mut self.held,
+            hold.key,
+            place,
+            None,
+        )
+        .0
     }
 
     /// The same as `release`, of a hold that keeps its place.
@@ -111,7 +119,15 @@ impl<L: KeyLayout> PassState<L> {
         ensures idle { self.new.view.own.body.hand ≡ Idle }
     {
         let place = guard.place(heap.table.shape());
-        release_key(&heap.table, &mut self.seat, &mut self.held, guard.key(), place, None).0
+        release_key(
+            &heap.table,
+            &mut self.seat,
+            &mut self.held,
+            guard.key(),
+            place,
+            None,
+        )
+        .0
     }
 
     /// The value of a key that the pass holds. Refused as `NotHeld`, exactly where it has no hold on the key.
@@ -143,7 +159,14 @@ impl<L: KeyLayout> PassState<L> {
         ensures idle { self.new.view.own.body.hand ≡ Idle }
     {
         let place = place_of_key::<L>(heap.table.shape(), hold.key);
-        read_key(&heap.table, &mut self.seat, &self.held, hold.key, place, value)
+        read_key(
+            &heap.table,
+            &mut self.seat,
+            &self.held,
+            hold.key,
+            place,
+            value,
+        )
     }
 
     /// The same as `read_into`, by a hold that keeps its place.
@@ -161,6 +184,13 @@ impl<L: KeyLayout> PassState<L> {
         ensures idle { self.new.view.own.body.hand ≡ Idle }
     {
         let place = guard.place(heap.table.shape());
-        read_key(&heap.table, &mut self.seat, &self.held, guard.key(), place, value)
+        read_key(
+            &heap.table,
+            &mut self.seat,
+            &self.held,
+            guard.key(),
+            place,
+            value,
+        )
     }
 }

@@ -54,7 +54,10 @@ fn an_owner_reads_by_a_guard(rt: HostRuntime) {
     assert_eq!(rt; shard.read_into(guard.hold(), &mut into), Ok(()));
     assert_eq!(rt; into, value(&rt, &[9]));
     assert_eq!(rt; shard.release_guard(guard), Ok(()));
-    assert_eq!(rt; shard.read_into(Hold { key: 4_096 }, &mut into), Err(Refusal::NotHeld));
+    assert_eq!(rt;
+        shard.read_into(Hold { key: 4_096 }, &mut into),
+        Err(Refusal::NotHeld)
+    );
     assert_eq!(rt; into, value(&rt, &[9]));
 }
 
