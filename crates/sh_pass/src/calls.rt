@@ -165,7 +165,7 @@ pub(crate) fn read_key<L: KeyLayout>(
         return Err(Refusal::NotHeld);
     };
     let Some(name) = place else { unreachable!() };
-    *value = Value::empty();
+    value.clear();
     read_at(table, seat, key, name, value);
     Ok(())
 }

@@ -2,36 +2,56 @@
 ghost use Rattle.std.specs.Prelude.{◌≡◌};
 ghost use Rattle.sh_value.specs.Refusal.{refusal_number, refusal_name};
 
+use std::alloc::{AllocError, AllocFailed};
+use thiserror::Error;
+
 /// Why a call is refused. A refused call leaves the map, the holds and the issued keys as they were.
-#[derive(Clone, Copy, Debug, PartialEq, Eq)]
+///
+/// It is an error like any other: it is shown with its name and its usual reason, and `?` makes one of memory that was
+/// refused, or of a refusal that comes with what was to be used (as `Shard::adopt` gives its pass back; `?` lets that
+/// go, so match where it is still wanted).
+#[derive(Clone, Copy, Debug, PartialEq, Eq, Error)]
 pub enum Refusal {
     /// The number is no key of the layout, or its place is outside the heap's shape.
+    #[error("BadKey: the number is no key of this heap")]
     BadKey,
     /// The key names no present value: it was never issued, or it was removed.
+    #[error("Gone: the key was removed, or never issued")]
     Gone,
     /// The key has as many holds as a key may have. The running heap goes by the count in the slot's word, in which each
     /// pass that is on the slot for a moment counts too: where a key may have four holds, three and one pass that is
     /// about to remove it are enough.
+    #[error("Crowded: the key has as many holds as it may have")]
     Crowded,
     /// The pass has 16 holds.
+    #[error("HoldsFull: the pass has 16 holds")]
     HoldsFull,
     /// The pass has no hold on that key.
+    #[error("NotHeld: the pass has no hold on the key")]
     NotHeld,
     /// More than 16 words.
+    #[error("TooLong: a value has at most 16 words")]
     TooLong,
     /// There is no room for a further value.
+    #[error("Full: the shard has no room for the value")]
     Full,
     /// Memory was asked for and refused.
+    #[error("Memory: memory was refused")]
     Memory,
     /// The shard has an owner.
+    #[error("Taken: the shard has an owner")]
     Taken,
     /// There is no such shard, or the pass owns none.
+    #[error("NoShard: there is no such shard, or the pass owns none")]
     NoShard,
     /// Another pass is in the middle of a free that has to end first.
+    #[error("Waiting: another pass is in the middle of a free")]
     Waiting,
     /// The numbers are outside the limits of a shape, or do not fit the layout.
+    #[error("BadShape: the numbers are outside the limits of a shape")]
     BadShape,
     /// The stored value is not of the record's kind, or does not decode.
+    #[error("WrongKind: the value is not of the record's kind")]
     WrongKind,
 }
 
@@ -76,5 +96,29 @@ impl Refusal {
             Refusal::BadShape => "BadShape",
             Refusal::WrongKind => "WrongKind",
         }
+    }
+}
+
+impl From<AllocError> for Refusal {
+    fn from(_refused: AllocError) -> Refusal
+        ensures { result ≡ Refusal.Memory }
+    {
+        Refusal::Memory
+    }
+}
+
+impl<T: Drop> From<AllocFailed<T>> for Refusal {
+    fn from(_refused: AllocFailed<T>) -> Refusal
+        ensures { result ≡ Refusal.Memory }
+    {
+        Refusal::Memory
+    }
+}
+
+impl<T: Drop> From<(T, Refusal)> for Refusal {
+    fn from(refused: (T, Refusal)) -> Refusal
+        ensures { result ≡ refused.1 }
+    {
+        refused.1
     }
 }

@@ -33,6 +33,18 @@ impl Value {
         }
     }
 
+    /// The value of these words, of which there are at most 16: `Value::of([7, 8, 9])`. How many there are is known
+    /// where the call stands, so it is not refused.
+    pub fn of<const N: usize>(words: [u64; N]) -> Value
+        requires { N ≤ 16 }
+        ensures { result ≡ words.entry }
+    {
+        match Value::new(&words) {
+            Ok(value) => value,
+            Err(_) => unreachable!(),
+        }
+    }
+
     /// The value with no words.
     pub fn empty() -> Value
         ensures { result ≡ [] }
@@ -40,6 +52,13 @@ impl Value {
         Value {
             words: ArrayVec::new(),
         }
+    }
+
+    /// Takes all words away.
+    pub fn clear(&mut self)
+        ensures { self.new ≡ [] }
+    {
+        self.words.clear();
     }
 
     /// Puts a word behind the others, of which there are at most 15.
@@ -83,9 +102,19 @@ impl Value {
     }
 }
 
+impl From<u64> for Value {
+    /// The value of one word.
+    fn from(word: u64) -> Value
+        ensures { result ≡ word ∷ [] }
+    {
+        Value::of([word])
+    }
+}
+
 #[cfg(test)]
 mod tests {
     use super::*;
+    use std::alloc::AllocError;
     use std::test::Fail;
 
     #[test]
@@ -100,13 +129,17 @@ mod tests {
         assert_eq!(rt; empty, Value::empty());
         empty.push(7);
         assert_eq!(rt; empty.words(), [7].as_slice());
+        empty.clear();
+        assert_eq!(rt; empty, Value::empty());
+        assert_eq!(rt; Value::of([5, 6]).words(), [5, 6].as_slice());
+        assert_eq!(rt; Value::from(9).words(), [9].as_slice());
         let rest = Value::new(&[5, 6]).expect(&rt, "two words fit");
         assert_eq!(rt; Value::prefixed(1, &rest).words(), [1, 5, 6].as_slice());
         Ok(())
     }
 
     #[test]
-    fn refusals_have_numbers_and_names(rt: HostRuntime) {
+    fn refusals_have_numbers_and_names(rt: HostRuntime) -> Result<(), Fail> {
         let table = [
             (Refusal::BadKey, 1, "BadKey"),
             (Refusal::Gone, 2, "Gone"),
@@ -125,6 +158,13 @@ mod tests {
         for (refusal, number, name) in table {
             assert_eq!(rt; refusal.number(), number, "{name}");
             assert_eq!(rt; refusal.name(), name, "{name}");
+            let shown = format!(in rt.alloc(); "{refusal}")?;
+            assert!(rt; shown.starts_with(name), "{shown}");
+            assert!(rt; shown[name.len()..].starts_with(": "), "{shown}");
         }
+        let lost: Refusal = AllocError.into();
+        assert_eq!(rt; lost, Refusal::Memory);
+        assert_eq!(rt; Refusal::from((7, Refusal::Taken)), Refusal::Taken);
+        Ok(())
     }
 }
