@@ -1,5 +1,6 @@
 //! The command line.
 use crate::selection::selected;
+use std::path::PathBuf;
 use std::slice::Iter;
 
 /// So many rounds, if nothing else is said.
@@ -12,6 +13,8 @@ pub enum Request {
     Times {
         rounds: usize,
         word: String,
+        /// The folder for pictures of the table of calls, if they are wanted.
+        plots: Option<PathBuf>,
     },
     /// The table of bytes a value.
     Bytes,
@@ -19,14 +22,15 @@ pub enum Request {
 }
 
 pub const HELP: &str = "\
-usage: bench [--rows WORD] [ROUNDS]
+usage: bench [--rows WORD] [--plots FOLDER] [ROUNDS]
        bench bytes
 
 The tables of times, or that of bytes a value.
 
-  ROUNDS       so many rounds, at least 1; 15 if it is not said
-  --rows WORD  only the rows with this in their title, such as 'churn' or 'read into'
-  -h, --help   this text
+  ROUNDS          so many rounds, at least 1; 15 if it is not said
+  --rows WORD     only the rows with this in their title, such as 'churn' or 'read into'
+  --plots FOLDER  writes the pictures ratios.svg and growth.svg of the table of calls into this folder
+  -h, --help      this text
 
 The variable SH_BENCH names the program of the library, in place of crates/sh_bench/out/sh_bench.
 Exit status: 0 all was measured, 1 something could not be, 2 the command line is wrong.";
@@ -49,6 +53,15 @@ fn word(rest: &mut Iter<'_, &str>) -> Result<String, String> {
     }
 }
 
+// What stands behind --plots, if it is a folder.
+fn folder(rest: &mut Iter<'_, &str>) -> Result<PathBuf, String> {
+    match rest.next().map(PathBuf::from) {
+        None => Err("--plots wants a folder".to_string()),
+        Some(path) if !path.is_dir() => Err(format!("{} is no folder", path.display())),
+        Some(path) => Ok(path),
+    }
+}
+
 // Notes what was said once.
 fn note<T>(place: &mut Option<T>, said: T, name: &str) -> Result<(), String> {
     match place.replace(said) {
@@ -58,15 +71,16 @@ fn note<T>(place: &mut Option<T>, said: T, name: &str) -> Result<(), String> {
 }
 
 fn times(words: &[&str]) -> Result<Request, String> {
-    let (mut asked, mut selecting) = (None, None);
+    let (mut asked, mut selecting, mut plots) = (None, None, None);
     let mut rest = words.iter();
     while let Some(next) = rest.next() {
         match *next {
             "--rows" => note(&mut selecting, word(&mut rest)?, "the rows")?,
+            "--plots" => note(&mut plots, folder(&mut rest)?, "the plots")?,
             other => note(&mut asked, rounds(other)?, "the rounds")?,
         }
     }
-    Ok(Request::Times { rounds: asked.unwrap_or(ROUNDS), word: selecting.unwrap_or_default() })
+    Ok(Request::Times { rounds: asked.unwrap_or(ROUNDS), word: selecting.unwrap_or_default(), plots })
 }
 
 /// What the words ask for, of which the first is not the program's name; or, in one line, why they are wrong.
@@ -84,7 +98,7 @@ mod tests {
     use super::*;
 
     fn times_of(rounds: usize, word: &str) -> Result<Request, String> {
-        Ok(Request::Times { rounds, word: word.to_string() })
+        Ok(Request::Times { rounds, word: word.to_string(), plots: None })
     }
 
     #[test]
@@ -94,6 +108,8 @@ mod tests {
         assert_eq!(request(&["--rows", "churn"]), times_of(15, "churn"));
         assert_eq!(request(&["--rows", "read into", "3"]), times_of(3, "read into"));
         assert_eq!(request(&["3", "--rows", "adopt"]), times_of(3, "adopt"));
+        let plots = Some(PathBuf::from("/tmp"));
+        assert_eq!(request(&["--plots", "/tmp", "3"]), Ok(Request::Times { rounds: 3, word: String::new(), plots }));
         assert_eq!(request(&["bytes"]), Ok(Request::Bytes));
         assert_eq!(request(&["--help"]), Ok(Request::Help));
     }
@@ -109,6 +125,8 @@ mod tests {
             (&["--rows"], "--rows wants a word"),
             (&["--rows", "nothing like it"], "no row has nothing like it in its title"),
             (&["--rows", "get", "--rows", "read"], "the rows are said twice"),
+            (&["--plots"], "--plots wants a folder"),
+            (&["--plots", "/nowhere"], "/nowhere is no folder"),
             (&["--fast"], "no option --fast"),
             (&["-3"], "no option -3"),
             (&["bytes", "3"], "bytes takes no 3"),

@@ -16,6 +16,7 @@ mod mutex_slab;
 mod mutex_slot_map;
 mod ours;
 mod payload;
+mod plots;
 mod program;
 mod ring;
 mod rival;
@@ -28,6 +29,7 @@ mod selection;
 mod sharded;
 mod sides;
 mod slot_keys;
+mod svg;
 mod table;
 mod times;
 mod title;
@@ -35,16 +37,28 @@ mod workload;
 mod workloads;
 
 use arguments::Request;
-use measuring::Plan;
+use measuring::{Measured, Plan};
 use program::Program;
 use selection::selected;
+use std::fs;
+use std::path::Path;
 use std::process::ExitCode;
+use table::Table;
 
 #[global_allocator]
 static ALLOCATOR: counting::Counting = counting::Counting;
 
+// Writes the pictures of the table of calls.
+fn write_plots(folder: &Path, measured: &[Measured]) -> Result<(), String> {
+    for (name, picture) in [("ratios.svg", plots::ratios(measured)), ("growth.svg", plots::growth(measured))] {
+        let path = folder.join(name);
+        fs::write(&path, picture).map_err(|why| format!("{}: {why}", path.display()))?;
+    }
+    Ok(())
+}
+
 // Prints each table that has a line, once its rows are measured. Answers how many rows were left out.
-fn print_tables(plan: &Plan, word: &str) -> usize {
+fn print_tables(plan: &Plan, word: &str, plots: Option<&Path>) -> Result<usize, String> {
     let mut left_out = 0;
     for (table, rows) in selected(word) {
         let asked = rows.len();
@@ -53,8 +67,11 @@ fn print_tables(plan: &Plan, word: &str) -> usize {
             println!("{}\n", table.text(&measured));
         }
         left_out += asked - measured.len();
+        if let (Table::Calls, Some(folder)) = (table, plots) {
+            write_plots(folder, &measured)?;
+        }
     }
-    left_out
+    Ok(left_out)
 }
 
 // Says what is measured, and where.
@@ -62,10 +79,10 @@ fn print_about(program: &Program, rounds: usize) {
     println!("{}\n{}\nrounds: {rounds}\n", program.text(), machine::text());
 }
 
-fn measure(rounds: usize, word: &str) -> Result<(), String> {
+fn measure(rounds: usize, word: &str, plots: Option<&Path>) -> Result<(), String> {
     let program = Program::find()?;
     print_about(&program, rounds);
-    let left_out = print_tables(&Plan { program: &program.path, rounds }, word);
+    let left_out = print_tables(&Plan { program: &program.path, rounds }, word, plots)?;
     if !program.is_unchanged() {
         return Err(format!("{} changed while it was measured", program.path.display()));
     }
@@ -77,7 +94,7 @@ fn measure(rounds: usize, word: &str) -> Result<(), String> {
 
 fn do_as_asked(request: Request) -> Result<(), String> {
     match request {
-        Request::Times { rounds, word } => measure(rounds, &word),
+        Request::Times { rounds, word, plots } => measure(rounds, &word, plots.as_deref()),
         Request::Bytes => {
             println!("{}\n\n{}", bytes::ABOUT, bytes::table());
             Ok(())

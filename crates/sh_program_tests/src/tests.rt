@@ -242,8 +242,17 @@ fn a_mistake_in_the_words_is_shown(rt: HostRuntime) -> Result<(), Fail> {
 }
 
 /// The end of the help.
-const HELP_END: &str = "Example:
-  shardheap plain < FILE
+const HELP_END: &str = "Modes:
+  plain    calls, one after the other, on a plain map
+  heap     calls, one after the other, on the running heap, in one thread
+  threads  calls on the running heap, those of each pass in a thread of its own
+  steps    single atomic steps, in the order of the script, on the model of the heap
+
+A script is text: a line that says how large the heap is, and then a line for each call or step.
+docs/FORMATS.md says how to write one, and gives the usual reason of each fault and refusal.
+
+Example, of files in the folder examples/:
+  shardheap heap --accounts < freed.script
 
 Exit status:
   0  the script was run, or help or the version was asked for
