@@ -1,0 +1,16 @@
+use Rattle.std.proofs.Common.{◌≡◌, List}
+use Rattle.std.specs.Prelude.{◌*◌}
+use Rattle.sh_shape.specs.Places.{all_pages}
+use Rattle.sh_gather.specs.Gathering.{NotedMore}
+use Rattle.sh_totals.specs.declared.pages.PageAccounts.{PageAccounts}
+use Rattle.sh_totals.specs.Pages.{AreFirst}
+use Rattle.sh_totals.specs.Sums.{AtMost, sums}
+use Rattle.sh_totals.proofs.totals.total.Given as goal
+
+-- the sums over the pages so far, of which each has 48 slots at most
+abbrev pub invariant-loop-number : goal.invariant-loop-number
+invariant-loop-number g l =
+    (l.whole.heap ≡ l.fn.whole.heap) × NotedMore l.fn.whole.view l.whole.view
+    × (l.number-end ≡ all_pages l.fn.whole.heap.shape) × AtMost (48 * l.number) l.sums
+    × ((pages : List PageAccounts) × AreFirst g.L.KeyLayout.layout l.fn.whole l.whole l.number pages
+    × (l.sums ≡ sums pages))

@@ -1,0 +1,9 @@
+//! What stands on the pages of a heap of which all passes met: the accounts of each page, one after the other, and their
+//! sums.
+#![tactic(auto)]
+
+pub mod pages;
+pub mod totals;
+
+pub use pages::{PageAccounts, all_accounts, page_accounts};
+pub use totals::{Totals, total};
