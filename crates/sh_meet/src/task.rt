@@ -1,0 +1,54 @@
+//! Work for threads, of which it is known what it gives.
+use std::thread::{Threads, join};
+
+/// Work for a thread of its own, and what is known of what it gives.
+///
+/// A closure that borrows a heap, as one that has a pass does, says nothing of its result by `thread::join`. A task does:
+/// it is a struct with the pass, and `gives` relates the task before to its output. So a pass that a task gives back is
+/// known to be of its heap:
+///
+/// ```text
+/// impl<'a> Task for Reading<'a> {
+///     type Output = (Pass<'a, Wide>, Result<Value, Refusal>);
+///
+///     ghost gives = { λ task output. output.0.heap ≡ task.pass.heap };
+///
+///     fn run(self) -> Self::Output {
+///         let Reading { mut pass, key } = self;
+///         let value = pass.load(key);
+///         (pass, value)
+///     }
+/// }
+/// ```
+pub trait Task {
+    /// What it gives in the end.
+    type Output;
+
+    // What is known of the output of this very task.
+    ghost gives: { Self → Self.Output → Type 0 };
+
+    /// Does the work.
+    fn run(self) -> Self::Output
+        ensures { gives self result };
+}
+
+/// Runs two tasks, each in a thread of its own where one can be made, and answers what both gave. What each task is said
+/// to give is known of its output.
+pub fn both<R: Threads, S: Task<Output = A> + Send + Drop, T: Task<Output = B> + Drop, A: Send, B>(
+    rt: &R,
+    one: S,
+    two: T,
+) -> (A, B)
+    ensures one { S.gives one result.0 }
+    ensures two { T.gives two result.1 }
+{
+    join(
+        rt,
+        move || -> A
+            ensures { S.gives one result }
+        { one.run() },
+        move || -> B
+            ensures { T.gives two result }
+        { two.run() },
+    )
+}
