@@ -1,0 +1,55 @@
+-- What the calls do that end what they begin, and what stays over each call of a reader.
+use Rattle.std.specs.Prelude.{◌≡◌, ℕ, ◌+◌, ◌<◌, ◌≤◌, ◌⊎◌, List, [], ◌∷◌, ◌++◌, map, length, Result, Ok, Err}
+use Rattle.sh_history.specs.declared.entry.Entry.TheVariants as entry
+use Rattle.sh_history.specs.declared.log.LogEntry.{LogEntry}
+use Rattle.sh_history.specs.declared.log.LogEntry.TheVariants.{Known}
+use Rattle.sh_history.specs.Log.{filled, AllHaveValue}
+use Rattle.sh_key.specs.Layout.{Layout}
+use Rattle.sh_slots.specs.declared.hand.Hand.TheVariants.{Idle}
+use Rattle.sh_value.specs.declared.refusal.Refusal.{Refusal}
+use Rattle.sh_value.specs.declared.refusal.Refusal.TheVariants as refusal
+use Rattle.sh_table.specs.Tales.{ViewStands}
+use Rattle.sh_pass.specs.Growing.{SameTale}
+use Rattle.sh_pass.specs.Passes.{Caller, holds, GetDoes, IsKeyOfHeap}
+
+-- heap and shard are as before, nothing is begun, and all that is known stands
+pub record Remains (layout : Layout) (v w : Caller) : Type 0 where
+  pub heap : w.heap ≡ v.heap
+  pub shard : w.view.own.body.owned ≡ v.view.own.body.owned
+  pub idle : w.view.own.body.hand ≡ Idle
+  pub stands : ViewStands layout w.view
+
+-- the value of the key was read, which is then that of each get of the key, and these entries were added, in at most so
+-- many steps; the holds are as they were
+pub record ReadsAndAdds (key : ℕ) (value : List ℕ) (es : List LogEntry) (most : ℕ) (v w : Caller) : Type 0 where
+  pub same : SameTale v.view w.view
+  pub log : w.view.own.log ≡ map (filled key value) v.view.own.log ++ es
+  pub value_is : AllHaveValue key value w.view.own.log
+  pub holds : holds w ≡ holds v
+  pub steps : length w.view.own.trail ≤ length v.view.own.trail + most
+
+-- there is room for a hold on a key of the heap
+abbrev pub MayGet : Layout → ℕ → Caller → Type 0
+MayGet layout key v = IsKeyOfHeap layout v key × (length (holds v) < 16)
+
+-- a load got, read and released the key, or is refused as the get is
+abbrev pub LoadDoes : Layout → ℕ → Caller → Result (List ℕ) Refusal → Caller → Type 0
+LoadDoes layout key v (Ok value) w =
+    MayGet layout key v × ReadsAndAdds key value
+    (Known (entry.Got v.view.pass key value) ∷ Known (entry.Released v.view.pass key) ∷ []) (length value + 9) v w
+LoadDoes layout key v (Err why) w = GetDoes layout key v (Err why) w
+
+-- the key was got, another had removed it, and it was released
+abbrev pub ComesLate : Layout → ℕ → Caller → Caller → Type 0
+ComesLate layout key v w = MayGet layout key v × ((value : List ℕ) × ReadsAndAdds key value
+    (Known (entry.Got v.view.pass key value) ∷ Known (entry.Gone v.view.pass key)
+    ∷ Known (entry.Released v.view.pass key) ∷ []) (length value + 17) v w)
+
+-- a take got, removed, read and released the key, or is refused as the get is, or another removed the key first
+abbrev pub TakeDoes : Layout → ℕ → Caller → Result (List ℕ) Refusal → Caller → Type 0
+TakeDoes layout key v (Ok value) w =
+    MayGet layout key v × ReadsAndAdds key value
+    (Known (entry.Got v.view.pass key value) ∷ Known (entry.Removed v.view.pass key)
+    ∷ Known (entry.Released v.view.pass key) ∷ []) (length value + 17) v w
+TakeDoes layout key v (Err refusal.Gone) w = GetDoes layout key v (Err refusal.Gone) w ⊎ ComesLate layout key v w
+TakeDoes layout key v (Err why) w = GetDoes layout key v (Err why) w

@@ -1,0 +1,11 @@
+//! What passes and shards have in common: who reads, removes and releases keys, and the calls that end what they begin,
+//! so that no hold is left behind.
+#![tactic(auto)]
+
+pub mod loading;
+mod pass;
+pub mod reader;
+mod shard;
+pub mod taking;
+
+pub use reader::Reader;

@@ -1,0 +1,46 @@
+// A pass reads.
+use crate::reader::Reader;
+use sh_key::KeyLayout;
+use sh_pass::Pass;
+use sh_value::{Hold, Refusal, Value};
+
+impl<L: KeyLayout> Reader for Pass<'_, L> {
+    ghost layout = { L.layout };
+
+    ghost caller = { λ p. p };
+
+    fn get(&mut self, key: u64) -> Result<Hold, Refusal> {
+        let _before = self.shape();
+        let answer = Pass::get(self, key);
+        let _after = self.shape();
+        answer
+    }
+
+    fn read(&mut self, hold: Hold) -> Result<Value, Refusal> {
+        let _before = self.shape();
+        let answer = Pass::read(self, hold);
+        let _after = self.shape();
+        answer
+    }
+
+    fn read_into(&mut self, hold: Hold, value: &mut Value) -> Result<(), Refusal> {
+        let _before = self.shape();
+        let answer = Pass::read_into(self, hold, value);
+        let _after = self.shape();
+        answer
+    }
+
+    fn remove(&mut self, key: u64) -> Result<(), Refusal> {
+        let _before = self.shape();
+        let answer = Pass::remove(self, key);
+        let _after = self.shape();
+        answer
+    }
+
+    fn release(&mut self, hold: Hold) -> Result<(), Refusal> {
+        let _before = self.shape();
+        let answer = Pass::release(self, hold);
+        let _after = self.shape();
+        answer
+    }
+}

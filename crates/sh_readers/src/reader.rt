@@ -1,0 +1,77 @@
+//! What a pass and a shard have in common.
+ghost use Rattle.std.specs.Prelude.{ℕ, Result};
+ghost use Rattle.sh_key.specs.Layout.{Layout};
+ghost use Rattle.sh_pass.specs.Passes.{Caller, GetDoes, ReadDoes, ReadIntoDoes, RemoveDoes, ReleaseDoes};
+ghost use Rattle.sh_readers.specs.Readers.{Remains, LoadDoes, TakeDoes};
+
+use crate::loading::load;
+use crate::taking::take;
+use sh_value::{Hold, Refusal, Value};
+
+/// Who may look keys up: a pass, or a shard by its owner's pass.
+///
+/// ```text
+/// let value = pass.fetch(key)?;   // read, and held no longer
+/// let value = pass.take(key)?;    // read and removed: no one else gets it by `take`
+/// ```
+///
+/// The first five calls are those of `Pass` and of `Shard`, with the same contracts. `fetch` and `take` end what they
+/// begin: whatever they answer, they leave the holds as they were.
+pub trait Reader {
+    // How keys are numbered.
+    ghost layout: { Layout };
+
+    // The heap, and what is known of it.
+    ghost caller: { Self → Caller };
+
+    /// Takes a hold on a key, so that its value stays readable. Refused as `BadKey`, `HoldsFull`, `Gone` or `Crowded`,
+    /// tried in that order.
+    fn get(&mut self, key: u64) -> Result<Hold, Refusal>
+        ensures does { GetDoes layout key (caller self.old) result (caller self.new) }
+        ensures remains { Remains layout (caller self.old) (caller self.new) };
+
+    /// The value of a key that is held. Refused as `NotHeld`, exactly where there is no hold on the key.
+    fn read(&mut self, hold: Hold) -> Result<Value, Refusal>
+        ensures does { ReadDoes hold.key (caller self.old) result (caller self.new) }
+        ensures remains { Remains layout (caller self.old) (caller self.new) };
+
+    /// The same into a value of the caller's, in place of what that was, so that it is copied nowhere. A refusal leaves
+    /// that as it was.
+    fn read_into(&mut self, hold: Hold, value: &mut Value) -> Result<(), Refusal>
+        ensures does { ReadIntoDoes hold.key (caller self.old) value.old result value.new (caller self.new) }
+        ensures remains { Remains layout (caller self.old) (caller self.new) };
+
+    /// Removes a key: no later get finds it, and its value stays until the last hold goes. Refused as `BadKey` or
+    /// `Gone`.
+    fn remove(&mut self, key: u64) -> Result<(), Refusal>
+        ensures does { RemoveDoes layout key (caller self.old) result (caller self.new) }
+        ensures remains { Remains layout (caller self.old) (caller self.new) };
+
+    /// Gives one hold on a key back. Refused as `NotHeld`, exactly where there is none on the key.
+    fn release(&mut self, hold: Hold) -> Result<(), Refusal>
+        ensures does { ReleaseDoes layout hold.key (caller self.old) result (caller self.new) }
+        ensures remains { Remains layout (caller self.old) (caller self.new) };
+
+    /// The value of a key: a get, a read and a release in one, in at most w + 9 steps for w words. Refused as a get is:
+    /// `BadKey`, `HoldsFull`, `Gone` or `Crowded`. No hold is left behind, whatever it answers.
+    final fn fetch(&mut self, key: u64) -> Result<Value, Refusal>
+    where
+        Self: Sized,
+        ensures does { LoadDoes layout key (caller self.old) result (caller self.new) }
+        ensures remains { Remains layout (caller self.old) (caller self.new) }
+    {
+        load(self, key)
+    }
+
+    /// The value of a key, which this call removes, in at most w + 17 steps for w words. Of all that take one key, one
+    /// alone gets the value. Refused as a get is: `BadKey`, `HoldsFull`, `Gone` or `Crowded`, and as `Gone` too where
+    /// another removed the key between the get and the removal. No hold is left behind, whatever it answers.
+    final fn take(&mut self, key: u64) -> Result<Value, Refusal>
+    where
+        Self: Sized,
+        ensures does { TakeDoes layout key (caller self.old) result (caller self.new) }
+        ensures remains { Remains layout (caller self.old) (caller self.new) }
+    {
+        take(self, key)
+    }
+}

@@ -1,0 +1,46 @@
+// A shard reads, by its owner's pass.
+use crate::reader::Reader;
+use sh_key::KeyLayout;
+use sh_shard::Shard;
+use sh_value::{Hold, Refusal, Value};
+
+impl<L: KeyLayout> Reader for Shard<'_, L> {
+    ghost layout = { L.layout };
+
+    ghost caller = { λ s. s.pages.owner };
+
+    fn get(&mut self, key: u64) -> Result<Hold, Refusal> {
+        let _before = self.shape();
+        let answer = Shard::get(self, key);
+        let _after = self.shape();
+        answer
+    }
+
+    fn read(&mut self, hold: Hold) -> Result<Value, Refusal> {
+        let _before = self.shape();
+        let answer = Shard::read(self, hold);
+        let _after = self.shape();
+        answer
+    }
+
+    fn read_into(&mut self, hold: Hold, value: &mut Value) -> Result<(), Refusal> {
+        let _before = self.shape();
+        let answer = Shard::read_into(self, hold, value);
+        let _after = self.shape();
+        answer
+    }
+
+    fn remove(&mut self, key: u64) -> Result<(), Refusal> {
+        let _before = self.shape();
+        let answer = Shard::remove(self, key);
+        let _after = self.shape();
+        answer
+    }
+
+    fn release(&mut self, hold: Hold) -> Result<(), Refusal> {
+        let _before = self.shape();
+        let answer = Shard::release(self, hold);
+        let _after = self.shape();
+        answer
+    }
+}

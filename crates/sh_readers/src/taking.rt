@@ -1,0 +1,26 @@
+//! A get, a removal, a read and a release in one.
+ghost use Rattle.sh_readers.specs.Readers.{Remains, TakeDoes};
+
+use crate::reader::Reader;
+use sh_value::{Refusal, Value};
+
+/// The value of a key that this call removes. Refused as a get is, and as `Gone` where another removed it first. No hold
+/// is left behind, whatever it answers.
+#[tactic(auto, using(crate::proofs::Holding::has_first, crate::proofs::Holding::without_first))]
+pub fn take<R: Reader>(reader: &mut R, key: u64) -> Result<Value, Refusal>
+    ensures does { TakeDoes R.layout key (R.caller reader.old) result (R.caller reader.new) }
+    ensures remains { Remains R.layout (R.caller reader.old) (R.caller reader.new) }
+{
+    let hold = reader.get(key)?;
+    let removed = reader.remove(key);
+    let Ok(value) = reader.read(hold) else {
+        unreachable!()
+    };
+    let Ok(()) = reader.release(hold) else {
+        unreachable!()
+    };
+    match removed {
+        Ok(()) => Ok(value),
+        Err(why) => Err(why),
+    }
+}
