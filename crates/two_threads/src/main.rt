@@ -4,11 +4,7 @@
 //! Every pass gets, reads, removes and releases any key of the heap. Only inserting needs a shard of one's own.
 #![tactic(auto)]
 
-use sh_key::Wide;
-use sh_pass::{Heap, Pass};
-use sh_shape::Shape;
-use sh_shard::Shard;
-use sh_value::{Refusal, Value};
+use gearlongan::{Heap, Pass, Refusal, Shape, Shard, Value, Wide};
 use std::alloc::Global;
 use std::io;
 use std::process::ExitCode;

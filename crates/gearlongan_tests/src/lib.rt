@@ -1,0 +1,5 @@
+//! Tests of the calls that a program makes by `gearlongan` alone.
+#![tactic(auto)]
+
+#[cfg(test)]
+mod tests;
