@@ -15,7 +15,7 @@ use std::thread::{Threads, join};
 ///
 ///     fn run(self) -> Self::Output {
 ///         let Reading { mut pass, key } = self;
-///         let value = pass.load(key);
+///         let value = pass.fetch(key);    // by `Reader` of `sh_readers`
 ///         (pass, value)
 ///     }
 /// }
