@@ -11,7 +11,8 @@ def short(slot):
     for long, brief in SHORT.items():
         if slot.rest.startswith(long):
             return brief + slot.rest[len(long):]
-    return "queued" if slot.rest.startswith("queued") else slot.rest
+    rest = "queued" if slot.rest.startswith("queued") else slot.rest
+    return rest if len(rest) <= 14 else f"{rest[:12]}.."
 
 
 def story_lines(frame):
@@ -48,7 +49,7 @@ def draw_lane(picture, x, y, name, links, owing):
 def draw_slots(picture, page, x, y):
     for slot in page.slots:
         column, row = slot.number % 3, slot.number // 3
-        lines = [f"slot {slot.number}  {slot.kind} g{slot.generation}", f"count {slot.count}  {short(slot)}".rstrip()]
+        lines = [f"slot {slot.number}: {slot.kind} g{slot.generation}", f"count {slot.count}, {short(slot)}".rstrip(", ")]
         picture.cell(x + column * (CELL + 2), y + row * (HIGH + 6), CELL, HIGH, lines, slot.look(), 11)
 
 

@@ -94,7 +94,7 @@ def class_rows(picture, y):
 
 def page():
     picture = Picture(900, 560)
-    picture.text(10, 24, "a page: 195 words, by their offsets", "bold", 12)
+    picture.text(10, 24, "a page: 195 words, by their offsets", "bold")
     words_of_page(picture)
     x = word_parts(picture, 124, "a head", [("top: 0 none, n + 1 slot n", 360, "own"), ("armed", 60, "hand")])
     picture.text(x + 14, 144, "the number is twice the top, plus armed", "grey", 11)
@@ -131,7 +131,8 @@ def key_bar(picture, y, name, size, parts):
 
 def keys():
     picture = Picture(940, 330)
-    picture.text(10, 22, "a key is a number: its parts, with how many bits each has, the lowest on the right", "bold", 12)
+    title = "a key is a number: its parts, with how many bits each has, the lowest on the right"
+    picture.text(10, 22, title, "bold")
     for number, (name, size, parts) in enumerate(KEYS):
         key_bar(picture, 44 + number * 70, name, size, parts)
     tiny = 44 + 2 * 70 + 40
@@ -186,5 +187,6 @@ def life():
     picture.bend([(50, 120), (50, 268), (188, 268)])
     picture.text(20, 300, "the owner, as it leaves: Put, Tie (its generation stays)", "", 11)
     picture.text(420, 153, "Finish, by the owner itself: generation g+1", "", 11, "middle")
-    picture.text(20, 412, "g is the generation that the slot has. Each value has another one, and its key has that", "grey", 11)
+    note = "g is the generation that the slot has. Each value has another one, and its key has that"
+    picture.text(20, 412, note, "grey", 11)
     return picture

@@ -1,5 +1,5 @@
-"""A picture of boxes, texts and arrows, written as SVG. A text that leaves the picture or lies on another one is refused
-as it is drawn, since all texts are of one width a letter."""
+"""A picture of boxes, texts and arrows, written as SVG. A text that leaves the picture or lies on another one is
+refused as it is drawn, since all texts are of one width a letter."""
 
 from html import escape
 

@@ -140,12 +140,7 @@ fn push_hold(
 }
 
 // Writes the keys that the pass holds, in the order in which it got them first.
-fn push_holds(
-    out: &mut String,
-    view: &View<'_>,
-    pass: u32,
-    part: &Part,
-) -> Result<(), AllocError> {
+fn push_holds(out: &mut String, view: &View<'_>, pass: u32, part: &Part) -> Result<(), AllocError> {
     let mut at = 0;
     for entry in view.log {
         if let Some(key) = key_got(entry, pass) {
@@ -163,12 +158,7 @@ fn is_busy(part: &Part) -> bool {
     !part.is_idle() || part.owned().is_some() || part.hold_count() > 0
 }
 
-fn push_pass(
-    out: &mut String,
-    view: &View<'_>,
-    pass: u32,
-    part: &Part,
-) -> Result<(), AllocError> {
+fn push_pass(out: &mut String, view: &View<'_>, pass: u32, part: &Part) -> Result<(), AllocError> {
     write!(out, "  pass {pass}: ")?;
     push_hand(out, view, part.hand())?;
     if let Some(shard) = part.owned() {

@@ -21,8 +21,7 @@ fn remark_of(view: &View<'_>, part: &Part, kind: ActionKind, touched: Touched) -
             ": another is on the slot, or ended its generation"
         }
         Touched::PageAndBell(page)
-            if kind == ActionKind::FollowBell && part.bell_cursor() == Some(page) =>
-        {
+            if kind == ActionKind::FollowBell && part.bell_cursor() == Some(page) => {
             ": the link is not written"
         }
         Touched::Shard(_) if kind == ActionKind::Adopt && part.owned().is_none() => {

@@ -106,7 +106,10 @@ impl<L: KeyLayout> Session<L> {
         if text.extend_from_slice(line).is_err() {
             return Err(Fault::Memory);
         }
-        let Events { header: _, mut lines } = parse_events(alloc, text.as_slice())?;
+        let Events {
+            header: _,
+            mut lines,
+        } = parse_events(alloc, text.as_slice())?;
         Ok(lines.pop())
     }
 

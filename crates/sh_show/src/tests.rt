@@ -66,8 +66,14 @@ fn faults_name_the_line_of_the_script(rt: HostRuntime) -> Result<(), Fail> {
         ("version 2\n", Fault::Script(2, Cause::Header)),
         ("heap tiny 1 1\n", Fault::Script(1, Cause::Header)),
         ("heap tiny 5 1 1\n", Fault::BadShape),
-        ("heap tiny 1 1 1\n0 Adopt 0\n0 adopt 0\n", Fault::Script(3, Cause::Command)),
-        ("heap tiny 1 1 1\n;\n0 Adopt 0", Fault::Script(3, Cause::Cut)),
+        (
+            "heap tiny 1 1 1\n0 Adopt 0\n0 adopt 0\n",
+            Fault::Script(3, Cause::Command),
+        ),
+        (
+            "heap tiny 1 1 1\n;\n0 Adopt 0",
+            Fault::Script(3, Cause::Cut),
+        ),
         ("heap tiny 1 1 1\n1 Mark\n", Fault::Script(2, Cause::Pass)),
     ];
     for (script, fault) in table {
@@ -80,26 +86,50 @@ fn faults_name_the_line_of_the_script(rt: HostRuntime) -> Result<(), Fail> {
 #[test]
 fn skipped_events_say_why(rt: HostRuntime) -> Result<(), Fail> {
     let table = [
-        ("0 Mark\n", "the pass has begun nothing that goes on with this"),
+        (
+            "0 Mark\n",
+            "the pass has begun nothing that goes on with this",
+        ),
         ("0 Enter get 1\n", "the key names no slot of this heap"),
         ("1 Drop 4096\n", "the pass has no hold on this key"),
         ("1 Take 0.0\n", "the pass does not own the shard"),
         ("0 Take 0.9\n", "the heap has no such page"),
-        ("0 Take 0.1\n", "the pass has not noted the class of the page"),
+        (
+            "0 Take 0.1\n",
+            "the pass has not noted the class of the page",
+        ),
         ("0 Read 0.1\n0 Take 0.1\n", "the page has no class"),
-        ("0 Follow 0.0\n", "the pass has no chain of the page to follow"),
+        (
+            "0 Follow 0.0\n",
+            "the pass has no chain of the page to follow",
+        ),
         ("0 Put 0.0.48\n", "the heap has no such slot"),
         ("0 Put 0.0.3\n", "the slot is not the pass's own"),
-        ("0 Arm 0.0\n0 Arm 0.0\n", "the pass has armed the page already"),
+        (
+            "0 Arm 0.0\n0 Arm 0.0\n",
+            "the pass has armed the page already",
+        ),
         ("0 Adopt 1\n", "the pass owns a shard already"),
         ("1 Adopt 2\n", "the heap has no such shard"),
         ("1 Leave\n", "the pass owns no shard"),
         ("0 Leave\n", "a slot of the shard is still the pass's own"),
-        ("0 FollowBell\n", "the pass has no chain of the bell to follow"),
+        (
+            "0 FollowBell\n",
+            "the pass has no chain of the bell to follow",
+        ),
         ("0 SetClass 0.0 8\n", "there is no such class"),
-        ("0 Fill 0.0.0 1\n0 Publish\n", "words of the value are not stored yet"),
-        ("0 Fill 0.0.0\n0 Fill\n", "all words of the value are stored"),
-        ("0 Fill 0.0.0\n0 Fill 0.0.1\n", "the pass has begun something else"),
+        (
+            "0 Fill 0.0.0 1\n0 Publish\n",
+            "words of the value are not stored yet",
+        ),
+        (
+            "0 Fill 0.0.0\n0 Fill\n",
+            "all words of the value are stored",
+        ),
+        (
+            "0 Fill 0.0.0\n0 Fill 0.0.1\n",
+            "the pass has begun something else",
+        ),
     ];
     for (lines, reason) in table {
         let text = trace_of(rt.alloc(), lines)?;
@@ -112,10 +142,22 @@ fn skipped_events_say_why(rt: HostRuntime) -> Result<(), Fail> {
 fn links_are_told_with_those_who_owe_them(rt: HostRuntime) -> Result<(), Fail> {
     let table = [
         ("0 Put 0.0.2\n", "    stack: 2 ~> end\n"),
-        ("0 Put 0.0.2\n", "    slot 2: Empty, generation 1, count 0; queued, pass 0 owes its link to the end\n"),
-        ("0 Put 0.0.2\n0 Tie\n0 Put 0.0.0\n", "    stack: 0 ~> 2 -> end\n"),
-        ("0 Put 0.0.2\n0 Tie\n0 Put 0.0.0\n0 Tie\n0 Take 0.0\n", "    chain: 0 -> 2 -> end\n"),
-        ("0 Put 0.0.2\n0 Tie\n", "    slot 2: Empty, generation 1, count 0; queued, linked to the end\n"),
+        (
+            "0 Put 0.0.2\n",
+            "    slot 2: Empty, generation 1, count 0; queued, pass 0 owes its link to the end\n",
+        ),
+        (
+            "0 Put 0.0.2\n0 Tie\n0 Put 0.0.0\n",
+            "    stack: 0 ~> 2 -> end\n",
+        ),
+        (
+            "0 Put 0.0.2\n0 Tie\n0 Put 0.0.0\n0 Tie\n0 Take 0.0\n",
+            "    chain: 0 -> 2 -> end\n",
+        ),
+        (
+            "0 Put 0.0.2\n0 Tie\n",
+            "    slot 2: Empty, generation 1, count 0; queued, linked to the end\n",
+        ),
         ("1 Adopt 0\n", "1 Adopt moved: the shard has an owner\n"),
     ];
     for (lines, part) in table {
@@ -142,11 +184,15 @@ fn holds_are_counted(rt: HostRuntime) -> Result<(), Fail> {
 
 #[test]
 fn keys_have_the_tag_of_the_header(rt: HostRuntime) -> Result<(), Fail> {
-    let script = "version 2\nheap tagged 1 1 1 tag 1\n0 Enter get 1048576\n0 Enter get 72057594038976512\n";
+    let script =
+        "version 2\nheap tagged 1 1 1 tag 1\n0 Enter get 1048576\n0 Enter get 72057594038976512\n";
     let (ended, output) = trace(rt.alloc(), script);
     assert_eq!(rt; ended, Ok(()));
     let text = String::from_utf8(output).expect(&rt, "it is a text");
-    assert!(rt; text.as_str().contains("0 Enter skipped: the key has not the tag of the header\n"));
+    assert!(rt;
+        text.as_str()
+            .contains("0 Enter skipped: the key has not the tag of the header\n")
+    );
     assert!(rt; text.as_str().contains("0 Enter Gone 72057594038976512\n"));
     Ok(())
 }

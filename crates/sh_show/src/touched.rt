@@ -41,10 +41,8 @@ fn by_move(the_move: &Move) -> Touched {
         | Move::Put(spot)
         | Move::PutSlot(spot)
         | Move::Tie(spot, _, _) => Touched::Slot(*spot),
-        Move::ReadPage(page)
-        | Move::SetClass(page, _)
-        | Move::Take(page)
-        | Move::Arm(page) => Touched::Page(*page),
+        Move::ReadPage(page) | Move::SetClass(page, _) | Move::Take(page) | Move::Arm(page) =>
+            Touched::Page(*page),
         Move::Follow(page, slot) => Touched::Link(*page, *slot),
         Move::Adopt(shard) | Move::Leave(shard) | Move::TakeBell(shard) => Touched::Shard(*shard),
         Move::Ring(page) | Move::RingTie(page, _) | Move::FollowBell(page) => {
