@@ -7,7 +7,7 @@ use sh_step::Part;
 use std::alloc::AllocError;
 use std::fmt::Write;
 
-/// Writes the name of a slot.
+// Writes the name of a slot.
 fn push_spot(out: &mut String, view: &View<'_>, spot: Spot) -> Result<(), AllocError> {
     let (shard, page) = (view.shard_of(spot.page), view.local_of(spot.page));
     let slot = spot.slot;

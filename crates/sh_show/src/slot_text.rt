@@ -9,7 +9,10 @@ use sh_word::{Kind, State};
 use std::alloc::{AllocError, Global};
 use std::fmt::Write;
 
-/// How a kind is written.
+// As many words as a value may have.
+const VALUE_WORDS: u64 = 16;
+
+// How a kind is written.
 fn kind_name(kind: Kind) -> &'static str {
     match kind {
         Kind::Empty => "Empty",
@@ -43,7 +46,7 @@ fn push_value(out: &mut String, view: &View<'_>, spot: Spot) -> Result<(), Alloc
         return out.push_str("; the empty value");
     }
     out.push_str("; value")?;
-    for number in 0..view.length(spot) {
+    for number in 0..view.length(spot).min(VALUE_WORDS) {
         let word = view.value_word(spot, width, number);
         write!(out, " {word}")?;
     }

@@ -22,6 +22,18 @@ const LENGTHS: u64 = 99;
 
 const PAYLOAD: u64 = 147;
 
+// Each key of layout `tagged` is below this.
+const KEYS_END: u64 = 4_503_599_627_370_496;
+
+// A key of layout `tagged` with its tag.
+fn tagged(key: u64, tag: u8) -> u64 {
+    if key < KEYS_END {
+        Tagged::tag(key, tag)
+    } else {
+        key
+    }
+}
+
 /// A world, as a trace looks at it.
 #[derive(Clone, Copy)]
 pub struct View<'a> {
@@ -151,8 +163,8 @@ impl<'a> View<'a> {
     /// A key as a script has it.
     pub fn key(&self, key: u64) -> u64 {
         match self.tag {
-            Some(tag) if key < 1 << 52 => Tagged::tag(key, tag),
-            _ => key,
+            Some(tag) => tagged(key, tag),
+            None => key,
         }
     }
 }

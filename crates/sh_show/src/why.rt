@@ -1,5 +1,7 @@
 //! Which condition of an event does not hold. Each function looks at the conditions of some events, in the order in
 //! which a reader would, and answers the first that does not hold.
+ghost use Rattle.std.specs.Prelude.{◌≤◌};
+
 use crate::reason::Reason;
 use sh_key::KeyLayout;
 use sh_shape::{Shape, slots, width};
@@ -14,7 +16,9 @@ fn unless(holds: bool, reason: Reason) -> Result<(), Reason> {
 }
 
 // What makes the word a class word: how many slots a page under it has, and how wide they are.
-fn class_under(class_word: u64) -> (u64, u64) {
+fn class_under(class_word: u64) -> (u64, u64)
+    ensures { result.0 ≤ 48 }
+{
     match class_word {
         1..=8 => (
             u64::from(slots(class_word as u32 - 1)),
