@@ -23,4 +23,3 @@ pub mod watch;
 mod why;
 
 pub use session::Session;
-pub use watch::watch;

@@ -1,4 +1,4 @@
-use crate::watch;
+use crate::watch::watch;
 use sh_script::{Cause, Fault};
 use std::alloc::Global;
 use std::test::Fail;

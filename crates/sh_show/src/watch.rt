@@ -2,7 +2,7 @@
 use crate::Session;
 use sh_key::{KeyLayout, Tagged, Tiny, Wide};
 use sh_output::ends::write_text;
-use sh_script::{Cause, Events, Fault, Header, Layout, parse_events};
+use sh_script::{Cause, Fault, Header, Layout, parse_events};
 use std::alloc::Global;
 use std::io::{BufRead, Write};
 
@@ -31,12 +31,24 @@ fn echo<W: Write>(output: &mut W, line: &[u8], is_said: bool) -> Result<(), Faul
     write_text(output, line)
 }
 
+// Whether a fault of a text of so many lines is that its header is yet to come.
+fn is_to_come(fault: Fault, number: u64) -> bool {
+    match fault {
+        Fault::Script(line, Cause::Header) => line > number,
+        _ => false,
+    }
+}
+
 // The header, where the text is a script of events up to it; none where its header is yet to come.
 fn header_of(alloc: Global, number: u64, text: &[u8]) -> Result<Option<Header>, Fault> {
-    match parse_events(alloc, text) {
-        Ok(Events { header, lines: _ }) => Ok(Some(header)),
-        Err(Fault::Script(line, Cause::Header)) if line > number => Ok(None),
-        Err(fault) => Err(fault),
+    let fault = match parse_events(alloc, text) {
+        Ok(events) => return Ok(Some(events.header)),
+        Err(fault) => fault,
+    };
+    if is_to_come(fault, number) {
+        Ok(None)
+    } else {
+        Err(fault)
     }
 }
 

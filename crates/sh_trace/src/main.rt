@@ -3,7 +3,7 @@
 #![tactic(auto)]
 
 use sh_script::Fault;
-use sh_show::watch;
+use sh_show::watch::watch;
 use std::alloc::Global;
 use std::io;
 use std::io::{BufReader, Write};
