@@ -1,0 +1,95 @@
+"""A picture of boxes, texts and arrows, written as SVG. A text that leaves the picture or lies on another one is
+refused as it is drawn, since all texts are of one width a letter."""
+
+from html import escape
+
+# How wide a letter is, for each size of letters in use.
+LETTER = {10: 6.05, 11: 6.65, 12: 7.25, 14: 8.45}
+
+STYLE = """text{font-family:'DejaVu Sans Mono',Menlo,Consolas,monospace;fill:#222}
+.page{fill:#ffffff}.plain{fill:#fafafa;stroke:#666}.frame{fill:none;stroke:#bbb}.dark{fill:#555;stroke:#555}
+.live{fill:#cdeccd;stroke:#3f7f3f}.marked{fill:#f8dcae;stroke:#a06a10}.retired{fill:#d4d4d4;stroke:#777}
+.own{fill:#d9e6f8;stroke:#3a66a0}.hand{fill:#fdf3b0;stroke:#9a8410}.queued{fill:#e8dbf4;stroke:#7a4fa3}
+.zero{fill:#f2f2f2;stroke:#aaa}.tag{fill:#f6cfd4;stroke:#a03a48}
+.line{stroke:#333;fill:none;stroke-width:1.3}.owed{stroke:#b02020;fill:none;stroke-width:1.3;stroke-dasharray:5 3}
+.thin{stroke:#999;fill:none}.red{fill:#b02020}.grey{fill:#666}.white{fill:#fff}.bold{font-weight:bold}
+.story{fill:#444;font-style:italic}"""
+
+
+class Picture:
+    def __init__(self, width, height):
+        self.width, self.height = width, height
+        self.items, self.spans = [], []
+
+    def add(self, item):
+        self.items.append(item)
+
+    def box(self, x, y, width, height, kind="plain", round_by=3):
+        self.add(f'<rect x="{num(x)}" y="{num(y)}" width="{num(width)}" height="{num(height)}" '
+                 f'rx="{round_by}" class="{kind}"/>')
+
+    def text(self, x, y, text, kind="", size=12, anchor="start"):
+        wide = len(text) * LETTER[size]
+        left = x - {"start": 0, "middle": wide / 2, "end": wide}[anchor]
+        self.claim(text, left, y - size * 0.8, wide, size)
+        self.add(f'<text x="{num(x)}" y="{num(y)}" font-size="{size}" text-anchor="{anchor}" '
+                 f'class="{kind}">{escape(text)}</text>')
+
+    def claim(self, text, left, top, wide, high):
+        if left < 0 or top < 0 or left + wide > self.width or top + high > self.height:
+            raise ValueError(f"a text leaves the picture: {text}")
+        for other, x, y, w, h in self.spans:
+            if left < x + w and x < left + wide and top < y + h and y < top + high:
+                raise ValueError(f"a text lies on another: {text} / {other}")
+        self.spans.append((text, left, top, wide, high))
+
+    def cell(self, x, y, width, height, lines, kind="plain", size=12):
+        """A box with lines of text in its middle."""
+        self.box(x, y, width, height, kind)
+        step = size + 3
+        first = y + height / 2 - step * (len(lines) - 1) / 2 + size * 0.35
+        for number, line in enumerate(lines):
+            if len(line) * LETTER[size] > width:
+                raise ValueError(f"a text leaves its box: {line}")
+            self.text(x + width / 2, first + step * number, line, size=size, anchor="middle")
+
+    def arrow(self, x1, y1, x2, y2, kind="line"):
+        head = "owed-head" if kind == "owed" else "head"
+        self.add(f'<line x1="{num(x1)}" y1="{num(y1)}" x2="{num(x2)}" y2="{num(y2)}" class="{kind}" '
+                 f'marker-end="url(#{head})"/>')
+
+    def bend(self, points, kind="line"):
+        head = "owed-head" if kind == "owed" else "head"
+        path = " ".join(f"{num(x)},{num(y)}" for x, y in points)
+        self.add(f'<polyline points="{path}" class="{kind}" marker-end="url(#{head})"/>')
+
+    def line(self, x1, y1, x2, y2, kind="thin"):
+        self.add(f'<line x1="{num(x1)}" y1="{num(y1)}" x2="{num(x2)}" y2="{num(y2)}" class="{kind}"/>')
+
+    def dot(self, x, y, radius=6, kind="dark"):
+        self.add(f'<circle cx="{num(x)}" cy="{num(y)}" r="{radius}" class="{kind}"/>')
+
+    def written(self):
+        heads = "".join(
+            f'<marker id="{name}" viewBox="0 0 8 8" refX="7" refY="4" markerWidth="7" markerHeight="7" orient="auto">'
+            f'<path d="M0,0 L8,4 L0,8 z" fill="{colour}"/></marker>'
+            for name, colour in (("head", "#333"), ("owed-head", "#b02020")))
+        size = f'width="{self.width}" height="{self.height}" viewBox="0 0 {self.width} {self.height}"'
+        return "\n".join([f'<svg xmlns="http://www.w3.org/2000/svg" {size}>', f"<style>{STYLE}</style>",
+                          f"<defs>{heads}</defs>", f'<rect class="page" width="{self.width}" height="{self.height}"/>',
+                          *self.items, "</svg>", ""])
+
+
+def num(value):
+    """A coordinate, in one form only."""
+    return f"{value:.1f}".rstrip("0").rstrip(".")
+
+
+def wrapped(text, letters):
+    """The text in lines of at most so many letters."""
+    lines = [""]
+    for word in text.split():
+        if lines[-1] and len(lines[-1]) + 1 + len(word) > letters:
+            lines.append("")
+        lines[-1] = f"{lines[-1]} {word}".strip()
+    return lines
