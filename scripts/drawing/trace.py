@@ -1,4 +1,4 @@
-"""A trace of sh_trace, as frames: one for each event."""
+"""A trace, as frames: one for each event."""
 
 import re
 from dataclasses import dataclass, field
