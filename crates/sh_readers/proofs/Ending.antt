@@ -21,7 +21,7 @@ use Rattle.sh_pass.specs.Growing.{SameTale}
 use Rattle.sh_pass.specs.Deciding.{InOneStep, DropsHold, RemovalDecided}
 use Rattle.sh_pass.specs.Passes.{Caller, holds, CallAdds, CallReads, GetDoes, ReadDoes, ReleaseDoes, RemoveDoes, plan_for}
 use Rattle.sh_table.specs.declared.view.View.{View}
-use Rattle.sh_readers.specs.Readers.{ReadsAndAdds, LoadDoes, TakeDoes}
+use Rattle.sh_readers.specs.Readers.{ReadsAndAdds, FetchDoes, TakeDoes}
 use Rattle.sh_readers.proofs.Holding.{without_first}
 
 same_along : (u v w : View) → SameTale u v → SameTale v w → SameTale u w
@@ -50,12 +50,12 @@ got_read a k value es =
     ∙ ap (λ e. map (filled k value) es ++ e ∷ []) (filled_first a k value)
 
 -- a get, a read and a release
-pub loads : (k : ℕ) (value : List ℕ) (First Last : List Footstep → Type 0) (v a b c : Caller)
+pub fetches : (k : ℕ) (value : List ℕ) (First Last : List Footstep → Type 0) (v a b c : Caller)
     → CallAdds (Unread v.view.pass k ∷ []) (k ∷ holds v) 1 First v a → CallReads k value a b
     → CallAdds (Known (entry.Released b.view.pass k) ∷ []) (without (λ n. n == k) (holds b)) 6 Last b c
     → ReadsAndAdds k value (Known (entry.Got v.view.pass k value) ∷ Known (entry.Released v.view.pass k) ∷ [])
     (length value + 9) v c
-loads k value First Last v a b c got read released =
+fetches k value First Last v a b c got read released =
     let pass : b.view.pass ≡ v.view.pass = read.same.pass ∙ got.same.pass in
     let log : b.view.own.log ≡ map (filled k value) v.view.own.log ++ Known (entry.Got v.view.pass k value) ∷ [] =
     read.log ∙ (ap (map (filled k value)) got.log ∙ got_read v.view.pass k value v.view.own.log) in
@@ -117,16 +117,16 @@ takes k value E First Mid Last v a b c d got removed read released =
       steps = omega arith;
     }
 
-pub load_does : (layout : Layout) (k : ℕ) (hold : Hold) (value : List ℕ) (v a b c : Caller)
+pub fetch_does : (layout : Layout) (k : ℕ) (hold : Hold) (value : List ℕ) (v a b c : Caller)
     → GetDoes layout k v (Ok hold) a → ReadDoes hold.key a (Ok value) b → ReleaseDoes layout hold.key b (Ok tt) c
-    → LoadDoes layout k v (Ok value) c
-load_does layout k hold value v a b c got read released =
+    → FetchDoes layout k v (Ok value) c
+fetch_does layout k hold value v a b c got read released =
     let R : ℕ → Type 0 = λ n. ReadDoes n a (Ok value) b in
     let S : ℕ → Type 0 = λ n. ReleaseDoes layout n b (Ok tt) c in
     let reads : ReadDoes k a (Ok value) b = subst R got.0 read in
     let releases : ReleaseDoes layout k b (Ok tt) c = subst S got.0 released in (
       (got.1, got.2),
-      loads k value (InOneStep (plan_for layout v) k) (DropsHold (plan_for layout b) k) v a b c got.3 reads.1 releases.1,
+      fetches k value (InOneStep (plan_for layout v) k) (DropsHold (plan_for layout b) k) v a b c got.3 reads.1 releases.1,
     )
 
 pub take_does : (layout : Layout) (k : ℕ) (hold : Hold) (value : List ℕ) (v a b c d : Caller)

@@ -32,12 +32,12 @@ pub record ReadsAndAdds (key : ℕ) (value : List ℕ) (es : List LogEntry) (mos
 abbrev pub MayGet : Layout → ℕ → Caller → Type 0
 MayGet layout key v = IsKeyOfHeap layout v key × (length (holds v) < 16)
 
--- a load got, read and released the key, or is refused as the get is
-abbrev pub LoadDoes : Layout → ℕ → Caller → Result (List ℕ) Refusal → Caller → Type 0
-LoadDoes layout key v (Ok value) w =
+-- a fetch got, read and released the key, or is refused as the get is
+abbrev pub FetchDoes : Layout → ℕ → Caller → Result (List ℕ) Refusal → Caller → Type 0
+FetchDoes layout key v (Ok value) w =
     MayGet layout key v × ReadsAndAdds key value
     (Known (entry.Got v.view.pass key value) ∷ Known (entry.Released v.view.pass key) ∷ []) (length value + 9) v w
-LoadDoes layout key v (Err why) w = GetDoes layout key v (Err why) w
+FetchDoes layout key v (Err why) w = GetDoes layout key v (Err why) w
 
 -- the key was got, another had removed it, and it was released
 abbrev pub ComesLate : Layout → ℕ → Caller → Caller → Type 0

@@ -2,7 +2,7 @@
 //! so that no hold is left behind.
 #![tactic(auto)]
 
-pub mod loading;
+pub mod fetching;
 mod pass;
 pub mod reader;
 mod shard;

@@ -2,9 +2,9 @@
 ghost use Rattle.std.specs.Prelude.{ℕ, Result};
 ghost use Rattle.sh_key.specs.Layout.{Layout};
 ghost use Rattle.sh_pass.specs.Passes.{Caller, GetDoes, ReadDoes, ReadIntoDoes, RemoveDoes, ReleaseDoes};
-ghost use Rattle.sh_readers.specs.Readers.{Remains, LoadDoes, TakeDoes};
+ghost use Rattle.sh_readers.specs.Readers.{Remains, FetchDoes, TakeDoes};
 
-use crate::loading::load;
+use crate::fetching::fetch;
 use crate::taking::take;
 use sh_value::{Hold, Refusal, Value};
 
@@ -57,10 +57,10 @@ pub trait Reader {
     final fn fetch(&mut self, key: u64) -> Result<Value, Refusal>
     where
         Self: Sized,
-        ensures does { LoadDoes layout key (caller self.old) result (caller self.new) }
+        ensures does { FetchDoes layout key (caller self.old) result (caller self.new) }
         ensures remains { Remains layout (caller self.old) (caller self.new) }
     {
-        load(self, key)
+        fetch(self, key)
     }
 
     /// The value of a key, which this call removes, in at most w + 17 steps for w words. Of all that take one key, one

@@ -1,13 +1,13 @@
 //! A get, a read and a release in one.
-ghost use Rattle.sh_readers.specs.Readers.{Remains, LoadDoes};
+ghost use Rattle.sh_readers.specs.Readers.{Remains, FetchDoes};
 
 use crate::reader::Reader;
 use sh_value::{Refusal, Value};
 
 /// The value of a key. Refused as a get is. No hold is left behind, whatever it answers.
 #[tactic(auto, using(crate::proofs::Holding::has_first, crate::proofs::Holding::without_first))]
-pub fn load<R: Reader>(reader: &mut R, key: u64) -> Result<Value, Refusal>
-    ensures does { LoadDoes R.layout key (R.caller reader.old) result (R.caller reader.new) }
+pub fn fetch<R: Reader>(reader: &mut R, key: u64) -> Result<Value, Refusal>
+    ensures does { FetchDoes R.layout key (R.caller reader.old) result (R.caller reader.new) }
     ensures remains { Remains R.layout (R.caller reader.old) (R.caller reader.new) }
 {
     let hold = reader.get(key)?;
