@@ -44,10 +44,6 @@ pub fn take_turn<L: KeyLayout, U: User>(
     let held = some_hold(record, dice);
     match (turn, key, held) {
         (Turn::Get, Some(key), _) => using::get(user, record, board, key, false),
-        (Turn::Glance, Some(key), _) => {
-            let keeps = dice.once_in(4);
-            using::glance(user, record, board, key, keeps);
-        }
         (Turn::Guess, Some(key), _) => {
             using::get(user, record, board, next_key::<L>(key), true);
         }

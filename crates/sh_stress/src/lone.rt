@@ -6,7 +6,7 @@ use crate::owner::Owner;
 use crate::stopped::Stopped;
 use crate::user::User;
 use sh_key::KeyLayout;
-use sh_pass::{Guard, Pass};
+use sh_pass::Pass;
 use sh_shard::Shard;
 use sh_value::{Hold, Refusal, Value};
 use std::alloc::Global;
@@ -59,22 +59,12 @@ impl<'a, L: KeyLayout, H: Home> Lone<'a, L, H> {
 }
 
 impl<L: KeyLayout, H: Home> User for Lone<'_, L, H> {
-    type Layout = L;
-
     fn get(&mut self, key: u64) -> Result<Hold, Refusal> {
         self.pass.get(key)
     }
 
-    fn get_guard(&mut self, key: u64) -> Result<Guard<L>, Refusal> {
-        self.pass.get_guard(key)
-    }
-
     fn read(&mut self, hold: Hold) -> Result<Value, Refusal> {
         self.pass.read(hold)
-    }
-
-    fn read_guard(&mut self, guard: &Guard<L>, value: &mut Value) -> Result<(), Refusal> {
-        self.pass.read_guard(guard, value)
     }
 
     fn remove(&mut self, key: u64) -> Result<(), Refusal> {
@@ -83,9 +73,5 @@ impl<L: KeyLayout, H: Home> User for Lone<'_, L, H> {
 
     fn release(&mut self, hold: Hold) -> Result<(), Refusal> {
         self.pass.release(hold)
-    }
-
-    fn release_guard(&mut self, guard: Guard<L>) -> Result<(), Refusal> {
-        self.pass.release_guard(guard)
     }
 }

@@ -5,7 +5,6 @@ use crate::home::Home;
 use crate::lone::Lone;
 use crate::user::User;
 use sh_key::KeyLayout;
-use sh_pass::Guard;
 use sh_shard::Shard;
 use sh_value::{Hold, Refusal, Value};
 use std::marker::PhantomData;
@@ -45,22 +44,12 @@ impl<'a, L: KeyLayout, H: Home> Owner<'a, L, H> {
 }
 
 impl<L: KeyLayout, H: Home> User for Owner<'_, L, H> {
-    type Layout = L;
-
     fn get(&mut self, key: u64) -> Result<Hold, Refusal> {
         self.shard.get(key)
     }
 
-    fn get_guard(&mut self, key: u64) -> Result<Guard<L>, Refusal> {
-        self.shard.get_guard(key)
-    }
-
     fn read(&mut self, hold: Hold) -> Result<Value, Refusal> {
         self.shard.read(hold)
-    }
-
-    fn read_guard(&mut self, guard: &Guard<L>, value: &mut Value) -> Result<(), Refusal> {
-        self.shard.read_guard(guard, value)
     }
 
     fn remove(&mut self, key: u64) -> Result<(), Refusal> {
@@ -69,9 +58,5 @@ impl<L: KeyLayout, H: Home> User for Owner<'_, L, H> {
 
     fn release(&mut self, hold: Hold) -> Result<(), Refusal> {
         self.shard.release(hold)
-    }
-
-    fn release_guard(&mut self, guard: Guard<L>) -> Result<(), Refusal> {
-        self.shard.release_guard(guard)
     }
 }
