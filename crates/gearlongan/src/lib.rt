@@ -15,44 +15,47 @@
 //! let value = owner.take(key)?;                         // read and removed; from now on the key is `Gone`
 //! ```
 //!
-//! `two_threads` is a whole program of this kind. Each call answers a `Result`, whose `Refusal` says why it was not done
-//! and changes nothing. `?` takes a refusal out of all of them, also where it comes with what was to be used.
+//! `two_threads` is a whole program of this kind. Each call answers a `Result`, whose `Refusal` says why it was not
+//! done and changes nothing. `?` takes a refusal out of all of them, also where it comes with what was to be used.
 //!
 //! # The words
 //!
-//! - A **heap** has a fixed `Shape`: so many shards, of so many segments each, and so many passes. A segment is 8 pages.
-//! - A **pass** is one caller's right to use the heap: one for each thread. It gets, reads, removes and releases any key.
+//! - A **heap** has a fixed `Shape`: so many shards, of so many segments each, and so many passes. A segment is 8
+//!   pages.
+//! - A **pass** is one caller's right to use the heap: one for each thread. It gets, reads, removes and releases any
+//!   key.
 //! - A **shard** is a part of the heap in which one pass at a time inserts, its owner. `Shard::adopt` makes a pass the
 //!   owner, and `leave` gives the pass back.
 //! - A **page** has slots of one class, wide enough for 1, 2, 3, 4, 6, 8, 12 or 16 words: 48 words in all.
-//! - A **key** names a slot and its **generation**. A slot's generation goes up with each value, so that a key which was
-//!   removed finds nothing for ever, whatever the slot stores by then.
-//! - A **hold** keeps a key's value readable, also when the key is removed meanwhile. `get` takes one, and `release` gives
-//!   it back. `fetch` and `take` (of `Reader`) do both, so that no hold is left behind. A `Guard` is a hold that is faster.
+//! - A **key** names a slot and its **generation**. A slot's generation goes up with each value, so that a key which
+//!   was removed finds nothing for ever, whatever the slot stores by then.
+//! - A **hold** keeps a key's value readable, also when the key is removed meanwhile. `get` takes one, and `release`
+//!   gives it back. `fetch` and `take` (of `Reader`) do both, so that no hold is left behind. A `Guard` is a hold that
+//!   is faster.
 //! - A **layout** says how keys are numbered, and so how many shards, pages, generations and holds there may be.
 //!
 //! # Which layout
 //!
 //! - `Wide`: up to 256 shards of 1024 pages, 2^32 - 1 generations. Take it where you have no reason for another.
 //! - `Tagged`: up to 64 shards of 256 pages; 8 bits of each key are yours.
-//! - `Tiny` is for tests that come to every limit: 4 shards of 16 pages, at most 4 holds a key, and a slot is spent after
-//!   three values.
+//! - `Tiny` is for tests that come to every limit: 4 shards of 16 pages, at most 4 holds a key, and a slot is spent
+//!   after three values.
 //!
 //! A layout of one's own is a type with four numbers, and the same as ghost members (see `Wide` in `sh_key`, and
 //! `wide` in its `specs/Layouts.antt`, which says that they are within their limits).
 //!
 //! # Limits
 //!
-//! A shape has at most 256 segments in all shards together, which is 2048 pages, and at most 64 passes. So a heap stores
-//! at most 98,304 values of one word, and 6,144 of 16 words. A pass has at most 16 holds. What one thread does not
-//! release, no one else can: a pass that is dropped leaves its holds, so that their slots are never used again once their
-//! keys are removed. A shard that is dropped stays taken. After either the heap is never known whole.
+//! A shape has at most 256 segments in all shards together, which is 2048 pages, and at most 64 passes. So a heap
+//! stores at most 98,304 values of one word, and 6,144 of 16 words. A pass has at most 16 holds. What one thread does
+//! not release, no one else can: a pass that is dropped leaves its holds, so that their slots are never used again once
+//! their keys are removed. A shard that is dropped stays taken. After either the heap is never known whole.
 //!
 //! # Threads
 //!
 //! `both` runs two `Task`s and keeps what is known of the passes that they give back; `join` has two passes meet, and
-//! `whole` answers the heap as a whole where all passes met. `total` adds up what its slots are, and `all_accounts` lists
-//! that of each page.
+//! `whole` answers the heap as a whole where all passes met. `total` adds up what its slots are, and `all_accounts`
+//! lists that of each page.
 #![tactic(auto)]
 
 pub use sh_core::Accounts;

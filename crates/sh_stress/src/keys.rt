@@ -44,6 +44,7 @@ pub fn take_turn<L: KeyLayout, U: User>(
     let held = some_hold(record, dice);
     match (turn, key, held) {
         (Turn::Get, Some(key), _) => using::get(user, record, board, key, false),
+        (Turn::Glance, Some(key), _) => using::glance(user, record, board, key),
         (Turn::Guess, Some(key), _) => {
             using::get(user, record, board, next_key::<L>(key), true);
         }

@@ -63,6 +63,12 @@ impl<L: KeyLayout, H: Home> User for Lone<'_, L, H> {
         self.pass.get(key)
     }
 
+    fn glance(&mut self, key: u64, value: &mut Value) -> Result<Hold, Refusal> {
+        let guard = self.pass.get_guard(key)?;
+        self.pass.read_guard(&guard, value)?;
+        Ok(guard.hold())
+    }
+
     fn read(&mut self, hold: Hold) -> Result<Value, Refusal> {
         self.pass.read(hold)
     }

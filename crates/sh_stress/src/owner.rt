@@ -48,6 +48,12 @@ impl<L: KeyLayout, H: Home> User for Owner<'_, L, H> {
         self.shard.get(key)
     }
 
+    fn glance(&mut self, key: u64, value: &mut Value) -> Result<Hold, Refusal> {
+        let guard = self.shard.get_guard(key)?;
+        self.shard.read_guard(&guard, value)?;
+        Ok(guard.hold())
+    }
+
     fn read(&mut self, hold: Hold) -> Result<Value, Refusal> {
         self.shard.read(hold)
     }

@@ -6,6 +6,8 @@ use sh_judge::dice::Dice;
 pub enum Turn {
     /// Gets a key that somebody left.
     Get,
+    /// Gets a key that somebody left by a guard, and reads it.
+    Glance,
     /// Gets a number that may be a key.
     Guess,
     /// Reads what it holds.
@@ -29,7 +31,8 @@ pub enum Turn {
 /// The next turn of a pass that owns no shard.
 pub fn of_lone(dice: &mut Dice) -> Turn {
     match dice.below(32) {
-        0..9 => Turn::Get,
+        0..6 => Turn::Get,
+        6..9 => Turn::Glance,
         9..13 => Turn::Read,
         13..20 => Turn::Release,
         20 => Turn::Remove,
@@ -43,7 +46,8 @@ pub fn of_lone(dice: &mut Dice) -> Turn {
 /// The next turn of an owner.
 pub fn of_owner(dice: &mut Dice) -> Turn {
     match dice.below(32) {
-        0..6 => Turn::Get,
+        0..4 => Turn::Get,
+        4..6 => Turn::Glance,
         6..9 => Turn::Read,
         9..14 => Turn::Release,
         14 => Turn::Remove,

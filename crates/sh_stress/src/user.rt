@@ -6,6 +6,9 @@ pub trait User {
     /// Takes a hold on a key.
     fn get(&mut self, key: u64) -> Result<Hold, Refusal>;
 
+    /// Takes a hold on a key that keeps its place, and reads by it into the value. It goes on as a plain hold.
+    fn glance(&mut self, key: u64, value: &mut Value) -> Result<Hold, Refusal>;
+
     /// The value of a key that it holds.
     fn read(&mut self, hold: Hold) -> Result<Value, Refusal>;
 

@@ -3,9 +3,9 @@ use crate::board::Board;
 use crate::user::User;
 use sh_judge::counts::Count;
 use sh_judge::fault::Call;
-use sh_judge::line::Told;
+use sh_judge::line::{Span, Told};
 use sh_judge::record::Record;
-use sh_value::Refusal;
+use sh_value::{Hold, Refusal, Value};
 
 /// Takes a hold on a number, which may be no key where it was guessed.
 pub fn get<U: User>(user: &mut U, record: &mut Record, board: &Board, key: u64, guessed: bool) {
@@ -15,16 +15,44 @@ pub fn get<U: User>(user: &mut U, record: &mut Record, board: &Board, key: u64, 
     match answer {
         Ok(hold) => record.got(hold, span),
         Err(Refusal::BadKey) if guessed => record.counts.one(Count::BadKeys),
-        Err(Refusal::Gone) => {
+        Err(refusal) => not_got(record, key, span, refusal),
+    }
+}
+
+// Notes a get that was refused.
+fn not_got(record: &mut Record, key: u64, span: Span, refusal: Refusal) {
+    match refusal {
+        Refusal::Gone => {
             record.counts.one(Count::Gones);
             record.tell(key, span, Told::Gone);
         }
-        Err(Refusal::Crowded) => {
+        Refusal::Crowded => {
             record.counts.one(Count::Crowdeds);
             record.tell(key, span, Told::Crowded);
         }
-        Err(Refusal::HoldsFull) if record.is_full() => record.counts.one(Count::HoldsFulls),
-        Err(refusal) => record.refused(Call::Get, refusal),
+        Refusal::HoldsFull if record.is_full() => record.counts.one(Count::HoldsFulls),
+        refusal => record.refused(Call::Get, refusal),
+    }
+}
+
+/// Takes a hold on a key by a guard, and reads by it.
+pub fn glance<U: User>(user: &mut U, record: &mut Record, board: &Board, key: u64) {
+    let mut value = Value::empty();
+    let begin = board.moment();
+    let answer = user.glance(key, &mut value);
+    let span = board.since(begin);
+    match answer {
+        Ok(hold) => seen(record, hold, span, value),
+        Err(refusal) => not_got(record, key, span, refusal),
+    }
+}
+
+// Notes a hold, and what was read by it.
+fn seen(record: &mut Record, hold: Hold, span: Span, value: Value) {
+    let number = record.holds();
+    record.got(hold, span);
+    if let Some(held) = record.hold(number) {
+        record.read(held, value);
     }
 }
 
