@@ -3,8 +3,10 @@
 #![tactic(auto)]
 
 pub mod hold;
+pub mod numbers;
 pub mod record;
 pub mod refusal;
+pub mod short;
 pub mod value;
 
 pub use hold::Hold;

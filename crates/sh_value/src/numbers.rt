@@ -1,0 +1,150 @@
+//! Records of numbers alone: a `u64`, and tuples and arrays of them. Their kind is how many words they have.
+//!
+//! So a struct of some numbers is stored as a tuple or an array, with no trait to implement. What was stored as a tuple
+//! may be read as the array of the same words, and the other way round.
+ghost use Rattle.std.specs.Prelude.{◌≡◌, nat_lt, true, ◌==◌, if◌then◌else◌, get_or, length, [], ◌∷◌, Some, None};
+
+use crate::short::{Length, Short};
+use crate::{Record, Value};
+
+impl<const N: usize> Record for [u64; N]
+where
+    Length: Short<N>,
+{
+    const KIND: u64 = N as u64;
+
+    ghost KIND = { N };
+
+    ghost words = { λ r. r };
+
+    ghost record_of = { λ ws. if length ws == N then Some ws else None };
+
+    fn encode(&self) -> Value {
+        Value::of(*self)
+    }
+
+    fn decode(value: &Value) -> Option<Self> {
+        value.words().try_into().ok()
+    }
+}
+
+impl Record for u64 {
+    const KIND: u64 = 1;
+
+    ghost KIND = { 1 };
+
+    ghost words = { λ r. r ∷ [] };
+
+    ghost record_of = { λ ws. if length ws == 1 then Some (get_or ws 0 0) else None };
+
+    fn encode(&self) -> Value {
+        Value::from(*self)
+    }
+
+    fn decode(value: &Value) -> Option<Self> {
+        match value.words() {
+            [word] => Some(*word),
+            _ => None,
+        }
+    }
+}
+
+impl Record for (u64, u64) {
+    const KIND: u64 = 2;
+
+    ghost KIND = { 2 };
+
+    ghost words = { λ r. r.0 ∷ r.1 ∷ [] };
+
+    ghost record_of = { λ ws. if length ws == 2 then Some (get_or ws 0 0, get_or ws 1 0) else None };
+
+    fn encode(&self) -> Value {
+        Value::of([self.0, self.1])
+    }
+
+    fn decode(value: &Value) -> Option<Self> {
+        match value.words() {
+            [a, b] => Some((*a, *b)),
+            _ => None,
+        }
+    }
+}
+
+impl Record for (u64, u64, u64) {
+    const KIND: u64 = 3;
+
+    ghost KIND = { 3 };
+
+    ghost words = { λ r. r.0 ∷ r.1 ∷ r.2 ∷ [] };
+
+    ghost record_of = { λ ws. if length ws == 3 then Some (get_or ws 0 0, get_or ws 1 0, get_or ws 2 0) else None };
+
+    fn encode(&self) -> Value {
+        Value::of([self.0, self.1, self.2])
+    }
+
+    fn decode(value: &Value) -> Option<Self> {
+        match value.words() {
+            [a, b, c] => Some((*a, *b, *c)),
+            _ => None,
+        }
+    }
+}
+
+impl Record for (u64, u64, u64, u64) {
+    const KIND: u64 = 4;
+
+    ghost KIND = { 4 };
+
+    ghost words = { λ r. r.0 ∷ r.1 ∷ r.2 ∷ r.3 ∷ [] };
+
+    ghost record_of = { λ ws. if length ws == 4 then Some (get_or ws 0 0, get_or ws 1 0, get_or ws 2 0, get_or ws 3 0) else None };
+
+    fn encode(&self) -> Value {
+        Value::of([self.0, self.1, self.2, self.3])
+    }
+
+    fn decode(value: &Value) -> Option<Self> {
+        match value.words() {
+            [a, b, c, d] => Some((*a, *b, *c, *d)),
+            _ => None,
+        }
+    }
+}
+
+#[cfg(test)]
+mod tests {
+    use super::*;
+    use std::fmt::Debug;
+    use std::process::Abort;
+    use std::test::Fail;
+
+    // The record is stored as these words, under the kind of so many, and is read from them alone.
+    fn is_stored_as<R: Record>(rt: &impl Abort, stored: R, words: &[u64])
+    where
+        R: PartialEq + Debug + Drop,
+    {
+        let value = stored.encode();
+        assert_eq!(rt; value.words(), words);
+        assert_eq!(rt; R::KIND, words.len() as u64);
+        assert_eq!(rt; R::decode(&value), Some(stored));
+        assert_eq!(rt; R::decode(&Value::prefixed(0, &value)), None);
+        assert_eq!(rt; R::decode(&Value::empty()), None);
+    }
+
+    #[test]
+    fn numbers_are_records(rt: HostRuntime) -> Result<(), Fail> {
+        is_stored_as(&rt, 7, &[7]);
+        is_stored_as(&rt, [7], &[7]);
+        is_stored_as(&rt, (8, 7), &[8, 7]);
+        is_stored_as(&rt, (9, 8, 7), &[9, 8, 7]);
+        is_stored_as(&rt, (1, 2, 3, 18446744073709551615), &[1, 2, 3, 18446744073709551615]);
+        is_stored_as(
+            &rt,
+            [1, 2, 3, 4, 5, 6, 7, 8, 9, 10, 11, 12, 13, 14, 15],
+            &[1, 2, 3, 4, 5, 6, 7, 8, 9, 10, 11, 12, 13, 14, 15],
+        );
+        assert_eq!(rt; <[u64; 2]>::decode(&(4, 5).encode()), Some([4, 5]));
+        Ok(())
+    }
+}
