@@ -4,3 +4,4 @@ pub mod PageNumbers
 pub mod Leading
 pub mod Walking
 pub mod KeyLists
+pub mod Meeting

@@ -1,5 +1,5 @@
 -- Whole accounts.
-use Rattle.std.specs.Prelude.{◌≡◌, ℕ, ◌+◌, ◌≤◌, List, ◌++◌, length, drop, count_by, Option, None}
+use Rattle.std.specs.Prelude.{◌≡◌, ℕ, ◌+◌, ◌≤◌, List, [], ◌∷◌, ◌++◌, length, drop, count_by, Option, None}
 use Rattle.sh_word.specs.Fields.{Fields}
 use Rattle.sh_key.specs.Layout.{Layout}
 use Rattle.sh_shape.specs.declared.places.Place.{Place}
@@ -13,7 +13,9 @@ use Rattle.sh_core.specs.Stacks.{top}
 use Rattle.sh_core.specs.Worlds.{World}
 use Rattle.sh_accounts.specs.Accounts.{FillPage}
 use Rattle.sh_table.specs.declared.view.View.{View}
+use Rattle.sh_table.specs.Views.{joined_view}
 use Rattle.sh_table.specs.Whole.{IsWhole}
+use Rattle.sh_pass.specs.Passes.{Caller}
 use Rattle.sh_gather.specs.PageKeys.{page_keys, is_live_key, is_marked_key, is_retired_key}
 use Rattle.sh_gather.specs.Histories.{IsHistory, Sure, CanBe}
 use Rattle.sh_gather.specs.Walks.{IsWholeStack}
@@ -23,6 +25,16 @@ pub record IsGathered (v : View) : Type 0 where
   pub whole : IsWhole v
   pub idle : v.own.body.hand ≡ Idle
   pub left : v.own.body.owned ≡ None
+
+-- the view after the tales of these passes were joined in it, in order
+abbrev pub met_view : View → List Caller → View
+met_view v [] = v
+met_view v (p ∷ ps) = met_view (joined_view v p.view) ps
+
+-- the view of the last pass, in which the tales of the others are joined
+abbrev pub IsGatheredFrom : List Caller → View → Type 0
+IsGatheredFrom ps v = (others : List Caller) × ((last : Caller) × (ps ≡ others ++ last ∷ [])
+    × (v ≡ met_view last.view others))
 
 -- some words more were noted, and nothing else is new: the tale is as it was
 abbrev pub NotedMore : View → View → Type 0

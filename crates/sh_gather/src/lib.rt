@@ -9,7 +9,7 @@ pub mod laws;
 mod tests;
 pub mod view;
 
-pub use gathering::{join, whole};
+pub use gathering::{gather, join, whole};
 pub use laws::{notes_keep_histories, page_keys_are_all};
 pub use sh_core::Accounts;
 pub use view::Whole;
