@@ -59,7 +59,7 @@
 #![tactic(auto)]
 
 pub use sh_core::Accounts;
-pub use sh_gather::{Whole, join, whole};
+pub use sh_gather::{Whole, gather, join, whole};
 pub use sh_key::{KeyLayout, Tagged, Tiny, Wide};
 pub use sh_meet::{Task, both};
 pub use sh_pass::{Guard, Heap, Pass, Seats};

@@ -39,6 +39,12 @@ FetchDoes layout key v (Ok value) w =
     (Known (entry.Got v.view.pass key value) ∷ Known (entry.Released v.view.pass key) ∷ []) (length value + 9) v w
 FetchDoes layout key v (Err why) w = GetDoes layout key v (Err why) w
 
+-- a fetch whose value was given to a call that gave this, or that is refused as the get is
+abbrev pub WithDoes : {T : Type 0} → (gives : List ℕ → T → Type 0) → Layout → ℕ → Caller → Result T Refusal → Caller
+    → Type 0
+WithDoes gives layout key v (Ok given) w = (value : List ℕ) × FetchDoes layout key v (Ok value) w × gives value given
+WithDoes gives layout key v (Err why) w = GetDoes layout key v (Err why) w
+
 -- the key was got, another had removed it, and it was released
 abbrev pub ComesLate : Layout → ℕ → Caller → Caller → Type 0
 ComesLate layout key v w = MayGet layout key v × ((value : List ℕ) × ReadsAndAdds key value

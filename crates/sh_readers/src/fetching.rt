@@ -1,5 +1,6 @@
 //! A get, a read and a release in one.
-ghost use Rattle.sh_readers.specs.Readers.{Remains, FetchDoes};
+ghost use Rattle.core.specs.Fn.{FnOnceReturnsAt};
+ghost use Rattle.sh_readers.specs.Readers.{Remains, FetchDoes, WithDoes};
 
 use crate::reader::Reader;
 use sh_value::{Refusal, Value};
@@ -18,4 +19,21 @@ pub fn fetch<R: Reader>(reader: &mut R, key: u64) -> Result<Value, Refusal>
         unreachable!()
     };
     Ok(value)
+}
+
+/// What the call gives for the value of a key. Refused as a get is, and then nothing is called.
+pub fn with<R: Reader, T, F: FnOnce(&Value) -> T>(
+    reader: &mut R,
+    key: u64,
+    call: F,
+) -> Result<T, Refusal>
+where
+    F: Drop,
+    requires { F.IsAlwaysCallable call }
+    ensures does { WithDoes (FnOnceReturnsAt F.FnOnce call) R.layout key (R.caller reader.old) result
+        (R.caller reader.new) }
+    ensures remains { Remains R.layout (R.caller reader.old) (R.caller reader.new) }
+{
+    let value = fetch(reader, key)?;
+    Ok(call(&value))
 }

@@ -2,9 +2,10 @@
 ghost use Rattle.std.specs.Prelude.{ℕ, Result};
 ghost use Rattle.sh_key.specs.Layout.{Layout};
 ghost use Rattle.sh_pass.specs.Passes.{Caller, GetDoes, ReadDoes, ReadIntoDoes, RemoveDoes, ReleaseDoes};
-ghost use Rattle.sh_readers.specs.Readers.{Remains, FetchDoes, TakeDoes};
+ghost use Rattle.sh_readers.specs.Readers.{Remains, FetchDoes, WithDoes, TakeDoes};
+ghost use Rattle.core.specs.Fn.{FnOnceReturnsAt};
 
-use crate::fetching::fetch;
+use crate::fetching::{fetch, with};
 use crate::taking::take;
 use sh_value::{Hold, Refusal, Value};
 
@@ -61,6 +62,20 @@ pub trait Reader {
         ensures remains { Remains layout (caller self.old) (caller self.new) }
     {
         fetch(self, key)
+    }
+
+    /// What a call gives for the value of a key, as `pass.with(key, |value| value.words().len())`: a fetch whose value
+    /// need not be kept. Refused as a get is: `BadKey`, `HoldsFull`, `Gone` or `Crowded`, and then nothing is called. No
+    /// hold is left behind, and there is none while the call runs.
+    final fn with<T, F: FnOnce(&Value) -> T>(&mut self, key: u64, call: F) -> Result<T, Refusal>
+    where
+        Self: Sized,
+        F: Drop,
+        requires { F.IsAlwaysCallable call }
+        ensures does { WithDoes (FnOnceReturnsAt F.FnOnce call) layout key (caller self.old) result (caller self.new) }
+        ensures remains { Remains layout (caller self.old) (caller self.new) }
+    {
+        with(self, key, call)
     }
 
     /// The value of a key, which this call removes, in at most w + 17 steps for w words. Of all that take one key, one

@@ -1,0 +1,43 @@
+//! What a reader of the library's front page would try, call by call.
+ghost use Rattle.std.specs.Prelude.{◌≡◌};
+
+mod gathering;
+mod owning;
+mod reading;
+mod storing;
+
+use gearlongan::{Heap, Pass, Seats, Shape, Shard, Wide};
+use std::alloc::Global;
+use std::process::Abort;
+
+// The key of the first value of a heap of layout `Wide`: generation 1 of slot 0 of page 0 of shard 0.
+const FIRST_KEY: u64 = 16_777_216;
+
+// A heap of one shard of one segment, with so many passes.
+fn opened(rt: &impl Abort, alloc: Global, passes: u32) -> (Heap<Wide>, Seats<Wide>)
+    ensures { result.1 ≡ result.0 }
+{
+    let shape = Shape::new(1, 1, passes).expect(rt, "a shape");
+    Heap::<Wide>::open(alloc, shape).expect(rt, "a heap")
+}
+
+// The owner of its shard, and a pass that looks values up.
+fn owner_and_reader<'a>(
+    rt: &impl Abort,
+    alloc: Global,
+    heap: &'a Heap<Wide>,
+    seats: Seats<Wide>,
+) -> (Shard<'a, Wide>, Pass<'a, Wide>)
+    requires { seats ≡ heap.now }
+{
+    let Ok(mut passes) = heap.passes(alloc, seats) else {
+        panic!(rt; "no passes")
+    };
+    let (Some(reader), Some(pass)) = (passes.pop(), passes.pop()) else {
+        panic!(rt; "not two passes")
+    };
+    let Ok(owner) = Shard::adopt(alloc, pass, 0) else {
+        panic!(rt; "no shard")
+    };
+    (owner, reader)
+}
