@@ -1,5 +1,6 @@
 //! A world between two lines of a script.
-ghost use Rattle.std.specs.Prelude.{◌≡◌, ◌+◌, ◌^◌, ◌++◌, ◌⊎◌, ℕ, List, Ok, Some, is_none, option_map, IfOk, IfErr, IfSome, OnErr};
+ghost use Rattle.std.specs.Prelude.{◌≡◌, ◌+◌, ◌^◌, ◌++◌, ◌⊎◌, ℕ, List, Ok, Some, is_none, option_map};
+ghost use Rattle.std.specs.Prelude.{IfOk, IfErr, IfSome, OnErr};
 ghost use Rattle.sh_key.specs.Layout.{first_key, key_count};
 ghost use Rattle.sh_step.specs.Plans.{plan_of};
 ghost use Rattle.sh_core.specs.Worlds.{World as Modelled};

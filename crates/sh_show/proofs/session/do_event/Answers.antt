@@ -14,9 +14,10 @@ returns-clause-why g c =
     let k = c.args.world.now in
     let k' = c.do_event.new.world in
     let P : Touched → Type 0 = λ t. TellsWhy t came in
+    let does = c.in_ok-outcome.ensures.does in
     let Q : Option Event → Type 0 = λ o. DoesEvent layout k o came k' in
     elim c.match-event.branch [
       | in-Some w ↦ subst P (sym w.touched-is) (tells_why layout k k' w.in-Some.event w.touched_in-touched.result came
-          c.shape-shape.ensures.reached w.touched_in-touched.ensures (subst Q w.in-Some.is c.in_ok-outcome.ensures.does))
-      | in-None w ↦ subst P (sym w.touched-is) (ap is_skipped (sym (subst Q w.in-None.is c.in_ok-outcome.ensures.does).0))
+          c.shape-shape.ensures.reached w.touched_in-touched.ensures (subst Q w.in-Some.is does))
+      | in-None w ↦ subst P (sym w.touched-is) (ap is_skipped (sym (subst Q w.in-None.is does).0))
     ]
