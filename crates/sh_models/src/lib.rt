@@ -2,8 +2,8 @@
 //! events of a script on the core, step by step. Neither needs the running heap.
 #![tactic(auto)]
 
-mod event_line;
+pub mod event_line;
 mod plain;
 pub mod plain_output;
-mod steps;
+pub mod steps;
 pub mod steps_output;

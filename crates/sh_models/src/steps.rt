@@ -1,5 +1,5 @@
 //! Mode steps: the events of a script on the core, in the order of their lines.
-ghost use Rattle.std.specs.Prelude.{◌≡◌, ◌+◌, List, IfOk, IfErr, Ok};
+ghost use Rattle.std.specs.Prelude.{◌≡◌, ◌+◌, List, IfOk, IfErr, OnErr, Ok};
 ghost use Rattle.sh_key.specs.Layout.{first_key, key_count};
 ghost use Rattle.sh_shape.specs.Shape.{IsShape, Fits};
 ghost use Rattle.sh_step.specs.declared.action.Event.{Event};
@@ -62,6 +62,7 @@ fn step<L: KeyLayout>(world: &mut World<L>, event: &Event) -> Result<Outcome, Fa
     ensures steps { IfOk result (λ outcome. StepsWorld L.layout world.old event.now outcome world.new) }
     ensures keys { (es : List Event) → StandsFor world.old (run (plan_of L.layout world.old.shape) es)
         → IfOk result (KeysWithin (first_key L.layout + key_count L.layout)) }
+    ensures undone { OnErr result (world.new ≡ world.old) }
     ensures memory { IfErr result (λ fault. fault ≡ Fault.Memory) }
 {
     refines_map();
@@ -72,13 +73,15 @@ fn step<L: KeyLayout>(world: &mut World<L>, event: &Event) -> Result<Outcome, Fa
     }
 }
 
-/// Does what is an event of the heap; a line that is none is skipped. A key in the reply is one of the layout.
+/// Does what is an event of the heap; a line that is none is skipped. A key in the reply is one of the layout. Where
+/// memory is refused, nothing is done.
 pub fn do_event<L: KeyLayout>(world: &mut World<L>, event: Option<Event>) -> Result<Outcome, Fault>
     requires shape { IsShape world.old.shape }
     requires fits { Fits L.layout world.old.shape }
     ensures does { IfOk result (λ outcome. DoesEvent L.layout world.old event outcome world.new) }
     ensures keys { (es : List Event) → StandsFor world.old (run (plan_of L.layout world.old.shape) es)
         → IfOk result (KeysWithin (first_key L.layout + key_count L.layout)) }
+    ensures undone { OnErr result (world.new ≡ world.old) }
     ensures memory { IfErr result (λ fault. fault ≡ Fault.Memory) }
 {
     match event {

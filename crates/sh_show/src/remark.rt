@@ -1,0 +1,42 @@
+//! What is said behind the line of an event: why it was skipped, or that it found that there was nothing to do.
+use crate::touched::Touched;
+use crate::view::View;
+use sh_slots::Spot;
+use sh_step::{ActionKind, Part};
+use sh_word::{Kind, State};
+
+// Whether an end of a generation failed: the slot came to nobody's hand and is not retired.
+fn has_failed(view: &View<'_>, part: &Part, spot: Spot) -> bool {
+    let is_retired = State::of(view.state(spot)).kind() == Kind::Retired;
+    part.is_idle() && !part.has_mine(spot) && !is_retired
+}
+
+// What a step met, by what the pass has after it.
+fn met(view: &View<'_>, part: &Part, kind: ActionKind, touched: Touched) -> &'static str {
+    match touched {
+        Touched::Link(page, slot) if part.cursor(page) == Some(slot) => "the link is not written",
+        Touched::Slot(spot) if kind == ActionKind::Finish && has_failed(view, part, spot) => {
+            "another is on the slot, or ended its generation"
+        }
+        Touched::PageAndBell(page)
+            if kind == ActionKind::FollowBell && part.bell_cursor() == Some(page) => {
+            "the link is not written"
+        }
+        Touched::Shard(_) if kind == ActionKind::Adopt && part.owned().is_none() => {
+            "the shard has an owner"
+        }
+        _ => "",
+    }
+}
+
+/// What is said behind the line of an event of this kind by the pass: why it was skipped; of one that met a link that
+/// is not written, another pass on the slot or an owner, and so left all as it was, that; and nothing of others.
+pub fn remark(view: &View<'_>, pass: u32, kind: ActionKind, touched: Touched) -> &'static str {
+    if let Touched::Nothing(reason) = touched {
+        return reason.text();
+    }
+    match view.parts.get(pass as usize) {
+        Some(part) => met(view, part, kind, touched),
+        None => "",
+    }
+}

@@ -1,0 +1,92 @@
+//! What is told of a slot.
+use crate::class_named::class_named;
+use crate::lane::{push_target, slot_owed};
+use crate::view::View;
+use sh_shape::{Place, width};
+use sh_slots::{Hand, Spot};
+use sh_step::Part;
+use sh_word::{Kind, State};
+use std::alloc::{AllocError, Global};
+use std::fmt::Write;
+
+// As many words as a value may have.
+const VALUE_WORDS: u64 = 16;
+
+// How a kind is written.
+fn kind_name(kind: Kind) -> &'static str {
+    match kind {
+        Kind::Empty => "Empty",
+        Kind::Live => "Live",
+        Kind::Marked => "Marked",
+        Kind::Retired => "Retired",
+    }
+}
+
+// Whether the pass has the empty slot in its hand.
+fn is_in_hand(part: &Part, spot: Spot) -> bool {
+    match part.hand() {
+        Hand::ToPut(slot) => spot.is_same(slot),
+        Hand::Filling(slot, _, _) => spot.is_same(slot),
+        _ => false,
+    }
+}
+
+// Writes the words of the value that stands in the slot.
+fn push_value(out: &mut String, view: &View<'_>, spot: Spot) -> Result<(), AllocError> {
+    let width = match class_named(view.class_word(spot.page)) {
+        Some(class) => width(class),
+        None => 0,
+    };
+    let length = view.word(Place::Length(spot.page, spot.slot));
+    if length == 0 {
+        return out.push_str("; the empty value");
+    }
+    out.push_str("; value")?;
+    for number in 0..length.min(VALUE_WORDS) {
+        let word = view.value_word(spot, width, number);
+        write!(out, " {word}")?;
+    }
+    Ok(())
+}
+
+// Writes the link of a slot that was put.
+fn push_queued(out: &mut String, view: &View<'_>, spot: Spot) -> Result<(), AllocError> {
+    match slot_owed(view, spot) {
+        Some(owed) => {
+            let pass = owed.pass;
+            write!(out, "; queued, pass {pass} owes its link")?;
+            push_target(out, "slot", owed.link)
+        }
+        None => {
+            out.push_str("; queued, linked")?;
+            push_target(out, "slot", view.link(spot))
+        }
+    }
+}
+
+// Writes who has an empty slot.
+fn push_whereabouts(out: &mut String, view: &View<'_>, spot: Spot) -> Result<(), AllocError> {
+    if let Some(pass) = view.parts.iter().position(|part| part.has_mine(spot)) {
+        return write!(out, "; own of pass {pass}");
+    }
+    if let Some(pass) = view.parts.iter().position(|part| is_in_hand(part, spot)) {
+        return write!(out, "; in the hand of pass {pass}");
+    }
+    push_queued(out, view, spot)
+}
+
+/// The text of a slot of its page's class: its kind, its generation, how many are on it, and where it is or what it
+/// has.
+pub fn slot_text(alloc: Global, view: &View<'_>, spot: Spot) -> Result<String, AllocError> {
+    let state = State::of(view.state(spot));
+    let kind = state.kind();
+    let name = kind_name(kind);
+    let (generation, count) = (state.generation, state.count);
+    let mut text = format!(in alloc; "{name}, generation {generation}, count {count}")?;
+    match kind {
+        Kind::Live | Kind::Marked => push_value(&mut text, view, spot)?,
+        Kind::Empty => push_whereabouts(&mut text, view, spot)?,
+        Kind::Retired => {}
+    }
+    Ok(text)
+}

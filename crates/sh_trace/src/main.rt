@@ -1,0 +1,73 @@
+//! The program `sh_trace`: it does the script of events on the standard input, one line at a time, and shows after each
+//! event what it touched. This file joins the process to `sh_show`.
+#![tactic(auto)]
+
+use sh_script::Fault;
+use sh_show::watch;
+use std::alloc::Global;
+use std::io;
+use std::io::{BufReader, Write};
+use std::process::ExitCode;
+
+const HELP: &str = "Shows a script of mode steps event by event, from the standard input
+
+Usage: sh_trace < FILE
+
+After each event it shows the pages and bells that the event touched and what the passes have begun, own and hold; of a
+skipped event it says why. The lines of a script are in docs/FORMATS.md, \"Lines of events\". Without a file it goes on
+line by line at a terminal.
+";
+
+// The exit status of a fault: 2 where the script is at fault, else 3.
+fn status(fault: Fault) -> u8 {
+    match fault {
+        Fault::BadShape | Fault::Script(_, _) => 2,
+        Fault::Memory | Fault::Waiting | Fault::Io => 3,
+    }
+}
+
+fn show_help(rt: &HostRuntime) -> u8 {
+    match rt.stdout().write_all(HELP.as_bytes()) {
+        Ok(()) => 0,
+        Err(_) => 3,
+    }
+}
+
+// Whether help is asked for.
+fn asks_help(words: &[String]) -> bool {
+    match words.get(1) {
+        Some(word) => word.as_str() == "--help" || word.as_str() == "-h",
+        None => false,
+    }
+}
+
+fn watch_input(rt: &HostRuntime, alloc: Global) -> io::Result<u8> {
+    let mut input = BufReader::new(alloc, rt.stdin())?;
+    match watch(alloc, &mut input, &mut rt.stdout()) {
+        Ok(()) => Ok(0),
+        Err(fault) => {
+            let _ = eprintln!(rt; "sh_trace: {fault}");
+            Ok(status(fault))
+        }
+    }
+}
+
+fn start(rt: &HostRuntime) -> io::Result<u8> {
+    let alloc = rt.alloc();
+    let words: Vec<String> = std::env::args(rt)?.collect(alloc)?;
+    if asks_help(words.as_slice()) {
+        return Ok(show_help(rt));
+    }
+    if words.len() > 1 {
+        let _ = eprintln!(rt; "sh_trace: it takes no words; sh_trace --help");
+        return Ok(2);
+    }
+    watch_input(rt, alloc)
+}
+
+fn main(rt: HostRuntime) -> ExitCode {
+    match start(&rt) {
+        Ok(status) => ExitCode::from(status),
+        Err(_) => ExitCode::from(3),
+    }
+}
