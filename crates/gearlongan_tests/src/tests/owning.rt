@@ -1,6 +1,6 @@
 //! How a shard is adopted, made ready and left.
 use super::{opened, owner_and_reader};
-use gearlongan::{Refusal, Shard, Value};
+use gearlongan::{Reader, Refusal, Shard, Value};
 use std::test::Fail;
 
 #[test]
@@ -40,9 +40,12 @@ fn what_one_owner_stored_the_next_removes(rt: HostRuntime) -> Result<(), Fail> {
 fn a_page_is_made_ready_for_values_of_a_class(rt: HostRuntime) -> Result<(), Fail> {
     let (heap, seats) = opened(&rt, rt.alloc(), 2);
     let (mut owner, _) = owner_and_reader(&rt, rt.alloc(), &heap, seats);
-    // Class 0 is that of values of one word: a page has 48 slots of it.
-    assert_eq!(rt; owner.prepare(0), Ok(48));
-    assert!(rt; owner.insert(&Value::from(7)).is_ok());
-    assert_eq!(rt; owner.prepare(0), Ok(47));
+    // Class 0 is that of values of one word, and class 1 that of values of two.
+    assert_eq!(rt; owner.prepare(0), Ok(0));
+    assert_eq!(rt; owner.prepare(1), Ok(1));
+    let two = owner.insert(&Value::of([7, 8])).expect(&rt, "a key");
+    let one = owner.insert(&Value::from(9)).expect(&rt, "a key");
+    assert_eq!(rt; owner.fetch(two), Ok(Value::of([7, 8])));
+    assert_eq!(rt; owner.fetch(one), Ok(Value::from(9)));
     Ok(())
 }
