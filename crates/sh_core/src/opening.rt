@@ -1,5 +1,5 @@
 //! The words of a heap as it opens.
-ghost use Rattle.std.specs.Prelude.{◌≡◌, ◌*◌, ◌≤◌, ◌<◌, IfOk, IfErr};
+ghost use Rattle.std.specs.Prelude.{◌≡◌, ◌*◌, ◌^◌, ◌≤◌, ◌<◌, IfOk, IfErr};
 ghost use Rattle.sh_shape.specs.Shape.{IsShape};
 ghost use Rattle.sh_shape.specs.Places.{all_pages, words_of};
 ghost use Rattle.sh_core.specs.Opening.{opening_word, opening_words};
@@ -22,7 +22,7 @@ const FIRST_GENERATION: u64 = 1 << 32;
 
 // The word with this number, where there are so many pages: each slot is empty, and all else is 0.
 fn word_at(pages: u32, number: u32) -> u64
-    requires { pages ≤ 2048 }
+    requires { pages ≤ 2 ^ 24 }
     ensures { result ≡ opening_word pages number }
 {
     let offset = number % PAGE_WORDS;

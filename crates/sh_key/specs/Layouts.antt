@@ -58,3 +58,22 @@ tagged_numbers = record {
     guards_fit = lit< tt;
   };
 }
+
+-- for the largest heaps: all bits of a key are used
+abbrev pub deep : Layout
+deep = record { shard_bits = 6; page_bits = 20; gen_max = 4294967295; guard_max = 1048576 }
+
+pub deep_numbers : HasNumbers deep 6 20 4294967295 1048576
+deep_numbers = record {
+  shard_bits_is = refl;
+  page_bits_is = refl;
+  gen_max_is = refl;
+  guard_max_is = refl;
+  lawful = record {
+    few_bits = omega arith;
+    some_generation = omega arith;
+    generations_fit = lit< tt;
+    some_guard = omega arith;
+    guards_fit = lit< tt;
+  };
+}

@@ -1,6 +1,7 @@
 //! The layouts.
 ghost use Rattle.std.specs.Prelude.{◌≡◌, ◌≢◌, ℕ, ◌/◌, ◌%◌, ◌^◌, ◌<◌, ◌↔◌, IfSome, IsNone, Some};
 ghost use Rattle.sh_key.specs.Layouts.{tiny, tiny_numbers, wide, wide_numbers, tagged, tagged_numbers};
+ghost use Rattle.sh_key.specs.Layouts.{deep, deep_numbers};
 ghost use Rattle.sh_key.specs.Tag.{with_tag, IsTaggedKey};
 
 use crate::KeyLayout;
@@ -87,6 +88,33 @@ impl KeyLayout for Tagged {
     ghost layout = { tagged };
 
     ghost numbers = { tagged_numbers };
+}
+
+/// The layout for the largest heaps: 64 shards of 1,048,576 pages, 2^32 - 1 generations, 2^20 holds a key. Its keys use
+/// all 64 bits.
+#[derive(Drop)]
+pub struct Deep;
+
+impl KeyLayout for Deep {
+    const SHARD_BITS: u32 = 6;
+
+    const PAGE_BITS: u32 = 20;
+
+    const GEN_MAX: u32 = u32::MAX;
+
+    const GUARD_MAX: u32 = 1048576;
+
+    ghost SHARD_BITS = { 6 };
+
+    ghost PAGE_BITS = { 20 };
+
+    ghost GEN_MAX = { 4294967295 };
+
+    ghost GUARD_MAX = { 1048576 };
+
+    ghost layout = { deep };
+
+    ghost numbers = { deep_numbers };
 }
 
 impl Tagged {
@@ -210,6 +238,22 @@ mod tests {
         assert_eq!(rt; Wide::unpack(72057594037927935), Some(last));
         assert_eq!(rt; Wide::unpack(72057594037927936), None);
         assert_eq!(rt; Wide::first_key(), 16777216);
+    }
+
+    // No number is too large to be one: the keys use all bits.
+    #[test]
+    fn deep_packs_its_last_key(rt: HostRuntime) {
+        let last = Parts {
+            generation: 4294967295,
+            shard: 63,
+            page: 1048575,
+            slot: 63,
+        };
+        assert!(rt; Deep::in_range(last));
+        assert_eq!(rt; Deep::pack(last), u64::MAX);
+        assert_eq!(rt; Deep::unpack(u64::MAX), Some(last));
+        assert_eq!(rt; Deep::first_key(), 4294967296);
+        assert_eq!(rt; Deep::unpack(4294967295), None);
     }
 
     #[test]

@@ -9,5 +9,5 @@ pub mod parts;
 
 pub use laws::{packing_laws, tagged_keys_fit};
 pub use layout::KeyLayout;
-pub use layouts::{Tagged, Tiny, Wide};
+pub use layouts::{Deep, Tagged, Tiny, Wide};
 pub use parts::Parts;

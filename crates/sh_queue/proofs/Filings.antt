@@ -1,5 +1,5 @@
 -- Pages are filed one after the other.
-use Rattle.std.proofs.Common.{◌≡◌, ◌≢◌, ℕ, zero, suc, ◌+◌, ◌*◌, ◌<◌, ◌≤◌, ⊎_elim, Bool, true, false, List}
+use Rattle.std.proofs.Common.{◌≡◌, ◌≢◌, ℕ, zero, suc, ◌+◌, ◌*◌, ◌^◌, ◌<◌, ◌≤◌, ⊎_elim, Bool, true, false, List}
 use Rattle.std.proofs.Common.{[], ◌∷◌, ◌++◌, length, set, replicate, Option, Some, None, sym, refl, ap, ◌∙◌, subst}
 use Rattle.std.proofs.Common.{arith, add-one}
 use Rattle.std.specs.Prelude.{nat_lt, IfSome}
@@ -107,7 +107,7 @@ class_filed w w' c n opened unopened f class =
 kept_filed
     : (w w' : List ℕ) (t n unopened : ℕ)
     → KeepsQueues w (11 + n) n unopened (replicate n false) → Filed w w' t n → t ≢ 8 → t < 10 → Distinct w'
-    → n + 1 + 8 * unopened ≤ 2048 → RisesFrom 0 (pages_behind 9 w')
+    → n + 1 + 8 * unopened ≤ 2 ^ 24 → RisesFrom 0 (pages_behind 9 w')
     → KeepsQueues w' (11 + (n + 1)) (n + 1) unopened (replicate (n + 1) false)
 kept_filed w w' t n unopened h f elsewhere inner distinct few rising =
     let full : pages_behind 8 w' ≡ pages_behind 8 w = f.others 8 (omega arith) (λ same. elsewhere (sym same)) in
@@ -130,7 +130,7 @@ kept_filed w w' t n unopened h f elsewhere inner distinct few rising =
 
 filed_class
     : (w w' : List ℕ) (c n unopened : ℕ)
-    → KeepsQueues w (11 + n) n unopened (replicate n false) → c < 8 → n + 1 + 8 * unopened ≤ 2048
+    → KeepsQueues w (11 + n) n unopened (replicate n false) → c < 8 → n + 1 + 8 * unopened ≤ 2 ^ 24
     → w' ≡ put_before (c + 1) ((11 + n) ∷ []) w → Distinct w'
     → Leaves w' (11 + (n + 1)) (n + 1) unopened (replicate (n + 1) false)
     (next_filed (Some c) (queues_shown w n unopened))
@@ -155,7 +155,7 @@ filed_class w w' c n unopened h class few new distinct =
 
 filed_blank
     : (w w' : List ℕ) (n unopened : ℕ)
-    → KeepsQueues w (11 + n) n unopened (replicate n false) → n + 1 + 8 * unopened ≤ 2048
+    → KeepsQueues w (11 + n) n unopened (replicate n false) → n + 1 + 8 * unopened ≤ 2 ^ 24
     → w' ≡ put_before 10 ((11 + n) ∷ []) w → Distinct w'
     → Leaves w' (11 + (n + 1)) (n + 1) unopened (replicate (n + 1) false) (next_filed None (queues_shown w n unopened))
 filed_blank w w' n unopened h few new distinct =
@@ -178,7 +178,7 @@ filed_blank w w' n unopened h few new distinct =
 
 filed_next
     : (class : Option ℕ) (w w' : List ℕ) (n unopened : ℕ)
-    → KeepsQueues w (11 + n) n unopened (replicate n false) → IfSome class (λ c. c < 8) → n + 1 + 8 * unopened ≤ 2048
+    → KeepsQueues w (11 + n) n unopened (replicate n false) → IfSome class (λ c. c < 8) → n + 1 + 8 * unopened ≤ 2 ^ 24
     → w' ≡ put_before (mark_behind class) ((11 + n) ∷ []) w → Distinct w'
     → Leaves w' (11 + (n + 1)) (n + 1) unopened (replicate (n + 1) false) (next_filed class (queues_shown w n unopened))
 filed_next None w w' n unopened h class few new distinct = filed_blank w w' n unopened h few new distinct
@@ -208,7 +208,7 @@ pub leaves_filed
 leaves_filed w w' size size' filed unopened notes class v is h left few_class new distinct sized =
     let less : filed < length notes = one_left w filed unopened notes v is left in
     let room : size ≡ 11 + length notes = h.room in
-    let few : length notes + 8 * unopened ≤ 2048 = h.few in
+    let few : length notes + 8 * unopened ≤ 2 ^ 24 = h.few in
     let next = filed_next class w w' filed unopened h.kept few_class (omega arith) new distinct in
     let shown = next.shows in
     record {

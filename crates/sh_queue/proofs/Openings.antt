@@ -1,5 +1,5 @@
 -- The next segment is opened.
-use Rattle.std.proofs.Common.{◌≡◌, ◌≢◌, ℕ, zero, suc, ◌+◌, ◌-◌, ◌*◌, ◌<◌, ◌≤◌, ◌⊎◌, ⊎_elim, inl, Bool, true, false}
+use Rattle.std.proofs.Common.{◌≡◌, ◌≢◌, ℕ, zero, suc, ◌+◌, ◌-◌, ◌*◌, ◌^◌, ◌<◌, ◌≤◌, ◌⊎◌, ⊎_elim, inl, Bool, true, false}
 use Rattle.std.proofs.Common.{List, [], ◌∷◌, ◌++◌, length, get_or, replicate, sym, refl, ap, ◌∙◌, subst, arith}
 use Rattle.std.proofs.Common.{append-nil, append_assoc, length-append}
 use Rattle.std.specs.Prelude.{max, nat_lt}
@@ -141,7 +141,7 @@ leaves_opened w w' size size' opened unopened notes notes' v is h some new disti
       kept = record {
         room = room;
         lean = lean;
-        few = subst (λ k. k ≤ 2048) (sym left) h.few;
+        few = subst (λ k. k ≤ 2 ^ 24) (sym left) h.few;
         distinct = distinct;
         marked = o.marked;
         none_ahead = o.none_ahead ∙ h.none_ahead;

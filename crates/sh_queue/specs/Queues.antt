@@ -1,6 +1,6 @@
 -- The queues of pages of an owner.
-use Rattle.std.specs.Prelude.{◌≡◌, ◌↔◌, ℕ, zero, suc, ◌+◌, ◌-◌, ◌*◌, ◌<◌, ◌≤◌, ◌==◌, nat_lt, Bool, true, false, cond}
-use Rattle.std.specs.Prelude.{List, [], ◌∷◌, ◌++◌, map, replicate, length, get_or, slice_set, Option, Some, None}
+use Rattle.std.specs.Prelude.{◌≡◌, ◌↔◌, ℕ, zero, suc, ◌+◌, ◌-◌, ◌*◌, ◌^◌, ◌<◌, ◌≤◌, ◌==◌, nat_lt, Bool, true, false}
+use Rattle.std.specs.Prelude.{cond, List, [], ◌∷◌, ◌++◌, map, replicate, length, get_or, slice_set, Option, Some, None}
 use Rattle.std.specs.List.{concat}
 use Rattle.sh_lists.specs.Numbers.{Distinct, upward}
 use Rattle.sh_queue.specs.Numbers.{has_number, without_number, RisesFrom}
@@ -138,7 +138,7 @@ filing_shown numbers filed unopened notes = record {
 pub record KeepsQueues (numbers : List ℕ) (size opened unopened : ℕ) (notes : List Bool) : Type 0 where
   pub room : 11 + opened ≤ size
   pub lean : size ≤ 19 + opened
-  pub few : opened + 8 * unopened ≤ 2048
+  pub few : opened + 8 * unopened ≤ 2 ^ 24
   pub distinct : Distinct numbers
   pub marked : marks numbers ≡ upward 0 11
   pub none_ahead : pages_to_mark numbers ≡ []
@@ -153,6 +153,6 @@ pub record KeepsQueues (numbers : List ℕ) (size opened unopened : ℕ) (notes 
 pub record KeepsFiling (numbers : List ℕ) (size filed unopened : ℕ) (notes : List Bool) : Type 0 where
   pub room : size ≡ 11 + length notes
   pub some_left : filed ≤ length notes
-  pub few : length notes + 8 * unopened ≤ 2048
+  pub few : length notes + 8 * unopened ≤ 2 ^ 24
   pub none_noted : notes ≡ replicate (length notes) false
   pub kept : KeepsQueues numbers (11 + filed) filed unopened (replicate filed false)

@@ -1,5 +1,5 @@
 //! The pages of an owner come to their queues one after the other.
-ghost use Rattle.std.specs.Prelude.{◌≡◌, ◌≢◌, ◌+◌, ◌*◌, ◌<◌, ◌≤◌, false, replicate, IfSome, IfOk, IfErr};
+ghost use Rattle.std.specs.Prelude.{◌≡◌, ◌≢◌, ◌+◌, ◌*◌, ◌^◌, ◌<◌, ◌≤◌, false, replicate, IfSome, IfOk, IfErr};
 ghost use Rattle.sh_lists.specs.Numbers.{upward};
 ghost use Rattle.sh_queue.specs.Chain.{ChainNumbers};
 ghost use Rattle.sh_queue.specs.Queues.{FilingQueues, mark_behind, next_filed, none_opened};
@@ -34,9 +34,9 @@ impl Model for Filing {
 
 impl Filing {
     /// No page is filed yet, of those of this many segments; `unopened` segments more stay unopened. There are at most
-    /// 256 in all. Refused as `Memory`.
+    /// 2^21 in all. Refused as `Memory`.
     pub fn new(alloc: Global, opened: u32, unopened: u32) -> Result<Self, Refusal>
-        requires { opened + unopened ≤ 256 }
+        requires { opened + unopened ≤ 2 ^ 21 }
         ensures ok { IfOk result (λ filing. filing ≡ record { queues = none_opened unopened; pages = 8 * opened }) }
         ensures err { IfErr result (λ refusal. refusal ≡ Refusal.Memory) }
     {
@@ -91,7 +91,7 @@ impl Filing {
 
 // The chain of the marks alone, with room for this many pages, and the notes that none of these is full.
 fn room_for(alloc: Global, pages: u32) -> Result<(Chain, Vec<bool>), AllocError>
-    requires { pages ≤ 2048 }
+    requires { pages ≤ 2 ^ 24 }
     ensures chain { IfOk result (λ r. r.0 ≡ record { numbers = upward 0 11; size = 11 + pages }) }
     ensures notes { IfOk result (λ r. r.1.items ≡ replicate pages false) }
 {

@@ -1,6 +1,6 @@
 //! The queues of an owner's pages.
-ghost use Rattle.std.specs.Prelude.{◌≡◌, ◌≢◌, ℕ, ◌+◌, ◌-◌, ◌*◌, ◌<◌, ◌≤◌, ◌++◌, true, false, length, max, replicate, None};
-ghost use Rattle.std.specs.Prelude.{slice_get, IfSome, IfOk, IfErr, OnOk, OnErr};
+ghost use Rattle.std.specs.Prelude.{◌≡◌, ◌≢◌, ℕ, ◌+◌, ◌-◌, ◌*◌, ◌^◌, ◌<◌, ◌≤◌, ◌++◌, true, false, length};
+ghost use Rattle.std.specs.Prelude.{max, replicate, None, slice_get, IfSome, IfOk, IfErr, OnOk, OnErr};
 ghost use Rattle.std.specs.List.{last_or};
 ghost use Rattle.sh_queue.specs.Numbers.{has_number};
 ghost use Rattle.sh_queue.specs.Chain.{ChainNumbers};
@@ -51,7 +51,7 @@ impl Queues {
     /// How many pages are opened: the pages 0 to `opened() - 1`.
     pub fn opened(&self) -> u32
         ensures opened { result ≡ self.now.opened }
-        ensures few { self.now.opened + 8 * self.now.unopened ≤ 2048 }
+        ensures few { self.now.opened + 8 * self.now.unopened ≤ 2 ^ 24 }
         ensures once { EachOnce self.now }
     {
         self.opened
@@ -158,7 +158,7 @@ impl Queues {
 
 // Makes room for this many pages. Where memory is refused, the pages and the notes on them stay as they were.
 fn make_room(chain: &mut Chain, full: &mut Vec<bool>, pages: u32) -> Result<(), AllocError>
-    requires few { pages ≤ 2048 }
+    requires few { pages ≤ 2 ^ 24 }
     requires more { length full.old.items ≤ pages }
     ensures same { chain.new.numbers ≡ chain.old.numbers }
     ensures kept { chain.old.size ≤ chain.new.size }

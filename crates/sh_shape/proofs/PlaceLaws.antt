@@ -1,5 +1,5 @@
 -- No two places of a heap have the same number, and each is one of its words.
-use Rattle.std.proofs.Common.{◌≡◌, ℕ, ◌+◌, ◌-◌, ◌*◌, ◌/◌, ◌%◌, ◌<◌, ◌≤◌, zero, suc, inl, inr, sym, ◌∙◌, ap, arith}
+use Rattle.std.proofs.Common.{◌≡◌, ℕ, ◌+◌, ◌-◌, ◌*◌, ◌/◌, ◌%◌, ◌^◌, ◌<◌, ◌≤◌, zero, suc, inl, inr, sym, ◌∙◌, ap, arith}
 use Rattle.sh_shape.specs.declared.places.Place.{Place}
 use Rattle.sh_shape.specs.declared.places.Place.TheVariants.{Class, Head, PageLink, State, Link, Length, Payload, Owner}
 use Rattle.sh_shape.specs.declared.places.Place.TheVariants.{Bell}
@@ -10,7 +10,7 @@ use Rattle.sh_shape.specs.Places.{pages_of, all_pages, page_number, IsPlace, num
 use Rattle.sh_shape.specs.Places.{PagesHaveShards, PlacesDiffer, PlacesAreWords, WordsHavePlaces}
 
 -- how many pages a heap has at most
-pub few_pages : (shape : Numbers) → IsShape shape → all_pages shape ≤ 2048
+pub few_pages : (shape : Numbers) → IsShape shape → all_pages shape ≤ 2 ^ 24
 few_pages shape is =
     let pages : all_pages shape ≡ 8 * (shape.shards * shape.segments) = omega arith in
     let few = is.few_segments in omega arith

@@ -1,3 +1,4 @@
 pub mod Shape
 pub mod Classes
 pub mod Places
+pub mod Rooms

@@ -12,13 +12,18 @@ pub record Numbers : Type 0 where
 abbrev pub segment_pages : ℕ
 segment_pages = 8
 
--- the numbers are within the limits
+-- the numbers are within the limits of any heap
 pub record IsShape (n : Numbers) : Type 0 where
   pub some_shard : 1 ≤ n.shards
   pub some_segment : 1 ≤ n.segments
-  pub few_segments : n.shards * n.segments ≤ 256
+  pub few_segments : n.shards * n.segments ≤ 2 ^ 21
   pub some_pass : 1 ≤ n.passes
   pub few_passes : n.passes ≤ 64
+
+-- the numbers are within the limits of a small heap, which are those of scripts
+pub record IsSmallShape (n : Numbers) : Type 0 where
+  pub is_shape : IsShape n
+  pub few_segments : n.shards * n.segments ≤ 256
 
 -- each shard and each page of a shard has a number in the layout
 pub record Fits (layout : Layout) (n : Numbers) : Type 0 where

@@ -5,6 +5,7 @@
 pub mod classes;
 pub mod laws;
 pub mod places;
+pub mod rooms;
 pub mod shape;
 
 pub use classes::{class_of, slots, width};

@@ -1,12 +1,12 @@
 //! The places of a heap's words: each place of the shape has the number of one word, and no two have the same.
-ghost use Rattle.std.specs.Prelude.{◌≡◌, ◌+◌, ◌*◌, ◌<◌, ◌≤◌};
+ghost use Rattle.std.specs.Prelude.{◌≡◌, ◌+◌, ◌*◌, ◌^◌, ◌<◌, ◌≤◌};
 ghost use Rattle.sh_shape.specs.Shape.{IsShape};
 ghost use Rattle.sh_shape.specs.Places.{pages_of, all_pages, page_number, page_words, slot_places, payload_words};
 ghost use Rattle.sh_shape.specs.Places.{IsPlace, number, words_of};
 
 use crate::Shape;
 
-const SEGMENT_PAGES: u32 = 8;
+pub(crate) const SEGMENT_PAGES: u32 = 8;
 
 const PAGE_WORDS: u32 = 195;
 
@@ -34,10 +34,10 @@ pub enum Place {
 }
 
 impl Shape {
-    /// How many pages a shard has: 8 for each segment, at most 2048.
+    /// How many pages a shard has: 8 for each segment, at most 2^24.
     pub fn pages(&self) -> u32
         ensures pages { result ≡ pages_of self.now }
-        ensures few { result ≤ 2048 }
+        ensures few { result ≤ 2 ^ 24 }
         ensures shape { IsShape self.now }
     {
         SEGMENT_PAGES * self.segments()
@@ -47,8 +47,8 @@ impl Shape {
     #[tactic(auto, using(crate::proofs::PlaceLaws::few_pages))]
     fn all_pages(&self) -> u32
         ensures pages { result ≡ all_pages self.now }
-        ensures few { result ≤ 2048 }
-        ensures shards { self.now.shards ≤ 256 }
+        ensures few { result ≤ 2 ^ 24 }
+        ensures shards { self.now.shards ≤ 2 ^ 21 }
     {
         self.shards() * self.pages()
     }
@@ -64,10 +64,10 @@ impl Shape {
         shard * self.pages() + page
     }
 
-    /// How many words the heap has, at most 399,872.
+    /// How many words the heap has, at most 3,275,751,424.
     pub fn words(&self) -> u32
         ensures words { result ≡ words_of self.now }
-        ensures few { result ≤ 399872 }
+        ensures few { result ≤ 195 * 2 ^ 24 + 2 ^ 22 }
     {
         PAGE_WORDS * self.all_pages() + 2 * self.shards()
     }
@@ -187,7 +187,7 @@ impl Shape {
 
 // The number of a page's word.
 fn in_page(page: u64, offset: u64) -> u32
-    requires page { page < 2048 }
+    requires page { page < 2 ^ 24 }
     requires offset { offset < page_words }
     ensures is { result ≡ page_words * page + offset }
 {
@@ -196,10 +196,10 @@ fn in_page(page: u64, offset: u64) -> u32
 
 // The number of the first of a shard's two words, which stand behind those of so many pages.
 fn after_pages(pages: u32, shard: u64) -> u32
-    requires pages { pages ≤ 2048 }
-    requires shard { shard < 256 }
+    requires pages { pages ≤ 2 ^ 24 }
+    requires shard { shard < 2 ^ 21 }
     ensures is { result ≡ page_words * pages + 2 * shard }
-    ensures few { result < 400000 }
+    ensures few { result < 195 * 2 ^ 24 + 2 ^ 22 }
 {
     PAGE_WORDS * pages + 2 * shard as u32
 }

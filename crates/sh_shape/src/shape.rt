@@ -1,10 +1,17 @@
 //! The shape of a heap.
 ghost use Rattle.std.specs.Prelude.{◌≡◌, ◌↔◌, ◌^◌, IfOk, IfErr, IsOk, IsTrue};
-ghost use Rattle.sh_shape.specs.Shape.{Numbers, IsShape, Fits};
+ghost use Rattle.sh_shape.specs.Shape.{Numbers, IsShape, IsSmallShape, Fits};
 
 use sh_key::KeyLayout;
 use sh_value::Refusal;
 use std::marker::Model;
+
+// How many segments all shards of a heap may have together, and those of a small heap.
+pub(crate) const MOST_SEGMENTS: u64 = 1 << 21;
+
+const FEW_SEGMENTS: u64 = 256;
+
+const MOST_PASSES: u32 = 64;
 
 /// How many shards a heap has, how many segments of 8 pages each shard, and how many passes. A contract sees the three
 /// numbers, which are within the limits.
@@ -28,16 +35,44 @@ impl Model for Shape {
 }
 
 impl Shape {
-    /// The shape with these numbers: at least one of each, at most 256 segments in all shards together, at most 64
-    /// passes. Else it is refused as `BadShape`.
+    /// The small shape with these numbers: at least one of each, at most 256 segments in all shards together, at most 64
+    /// passes. Else it is refused as `BadShape`. Scripts name these shapes; `Shape::large` takes larger ones.
+    ///
+    /// ```text
+    /// let shape = Shape::new(2, 128, 64)?;
+    /// assert_eq!(shape.pages(), 1024); // of each of the two shards
+    /// assert_eq!(Shape::new(2, 129, 64), Err(Refusal::BadShape)); // 258 segments
+    /// ```
     pub fn new(shards: u32, segments: u32, passes: u32) -> Result<Shape, Refusal>
+        ensures numbers { IfOk result (λ shape. shape ≡ record
+            { shards = shards; segments = segments; passes = passes }) }
+        ensures within { IsOk result ↔ IsSmallShape (record
+            { shards = shards; segments = segments; passes = passes }) }
+        ensures outside { IfErr result (λ refusal. refusal ≡ Refusal.BadShape) }
+    {
+        if shards as u64 * segments as u64 > FEW_SEGMENTS {
+            return Err(Refusal::BadShape);
+        }
+        Self::large(shards, segments, passes)
+    }
+
+    /// The shape with these numbers: at least one of each, at most 2,097,152 segments in all shards together, which are
+    /// 16,777,216 pages, at most 64 passes. Else it is refused as `BadShape`. Whether a layout has numbers for its
+    /// shards and pages is another question, which `fits` answers.
+    ///
+    /// ```text
+    /// let shape = Shape::large(256, 128, 64)?;
+    /// assert!(fits::<Wide>(&shape)); // 262,144 pages
+    /// assert_eq!(Shape::large(1, 2_097_153, 1), Err(Refusal::BadShape));
+    /// ```
+    pub fn large(shards: u32, segments: u32, passes: u32) -> Result<Shape, Refusal>
         ensures numbers { IfOk result (λ shape. shape ≡ record
             { shards = shards; segments = segments; passes = passes }) }
         ensures within { IsOk result ↔ IsShape (record { shards = shards; segments = segments; passes = passes }) }
         ensures outside { IfErr result (λ refusal. refusal ≡ Refusal.BadShape) }
     {
         let some = 1 <= shards && 1 <= segments && 1 <= passes;
-        if some && shards as u64 * segments as u64 <= 256 && passes <= 64 {
+        if some && shards as u64 * segments as u64 <= MOST_SEGMENTS && passes <= MOST_PASSES {
             Ok(Shape {
                 shards,
                 segments,
@@ -85,7 +120,52 @@ pub fn fits<L: KeyLayout>(shape: &Shape) -> bool
 #[cfg(test)]
 mod tests {
     use super::*;
-    use sh_key::Tiny;
+    use sh_key::{Deep, Tiny, Wide};
+
+    #[test]
+    fn large_shapes_fit_their_layouts(rt: HostRuntime) {
+        let wide = Shape::large(256, 128, 64).expect(&rt, "32,768 segments are a large shape");
+        assert!(rt; fits::<Wide>(&wide));
+        assert_eq!(rt; wide.words(), 51118592);
+        let deep = Shape::large(2, 131072, 2).expect(&rt, "262,144 segments are a large shape");
+        assert!(rt; fits::<Deep>(&deep));
+        assert!(rt; !fits::<Wide>(&deep));
+        let deepest = Shape::large(1, 131073, 1).expect(&rt, "131,073 segments are a large shape");
+        assert!(rt; !fits::<Deep>(&deepest));
+        assert!(rt; Shape::new(256, 128, 64).is_err());
+    }
+
+    #[test]
+    fn large_shapes_are_within_the_limits(rt: HostRuntime) {
+        let table = [
+            (128, 3, 1, true),
+            (256, 128, 64, true),
+            (1, 2097152, 1, true),
+            (2097152, 1, 1, true),
+            (1, 257, 64, true),
+            (1, 2097153, 1, false),
+            (2097153, 1, 1, false),
+            (1, 257, 65, false),
+            (0, 1, 1, false),
+            (1, 0, 1, false),
+            (1, 1, 0, false),
+            (u32::MAX, u32::MAX, 1, false),
+        ];
+        for (shards, segments, passes, good) in table {
+            match Shape::large(shards, segments, passes) {
+                Ok(shape) => {
+                    assert!(rt; good, "{shards} {segments} {passes}");
+                    assert_eq!(rt; shape.shards(), shards);
+                    assert_eq!(rt; shape.segments(), segments);
+                    assert_eq!(rt; shape.passes(), passes);
+                }
+                Err(refusal) => {
+                    assert!(rt; !good, "{shards} {segments} {passes}");
+                    assert_eq!(rt; refusal, Refusal::BadShape);
+                }
+            }
+        }
+    }
 
     #[test]
     fn shapes_are_within_the_limits(rt: HostRuntime) {
@@ -95,6 +175,8 @@ mod tests {
             (5, 1, 1, true, false),
             (1, 3, 1, true, false),
             (128, 2, 1, true, false),
+            (1, 256, 1, true, false),
+            (1, 257, 1, false, false),
             (128, 3, 1, false, false),
             (1, 1, 65, false, false),
             (0, 1, 1, false, false),

@@ -1,6 +1,6 @@
 -- A slot that came to be the owner's stands in its page's lists.
-use Rattle.std.proofs.Common.{◌≡◌, ◌≢◌, ℕ, suc, ◌+◌, ◌*◌, ◌<◌, ◌≤◌, ⊎_elim, Option, Some, None, IfSome, List}
-use Rattle.std.proofs.Common.{length, get_or, set, refl, ap, ◌∙◌, sym, subst, arith}
+use Rattle.std.proofs.Common.{◌≡◌, ◌≢◌, ℕ, suc, ◌+◌, ◌*◌, ◌^◌, ◌<◌, ◌≤◌, ⊎_elim, Option, Some, None, IfSome}
+use Rattle.std.proofs.Common.{List, length, get_or, set, refl, ap, ◌∙◌, sym, subst, arith}
 use Rattle.std.proofs.lemmas.Bool.{cases_eq}
 use Rattle.std.proofs.Math.Nat.{mul-le-mul_right}
 use Rattle.std.proofs.lemmas.List.{get_or-set_same, get_or-set_other, length-set}
@@ -21,15 +21,15 @@ use Rattle.sh_shard.proofs.Working.{paged_of}
 
 -- the pages of a shard are among those of the heap
 pub few_pages : {layout : Layout} {v : Caller} {shard : ℕ} {rings : Option ℕ} {states : List PageState}
-    → KeepsPages layout v shard rings states → shard * length states + length states ≤ 2048
+    → KeepsPages layout v shard rings states → shard * length states + length states ≤ 2 ^ 24
 few_pages {layout} {v} {shard} {states = states} k = go (length states) k.few (k.stands.owner.owned shard k.owned)
     k.stands.few_pages where
       go : (n : ℕ) → n ≡ pages_of v.view.shape → shard < v.view.shape.shards
-          → v.view.shape.shards * pages_of v.view.shape ≤ 2048 → shard * n + n ≤ 2048
+          → v.view.shape.shards * pages_of v.view.shape ≤ 2 ^ 24 → shard * n + n ≤ 2 ^ 24
       go n e l few =
           let a : shard * pages_of v.view.shape + pages_of v.view.shape
           ≤ v.view.shape.shards * pages_of v.view.shape = more shard v.view.shape.shards (pages_of v.view.shape) l in
-          subst (λ z. shard * z + z ≤ 2048) (sym e) (omega arith) where
+          subst (λ z. shard * z + z ≤ 2 ^ 24) (sym e) (omega arith) where
             more : (s t n : ℕ) → s < t → s * n + n ≤ t * n
             more s t n l = let x : suc s * n ≤ t * n = mul-le-mul_right {m = suc s} {n = t} n l in omega arith
 

@@ -392,7 +392,7 @@ none_left c o n s k once = record {
   done = (class_done c o n s.through s.done k once).done;
 }
 
-word_of : (g : SeenPage) (word : ℕ) → g.class ≡ Some word → seen_class g ≡ word
+pub word_of : (g : SeenPage) (word : ℕ) → g.class ≡ Some word → seen_class g ≡ word
 word_of g word is = ap (λ (o : Option ℕ). elim o as (λ _. ℕ) [ Some m ↦ m | None ↦ 0 ]) is
 
 -- an opened page that is blank stands among the blank ones

@@ -1,5 +1,5 @@
 // The four calls of a pass, for an owner: a slot of its shard that it freed itself comes to its page's lists.
-ghost use Rattle.std.specs.Prelude.{◌≡◌, ◌+◌, ◌*◌, ◌≤◌, None, length};
+ghost use Rattle.std.specs.Prelude.{◌≡◌, ◌+◌, ◌*◌, ◌^◌, ◌≤◌, None, length};
 ghost use Rattle.sh_pass.specs.Passes.{GetDoes, ReadIntoDoes, RemoveDoes, ReleaseDoes};
 ghost use Rattle.sh_shard.specs.Kept.{MayCome, Came};
 ghost use Rattle.sh_shard.specs.Pages.{SlotComes};
@@ -12,7 +12,7 @@ use sh_value::{Hold, Refusal, Value};
 
 // Puts a slot that came in front of `local`. Answers its page's number in the shard.
 fn keep(states: &mut Vec<PageState>, shard: u64, came: Option<Spot>) -> Option<u64>
-    requires few { shard * length states.old.items + length states.old.items ≤ 2048 }
+    requires few { shard * length states.old.items + length states.old.items ≤ 2 ^ 24 }
     requires may { MayCome shard states.old.items came }
     ensures { Came shard came states.old.items result states.new.items }
 {

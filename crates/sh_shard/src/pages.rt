@@ -1,5 +1,5 @@
 //! The pages of an owner's shard: what is kept of each is what the owner knows of it.
-ghost use Rattle.std.specs.Prelude.{◌≡◌, ℕ, ◌+◌, ◌<◌, ◌≤◌, Option, None, Some, MatchBool, MatchResult, true, false};
+ghost use Rattle.std.specs.Prelude.{◌≡◌, ℕ, ◌+◌, ◌^◌, ◌<◌, ◌≤◌, Option, None, Some, MatchBool, MatchResult, true, false};
 ghost use Rattle.sh_slots.specs.declared.hand.Hand.TheVariants.{Idle};
 ghost use Rattle.sh_table.specs.Tales.{ViewStands};
 ghost use Rattle.sh_pass.specs.Owners.{HasNothing, own_body, seen_page};
@@ -119,7 +119,7 @@ impl<'a, L: KeyLayout> Pages<'a, L> {
     /// How many pages the shard has.
     pub(crate) fn count(&self) -> u64
         ensures count { result ≡ self.now.count }
-        ensures few { result ≤ 2048 }
+        ensures few { result ≤ 2 ^ 24 }
     {
         self.states.len() as u64
     }

@@ -1,6 +1,7 @@
 // Giving a class to a page that is blank, or that has another class and all of whose slots are the owner's.
-ghost use Rattle.std.specs.Prelude.{◌≡◌, ◌≢◌, ◌+◌, ◌<◌, None, Some, MatchOption, MatchBool, IfErr, OnOk, OnErr};
-ghost use Rattle.sh_queue.specs.Queues.{one_more_segment};
+ghost use Rattle.std.specs.Prelude.{◌≡◌, ◌≢◌, ◌+◌, ◌<◌, true, None, Some, MatchOption, MatchBool, IfErr, OnOk, OnErr};
+ghost use Rattle.std.specs.Prelude.{slice_get};
+ghost use Rattle.sh_queue.specs.Queues.{class_queue, one_more_segment};
 ghost use Rattle.sh_shard.specs.Pages.{page_at};
 ghost use Rattle.sh_shard.specs.Shards.{IsSpare, NoneSpare, NoneOpenedBlank, IsLowest, PreparesPage, PrepareServes};
 ghost use Rattle.sh_shard.specs.Shards.{StaysOwner};
@@ -91,8 +92,42 @@ impl<'a, L: KeyLayout> Shard<'a, L> {
         Some(page)
     }
 
-    // The lowest opened page of another class all of whose slots are the owner's.
+    // Whether this other class is the same, or no page stands in its queue.
+    fn has_none(&self, class: u32, other: u32) -> bool
+        requires { other < 8 }
+        ensures { MatchBool result (other ≢ class → slice_get (class_queue self.now.queues other) 0 ≡ None) (Unit {0}) }
+    {
+        let _queues = &self.queues;
+        other == class || self.queues.front(other).is_none()
+    }
+
+    // Whether no page stands in the queue of another class. So it is where a shard has values of one class.
+    fn is_alone(&self, class: u32) -> bool
+        ensures { result ≡ true → NoneSpare class self.now.pages }
+    {
+        let _opened = self.queues.opened();
+        for other in 0..8u32 {
+            if !self.has_none(class, other) {
+                return false;
+            }
+        }
+        true
+    }
+
+    // The lowest opened page of another class all of whose slots are the owner's. Such a page stands in the queue of its
+    // class.
     fn spare(&self, class: u32) -> Option<u32>
+        ensures { MatchOption result (NoneSpare class self.now.pages)
+            (λ page. (page < self.now.queues.opened) × IsLowest (IsSpare class) page self.now.pages) }
+    {
+        if self.is_alone(class) {
+            return None;
+        }
+        self.lowest_spare(class)
+    }
+
+    // The same, by a look at each opened page.
+    fn lowest_spare(&self, class: u32) -> Option<u32>
         ensures { MatchOption result (NoneSpare class self.now.pages)
             (λ page. (page < self.now.queues.opened) × IsLowest (IsSpare class) page self.now.pages) }
     {

@@ -92,4 +92,4 @@ pub record Lawful (plan : Plan) : Type 0 where
   pub generations : 0 < plan.keys.gen_max
   pub guards : plan.keys.guard_max + 64 < 2 ^ 30
   pub last_generation : plan.keys.gen_max < 2 ^ 32
-  pub few_pages : heap_pages plan ≤ 2048
+  pub few_pages : heap_pages plan ≤ 2 ^ 24

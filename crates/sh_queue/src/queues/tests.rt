@@ -1,4 +1,4 @@
-ghost use Rattle.std.specs.Prelude.{◌≡◌, ◌≢◌, ◌≤◌, IfOk, OnOk};
+ghost use Rattle.std.specs.Prelude.{◌≡◌, ◌≢◌, ◌^◌, ◌≤◌, IfOk, OnOk};
 ghost use Rattle.sh_queue.specs.Queues.{none_opened, one_more_segment};
 
 use super::*;
@@ -8,7 +8,7 @@ use std::test::Fail;
 
 // No page is opened yet, of this many segments.
 fn none_of(alloc: Global, segments: u32) -> Result<Queues, Refusal>
-    requires { segments ≤ 256 }
+    requires { segments ≤ 2 ^ 21 }
     ensures { IfOk result (λ queues. queues ≡ none_opened segments) }
 {
     Ok(Filing::new(alloc, 0, segments)?.into_queues())
@@ -69,7 +69,7 @@ fn blank_pages_are_used_lowest_first(rt: HostRuntime) {
 
 // No page is opened, once more where memory was refused.
 fn new_with_memory(rt: &HostRuntime, segments: u32) -> Result<Queues, Refusal>
-    requires { segments ≤ 256 }
+    requires { segments ≤ 2 ^ 21 }
     ensures { IfOk result (λ queues. queues ≡ none_opened segments) }
 {
     match none_of(rt.alloc(), segments) {

@@ -1,7 +1,7 @@
 use Rattle.std.proofs.Common.{ap, ◌∙◌, subst, arith}
 use Rattle.sh_shard.specs.Shards.{Sharded, SortedPages}
 use Rattle.sh_shard.proofs.Preparing.{none_spare, spare_next}
-use Rattle.sh_shard.proofs.shard.Shard.spare.Goals as goal
+use Rattle.sh_shard.proofs.shard.Shard.lowest_spare.Goals as goal
 
 pub loop-page-init : goal.loop-page-init
 loop-page-init g c = λ p below spare. absurd (omega arith)

@@ -1,0 +1,114 @@
+//! How large a heap is that has room for values.
+ghost use Rattle.std.specs.Prelude.{◌≡◌, ℕ, ◌*◌, ◌≤◌, MatchResult};
+ghost use Rattle.sh_shape.specs.Shape.{segment_pages};
+ghost use Rattle.sh_shape.specs.Rooms.{IsLeastRoomy, NoneRoomy};
+
+use crate::Shape;
+use crate::classes::{class_of, slots};
+use crate::places::SEGMENT_PAGES;
+use crate::shape::{MOST_SEGMENTS, fits};
+use sh_key::KeyLayout;
+use sh_value::Refusal;
+
+impl Shape {
+    /// The least large shape of the layout in which each of so many owners has a shard with room for this many values
+    /// of this many words, from 0 to 16, and with so many passes. A slot may be wider than the value, and the last
+    /// segment has slots to spare.
+    ///
+    /// `BadShape` where no large shape of the layout has the room, so also where there is no owner or no pass, where
+    /// there are more than 64 passes, and where a value has more than 16 words.
+    ///
+    /// ```text
+    /// let shape = Shape::with_room::<Wide>(4, 10_000, 1, 8)?; // 10,000 values of a word for each of 4 owners
+    /// assert_eq!(shape.segments(), 27); // of 384 slots each
+    /// ```
+    pub fn with_room<L: KeyLayout>(
+        owners: u32,
+        values: u64,
+        words: usize,
+        passes: u32,
+    ) -> Result<Shape, Refusal>
+        ensures { MatchResult result (IsLeastRoomy L.layout owners values words passes)
+            (λ refusal. (refusal ≡ Refusal.BadShape) × NoneRoomy L.layout owners values words passes) }
+    {
+        let Some(class) = class_of(words) else {
+            return Err(Refusal::BadShape);
+        };
+        let segments = segments_for(values, slots(class));
+        if segments > MOST_SEGMENTS {
+            return Err(Refusal::BadShape);
+        }
+        let Ok(shape) = Self::large(owners, segments as u32, passes) else {
+            return Err(Refusal::BadShape);
+        };
+        if fits::<L>(&shape) {
+            Ok(shape)
+        } else {
+            Err(Refusal::BadShape)
+        }
+    }
+}
+
+// The least number of segments, at least one, whose pages of so many slots have room for these values.
+fn segments_for(values: u64, slots: u32) -> u64
+    requires some { 1 ≤ slots }
+    requires few { slots ≤ 48 }
+    ensures some { 1 ≤ result }
+    ensures room { values ≤ segment_pages * result * slots }
+    ensures least { (n : ℕ) → 1 ≤ n → values ≤ segment_pages * n * slots → result ≤ n }
+{
+    let room = SEGMENT_PAGES as u64 * slots as u64;
+    values.div_ceil(room).max(1)
+}
+
+#[cfg(test)]
+mod tests {
+    use super::*;
+    use sh_key::{Deep, Tiny, Wide};
+
+    // The segments of the shape, or `None` where there is none.
+    fn segments<L: KeyLayout>(owners: u32, values: u64, words: usize, passes: u32) -> Option<u32> {
+        match Shape::with_room::<L>(owners, values, words, passes) {
+            Ok(shape) => Some(shape.segments()),
+            Err(_) => None,
+        }
+    }
+
+    // Of one word a segment has 384 slots, of 16 it has 24, and of 5, which take 6, it has 64.
+    #[test]
+    fn each_owner_has_room(rt: HostRuntime) {
+        let table = [
+            (0, 1, Some(1)),
+            (384, 1, Some(1)),
+            (385, 1, Some(2)),
+            (24, 16, Some(1)),
+            (25, 16, Some(2)),
+            (64, 5, Some(1)),
+            (65, 5, Some(2)),
+            (0, 17, None),
+            (49152, 1, Some(128)),
+            (49153, 1, None),
+            (u64::MAX, 16, None),
+        ];
+        for (values, words, wanted) in table {
+            assert_eq!(rt;
+                segments::<Wide>(4, values, words, 8),
+                wanted,
+                "{values} of {words} words"
+            );
+        }
+    }
+
+    #[test]
+    fn owners_and_passes_are_within_the_limits(rt: HostRuntime) {
+        assert_eq!(rt; segments::<Wide>(256, 49152, 1, 64), Some(128));
+        assert_eq!(rt; segments::<Wide>(257, 1, 1, 1), None);
+        assert_eq!(rt; segments::<Wide>(0, 1, 1, 1), None);
+        assert_eq!(rt; segments::<Wide>(1, 1, 1, 0), None);
+        assert_eq!(rt; segments::<Wide>(1, 1, 1, 65), None);
+        assert_eq!(rt; segments::<Tiny>(4, 768, 1, 1), Some(2));
+        assert_eq!(rt; segments::<Tiny>(4, 769, 1, 1), None);
+        assert_eq!(rt; segments::<Deep>(16, 50331648, 1, 16), Some(131072));
+        assert_eq!(rt; segments::<Deep>(17, 50331648, 1, 17), None);
+    }
+}
