@@ -61,7 +61,7 @@
 pub use sh_core::Accounts;
 pub use sh_gather::{Whole, gather, join, whole};
 pub use sh_key::{KeyLayout, Tagged, Tiny, Wide};
-pub use sh_meet::{Task, both};
+pub use sh_meet::{Task, all, both};
 pub use sh_pass::{Guard, Heap, Pass, Seats};
 pub use sh_plain::Store;
 pub use sh_readers::Reader;

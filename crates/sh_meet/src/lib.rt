@@ -3,4 +3,4 @@
 
 pub mod task;
 
-pub use task::{Task, both};
+pub use task::{Task, all, both};

@@ -1,5 +1,9 @@
 //! Work for threads, of which it is known what it gives.
-use std::thread::{Threads, join};
+ghost use Rattle.std.specs.Prelude.{IfOk};
+ghost use Rattle.sh_meet.specs.Tasks.{AllGive};
+
+use std::alloc::AllocError;
+use std::thread::{Threads, join, map_vec};
 
 /// Work for a thread of its own, and what is known of what it gives.
 ///
@@ -51,4 +55,18 @@ pub fn both<R: Threads, S: Task<Output = A> + Send + Drop, T: Task<Output = B> +
             ensures { T.gives two result }
         { two.run() },
     )
+}
+
+/// Runs all tasks of a list, each in a thread of its own where one can be made, and answers what they gave, in order.
+/// Refused where there is no memory for the outputs: then some tasks may not have run, and what they had is gone.
+pub fn all<R: Threads + Sync, T: Task<Output = A> + Send + Drop, A: Send + Drop>(
+    rt: &R,
+    tasks: Vec<T>,
+) -> Result<Vec<A>, AllocError>
+    ensures { IfOk result (λ outputs. AllGive T.gives tasks.items outputs.items) }
+{
+    let run = |task: T| -> A
+        ensures { T.gives task result }
+    { task.run() };
+    map_vec(rt, tasks, &run)
 }

@@ -1,5 +1,5 @@
 //! A get, a read and a release in one.
-ghost use Rattle.core.specs.Fn.{FnOnceReturnsAt};
+ghost use Rattle.std.specs.Fn.{FnOnceReturnsAt};
 ghost use Rattle.sh_readers.specs.Readers.{Remains, FetchDoes, WithDoes};
 
 use crate::reader::Reader;

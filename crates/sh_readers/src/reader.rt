@@ -3,7 +3,7 @@ ghost use Rattle.std.specs.Prelude.{ℕ, Result};
 ghost use Rattle.sh_key.specs.Layout.{Layout};
 ghost use Rattle.sh_pass.specs.Passes.{Caller, GetDoes, ReadDoes, ReadIntoDoes, RemoveDoes, ReleaseDoes};
 ghost use Rattle.sh_readers.specs.Readers.{Remains, FetchDoes, WithDoes, TakeDoes};
-ghost use Rattle.core.specs.Fn.{FnOnceReturnsAt};
+ghost use Rattle.std.specs.Fn.{FnOnceReturnsAt};
 
 use crate::fetching::{fetch, with};
 use crate::taking::take;
