@@ -4,7 +4,7 @@
 //! Each old session is ended by one reader alone, whichever comes first.
 #![tactic(auto)]
 ghost use Rattle.std.specs.Prelude.{◌≡◌, IfOk};
-ghost use Rattle.sh_pass.specs.Passes.{AreOf};
+ghost use Rattle.gearlongan.specs.Passes.{AreOf};
 
 use gearlongan::{Heap, Pass, Reader, Refusal, Shape, Shard, Task, Totals, Value, Wide};
 use gearlongan::{both, gather, total};
@@ -230,10 +230,9 @@ fn tell(rt: &impl Print, story: &Story) -> io::Result<()> {
     match &story.totals {
         Some(totals) => println!(
             rt;
-            "the heap has {} values, on {} of its {} pages",
+            "the heap has {} sessions, on {} pages",
             totals.live,
-            totals.used_pages,
-            totals.used_pages + totals.blank_pages
+            totals.used_pages
         ),
         None => println!(rt; "not all passes came back"),
     }
