@@ -1,74 +1,109 @@
 //! One pass owns a shard and stores a value there; two threads, with a pass each, read it at the same time; the owner
-//! removes it, and the key finds nothing any more.
+//! removes it, and the key finds nothing any more. Then all passes meet, and what the heap has is counted.
 //!
 //! Every pass gets, reads, removes and releases any key of the heap. Only inserting needs a shard of one's own.
 #![tactic(auto)]
+ghost use Rattle.std.specs.Prelude.{◌≡◌};
+ghost use Rattle.gearlongan.specs.Passes.{AreOf};
 
-use gearlongan::{Heap, Pass, Refusal, Shape, Shard, Value, Wide};
+use gearlongan::{Heap, Pass, Reader, Refusal, Shape, Shard, Task, Value, Wide, both, gather, total};
 use std::alloc::Global;
 use std::io;
 use std::process::ExitCode;
-use std::thread::{Threads, join};
+use std::thread::Threads;
+
+// Reads the value of a key, in a thread of its own.
+#[derive(Drop)]
+struct Reading<'a> {
+    pass: Pass<'a, Wide>,
+    key: u64,
+}
+
+impl<'a> Task for Reading<'a> {
+    type Output = (Pass<'a, Wide>, Result<Value, Refusal>);
+
+    // The pass that comes back is of the heap of the one that went.
+    ghost gives = { λ task output. output.0.heap ≡ task.pass.heap };
+
+    fn run(self) -> (Pass<'a, Wide>, Result<Value, Refusal>) {
+        let Reading { mut pass, key } = self;
+        let value = pass.fetch(key);
+        (pass, value)
+    }
+}
 
 // What came of it.
 #[derive(Drop)]
 struct Story {
     key: u64,
-    first: usize,
-    second: usize,
+    first: Value,
+    second: Value,
     after: &'static str,
+    // How many values the heap has in the end. None where not all passes met.
+    left: Option<u32>,
 }
 
-// Holds the key while its value is read: how many words that has.
-fn words_read(pass: &mut Pass<'_, Wide>, key: u64) -> Result<usize, Refusal> {
-    let hold = pass.get(key)?;
-    let value = pass.read(hold)?;
-    pass.release(hold)?;
-    Ok(value.words().len())
-}
-
-fn share(rt: &impl Threads, alloc: Global) -> Result<Story, Refusal> {
-    // One shard, of one segment, and three passes: `passes` answers as many, so the `else` below is never reached.
-    let shape = Shape::new(1, 1, 3)?;
-    let (heap, seats) = Heap::<Wide>::open(alloc, shape)?;
-    let mut passes = heap.passes(alloc, seats).map_err(|(_, why)| why)?;
-    let (Some(mut one), Some(mut other), Some(pass)) = (passes.pop(), passes.pop(), passes.pop())
-    else {
-        unreachable!()
+fn share<'a>(
+    rt: &impl Threads,
+    alloc: Global,
+    heap: &'a Heap<Wide>,
+    passes: Vec<Pass<'a, Wide>>,
+) -> Result<Story, Refusal>
+    requires { AreOf heap.now passes.items }
+{
+    let mut passes = passes.into_iter();
+    let (Some(owner), Some(one), Some(two)) = (passes.next(), passes.next(), passes.next()) else {
+        return Err(Refusal::BadShape);
     };
-
-    let mut owner = Shard::adopt(alloc, pass, 0).map_err(|(_, why)| why)?;
-    let key = owner.insert(&Value::new(&[7, 8, 9])?)?;
-    let (first, second) = join(
-        rt,
-        || words_read(&mut one, key),
-        || words_read(&mut other, key),
-    );
+    let mut back = Vec::with_capacity(alloc, 3)?;
+    let mut owner = Shard::adopt(alloc, owner, 0)?;
+    let key = owner.insert(&Value::of([7, 8, 9]))?;
+    let (one, two) = both(rt, Reading { pass: one, key }, Reading { pass: two, key });
     owner.remove(key)?;
-    let after = match owner.get(key) {
-        Ok(_) => "a hold",
+    let after = match owner.fetch(key) {
+        Ok(_) => "a value",
         Err(why) => why.name(),
+    };
+    back.push_reserved(owner.leave()?);
+    back.push_reserved(one.0);
+    back.push_reserved(two.0);
+    let left = match gather(heap, back) {
+        Ok(mut all) => Some(total(&mut all).live),
+        Err(_) => None,
     };
     Ok(Story {
         key,
-        first: first?,
-        second: second?,
+        first: one.1?,
+        second: two.1?,
         after,
+        left,
     })
+}
+
+fn run(rt: &impl Threads, alloc: Global) -> Result<Story, Refusal> {
+    // One shard, of one segment, and three passes.
+    let shape = Shape::new(1, 1, 3)?;
+    let (heap, seats) = Heap::<Wide>::open(alloc, shape)?;
+    let passes = heap.passes(alloc, seats)?;
+    share(rt, alloc, &heap, passes)
 }
 
 fn tell(rt: &impl Print, story: &Story) -> io::Result<()> {
     println!(rt; "stored under {}", story.key)?;
-    println!(rt; "first thread read {} words", story.first)?;
-    println!(rt; "second thread read {} words", story.second)?;
-    println!(rt; "removed; a get answers {}", story.after)
+    println!(rt; "first thread read {} words", story.first.words().len())?;
+    println!(rt; "second thread read {} words", story.second.words().len())?;
+    println!(rt; "removed; a get answers {}", story.after)?;
+    match story.left {
+        Some(left) => println!(rt; "all passes met; the heap has {left} values"),
+        None => println!(rt; "not all passes met"),
+    }
 }
 
 fn main(rt: HostRuntime) -> ExitCode {
-    let story = match share(&rt, rt.alloc()) {
+    let story = match run(&rt, rt.alloc()) {
         Ok(story) => story,
         Err(why) => {
-            let _ = eprintln!(rt; "refused: {}", why.name());
+            let _ = eprintln!(rt; "refused: {why}");
             return ExitCode::FAILURE;
         }
     };
