@@ -4,19 +4,74 @@
 //!
 //! # First steps
 //!
+//! A program that stores a value, reads it in two threads, gathers all passes and counts what is left. It is proved as
+//! it stands (`crates/two_threads` is this with its printing), and needs no proof file:
+//!
 //! ```text
-//! let shape = Shape::new(1, 1, 2)?;                     // one shard of one segment, two passes
-//! let (heap, seats) = Heap::<Wide>::open(alloc, shape)?;
-//! let mut passes = heap.passes(alloc, seats)?;          // one for each thread
-//! let (Some(mut reader), Some(pass)) = (passes.pop(), passes.pop()) else { .. };
-//! let mut owner = Shard::adopt(alloc, pass, 0)?;        // only an owner inserts
-//! let key = owner.insert(&Value::of([7, 8, 9]))?;
-//! let value = reader.fetch(key)?;                        // 7, 8, 9
-//! let value = owner.take(key)?;                         // read and removed; from now on the key is `Gone`
+//! #![tactic(auto)]
+//! ghost use Rattle.std.specs.Prelude.{◌≡◌};
+//! ghost use Rattle.gearlongan.specs.Passes.{AreOf};
+//!
+//! use gearlongan::{Heap, Pass, Reader, Refusal, Shape, Shard, Task, Value, Wide, both, gather, total};
+//! use std::alloc::Global;
+//! use std::thread::Threads;
+//!
+//! #[derive(Drop)]
+//! struct Reading<'a> {
+//!     pass: Pass<'a, Wide>,
+//!     key: u64,
+//! }
+//!
+//! impl<'a> Task for Reading<'a> {
+//!     type Output = (Pass<'a, Wide>, Result<Value, Refusal>);
+//!
+//!     ghost gives = { λ task output. output.0.heap ≡ task.pass.heap };   // the pass comes back
+//!
+//!     fn run(self) -> (Pass<'a, Wide>, Result<Value, Refusal>) {
+//!         let Reading { mut pass, key } = self;
+//!         let value = pass.fetch(key);                                    // get, read and release in one
+//!         (pass, value)
+//!     }
+//! }
+//!
+//! fn run(rt: &impl Threads, alloc: Global) -> Result<Option<u32>, Refusal> {
+//!     let shape = Shape::new(1, 1, 3)?;                       // one shard of one segment, three passes
+//!     let (heap, seats) = Heap::<Wide>::open(alloc, shape)?;
+//!     let passes = heap.passes(alloc, seats)?;                // one for each caller, in order
+//!     share(rt, alloc, &heap, passes)
+//! }
+//!
+//! // Answers how many values the heap has in the end.
+//! fn share<'a>(
+//!     rt: &impl Threads,
+//!     alloc: Global,
+//!     heap: &'a Heap<Wide>,
+//!     passes: Vec<Pass<'a, Wide>>,
+//! ) -> Result<Option<u32>, Refusal>
+//!     requires { AreOf heap.now passes.items }                // all passes are of this heap
+//! {
+//!     let mut passes = passes.into_iter();
+//!     let (Some(owner), Some(one), Some(two)) = (passes.next(), passes.next(), passes.next()) else {
+//!         return Err(Refusal::BadShape);
+//!     };
+//!     let mut back = Vec::with_capacity(alloc, 3)?;
+//!     let mut owner = Shard::adopt(alloc, owner, 0)?;         // only an owner inserts
+//!     let key = owner.insert(&Value::of([7, 8, 9]))?;
+//!     let (one, two) = both(rt, Reading { pass: one, key }, Reading { pass: two, key });
+//!     owner.remove(key)?;                                     // from now on the key is `Gone`, for ever
+//!     back.push_reserved(owner.leave()?);
+//!     back.push_reserved(one.0);
+//!     back.push_reserved(two.0);
+//!     match gather(heap, back) {
+//!         Ok(mut all) => Ok(Some(total(&mut all).live)),      // no key is left: 0
+//!         Err(_) => Ok(None),                                 // not all passes are there
+//!     }
+//! }
 //! ```
 //!
-//! `two_threads` is a whole program of this kind. Each call answers a `Result`, whose `Refusal` says why it was not
-//! done and changes nothing. `?` takes a refusal out of all of them, also where it comes with what was to be used.
+//! Each call answers a `Result`, whose `Refusal` says why it was not done and changes nothing. `?` takes a refusal out
+//! of all of them, also where it comes with what was to be used. A loop over a pass needs one line that says what stays,
+//! as in `crates/session_store`; `crates/gearlongan_tests` has an example of each call.
 //!
 //! # The words
 //!
@@ -30,8 +85,9 @@
 //! - A **key** names a slot and its **generation**. A slot's generation goes up with each value, so that a key which
 //!   was removed finds nothing for ever, whatever the slot stores by then.
 //! - A **hold** keeps a key's value readable, also when the key is removed meanwhile. `get` takes one, and `release`
-//!   gives it back. `fetch` and `take` (of `Reader`) do both, so that no hold is left behind. A `Guard` is a hold that
-//!   is faster.
+//!   gives it back. `fetch`, `with` and `take` (of `Reader`) do both, so that no hold is left behind. A `Guard` is a
+//!   hold that is faster.
+//! - A **record** is what `Typed` stores: a type of one's own, or a `u64`, a tuple or an array of them as it is.
 //! - A **layout** says how keys are numbered, and so how many shards, pages, generations and holds there may be.
 //!
 //! # Which layout
@@ -53,9 +109,11 @@
 //!
 //! # Threads
 //!
-//! `both` runs two `Task`s and keeps what is known of the passes that they give back; `join` has two passes meet, and
-//! `whole` answers the heap as a whole where all passes met. `total` adds up what its slots are, and `all_accounts`
-//! lists that of each page.
+//! `both` runs two `Task`s, and `all` those of a list, each in a thread of its own where one can be made: what a task
+//! is said to give is known of what it gave. So it is known that passes which come back are of their heap. `gather`
+//! looks whether all passes of the heap are there, and answers the heap as a whole, or hands them back; `join` and
+//! `whole` do the same for one pass after the other. `total` adds up what its slots are, and `all_accounts` lists that
+//! of each page.
 #![tactic(auto)]
 
 pub use sh_core::Accounts;

@@ -7,8 +7,8 @@ use std::thread::{Threads, join, map_vec};
 
 /// Work for a thread of its own, and what is known of what it gives.
 ///
-/// A closure that borrows a heap, as one that has a pass does, says nothing of its result by `thread::join`. A task does:
-/// it is a struct with the pass, and `gives` relates the task before to its output. So a pass that a task gives back is
+/// A closure that borrows a heap, as one that has a pass does, says nothing of its result by `thread::join`. A task
+/// does: it is a struct with the pass, and `gives` relates the task before to its output. So a pass that a task gives back is
 /// known to be of its heap:
 ///
 /// ```text
@@ -36,8 +36,8 @@ pub trait Task {
         ensures { gives self result };
 }
 
-/// Runs two tasks, each in a thread of its own where one can be made, and answers what both gave. What each task is said
-/// to give is known of its output.
+/// Runs two tasks, each in a thread of its own where one can be made, and answers what both gave. What each task is
+/// said to give is known of its output.
 pub fn both<R: Threads, S: Task<Output = A> + Send + Drop, T: Task<Output = B> + Drop, A: Send, B>(
     rt: &R,
     one: S,

@@ -65,8 +65,8 @@ pub trait Reader {
     }
 
     /// What a call gives for the value of a key, as `pass.with(key, |value| value.words().len())`: a fetch whose value
-    /// need not be kept. Refused as a get is: `BadKey`, `HoldsFull`, `Gone` or `Crowded`, and then nothing is called. No
-    /// hold is left behind, and there is none while the call runs.
+    /// need not be kept. Refused as a get is: `BadKey`, `HoldsFull`, `Gone` or `Crowded`, and then nothing is called.
+    /// No hold is left behind, and there is none while the call runs.
     final fn with<T, F: FnOnce(&Value) -> T>(&mut self, key: u64, call: F) -> Result<T, Refusal>
     where
         Self: Sized,

@@ -1,8 +1,8 @@
 //! Which arrays are short enough to be a record.
 ghost use Rattle.std.specs.Prelude.{◌≡◌, nat_lt, true, refl};
 
-/// That an array of `N` words is short enough to be a record: at most 15, as the first of the 16 words of a value is the
-/// record's kind.
+/// That an array of `N` words is short enough to be a record: at most 15, as the first of the 16 words of a value is
+/// the record's kind.
 pub trait Short<const N: usize> {
     ghost short: { nat_lt N 16 ≡ true };
 }
