@@ -121,7 +121,7 @@ pub use sh_gather::{Whole, gather, join, whole};
 pub use sh_key::{KeyLayout, Tagged, Tiny, Wide};
 pub use sh_meet::{Task, all, both};
 pub use sh_pass::{Guard, Heap, Pass, Seats};
-pub use sh_plain::Store;
+pub use sh_plain::{Lookup, Store};
 pub use sh_readers::Reader;
 pub use sh_shape::Shape;
 pub use sh_shard::Shard;

@@ -11,7 +11,7 @@ ghost use Rattle.sh_models.specs.PlainRun.{EndsAt, TakesLine};
 use sh_key::KeyLayout;
 use sh_output::Answer;
 use sh_output::keys::{key_shown, shown};
-use sh_plain::{PlainStore, Store};
+use sh_plain::{Lookup, PlainStore, Store};
 use sh_script::{Call, CallLine, Fault, Reference};
 use sh_value::{Hold, Refusal, Value};
 use std::alloc::{AllocError, Global};

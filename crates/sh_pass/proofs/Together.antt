@@ -1,6 +1,6 @@
 -- Several passes: which passes their tales name, and that the first passes of a heap are of it.
-use Rattle.std.proofs.Common.{◌≡◌, ℕ, ◌<◌, ◌||◌, ◌+◌, Bool, true, false, cond, zero, suc, List, [], ◌∷◌, ◌++◌, take, length, max}
-use Rattle.std.proofs.Common.{bit_or, refl, sym, ap, ◌∙◌, subst, get_or}
+use Rattle.std.proofs.Common.{◌≡◌, ℕ, ◌<◌, ◌||◌, ◌+◌, Bool, true, false, cond, zero, suc, List, [], ◌∷◌, ◌++◌, take}
+use Rattle.std.proofs.Common.{length, max, bit_or, refl, sym, ap, ◌∙◌, get_or}
 use Rattle.std.specs.Int.{bit_at}
 use Rattle.std.proofs.lemmas.Nat.Bits.{bit_at_or}
 use Rattle.std.proofs.lemmas.List.{take_more}
@@ -25,7 +25,8 @@ pub named_more : (ps : List Caller) (i m n a : ℕ) (p : Caller) → i < length 
     → bit_at (bit_or m n) a ≡ cond (named_by (take (i + 1) ps) a) 1 0
 named_more ps i m n a p l is tally so_far =
     let behind : take (i + 1) ps ≡ take i ps ++ p ∷ [] = take_more ps i p l ∙ ap (λ q. take i ps ++ q ∷ []) (sym is) in
-    bit_at_or m n a ∙ (ap (λ x. max x (bit_at n a)) so_far ∙ (ap (λ y. max (cond (named_by (take i ps) a) 1 0) y) (tally a)
+    bit_at_or m n a ∙ (ap (λ x. max x (bit_at n a)) so_far
+    ∙ (ap (λ y. max (cond (named_by (take i ps) a) 1 0) y) (tally a)
     ∙ (max_or (named_by (take i ps) a) (names p.view a) ∙ ap (λ b. cond b 1 0) (sym (named_behind (take i ps) p a)
     ∙ ap (λ qs. named_by qs a) (sym behind)))))
 

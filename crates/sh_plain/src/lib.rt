@@ -3,8 +3,10 @@
 #![tactic(auto)]
 
 mod index;
+pub mod lookup;
 pub mod plain;
 pub mod store;
 
 pub use plain::PlainStore;
+pub use lookup::Lookup;
 pub use store::Store;

@@ -5,7 +5,7 @@ ghost use Rattle.sh_history.specs.declared.entry.Entry.TheVariants.{Got, Removed
 ghost use Rattle.sh_history.specs.History.{Allowed, Legal, value_of, present_value, hold_count, holds_by, holds_on};
 ghost use Rattle.sh_history.specs.Log.{logged_holds_by};
 
-use crate::Store;
+use crate::{Lookup, Store};
 use crate::index::{Held, Issued, find_hold, hold_count, holds_on, issued_at};
 use sh_history::Entry;
 use sh_key::KeyLayout;
@@ -292,16 +292,14 @@ impl<L: KeyLayout> PlainStore<L> {
     }
 }
 
-impl<L: KeyLayout> Store for PlainStore<L> {
-    ghost use Rattle.sh_plain.specs.Plain.{IsNewKey, plain_book, plain_setting, Replied, insert_reply, get_reply};
-    ghost use Rattle.sh_plain.specs.Plain.{read_answer, remove_reply, release_reply};
-    ghost use Rattle.sh_plain.specs.Store.{IsBook, InsertLeaves, GetLeaves, ReadLeaves, RemoveLeaves, ReleaseLeaves};
+impl<L: KeyLayout> Lookup for PlainStore<L> {
+    ghost use Rattle.sh_plain.specs.Plain.{plain_book, plain_setting, Replied, get_reply, read_answer, remove_reply};
+    ghost use Rattle.sh_plain.specs.Plain.{release_reply};
+    ghost use Rattle.sh_plain.specs.Store.{IsBook, GetLeaves, ReadLeaves, RemoveLeaves, ReleaseLeaves};
 
     ghost book = { plain_book };
 
     ghost setting = { plain_setting L.layout };
-
-    ghost inserts = { λ old value result new. Replied (insert_reply L.layout old value) old result new };
 
     ghost gets = { λ old key result new. Replied (get_reply L.layout old key) old result new };
 
@@ -310,21 +308,6 @@ impl<L: KeyLayout> Store for PlainStore<L> {
     ghost removes = { λ old key result new. Replied (remove_reply L.layout old key) old result new };
 
     ghost releases = { λ old key result new. Replied (release_reply old key) old result new };
-
-    fn insert(&mut self, value: &Value) -> Result<u64, Refusal>
-        ensures leaves { InsertLeaves (plain_setting L.layout self.old) value.now (plain_book self.old) result
-            (plain_book self.new) }
-        ensures stands { IsBook (plain_setting L.layout self.new) (plain_book self.new) }
-        ensures same { plain_setting L.layout self.new ≡ plain_setting L.layout self.old }
-        ensures exact { Replied (insert_reply L.layout self.old value.now) self.old result self.new }
-        ensures new_key { IfOk result (IsNewKey L.layout self.old.entries) }
-    {
-        // Reading a field brings in what is true of each plain store: here before the call, and below after it.
-        let _ = &self.entries;
-        let result = self.plain_insert(value);
-        let _ = &self.entries;
-        result
-    }
 
     fn get(&mut self, key: u64) -> Result<Hold, Refusal>
         ensures leaves { GetLeaves (plain_setting L.layout self.old) key (plain_book self.old) result
@@ -372,6 +355,28 @@ impl<L: KeyLayout> Store for PlainStore<L> {
         ensures exact { Replied (release_reply self.old hold.key) self.old result self.new }
     {
         let result = self.plain_release(hold);
+        let _ = &self.entries;
+        result
+    }
+}
+
+impl<L: KeyLayout> Store for PlainStore<L> {
+    ghost use Rattle.sh_plain.specs.Plain.{IsNewKey, plain_book, plain_setting, Replied, insert_reply};
+    ghost use Rattle.sh_plain.specs.Store.{IsBook, InsertLeaves};
+
+    ghost inserts = { λ old value result new. Replied (insert_reply L.layout old value) old result new };
+
+    fn insert(&mut self, value: &Value) -> Result<u64, Refusal>
+        ensures leaves { InsertLeaves (plain_setting L.layout self.old) value.now (plain_book self.old) result
+            (plain_book self.new) }
+        ensures stands { IsBook (plain_setting L.layout self.new) (plain_book self.new) }
+        ensures same { plain_setting L.layout self.new ≡ plain_setting L.layout self.old }
+        ensures exact { Replied (insert_reply L.layout self.old value.now) self.old result self.new }
+        ensures new_key { IfOk result (IsNewKey L.layout self.old.entries) }
+    {
+        // Reading a field brings in what is true of each plain store: here before the call, and below after it.
+        let _ = &self.entries;
+        let result = self.plain_insert(value);
         let _ = &self.entries;
         result
     }

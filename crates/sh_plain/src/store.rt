@@ -1,72 +1,21 @@
 //! What callers of a store may rely on.
 ghost use Rattle.std.specs.Prelude.{◌≡◌, ℕ, List, Result};
-ghost use Rattle.sh_value.specs.declared.hold.Hold.{Hold};
 ghost use Rattle.sh_value.specs.declared.refusal.Refusal.{Refusal};
-ghost use Rattle.sh_history.specs.declared.log.LogEntry.{LogEntry};
-ghost use Rattle.sh_plain.specs.Store.{Setting, IsBook, InsertLeaves, GetLeaves, ReadLeaves, RemoveLeaves};
-ghost use Rattle.sh_plain.specs.Store.{ReleaseLeaves};
+ghost use Rattle.sh_plain.specs.Store.{IsBook, InsertLeaves};
 
-use sh_value::{Hold, Refusal, Value};
+use crate::Lookup;
+use sh_value::{Refusal, Value};
 
-/// A store of values under keys that are never used again.
-///
-/// Its book is the list of what it has answered so far: each call adds exactly its entry, and at each moment there is a
-/// legal history in which the entries of the passes for which the store answers are the book, in order.
-pub trait Store {
-    // What the store has answered so far.
-    ghost book: { Self → List LogEntry };
-
-    // Whose calls follow, and what else stays the same over them.
-    ghost setting: { Self → Setting };
-
-    // Which answers this very store gives, and when: for each call the store before it, the call's argument, the
-    // answer, and the store after it. The book bounds them for every store; these say what one store promises beyond
-    // it, as in which order it refuses.
+/// A store of values under keys that are never used again: it looks keys up, and values are inserted there.
+pub trait Store: Lookup {
+    // Which answers this very store gives to an insert, and when, beyond what its book says.
     ghost inserts: { Self → List ℕ → Result ℕ Refusal → Self → Type 0 };
-
-    ghost gets: { Self → ℕ → Result Hold Refusal → Self → Type 0 };
-
-    ghost reads: { Self → ℕ → Result (List ℕ) Refusal → Self → Type 0 };
-
-    ghost removes: { Self → ℕ → Result (Unit {0}) Refusal → Self → Type 0 };
-
-    ghost releases: { Self → ℕ → Result (Unit {0}) Refusal → Self → Type 0 };
 
     /// Stores a value under a new key, and answers the key. Refused as `Full` or `Memory`.
     fn insert(&mut self, value: &Value) -> Result<u64, Refusal>
-        ensures leaves { InsertLeaves (setting self.old) value.now (book self.old) result (book self.new) }
-        ensures stands { IsBook (setting self.new) (book self.new) }
-        ensures same { setting self.new ≡ setting self.old }
+        ensures leaves { InsertLeaves (Self.setting self.old) value.now (Self.book self.old) result
+            (Self.book self.new) }
+        ensures stands { IsBook (Self.setting self.new) (Self.book self.new) }
+        ensures same { Self.setting self.new ≡ Self.setting self.old }
         ensures exact { inserts self.old value.now result self.new };
-
-    /// Takes a hold on a key, so that its value stays readable. Refused as `BadKey`, `HoldsFull`, `Memory`, `Gone` or
-    /// `Crowded`.
-    fn get(&mut self, key: u64) -> Result<Hold, Refusal>
-        ensures leaves { GetLeaves (setting self.old) key (book self.old) result (book self.new) }
-        ensures stands { IsBook (setting self.new) (book self.new) }
-        ensures same { setting self.new ≡ setting self.old }
-        ensures exact { gets self.old key result self.new };
-
-    /// The value of a key that is held. Refused as `NotHeld`, exactly where the caller has no hold on the key.
-    fn read(&mut self, hold: Hold) -> Result<Value, Refusal>
-        ensures leaves { ReadLeaves (setting self.old) hold.key (book self.old) result (book self.new) }
-        ensures stands { IsBook (setting self.new) (book self.new) }
-        ensures same { setting self.new ≡ setting self.old }
-        ensures exact { reads self.old hold.key result self.new };
-
-    /// Removes a key: no later get finds it, and its value stays until the last hold goes. Refused as `BadKey`,
-    /// `Memory` or `Gone`.
-    fn remove(&mut self, key: u64) -> Result<(), Refusal>
-        ensures leaves { RemoveLeaves (setting self.old) key (book self.old) result (book self.new) }
-        ensures stands { IsBook (setting self.new) (book self.new) }
-        ensures same { setting self.new ≡ setting self.old }
-        ensures exact { removes self.old key result self.new };
-
-    /// Gives one hold on a key back. Refused as `NotHeld`, exactly where the caller has no hold on the key, or
-    /// `Memory`.
-    fn release(&mut self, hold: Hold) -> Result<(), Refusal>
-        ensures leaves { ReleaseLeaves (setting self.old) hold.key (book self.old) result (book self.new) }
-        ensures stands { IsBook (setting self.new) (book self.new) }
-        ensures same { setting self.new ≡ setting self.old }
-        ensures exact { releases self.old hold.key result self.new };
 }

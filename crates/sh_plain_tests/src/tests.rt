@@ -1,7 +1,7 @@
 ghost use Rattle.std.specs.Prelude.{◌≡◌};
 
 use sh_key::{Tiny, Wide};
-use sh_plain::{PlainStore, Store};
+use sh_plain::{Lookup, PlainStore, Store};
 use sh_value::{Hold, Refusal, Value};
 use std::process::Abort;
 use std::test::Fail;

@@ -1,19 +1,16 @@
 // A shard is a store.
 use crate::shard::Shard;
 use sh_key::KeyLayout;
-use sh_plain::Store;
+use sh_plain::{Lookup, Store};
 use sh_value::{Hold, Refusal, Value};
 
-impl<L: KeyLayout> Store for Shard<'_, L> {
+impl<L: KeyLayout> Lookup for Shard<'_, L> {
     ghost use Rattle.sh_pass.specs.Passes.{GetDoes, ReadDoes, RemoveDoes, ReleaseDoes};
-    ghost use Rattle.sh_shard.specs.Shards.{InsertServes, value_class};
     ghost use Rattle.sh_shard.specs.Stores.{shard_book, shard_setting};
 
     ghost book = { shard_book };
 
     ghost setting = { shard_setting L.layout };
-
-    ghost inserts = { λ old value result new. InsertServes L.layout (value_class value) value old result new };
 
     ghost gets = { λ old key result new. GetDoes L.layout key old.pages.owner result new.pages.owner };
 
@@ -22,11 +19,6 @@ impl<L: KeyLayout> Store for Shard<'_, L> {
     ghost removes = { λ old key result new. RemoveDoes L.layout key old.pages.owner result new.pages.owner };
 
     ghost releases = { λ old key result new. ReleaseDoes L.layout key old.pages.owner result new.pages.owner };
-
-    fn insert(&mut self, value: &Value) -> Result<u64, Refusal> {
-        self.standing();
-        Shard::insert(self, value)
-    }
 
     fn get(&mut self, key: u64) -> Result<Hold, Refusal> {
         self.standing();
@@ -46,5 +38,16 @@ impl<L: KeyLayout> Store for Shard<'_, L> {
     fn release(&mut self, hold: Hold) -> Result<(), Refusal> {
         self.standing();
         Shard::release(self, hold)
+    }
+}
+
+impl<L: KeyLayout> Store for Shard<'_, L> {
+    ghost use Rattle.sh_shard.specs.Shards.{InsertServes, value_class};
+
+    ghost inserts = { λ old value result new. InsertServes L.layout (value_class value) value old result new };
+
+    fn insert(&mut self, value: &Value) -> Result<u64, Refusal> {
+        self.standing();
+        Shard::insert(self, value)
     }
 }

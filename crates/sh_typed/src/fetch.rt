@@ -4,11 +4,11 @@ ghost use Rattle.sh_plain.specs.Store.{IsBook};
 ghost use Rattle.sh_typed.specs.Typed.{FetchLeaves, Fetches, FetchesRecord, RecordLeaves, record_in};
 
 use crate::stored::stored_record;
-use sh_plain::Store;
+use sh_plain::Lookup;
 use sh_value::{Hold, Record, Refusal, Value};
 
 // Gets a key and reads its value.
-fn fetch<S: Store>(store: &mut S, key: u64) -> Result<(Hold, Value), Refusal>
+fn fetch<S: Lookup>(store: &mut S, key: u64) -> Result<(Hold, Value), Refusal>
     ensures leaves { FetchLeaves (S.setting store.old) key (S.book store.old) result (S.book store.new) }
     ensures stands { IsBook (S.setting store.new) (S.book store.new) }
     ensures same { S.setting store.new ≡ S.setting store.old }
@@ -22,7 +22,7 @@ fn fetch<S: Store>(store: &mut S, key: u64) -> Result<(Hold, Value), Refusal>
 }
 
 // Gets a key and reads its value as a record. Where it is none, the hold is released again.
-pub(crate) fn fetch_record<S: Store, R: Record>(
+pub(crate) fn fetch_record<S: Lookup, R: Record>(
     store: &mut S,
     key: u64,
 ) -> Result<(Hold, R), Refusal>

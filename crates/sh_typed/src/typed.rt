@@ -8,26 +8,27 @@ ghost use Rattle.sh_typed.specs.Typed.{FetchesRecord, GivesBack, RecordLeaves, r
 
 use crate::fetch::fetch_record;
 use crate::stored::stored_value;
-use sh_plain::Store;
+use sh_plain::{Lookup, Store};
 use sh_value::{Hold, Record, Refusal};
 use std::marker::{Model, PhantomData};
 
-/// A store of records of one type: each is stored as its kind and then its words.
+/// The records of one type in a store: each is stored as its kind and then its words.
 ///
-/// A contract sees the store itself. Another kind of record may lie under other keys of it.
+/// Whoever looks keys up may get, remove and release them, as a pass does: `Typed::<_, (u64, u64)>::new(pass)`. Only over
+/// a store can they be inserted. A contract sees the store itself. Another kind of record may lie under other keys of it.
 #[derive(Drop)]
-pub struct Typed<S: Store, R: Record> {
+pub struct Typed<S: Lookup, R: Record> {
     store: S,
     record: PhantomData<R>,
 }
 
-impl<S: Store, R: Record> Model for Typed<S, R> {
+impl<S: Lookup, R: Record> Model for Typed<S, R> {
     ghost Value = { S };
 
     ghost view = { λ t. t.store };
 }
 
-impl<S: Store, R: Record> Typed<S, R> {
+impl<S: Lookup, R: Record> Typed<S, R> {
     /// The records in a store.
     pub fn new(store: S) -> Self
         ensures { result ≡ store }
@@ -42,21 +43,6 @@ impl<S: Store, R: Record> Typed<S, R> {
     {
         let Typed { store, record: _ } = self;
         store
-    }
-
-    /// Stores a record under a new key, and answers the key. Refused as `Full` or `Memory`.
-    ///
-    /// What is stored is read as the record again.
-    pub fn insert(&mut self, stored: &R) -> Result<u64, Refusal>
-        ensures leaves { InsertLeaves (S.setting self.old) (R.KIND ∷ R.words stored.now) (S.book self.old) result
-            (S.book self.new) }
-        ensures decodes { record_in R.KIND R.record_of (R.KIND ∷ R.words stored.now) ≡ Some stored.now }
-        ensures stands { IsBook (S.setting self.new) (S.book self.new) }
-        ensures same { S.setting self.new ≡ S.setting self.old }
-        ensures exact { S.inserts self.old (R.KIND ∷ R.words stored.now) result self.new }
-    {
-        let value = stored_value(stored);
-        self.store.insert(&value)
     }
 
     /// Takes a hold on a key, and answers it with the record. Refused as the store refuses a get, and as `WrongKind`
@@ -97,6 +83,23 @@ impl<S: Store, R: Record> Typed<S, R> {
         ensures exact { S.releases self.old hold.key result self.new }
     {
         self.store.release(hold)
+    }
+}
+
+impl<S: Store, R: Record> Typed<S, R> {
+    /// Stores a record under a new key, and answers the key. Refused as `Full` or `Memory`.
+    ///
+    /// What is stored is read as the record again.
+    pub fn insert(&mut self, stored: &R) -> Result<u64, Refusal>
+        ensures leaves { InsertLeaves (S.setting self.old) (R.KIND ∷ R.words stored.now) (S.book self.old) result
+            (S.book self.new) }
+        ensures decodes { record_in R.KIND R.record_of (R.KIND ∷ R.words stored.now) ≡ Some stored.now }
+        ensures stands { IsBook (S.setting self.new) (S.book self.new) }
+        ensures same { S.setting self.new ≡ S.setting self.old }
+        ensures exact { S.inserts self.old (R.KIND ∷ R.words stored.now) result self.new }
+    {
+        let value = stored_value(stored);
+        self.store.insert(&value)
     }
 }
 

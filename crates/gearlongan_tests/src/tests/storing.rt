@@ -29,6 +29,21 @@ fn a_struct_of_two_numbers_is_stored_as_a_pair(rt: HostRuntime) -> Result<(), Fa
 }
 
 #[test]
+fn a_pass_looks_records_up(rt: HostRuntime) -> Result<(), Fail> {
+    let (heap, seats) = opened(&rt, rt.alloc(), 2);
+    let (owner, reader) = owner_and_reader(&rt, rt.alloc(), &heap, seats);
+    let mut sessions = Typed::<_, (u64, u64)>::new(owner);
+    let key = sessions.insert(&(110, 42)).expect(&rt, "a key");
+    let mut found = Typed::<_, (u64, u64)>::new(reader);
+    let (hold, session) = found.get(key).expect(&rt, "a session");
+    assert_eq!(rt; session, (110, 42));
+    assert_eq!(rt; found.release(hold), Ok(()));
+    assert_eq!(rt; found.remove(key), Ok(()));
+    assert_eq!(rt; sessions.get(key), Err(Refusal::Gone));
+    Ok(())
+}
+
+#[test]
 fn what_is_of_another_kind_is_refused(rt: HostRuntime) -> Result<(), Fail> {
     let (heap, seats) = opened(&rt, rt.alloc(), 2);
     let (mut owner, _) = owner_and_reader(&rt, rt.alloc(), &heap, seats);

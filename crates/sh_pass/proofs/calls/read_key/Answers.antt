@@ -1,4 +1,4 @@
-use Rattle.std.proofs.Common.{◌≡◌, ◌∙◌, None, refl, sym}
+use Rattle.std.proofs.Common.{◌≡◌, None, refl, sym}
 use Rattle.sh_pass.specs.Passes.{caller_of, heap_of}
 use Rattle.sh_pass.proofs.HeldLaws.{hold_found, no_hold, held_named, reads_of, same_home}
 use Rattle.sh_pass.proofs.OwnCalls.{leaves}

@@ -1,4 +1,4 @@
-use Rattle.std.proofs.Common.{◌≡◌, ℕ, ◌≤◌, cond, take, length}
+use Rattle.std.proofs.Common.{◌≡◌, ℕ, cond, take}
 use Rattle.std.specs.Int.{bit_at}
 use Rattle.sh_pass.specs.Passes.{named_by}
 use Rattle.sh_pass.proofs.gathering.named_together.Given as goal

@@ -7,22 +7,22 @@ use Rattle.sh_typed.proofs.fetch.fetch_record.Goals as goal
 pub returns-in-Err-clause-leaves : goal.returns-in-Err-clause-leaves
 returns-in-Err-clause-leaves g c =
     let fetched = c.in_ok-hold.ensures.leaves in
-    release_refused (record_in g.R.Record.KIND g.R.Record.record_of) (g.S.Store.setting c.args.store.now)
-    (g.S.Store.setting c.fetch.new.store)
-    c.args.key c.in_ok-hold.hold.key c.in_ok-hold.value (g.S.Store.book c.args.store.now)
-    (g.S.Store.book c.fetch.new.store) (g.S.Store.book c.release.new.self)
+    release_refused (record_in g.R.Record.KIND g.R.Record.record_of) (g.S.Lookup.setting c.args.store.now)
+    (g.S.Lookup.setting c.fetch.new.store)
+    c.args.key c.in_ok-hold.hold.key c.in_ok-hold.value (g.S.Lookup.book c.args.store.now)
+    (g.S.Lookup.book c.fetch.new.store) (g.S.Lookup.book c.release.new.self)
     c.in-Err.refusal c.in_ok-hold.ensures.same fetched.0 fetched.1 (sym c.in-None.ensures) c.in-Err.ensures.leaves
 
 pub returns-in-Err-clause-exact : goal.returns-in-Err-clause-exact
 returns-in-Err-clause-exact g c =
     let fetched = c.in_ok-hold.ensures.leaves in
     let for_memory =
-    refused_for_memory (g.S.Store.setting c.args.store.now) (g.S.Store.setting c.fetch.new.store) c.args.key
+    refused_for_memory (g.S.Lookup.setting c.args.store.now) (g.S.Lookup.setting c.fetch.new.store) c.args.key
     c.in_ok-hold.hold.key c.in_ok-hold.value
-    (g.S.Store.book c.args.store.now) (g.S.Store.book c.fetch.new.store) (g.S.Store.book c.release.new.self)
+    (g.S.Lookup.book c.args.store.now) (g.S.Lookup.book c.fetch.new.store) (g.S.Lookup.book c.release.new.self)
     c.in-Err.refusal
     c.in_ok-hold.ensures.same fetched.0 fetched.1 c.in-Err.ensures.leaves in
-    let P : Refusal → Type 0 = λ r. g.S.Store.releases c.fetch.new.store c.in_ok-hold.hold.key (Err r)
+    let P : Refusal → Type 0 = λ r. g.S.Lookup.releases c.fetch.new.store c.in_ok-hold.hold.key (Err r)
     c.release.new.self in
     rw for_memory (inr (record {
       hold = c.in_ok-hold.hold;

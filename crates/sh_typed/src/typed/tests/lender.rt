@@ -6,7 +6,7 @@ ghost use Rattle.sh_history.specs.declared.log.LogEntry.TheVariants.{Known, Unre
 ghost use Rattle.sh_plain.specs.Store.{Setting};
 ghost use Rattle.sh_typed.specs.declared.typed.tests.lender.Stage.TheVariants.{Idle, Lent, Read, Returned};
 
-use sh_plain::Store;
+use sh_plain::{Lookup, Store};
 use sh_value::{Hold, Refusal, Value};
 
 // How far the lender came: no hold is taken yet; the hold's value was not read; it was read; the hold was given back.
@@ -31,7 +31,7 @@ pub struct Lender {
     pub has_memory: bool,
 }
 
-impl Store for Lender {
+impl Lookup for Lender {
     ghost book = { λ s. elim s.stage [
       | Idle ↦ []
       | Lent ↦ Unread 1 4096 ∷ []
@@ -41,8 +41,6 @@ impl Store for Lender {
     ] };
 
     ghost setting = { λ _. record { passes = 2; guard_max = 4; pass = 1; answers_for = λ pass. pass == 1 } };
-
-    ghost inserts = { λ old _ result new. (result ≡ Err (if old.has_memory then Full else Memory)) × (new ≡ old) };
 
     ghost gets = { λ old key result _. result ≡ (if key == 4096 then elim old.stage [
       | Idle ↦ Ok (record { key = 4096 })
@@ -65,15 +63,6 @@ impl Store for Lender {
       | Returned
           ↦ Err NotHeld
     ] else Err NotHeld) };
-
-    #[tactic(auto, using(crate::proofs::Lending::idle_stands, crate::proofs::Lending::lent_stands, crate::proofs::Lending::read_stands, crate::proofs::Lending::returned_stands))]
-    fn insert(&mut self, _: &Value) -> Result<u64, Refusal> {
-        Err(if self.has_memory {
-            Refusal::Full
-        } else {
-            Refusal::Memory
-        })
-    }
 
     #[tactic(auto, using(crate::proofs::Lending::idle_stands, crate::proofs::Lending::lent_stands, crate::proofs::Lending::read_stands, crate::proofs::Lending::returned_stands))]
     fn get(&mut self, key: u64) -> Result<Hold, Refusal> {
@@ -126,5 +115,18 @@ impl Store for Lender {
             Stage::Lent | Stage::Read => Err(Refusal::Memory),
             _ => Err(Refusal::NotHeld),
         }
+    }
+}
+
+impl Store for Lender {
+    ghost inserts = { λ old _ result new. (result ≡ Err (if old.has_memory then Full else Memory)) × (new ≡ old) };
+
+    #[tactic(auto, using(crate::proofs::Lending::idle_stands, crate::proofs::Lending::lent_stands, crate::proofs::Lending::read_stands, crate::proofs::Lending::returned_stands))]
+    fn insert(&mut self, _: &Value) -> Result<u64, Refusal> {
+        Err(if self.has_memory {
+            Refusal::Full
+        } else {
+            Refusal::Memory
+        })
     }
 }

@@ -3,7 +3,7 @@ use Rattle.sh_history.specs.History.{Legal}
 use Rattle.sh_plain.specs.Plain.{Plain}
 use Rattle.sh_plain.proofs.Held.{book_stands}
 use Rattle.sh_plain.proofs.Leaves.{read_leaves}
-use Rattle.sh_plain.proofs.plain.PlainStoreStore.read.Goals as goal
+use Rattle.sh_plain.proofs.plain.PlainStoreLookup.read.Goals as goal
 
 pub returns-clause-stands : goal.returns-clause-stands
 returns-clause-stands g c = book_stands g.L.KeyLayout.layout _ _ _ _ _ _ c.self.invariant c.self.view_is

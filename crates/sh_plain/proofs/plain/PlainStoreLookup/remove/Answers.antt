@@ -1,7 +1,7 @@
 use Rattle.sh_plain.specs.Plain.{remove_reply}
 use Rattle.sh_plain.proofs.Held.{book_stands}
 use Rattle.sh_plain.proofs.Leaves.{remove_leaves, setting_stays}
-use Rattle.sh_plain.proofs.plain.PlainStoreStore.remove.Goals as goal
+use Rattle.sh_plain.proofs.plain.PlainStoreLookup.remove.Goals as goal
 
 pub returns-clause-stands : goal.returns-clause-stands
 returns-clause-stands g c = book_stands g.L.KeyLayout.layout _ _ _ _ _ _ c.self.invariant c.self.view_is

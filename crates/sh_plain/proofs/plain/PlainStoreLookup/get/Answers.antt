@@ -3,7 +3,7 @@ use Rattle.sh_history.specs.History.{Legal}
 use Rattle.sh_plain.specs.Plain.{Plain}
 use Rattle.sh_plain.proofs.Held.{book_stands}
 use Rattle.sh_plain.proofs.Leaves.{get_leaves}
-use Rattle.sh_plain.proofs.plain.PlainStoreStore.get.Goals as goal
+use Rattle.sh_plain.proofs.plain.PlainStoreLookup.get.Goals as goal
 
 pub returns-clause-stands : goal.returns-clause-stands
 returns-clause-stands g c = book_stands g.L.KeyLayout.layout _ _ _ _ _ _ c.self-2.invariant c.self-2.view_is

@@ -1,0 +1,42 @@
+// A pass looks keys up.
+use crate::pass::Pass;
+use sh_key::KeyLayout;
+use sh_plain::Lookup;
+use sh_value::{Hold, Refusal, Value};
+
+impl<L: KeyLayout> Lookup for Pass<'_, L> {
+    ghost use Rattle.sh_pass.specs.Passes.{GetDoes, ReadDoes, RemoveDoes, ReleaseDoes};
+    ghost use Rattle.sh_pass.specs.Lookups.{caller_book, caller_setting};
+
+    ghost book = { caller_book };
+
+    ghost setting = { caller_setting L.layout };
+
+    ghost gets = { λ old key result new. GetDoes L.layout key old result new };
+
+    ghost reads = { λ old key result new. ReadDoes key old result new };
+
+    ghost removes = { λ old key result new. RemoveDoes L.layout key old result new };
+
+    ghost releases = { λ old key result new. ReleaseDoes L.layout key old result new };
+
+    fn get(&mut self, key: u64) -> Result<Hold, Refusal> {
+        let _before = self.shape();
+        Pass::get(self, key)
+    }
+
+    fn read(&mut self, hold: Hold) -> Result<Value, Refusal> {
+        let _before = self.shape();
+        Pass::read(self, hold)
+    }
+
+    fn remove(&mut self, key: u64) -> Result<(), Refusal> {
+        let _before = self.shape();
+        Pass::remove(self, key)
+    }
+
+    fn release(&mut self, hold: Hold) -> Result<(), Refusal> {
+        let _before = self.shape();
+        Pass::release(self, hold)
+    }
+}

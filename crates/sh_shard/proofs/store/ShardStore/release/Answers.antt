@@ -1,6 +1,0 @@
-use Rattle.sh_shard.proofs.Booking.{release_leaves}
-use Rattle.sh_shard.proofs.store.ShardStore.release.Goals as goal
-
-pub returns-clause-leaves : goal.returns-clause-leaves
-returns-clause-leaves g c = release_leaves g.L.KeyLayout.layout c.args.hold.key c.args.self.now c.release.new.self
-    c.release.result c.standing.ensures.stands c.release.ensures.does
