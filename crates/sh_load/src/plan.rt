@@ -68,7 +68,7 @@ fn plan_with<L: KeyLayout>(demand: &Demand, shards: usize) -> Option<Plan>
     let owners = demand.owners * shards;
     let passes = demand.passes.max(owners + demand.others);
     let segments = u32::try_from(pages / 8 + 1).ok()?;
-    let shape = Shape::new(owners as u32, segments, passes as u32).ok()?;
+    let shape = Shape::large(owners as u32, segments, passes as u32).ok()?;
     if fits::<L>(&shape) {
         Some(Plan { shape, shards })
     } else {

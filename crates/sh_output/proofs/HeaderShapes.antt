@@ -19,7 +19,7 @@ Shapes header lines = IsShape header.shape × Fits (layout_of header.layout) hea
 
 lasting : IsLasting SaysEvent [] Shapes
 lasting = record {
-  begins = λ v words header is. (is.is_shape, is.fits);
+  begins = λ v words header is. (is.is_shape.is_shape, is.fits);
   lasts = λ header before now words kept says. kept;
 }
 
@@ -35,7 +35,7 @@ fits_named text header lines name is e = subst (λ (l : LayoutName). Fits (layou
 
 lasting_calls : IsLasting SaysCall no_calls Shapes
 lasting_calls = record {
-  begins = λ v words header is. (is.is_shape, is.fits);
+  begins = λ v words header is. (is.is_shape.is_shape, is.fits);
   lasts = λ header before now words kept says. kept;
 }
 

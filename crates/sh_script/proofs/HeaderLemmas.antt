@@ -7,7 +7,7 @@ use Rattle.std.specs.Str.{bytes_eq}
 use Rattle.std.proofs.lemmas.Bool.Decides.{Decides-and}
 use Rattle.std.proofs.lemmas.Option.{cond_some}
 use Rattle.sh_key.specs.Layout.{Layout}
-use Rattle.sh_shape.specs.Shape.{Numbers, segment_pages, IsShape, Fits}
+use Rattle.sh_shape.specs.Shape.{Numbers, segment_pages, IsSmallShape, Fits}
 use Rattle.sh_script.specs.Words.{Word, number_of}
 use Rattle.sh_script.specs.Headers.{is_shape, fits, shape_of, byte_in, tag_in, tag_of, with_a_tag, is_two}
 use Rattle.sh_script.specs.Headers.{layout_and_tag, header_of, is_version_in, is_version_line}
@@ -41,7 +41,7 @@ fits_test l n = Decides-and _ _ (le_test n.shards (2 ^ l.shard_bits))
     (le_test (segment_pages * n.segments) (2 ^ l.page_bits))
 
 record IsGoodShape (l : Layout) (n : Numbers) : Type 0 where
-  is_shape : IsShape n
+  is_shape : IsSmallShape n
   fits : Fits l n
 
 good_shape : (l : Layout) (n : Numbers) → (is_shape n && fits l n) ≡ true → IsGoodShape l n
@@ -51,21 +51,24 @@ good_shape l n e =
     let b = h.1 in
     record {
       is_shape = record {
-        some_shard = a.0;
-        some_segment = a.1.0;
+        is_shape = record {
+          some_shard = a.0;
+          some_segment = a.1.0;
+          few_segments = omega (arith, a.1.1.0);
+          some_pass = a.1.1.1.0;
+          few_passes = a.1.1.1.1;
+        };
         few_segments = a.1.1.0;
-        some_pass = a.1.1.1.0;
-        few_passes = a.1.1.1.1;
       };
       fits = record { shards_fit = b.0; pages_fit = b.1 };
     }
 
-good_test : (l : Layout) (n : Numbers) → IsShape n → Fits l n → (is_shape n && fits l n) ≡ true
+good_test : (l : Layout) (n : Numbers) → IsSmallShape n → Fits l n → (is_shape n && fits l n) ≡ true
 good_test l n s f =
     (Decides-and _ _ (shape_test n) (fits_test l n)).1 (
       (
-        s.some_shard,
-        (s.some_segment, (s.few_segments, (s.some_pass, s.few_passes))),
+        s.is_shape.some_shard,
+        (s.is_shape.some_segment, (s.few_segments, (s.is_shape.some_pass, s.is_shape.few_passes))),
       ),
       (f.shards_fit, f.pages_fit),
     )
@@ -240,7 +243,7 @@ header_gives v ws h x =
     let few = bits_small h.layout in
     let shards : n.shards < 2 ^ 64 = omega (arith, x.fits.shards_fit, few.0) in
     let segments : n.segments < 2 ^ 64 = omega (arith, x.fits.pages_fit, few.1) in
-    let passes : n.passes < 2 ^ 64 = omega (arith, x.is_shape.few_passes) in
+    let passes : n.passes < 2 ^ 64 = omega (arith, x.is_shape.is_shape.few_passes) in
     rw (
       x.says,
       number_of_decimal n.shards shards,

@@ -2,7 +2,7 @@
 use Rattle.std.specs.Prelude.{◌≡◌, ℕ, ◌<◌, List, [], ◌∷◌, Option, Some, None, codes, decimal}
 use Rattle.sh_key.specs.Layout.{Layout}
 use Rattle.sh_key.specs.Layouts.{tiny, wide, tagged}
-use Rattle.sh_shape.specs.Shape.{IsShape, Fits}
+use Rattle.sh_shape.specs.Shape.{IsSmallShape, Fits}
 use Rattle.sh_script.specs.Words.{Word}
 use Rattle.sh_script.specs.declared.header.Layout.{Layout as LayoutName}
 use Rattle.sh_script.specs.declared.header.Layout.TheVariants as layout
@@ -45,14 +45,15 @@ HasTag layout.Tagged None = ⊥
 HasTag layout.Tiny tag = tag ≡ None
 HasTag layout.Wide tag = tag ≡ None
 
--- the words are `heap`, the name of a layout of the version, the numbers of a shape that fits the layout, and the tag
+-- the words are `heap`, the name of a layout of the version, the numbers of a small shape that fits the layout, and the
+-- tag
 pub record IsHeader (version : Version) (words : List Word) (header : Header) : Type 0 where
   pub behind : List Word
   pub says : words ≡ codes "heap" ∷ layout_name header.layout ∷ decimal header.shape.shards ∷ decimal
       header.shape.segments ∷ decimal header.shape.passes ∷ behind
   pub has_layout : HasLayout version header.layout
   pub is_tag : AreTag header.layout behind header.tag
-  pub is_shape : IsShape header.shape
+  pub is_shape : IsSmallShape header.shape
   pub fits : Fits (layout_of header.layout) header.shape
 
 -- the words are `version 2`
