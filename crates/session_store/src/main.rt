@@ -3,11 +3,13 @@
 //!
 //! Each old session is ended by one reader alone, whichever comes first.
 #![tactic(auto)]
+
 ghost use Rattle.std.specs.Prelude.{◌≡◌, IfOk};
 ghost use Rattle.gearlongan.specs.Passes.{AreOf};
 
-use gearlongan::{Heap, Pass, Reader, Refusal, Shape, Shard, Task, Totals, Value, Wide};
-use gearlongan::{both, gather, total};
+use gearlongan::{
+    Heap, Pass, Reader, Refusal, Shape, Shard, Task, Totals, Value, Wide, both, gather, total,
+};
 use std::alloc::Global;
 use std::io;
 use std::process::ExitCode;
@@ -228,11 +230,9 @@ fn tell(rt: &impl Print, story: &Story) -> io::Result<()> {
     println!(rt; "opened {} sessions", story.opened)?;
     println!(rt; "ended {} that were old", story.ended)?;
     match &story.totals {
-        Some(totals) => println!(
-            rt;
+        Some(totals) => println!(rt;
             "the heap has {} sessions, on {} pages",
-            totals.live,
-            totals.used_pages
+            totals.live, totals.used_pages
         ),
         None => println!(rt; "not all passes came back"),
     }

@@ -45,7 +45,7 @@ pub fn gather<'a, L: KeyLayout>(
     requires { AreOf heap.now passes.items }
     ensures { MatchResult result
         (λ whole. (whole.heap ≡ heap.now) × IsWhole whole.view × AreAll heap.now passes.entry.items
-            × IsGatheredFrom passes.entry.items whole.view)
+        × IsGatheredFrom passes.entry.items whole.view)
         (λ back. (back ≡ passes.entry) × ¬ AreAll heap.now passes.entry.items) }
 {
     if !are_all(heap, &passes) {

@@ -7,6 +7,6 @@ pub mod lookup;
 pub mod plain;
 pub mod store;
 
-pub use plain::PlainStore;
 pub use lookup::Lookup;
+pub use plain::PlainStore;
 pub use store::Store;

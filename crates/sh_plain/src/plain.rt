@@ -5,8 +5,8 @@ ghost use Rattle.sh_history.specs.declared.entry.Entry.TheVariants.{Got, Removed
 ghost use Rattle.sh_history.specs.History.{Allowed, Legal, value_of, present_value, hold_count, holds_by, holds_on};
 ghost use Rattle.sh_history.specs.Log.{logged_holds_by};
 
-use crate::{Lookup, Store};
 use crate::index::{Held, Issued, find_hold, hold_count, holds_on, issued_at};
+use crate::{Lookup, Store};
 use sh_history::Entry;
 use sh_key::KeyLayout;
 use sh_value::{Hold, Refusal, Value};

@@ -3,10 +3,13 @@
 //!
 //! Every pass gets, reads, removes and releases any key of the heap. Only inserting needs a shard of one's own.
 #![tactic(auto)]
+
 ghost use Rattle.std.specs.Prelude.{◌≡◌};
 ghost use Rattle.gearlongan.specs.Passes.{AreOf};
 
-use gearlongan::{Heap, Pass, Reader, Refusal, Shape, Shard, Task, Value, Wide, both, gather, total};
+use gearlongan::{
+    Heap, Pass, Reader, Refusal, Shape, Shard, Task, Value, Wide, both, gather, total,
+};
 use std::alloc::Global;
 use std::io;
 use std::process::ExitCode;

@@ -2,8 +2,9 @@
 ghost use Rattle.std.specs.Prelude.{◌≡◌};
 
 use super::{opened, owner_and_reader};
-use gearlongan::{Pass, Reader, Refusal, Shard, Task, Value, Wide};
-use gearlongan::{all_accounts, both, gather, join, total, whole};
+use gearlongan::{
+    Pass, Reader, Refusal, Shard, Task, Value, Wide, all_accounts, both, gather, join, total, whole,
+};
 use std::alloc::Global;
 use std::process::Abort;
 use std::test::Fail;
@@ -28,11 +29,7 @@ impl<'a> Task for Removing<'a> {
 }
 
 // A heap's owner, once it stored this value, and its reader: both as passes.
-fn owner_left<'a>(
-    rt: &impl Abort,
-    owner: Shard<'a, Wide>,
-    value: &Value,
-) -> (Pass<'a, Wide>, u64)
+fn owner_left<'a>(rt: &impl Abort, owner: Shard<'a, Wide>, value: &Value) -> (Pass<'a, Wide>, u64)
     ensures { result.0.heap ≡ owner.entry.pages.owner.heap }
 {
     let mut owner = owner;
@@ -58,7 +55,10 @@ fn passes_that_met_know_what_each_page_has(rt: HostRuntime) -> Result<(), Fail> 
     assert_eq!(rt; (page.class, page.live, page.queued), (Some(0), 1, 47));
     assert_eq!(rt; all.accounts(0, 8), None);
     let totals = total(&mut all);
-    assert_eq!(rt; (totals.live, totals.used_pages, totals.blank_pages), (1, 1, 7));
+    assert_eq!(rt;
+        (totals.live, totals.used_pages, totals.blank_pages),
+        (1, 1, 7)
+    );
     let pages = all_accounts(rt.alloc(), &mut all)?;
     assert_eq!(rt; pages.len(), 8);
     Ok(())

@@ -56,7 +56,10 @@ fn fetch_with_and_take_leave_no_hold(rt: HostRuntime) -> Result<(), Fail> {
     assert_eq!(rt; reader.with(key, |value| value.words().len()), Ok(3));
     assert_eq!(rt; owner.take(key), Ok(Value::of([7, 8, 9])));
     assert_eq!(rt; reader.fetch(key), Err(Refusal::Gone));
-    assert_eq!(rt; reader.with(key, |value| value.words().len()), Err(Refusal::Gone));
+    assert_eq!(rt;
+        reader.with(key, |value| value.words().len()),
+        Err(Refusal::Gone)
+    );
     assert_eq!(rt; reader.take(key), Err(Refusal::Gone));
     assert_eq!(rt; reader.fetch(0), Err(Refusal::BadKey));
     Ok(())

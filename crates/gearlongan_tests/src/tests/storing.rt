@@ -7,7 +7,10 @@ use std::test::Fail;
 fn values_have_up_to_sixteen_words(rt: HostRuntime) -> Result<(), Fail> {
     let words = [0; 17];
     assert_eq!(rt; Value::new(&words), Err(Refusal::TooLong));
-    assert_eq!(rt; Value::new(&words[..16]).map(|value| value.words().len()), Ok(16));
+    assert_eq!(rt;
+        Value::new(&words[..16]).map(|value| value.words().len()),
+        Ok(16)
+    );
     assert_eq!(rt; Value::of([1, 2]).words(), [1, 2].as_slice());
     assert_eq!(rt; Value::empty().words().len(), 0);
     Ok(())
