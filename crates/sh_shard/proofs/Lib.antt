@@ -12,6 +12,7 @@ pub mod PageLaws
 pub mod Keeping
 pub mod Working
 pub mod Wholly
+pub mod SlotCounts
 pub mod Booking
 pub mod LeavingLaws
 pub mod Beginning

@@ -22,7 +22,7 @@ use Rattle.sh_shard.proofs.PageLaws.{misses_has}
 head_has : (x : ℕ) (xs : List ℕ) → has_number x (x ∷ xs) ≡ true
 head_has x xs = let e : (x == x) ≡ true = grind (arith, nat_tests) in ap (λ b. b || has_number x xs) e
 
-below_all : (n : ℕ) (xs : List ℕ) → ((s : ℕ) → has_number s xs ≡ true → s < n) → AllBelow n xs
+pub below_all : (n : ℕ) (xs : List ℕ) → ((s : ℕ) → has_number s xs ≡ true → s < n) → AllBelow n xs
 below_all n [] h = tt
 below_all n (x ∷ xs) h = (h x (head_has x xs), below_all n xs (λ s e. h s (behind s e))) where
   either : (a b : Bool) → b ≡ true → (a || b) ≡ true

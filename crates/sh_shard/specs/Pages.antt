@@ -1,6 +1,6 @@
 -- What a contract sees of the pages of an owner's shard, and what work on them does.
-use Rattle.std.specs.Prelude.{◌≡◌, ◌≢◌, ℕ, zero, suc, ◌+◌, ◌<◌, ◌≤◌, ◌⊎◌, Bool, true, false, List, [], ◌∷◌, ◌++◌}
-use Rattle.std.specs.Prelude.{length, Option, Some, None, MatchOption, IfSome, Result, Ok, Err}
+use Rattle.std.specs.Prelude.{◌≡◌, ◌≢◌, ℕ, zero, suc, ◌+◌, ◌-◌, ◌<◌, ◌≤◌, ◌==◌, ◌⊎◌, Bool, true, false, List, []}
+use Rattle.std.specs.Prelude.{◌∷◌, ◌++◌, length, Option, Some, None, MatchOption, IfSome, Result, Ok, Err}
 use Rattle.sh_history.specs.declared.entry.Entry.TheVariants as entry
 use Rattle.sh_history.specs.declared.log.LogEntry.TheVariants.{Known}
 use Rattle.sh_key.specs.Layout.{Layout}
@@ -44,6 +44,28 @@ count_below f (suc n) = if1 (f n) + count_below f n
 -- how many of the page's slots are its owner's
 abbrev pub own_slots : SeenPage → ℕ
 own_slots g = count_below g.mine 48
+
+-- how many slots a page with this class word has
+abbrev pub word_slots : ℕ → ℕ
+word_slots zero = 0
+word_slots (suc c) = slots c
+
+-- how many of the page's slots are not its owner's
+abbrev pub page_out : SeenPage → ℕ
+page_out g = word_slots (seen_class g) - own_slots g
+
+-- the sum over the numbers below n
+abbrev pub sum_below : (ℕ → ℕ) → ℕ → ℕ
+sum_below f zero = 0
+sum_below f (suc n) = f n + sum_below f n
+
+-- how many slots of the shard's pages are not the owner's
+abbrev pub slots_out : Paged → ℕ
+slots_out v = sum_below (λ p. page_out (page_at v p)) v.count
+
+-- how many pages of the shard have no class
+abbrev pub blank_pages : Paged → ℕ
+blank_pages v = count_below (λ p. seen_class (page_at v p) == 0) v.count
 
 abbrev pub NothingMine : SeenPage → Type 0
 NothingMine g = (s : ℕ) → g.mine s ≡ false

@@ -8,6 +8,7 @@ mod adopting;
 mod bell;
 mod calls;
 mod collecting;
+mod counting;
 mod departing;
 mod insert;
 mod leaving;

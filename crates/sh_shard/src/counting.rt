@@ -1,0 +1,56 @@
+// What an owner knows of how full its shard is.
+ghost use Rattle.std.specs.Prelude.{◌≡◌, ◌<◌, ◌≤◌};
+ghost use Rattle.sh_shard.specs.Pages.{page_at, blank_pages, page_out, slots_out};
+
+use crate::pages::Pages;
+use crate::shard::Shard;
+use sh_key::KeyLayout;
+use sh_shape::classes;
+
+impl<'a, L: KeyLayout> Pages<'a, L> {
+    // How many slots of the page are not the owner's: none where it is blank.
+    fn slots_out(&self, page: u64) -> u32
+        requires { page < self.now.count }
+        ensures is { result ≡ page_out (page_at self.now page) }
+        ensures few { result ≤ 48 }
+    {
+        let state = &self.states[page as usize];
+        if state.class_word == 0 {
+            return 0;
+        }
+        classes::slots((state.class_word - 1) as u32) - state.lists.len()
+    }
+}
+
+impl<'a, L: KeyLayout> Shard<'a, L> {
+    /// How many pages of the shard have no class yet, of the opened segments and of the others. Each of them has room
+    /// for values of any class: 48 of one word, or 3 of sixteen.
+    ///
+    /// It takes no step, and no memory.
+    pub fn pages_left(&self) -> u64
+        ensures { result ≡ blank_pages self.now.pages }
+    {
+        let mut left = 0;
+        for page in 0..self.pages.count() {
+            if self.pages.class_word(page) == 0 {
+                left += 1;
+            }
+        }
+        left
+    }
+
+    /// How many slots of the shard's pages are not the owner's. In each of them a value stands, or one that was removed
+    /// and is still held, or it was put back by another and is not collected yet, or it is spent. So no more than these
+    /// many values stand in the shard, and as many where none was removed by others, is held or is spent.
+    ///
+    /// It takes no step, and no memory.
+    pub fn slots_out(&self) -> u64
+        ensures { result ≡ slots_out self.now.pages }
+    {
+        let mut out = 0;
+        for page in 0..self.pages.count() {
+            out += self.pages.slots_out(page) as u64;
+        }
+        out
+    }
+}
