@@ -1,7 +1,7 @@
 //! The whole program, over the words of a command line and two writers.
 use crate::{adopting, getting, handing, inserting};
 use clap::Error;
-use sh_key::{KeyLayout, Tagged, Wide};
+use sh_key::{Deep, KeyLayout, Tagged, Wide};
 use sh_load::command_line::options_of;
 use sh_load::fault::Fault;
 use sh_load::layout::Layout;
@@ -43,6 +43,7 @@ pub fn measure<R: Threads + Clock + Sync>(
     match options.layout {
         Layout::Wide => measure_with::<Wide, R>(rt, alloc, options),
         Layout::Tagged => measure_with::<Tagged, R>(rt, alloc, options),
+        Layout::Deep => measure_with::<Deep, R>(rt, alloc, options),
     }
 }
 

@@ -63,8 +63,8 @@ numbers_by f g options same reads = record {
   lengths = subst (λ (t : Option Text). ReadsLengths (g (codes "mixed")) t options.lengths) (same (codes "words"))
       (subst (λ (t : Option Text). ReadsLengths t (f (codes "words")) options.lengths) (same (codes "mixed"))
       reads.lengths);
-  live = number (codes "live") 98304 options.live reads.live;
-  freed = number (codes "freed") 98304 options.freed reads.freed;
+  live = number (codes "live") 10000000 options.live reads.live;
+  freed = number (codes "freed") 10000000 options.freed reads.freed;
   passes = number (codes "passes") 64 options.passes reads.passes;
 }
   where

@@ -48,11 +48,13 @@ pub one_workload : (v w : Workload) → workload_name v ≡ workload_name w → 
 one_workload v w same = sym (back v) ∙ ap workload_at same ∙ back w
 
 abbrev layout_at : Text → Layout
-layout_at name = if slice_index name 0 == 119 then layout.Wide else layout.Tagged
+layout_at name = if slice_index name 0 == 119 then layout.Wide else if slice_index name 0 == 100 then layout.Deep else
+    layout.Tagged
 
 layout_back : (l : Layout) → layout_at (layout_name l) ≡ l
 layout_back layout.Wide = refl
 layout_back layout.Tagged = refl
+layout_back layout.Deep = refl
 
 pub one_layout : (v w : Layout) → layout_name v ≡ layout_name w → v ≡ w
 one_layout v w same = sym (layout_back v) ∙ ap layout_at same ∙ layout_back w

@@ -23,7 +23,7 @@ all_workloads = workload.Get ∷ workload.Read ∷ workload.ReadInto ∷ workloa
     ∷ workload.Insert ∷ workload.Remove ∷ workload.Churn ∷ workload.Hand ∷ workload.Adopt ∷ workload.Leave ∷ []
 
 abbrev pub all_layouts : List Layout
-all_layouts = layout.Wide ∷ layout.Tagged ∷ []
+all_layouts = layout.Wide ∷ layout.Tagged ∷ layout.Deep ∷ []
 
 -- words, wherever they stand
 abbrev pub Words : Type 0
@@ -76,8 +76,8 @@ with_numbers app = with_rule (with_rule (with_rule (with_rule (with_rule (with_r
     (number_rule (codes "threads") 1 16 (codes "1")))
     (number_rule (codes "operations") 1 1000000000 (codes "1000")))
     (number_rule (codes "words") 0 16 (codes "1")))
-    (number_rule (codes "live") 1 98304 (codes "1")))
-    (number_rule (codes "freed") 0 98304 (codes "0")))
+    (number_rule (codes "live") 1 10000000 (codes "1")))
+    (number_rule (codes "freed") 0 10000000 (codes "0")))
     (number_rule (codes "passes") 1 64 (codes "1"))
 
 -- what clap is told of the command line

@@ -21,6 +21,6 @@ pub record ReadsNumbers (text : Text → Option Text) (options : Options) : Type
   pub threads : ReadsNumber (text (codes "threads")) 16 options.threads
   pub operations : ReadsNumber (text (codes "operations")) 1000000000 options.operations
   pub lengths : ReadsLengths (text (codes "mixed")) (text (codes "words")) options.lengths
-  pub live : ReadsNumber (text (codes "live")) 98304 options.live
-  pub freed : ReadsNumber (text (codes "freed")) 98304 options.freed
+  pub live : ReadsNumber (text (codes "live")) 10000000 options.live
+  pub freed : ReadsNumber (text (codes "freed")) 10000000 options.freed
   pub passes : ReadsNumber (text (codes "passes")) 64 options.passes

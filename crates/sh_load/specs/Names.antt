@@ -27,6 +27,7 @@ IsNoWorkload word = (w : Workload) → word ≢ workload_name w
 abbrev pub layout_name : Layout → List ℕ
 layout_name layout.Wide = codes "wide"
 layout_name layout.Tagged = codes "tagged"
+layout_name layout.Deep = codes "deep"
 
 -- the word names no layout
 abbrev pub IsNoLayout : List ℕ → Type 0

@@ -212,8 +212,8 @@ fn chosen(matches: &ArgMatches<'_>, workload: Workload, layout: Layout) -> Optio
 ///
 /// The workload is required. Where nothing else is said, the layout is `wide`, one thread does 1,000 operations, values
 /// have one word, one stands, none is freed, and the heap has one pass at least. There are from 1 to 16 threads, 1 to
-/// 1,000,000,000 operations, 0 to 16 words, 1 to 98,304 values that stand, 0 to 98,304 that are freed, and 1 to 64
-/// passes.
+/// 1,000,000,000 operations, 0 to 16 words, 1 to 10,000,000 values that stand, 0 to 10,000,000 that are freed, and
+/// 1 to 64 passes.
 pub fn options_of<'a>(alloc: Global, words: &'a [&'a str]) -> Result<Options, Error>
     ensures ok { IfOk result (λ options. LineSays (map (λ w. w.now) words.entry.now) options) }
     ensures err { IfErr result (λ e. IsRefused (map (λ w. w.now) words.entry.now) (kind_of e)) }
@@ -231,7 +231,11 @@ pub fn options_of<'a>(alloc: Global, words: &'a [&'a str]) -> Result<Options, Er
         workload::name(Workload::Adopt),
         workload::name(Workload::Leave),
     ];
-    let layouts = [layout::name(Layout::Wide), layout::name(Layout::Tagged)];
+    let layouts = [
+        layout::name(Layout::Wide),
+        layout::name(Layout::Tagged),
+        layout::name(Layout::Deep),
+    ];
     let matches = command(alloc, workloads.as_slice(), layouts.as_slice())?.try_get_matches_from(
         words,
     )?;

@@ -16,6 +16,6 @@ pub struct Demand {
     ghost few_owners: { owners ≤ 16 },
     ghost few_others: { others ≤ 16 },
     ghost few_passes: { passes ≤ 64 },
-    ghost few_values: { values ≤ 200000 },
+    ghost few_values: { values ≤ 20000000 },
     ghost few_more: { more ≤ 200000 },
 }

@@ -9,6 +9,8 @@ pub enum Layout {
     Wide,
     /// Keys of `sh_key::Tagged`.
     Tagged,
+    /// Keys of `sh_key::Deep`.
+    Deep,
 }
 
 /// How a layout is written.
@@ -18,6 +20,7 @@ pub fn name(layout: Layout) -> &'static str
     match layout {
         Layout::Wide => "wide",
         Layout::Tagged => "tagged",
+        Layout::Deep => "deep",
     }
 }
 
@@ -29,6 +32,7 @@ pub fn layout_named(word: &str) -> Option<Layout>
     match word {
         "wide" => Some(Layout::Wide),
         "tagged" => Some(Layout::Tagged),
+        "deep" => Some(Layout::Deep),
         _ => None,
     }
 }

@@ -5,8 +5,8 @@ use crate::layout::Layout;
 use crate::samples::Lengths;
 use crate::workload::Workload;
 
-/// As many values as one heap holds at most: 2,048 pages of 48.
-pub const MOST_VALUES: u64 = 98_304;
+/// As many values as may be asked for. In layout `Deep` one shard has room for them all, if they have one word.
+pub const MOST_VALUES: u64 = 10_000_000;
 
 /// What is measured, and how much of it.
 #[derive(Drop)]
@@ -26,7 +26,7 @@ pub struct Options {
     pub passes: usize,
     ghost threads_within: { threads ≤ 16 },
     ghost operations_within: { operations ≤ 1000000000 },
-    ghost live_within: { live ≤ 98304 },
-    ghost freed_within: { freed ≤ 98304 },
+    ghost live_within: { live ≤ 10000000 },
+    ghost freed_within: { freed ≤ 10000000 },
     ghost passes_within: { passes ≤ 64 },
 }

@@ -35,7 +35,7 @@ fn pages_of(words: usize, values: usize) -> usize
 
 // The pages that values of all lengths fill, of which each length has this many.
 fn pages_of_mixed(each: usize) -> usize
-    requires { each ≤ 1000000 }
+    requires { each ≤ 30000000 }
     ensures { result ≡ filled_up_to 16 each }
 {
     let mut pages = 0usize;
@@ -47,7 +47,7 @@ fn pages_of_mixed(each: usize) -> usize
 
 // The pages that these values fill.
 fn pages(lengths: Lengths, values: usize) -> usize
-    requires { values ≤ 1000000 }
+    requires { values ≤ 30000000 }
     ensures { result ≡ pages_filled lengths values }
 {
     match lengths {

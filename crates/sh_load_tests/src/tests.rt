@@ -63,7 +63,11 @@ fn each_workload_has_its_name(rt: HostRuntime) -> Result<(), Fail> {
 
 #[test]
 fn each_layout_has_its_name(rt: HostRuntime) {
-    for (name, layout) in [("wide", Layout::Wide), ("tagged", Layout::Tagged)] {
+    for (name, layout) in [
+        ("wide", Layout::Wide),
+        ("tagged", Layout::Tagged),
+        ("deep", Layout::Deep),
+    ] {
         let options = asked(&rt, rt.alloc(), "--layout", name);
         assert_eq!(rt; options.layout, layout, "{name}");
     }
@@ -114,9 +118,9 @@ fn numbers_reach_both_bounds(rt: HostRuntime) {
         Lengths::Each(16)
     );
     assert_eq!(rt; asked(&rt, alloc, "--live", "1").live, 1);
-    assert_eq!(rt; asked(&rt, alloc, "--live", "98304").live, 98_304);
+    assert_eq!(rt; asked(&rt, alloc, "--live", "10000000").live, 10_000_000);
     assert_eq!(rt; asked(&rt, alloc, "--freed", "0").freed, 0);
-    assert_eq!(rt; asked(&rt, alloc, "--freed", "98304").freed, 98_304);
+    assert_eq!(rt; asked(&rt, alloc, "--freed", "10000000").freed, 10_000_000);
     assert_eq!(rt; asked(&rt, alloc, "--passes", "1").passes, 1);
     assert_eq!(rt; asked(&rt, alloc, "--passes", "64").passes, 64);
 }
@@ -130,8 +134,8 @@ fn numbers_beyond_a_bound_are_refused(rt: HostRuntime) {
         ("--operations", "1000000001"),
         ("--words", "17"),
         ("--live", "0"),
-        ("--live", "98305"),
-        ("--freed", "98305"),
+        ("--live", "10000001"),
+        ("--freed", "10000001"),
         ("--passes", "0"),
         ("--passes", "65"),
     ];
