@@ -93,6 +93,7 @@
 //! # Which layout
 //!
 //! - `Wide`: up to 256 shards of 1024 pages, 2^32 - 1 generations. Take it where you have no reason for another.
+//! - `Deep`: up to 64 shards of 1,048,576 pages. For many millions of values, and where a thread is to keep one shard.
 //! - `Tagged`: up to 64 shards of 256 pages; 8 bits of each key are yours.
 //! - `Tiny` is for tests that come to every limit: 4 shards of 16 pages, at most 4 holds a key, and a slot is spent
 //!   after three values.
@@ -102,10 +103,15 @@
 //!
 //! # Limits
 //!
-//! A shape has at most 256 segments in all shards together, which is 2048 pages, and at most 64 passes. So a heap
-//! stores at most 98,304 values of one word, and 6,144 of 16 words. A pass has at most 16 holds. What one thread does
-//! not release, no one else can: a pass that is dropped leaves its holds, so that their slots are never used again once
-//! their keys are removed. A shard that is dropped stays taken. After either the heap is never known whole.
+//! `Shape::with_room` makes the least shape with room for so many values for each owner; `Shape::large` takes at most
+//! 2,097,152 segments in all shards together, and `Shape::new` at most 256. A heap of layout `Wide` stores at most
+//! 12,582,912 values of one word, or 786,432 of 16; one of `Deep` 64 times as many. There are at most 64 passes, and a
+//! pass has at most 16 holds. A shard that is full answers `Full`: leave it, and adopt another. `pages_left` and
+//! `slots_out` tell an owner how full its shard is.
+//!
+//! What one thread does not release, no one else can: a pass that is dropped leaves its holds, so that their slots are
+//! never used again once their keys are removed. A shard that is dropped stays taken. After either the heap is never
+//! known whole.
 //!
 //! # Threads
 //!
@@ -118,7 +124,7 @@
 
 pub use sh_core::Accounts;
 pub use sh_gather::{Whole, gather, join, whole};
-pub use sh_key::{KeyLayout, Tagged, Tiny, Wide};
+pub use sh_key::{Deep, KeyLayout, Tagged, Tiny, Wide};
 pub use sh_meet::{Task, all, both};
 pub use sh_pass::{Guard, Heap, Pass, Seats};
 pub use sh_plain::{Lookup, Store};
