@@ -113,6 +113,7 @@ def page():
 BIT = 13
 KEYS = [("wide", "56 bits", [("0", 8, "zero"), ("generation", 32, "live"), ("shard", 8, "own"), ("page", 10, "queued"),
                              ("slot", 6, "marked")]),
+        ("deep", "64 bits", [("generation", 32, "live"), ("shard", 6, "own"), ("page", 20, "queued"), ("slot", 6, "marked")]),
         ("tagged", "64 bits", [("tag", 8, "tag"), ("0", 4, "zero"), ("generation", 32, "live"), ("shard", 6, "own"),
                                ("page", 8, "queued"), ("slot", 6, "marked")]),
         ("tiny", "14 bits", [("0", 50, "zero"), ("", 2, "live"), ("", 2, "own"), ("page", 4, "queued"),
@@ -130,19 +131,19 @@ def key_bar(picture, y, name, size, parts):
 
 
 def keys():
-    picture = Picture(940, 330)
+    picture = Picture(940, 400)
     title = "a key is a number: its parts, with how many bits each has, the lowest on the right"
     picture.text(10, 22, title, "bold")
     for number, (name, size, parts) in enumerate(KEYS):
         key_bar(picture, 44 + number * 70, name, size, parts)
-    tiny = 44 + 2 * 70 + 40
+    tiny = 44 + 3 * 70 + 40
     picture.text(90 + 51 * BIT, tiny + 34, "generation", "", 11, "end")
     picture.arrow(90 + 50 * BIT - 2, tiny + 24, 90 + 51 * BIT - 2, tiny + 3)
     picture.text(90 + 53 * BIT, tiny + 34, "shard", "")
     picture.arrow(90 + 53 * BIT + 10, tiny + 22, 90 + 53 * BIT, tiny + 3)
-    picture.text(10, 284, "16777216 = 2^24, in wide:  generation 1, shard 0, page 0, slot 0", "", 12)
-    picture.text(10, 304, "4097 = 4096 + 1, in tiny:  generation 1, shard 0, page 0, slot 1", "", 12)
-    picture.text(10, 324, "the slot's next value has the key with the next generation, and no other ever has this key",
+    picture.text(10, 354, "16777216 = 2^24, in wide:  generation 1, shard 0, page 0, slot 0", "", 12)
+    picture.text(10, 374, "4097 = 4096 + 1, in tiny:  generation 1, shard 0, page 0, slot 1", "", 12)
+    picture.text(10, 394, "the slot's next value has the key with the next generation, and no other ever has this key",
                  "grey", 11)
     return picture
 
