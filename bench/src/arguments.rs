@@ -16,6 +16,10 @@ pub enum Request {
         /// The folder for pictures of the table of calls, if they are wanted.
         plots: Option<PathBuf>,
     },
+    /// The table of times in large heaps, by so many rounds.
+    Large {
+        rounds: usize,
+    },
     /// The table of bytes a value.
     Bytes,
     Help,
@@ -23,9 +27,10 @@ pub enum Request {
 
 pub const HELP: &str = "\
 usage: bench [--rows WORD] [--plots FOLDER] [ROUNDS]
+       bench large [ROUNDS]
        bench bytes
 
-The tables of times, or that of bytes a value.
+The tables of times, that of times in heaps of 100,000 to 10,000,000 values, or that of bytes a value.
 
   ROUNDS          so many rounds, at least 1; 15 if it is not said
   --rows WORD     only the rows with this in their title, such as 'churn' or 'read into'
@@ -87,6 +92,9 @@ fn times(words: &[&str]) -> Result<Request, String> {
 pub fn request(words: &[&str]) -> Result<Request, String> {
     match words {
         ["-h" | "--help"] => Ok(Request::Help),
+        ["large"] => Ok(Request::Large { rounds: ROUNDS }),
+        ["large", word] => rounds(word).map(|rounds| Request::Large { rounds }),
+        ["large", _, word, ..] => Err(format!("large takes no {word}")),
         ["bytes"] => Ok(Request::Bytes),
         ["bytes", word, ..] => Err(format!("bytes takes no {word}")),
         words => times(words),
@@ -110,6 +118,8 @@ mod tests {
         assert_eq!(request(&["3", "--rows", "adopt"]), times_of(3, "adopt"));
         let plots = Some(PathBuf::from("/tmp"));
         assert_eq!(request(&["--plots", "/tmp", "3"]), Ok(Request::Times { rounds: 3, word: String::new(), plots }));
+        assert_eq!(request(&["large"]), Ok(Request::Large { rounds: 15 }));
+        assert_eq!(request(&["large", "3"]), Ok(Request::Large { rounds: 3 }));
         assert_eq!(request(&["bytes"]), Ok(Request::Bytes));
         assert_eq!(request(&["--help"]), Ok(Request::Help));
     }
@@ -129,6 +139,8 @@ mod tests {
             (&["--plots", "/nowhere"], "/nowhere is no folder"),
             (&["--fast"], "no option --fast"),
             (&["-3"], "no option -3"),
+            (&["large", "0"], "0 rounds measure nothing"),
+            (&["large", "3", "4"], "large takes no 4"),
             (&["bytes", "3"], "bytes takes no 3"),
             (&["3", "bytes"], "bytes is no number of rounds"),
         ];

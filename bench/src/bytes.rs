@@ -1,13 +1,13 @@
 //! The table of bytes a value: ours computed from the layout, the rivals' counted in this program.
 use crate::counting::counted;
-use crate::layout::{heaps_for, in_full_pages};
+use crate::layout::{heap_bytes, in_full_pages};
 use crate::markdown::{head, line};
 use crate::rival::Rival;
 use crate::rivals::{with_rival, Room, Task};
 use crate::samples::{Lengths, Samples};
 use crate::sides::{Side, RIVALS};
 
-const VALUES: [usize; 3] = [1000, 10_000, 90_000];
+const VALUES: [usize; 4] = [1000, 10_000, 100_000, 1_000_000];
 const WORDS: [usize; 2] = [1, 16];
 
 // Fills a rival, and answers how many bytes it and its owner then have.
@@ -43,8 +43,7 @@ fn a_value(bytes: f64, values: usize) -> String {
 }
 
 fn places(values: usize, words: usize) -> Vec<String> {
-    let heaps = heaps_for(values, words);
-    let ours = [format!("{:.1}", in_full_pages(words)), a_value(heaps.bytes as f64, values), heaps.count.to_string()];
+    let ours = [format!("{:.1}", in_full_pages(words)), a_value(heap_bytes(values, words) as f64, values)];
     let of_rival = |side| match rival_bytes(side, values, words) {
         Some(bytes) => a_value(bytes as f64, values),
         None => "none".to_string(),
@@ -53,7 +52,7 @@ fn places(values: usize, words: usize) -> Vec<String> {
 }
 
 fn names() -> Vec<String> {
-    let first = ["Values", "Words", "ours, full pages", "ours, whole segments", "heaps"].map(str::to_string);
+    let first = ["Values", "Words", "ours, full pages", "ours, whole segments"].map(str::to_string);
     first.into_iter().chain(RIVALS.map(|rival| rival.name().to_string())).collect()
 }
 

@@ -39,6 +39,7 @@ mod workloads;
 use arguments::Request;
 use measuring::{Measured, Plan};
 use program::Program;
+use row::Row;
 use selection::selected;
 use std::fs;
 use std::path::Path;
@@ -58,9 +59,9 @@ fn write_plots(folder: &Path, measured: &[Measured]) -> Result<(), String> {
 }
 
 // Prints each table that has a line, once its rows are measured. Answers how many rows were left out.
-fn print_tables(plan: &Plan, word: &str, plots: Option<&Path>) -> Result<usize, String> {
+fn print_tables(plan: &Plan, tables: Vec<(Table, Vec<Row>)>, plots: Option<&Path>) -> Result<usize, String> {
     let mut left_out = 0;
-    for (table, rows) in selected(word) {
+    for (table, rows) in tables {
         let asked = rows.len();
         let measured = plan.measure(rows);
         if !measured.is_empty() {
@@ -79,10 +80,10 @@ fn print_about(program: &Program, rounds: usize) {
     println!("{}\n{}\nrounds: {rounds}\n", program.text(), machine::text());
 }
 
-fn measure(rounds: usize, word: &str, plots: Option<&Path>) -> Result<(), String> {
+fn measure(rounds: usize, tables: Vec<(Table, Vec<Row>)>, plots: Option<&Path>) -> Result<(), String> {
     let program = Program::find()?;
     print_about(&program, rounds);
-    let left_out = print_tables(&Plan { program: &program.path, rounds }, word, plots)?;
+    let left_out = print_tables(&Plan { program: &program.path, rounds }, tables, plots)?;
     if !program.is_unchanged() {
         return Err(format!("{} changed while it was measured", program.path.display()));
     }
@@ -94,7 +95,8 @@ fn measure(rounds: usize, word: &str, plots: Option<&Path>) -> Result<(), String
 
 fn do_as_asked(request: Request) -> Result<(), String> {
     match request {
-        Request::Times { rounds, word, plots } => measure(rounds, &word, plots.as_deref()),
+        Request::Times { rounds, word, plots } => measure(rounds, selected(&word), plots.as_deref()),
+        Request::Large { rounds } => measure(rounds, vec![(Table::Large, Table::Large.rows())], None),
         Request::Bytes => {
             println!("{}\n\n{}", bytes::ABOUT, bytes::table());
             Ok(())

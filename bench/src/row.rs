@@ -14,6 +14,8 @@ pub struct Row {
     pub live: usize,
     pub freed: usize,
     pub passes: usize,
+    /// Whether the keys are of layout `deep`, whose shards have room for millions of values; else of `wide`.
+    pub is_deep: bool,
     pub aims: Aims,
 }
 
@@ -27,7 +29,8 @@ pub struct Aims {
 impl Row {
     pub fn new(workload: Workload, threads: usize, operations: usize) -> Self {
         let lengths = Lengths::Each(1);
-        Row { workload, threads, operations, lengths, live: 1, freed: 0, passes: 1, aims: Aims::default() }
+        let aims = Aims::default();
+        Row { workload, threads, operations, lengths, live: 1, freed: 0, passes: 1, is_deep: false, aims }
     }
 
     pub fn lengths(self, lengths: Lengths) -> Self {
@@ -44,6 +47,10 @@ impl Row {
 
     pub fn passes(self, passes: usize) -> Self {
         Row { passes, ..self }
+    }
+
+    pub fn deep(self) -> Self {
+        Row { is_deep: true, ..self }
     }
 
     pub fn aims(self, sharded: f64, model: f64) -> Self {
@@ -84,6 +91,9 @@ impl Row {
             Lengths::Each(len) => words.extend(["--words".to_string(), len.to_string()]),
             Lengths::Mixed => words.push("--mixed".to_string()),
         }
+        if self.is_deep {
+            words.extend(["--layout", "deep"].map(str::to_string));
+        }
         words
     }
 
@@ -105,6 +115,12 @@ mod tests {
         let row = Row::new(Workload::ReadInto, 2, 300).live(1000).lengths(Lengths::Each(16));
         let told = "read-into --threads 2 --operations 300 --live 1000 --freed 0 --passes 1 --words 16";
         assert_eq!(row.arguments().join(" "), told);
+    }
+
+    #[test]
+    fn a_deep_row_names_its_layout() {
+        let told = Row::new(Workload::Get, 1, 5).live(1_000_000).deep().arguments().join(" ");
+        assert!(told.ends_with("--words 1 --layout deep"), "{told}");
     }
 
     #[test]

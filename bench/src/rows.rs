@@ -78,6 +78,20 @@ pub fn calls() -> Vec<Row> {
     [getting(), reading(), inserting(), removing(), churning()].concat()
 }
 
+/// Calls beside so many values that only layout `deep` has room for them in one shard.
+pub fn large() -> Vec<Row> {
+    let beside = |live: usize| {
+        let row = |workload, operations| Row::new(workload, 1, operations).live(live).deep();
+        [
+            row(Workload::Get, 1_000_000).aims(1.2, 1.2),
+            row(Workload::GetGuard, 1_000_000),
+            row(Workload::Read, 1_000_000).aims(1.2, 1.2),
+            row(Workload::Insert, 200_000).aims(1.5, 1.2),
+        ]
+    };
+    [100_000, 1_000_000, 10_000_000].map(beside).concat()
+}
+
 /// Gets beside more and more passes that are open, which the library alone has.
 pub fn passes() -> Vec<Row> {
     [2, 4, 16, 64].map(|passes| Row::new(Workload::Get, 1, 1_000_000).passes(passes)).to_vec()
@@ -96,7 +110,7 @@ mod tests {
 
     #[test]
     fn no_row_stands_twice() {
-        let all = [calls(), passes(), changes()].concat();
+        let all = [calls(), large(), passes(), changes()].concat();
         let names: HashSet<_> = all.iter().map(|row| (row.title(), row.running())).collect();
         assert_eq!(names.len(), all.len());
     }
@@ -109,6 +123,13 @@ mod tests {
             let live: Vec<usize> = calls().iter().filter(of_one_word).filter(single).map(|row| row.live).collect();
             assert_eq!(live, [1, 100, 1000, 10_000, 90_000]);
         }
+    }
+
+    #[test]
+    fn large_heaps_have_up_to_ten_million_values() {
+        let live: HashSet<usize> = large().iter().map(|row| row.live).collect();
+        assert_eq!(live, HashSet::from([100_000, 1_000_000, 10_000_000]));
+        assert!(large().iter().all(|row| row.is_deep));
     }
 
     #[test]

@@ -10,10 +10,13 @@ use crate::times::{text, Times};
 #[derive(Clone, Copy, Debug, PartialEq, Eq)]
 pub enum Table {
     Calls,
+    /// The calls in large heaps, which take long to fill: only where they are asked for.
+    Large,
     Passes,
     Changes,
 }
 
+/// Those of the usual run.
 pub const TABLES: [Table; 3] = [Table::Calls, Table::Passes, Table::Changes];
 
 fn nanoseconds(times: &[Times]) -> String {
@@ -61,6 +64,7 @@ impl Table {
     pub fn rows(self) -> Vec<Row> {
         match self {
             Table::Calls => rows::calls(),
+            Table::Large => rows::large(),
             Table::Passes => rows::passes(),
             Table::Changes => rows::changes(),
         }
@@ -68,17 +72,20 @@ impl Table {
 
     fn places(self) -> Vec<String> {
         let words: &[&str] = match self {
-            Table::Calls => &["Workload", "Threads", "ns"],
+            Table::Calls | Table::Large => &["Workload", "Threads", "ns"],
             Table::Passes => &["Workload", "ns"],
             Table::Changes => &["Workload", "ns", "ns a page", "ns a page, bare atomics", "to bare atomics (aim)"],
         };
-        let ratios = if self == Table::Calls { RIVALS.map(ratio_head).to_vec() } else { Vec::new() };
+        let ratios = match self {
+            Table::Calls | Table::Large => RIVALS.map(ratio_head).to_vec(),
+            Table::Passes | Table::Changes => Vec::new(),
+        };
         words.iter().map(|word| word.to_string()).chain(ratios).collect()
     }
 
     fn line(self, measured: &Measured) -> String {
         line(&match self {
-            Table::Calls => calls_line(measured),
+            Table::Calls | Table::Large => calls_line(measured),
             Table::Passes => vec![measured.row.title(), nanoseconds(&measured.times(Side::Ours))],
             Table::Changes => changes_line(measured),
         })
@@ -97,7 +104,7 @@ mod tests {
 
     #[test]
     fn lines_have_as_many_places_as_their_head() {
-        for table in TABLES {
+        for table in [&TABLES[..], &[Table::Large]].concat() {
             for row in table.rows() {
                 let line = table.line(&Measured::new(row));
                 assert_eq!(line.matches(" |").count(), table.places().len(), "{line}");

@@ -44,6 +44,8 @@ impl Row {
         match self.workload {
             Workload::Get => format!("get + release, {}", keys(self)),
             Workload::GetGuard => format!("get by a guard, {}", keys(self)),
+            // (all other reads are beside as many values)
+            Workload::Read if self.is_deep => format!("get + read + release, {words}, {}", keys(self)),
             Workload::Read => format!("get + read + release, {words}"),
             Workload::ReadInto => format!("get + read into + release, {words}"),
             Workload::ReadGuard => format!("read by a guard, {words}"),
