@@ -7,5 +7,5 @@ use Rattle.sh_stress.proofs.round.at_home.Goals as goal
 pub named-requires : goal.named-requires
 named-requires g c =
     let home : g.H.Home.heap ≡ Some c.args.heap.now = search rules in
-    subst (All (λ (p : Caller). g.H.Home.heap ≡ Some p.heap)) (sym c.in-Ok.ensures)
+    subst (All (λ (p : Caller). g.H.Home.heap ≡ Some p.heap)) (sym c.in-Ok.ensures.all)
     (newcomers_at_home g.H.Home.heap c.args.heap.now c.args.heap.now.shape.passes home)
