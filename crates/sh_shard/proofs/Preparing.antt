@@ -18,7 +18,7 @@ use Rattle.sh_shard.specs.Steps.{StepsAtMost}
 use Rattle.sh_shard.specs.Bounds.{PrepareIsBounded, InsertIsBounded}
 use Rattle.sh_shard.specs.Filing.{OpensFor}
 use Rattle.sh_shard.specs.Shards.{Sharded, SortedPages, FullPage, NoneLeft, NoRoom, IsSpare, NeedsSegment}
-use Rattle.sh_shard.specs.Shards.{IsBlank, NoneSpare, NoneOpenedBlank, IsLowest, IsNextFor, PreparesPage}
+use Rattle.sh_shard.specs.Shards.{IsBlank, NoneSpare, NoneWhole, NoneOpenedBlank, IsLowest, IsNextFor, PreparesPage}
 use Rattle.sh_shard.specs.Shards.{PrepareServes, InsertServes, IsQuick}
 use Rattle.sh_shard.specs.Finding.{StoresAtFront, InsertsElsewhere}
 use Rattle.sh_shard.specs.Searches.{Tried}
@@ -131,10 +131,10 @@ spare_next c k o below here p inside = ⊎_elim
     smaller : (p k : ℕ) → p < k + 1 → p ≢ k → p < k
     smaller p k l ne = ⊎_elim (λ (h : p < k). h) (λ (h : k ≤ p). absurd (ne (omega arith))) (cases_lt p k)
 
--- no page is spare where no page stands in the queue of another class
+-- no page is spare where none in the queue of another class is wholly its owner's
 pub none_queued_spare : (c : ℕ) (o : Sharded) → SortedPages o.pages o.queues → EachOnce o.queues
-    → ((d : ℕ) → d < 8 → d ≢ c → slice_get (class_queue o.queues d) 0 ≡ None) → NoneSpare c o.pages
-none_queued_spare c o sorted once empty p inside spare = ⊎_elim
+    → ((d : ℕ) → d < 8 → d ≢ c → NoneWhole (class_queue o.queues d) o.pages) → NoneSpare c o.pages
+none_queued_spare c o sorted once none p inside spare = ⊎_elim
     (λ (l : p < o.queues.opened). stands (opened_somewhere p o.queues once l))
     (λ (l : o.queues.opened ≤ p). not_blank (sorted.later p l inside))
     (cases_lt p o.queues.opened)
@@ -143,10 +143,6 @@ none_queued_spare c o sorted once empty p inside spare = ⊎_elim
     not_blank is =
         let e : Some 0 ≡ Some (suc spare.whole.class) = sym is ∙ spare.whole.classed in
         let f : 0 ≡ suc spare.whole.class = cc in absurd (omega arith)
-
-    no_front : (xs : List ℕ) → slice_get xs 0 ≡ None → has_number p xs ≡ true → ⊥
-    no_front [] e here = false≢true here
-    no_front (x ∷ xs) e here = let z : Some x ≡ None = e in cc
 
     in_full : FullPage (page_at o.pages p) → ⊥
     in_full f =
@@ -158,17 +154,17 @@ none_queued_spare c o sorted once empty p inside spare = ⊎_elim
 
     stands : ((d : ℕ) × (d < 8) × (has_number p (class_queue o.queues d) ≡ true))
         ⊎ ((has_number p o.queues.full ≡ true) ⊎ (has_number p o.queues.blank ≡ true)) → ⊥
-    stands (inl r) = no_front (class_queue o.queues r.0) (empty r.0 r.1
-        (λ same. spare.other (sorted.classes r.0 p r.2 ∙ ap (λ z. Some (z + 1)) same))) r.2
+    stands (inl r) = none r.0 r.1 (λ same. spare.other (sorted.classes r.0 p r.2 ∙ ap (λ z. Some (z + 1)) same)) p r.2
+        spare.whole
     stands (inr (inl t)) = in_full (sorted.full p t)
     stands (inr (inr t)) = not_blank (sorted.blank p t)
 
--- one class more of whose pages none is queued
-pub none_next : (c k : ℕ) (q : PageQueues) → ((d : ℕ) → d < k → d ≢ c → slice_get (class_queue q d) 0 ≡ None)
-    → (k ≢ c → slice_get (class_queue q k) 0 ≡ None)
-    → (d : ℕ) → d < k + 1 → d ≢ c → slice_get (class_queue q d) 0 ≡ None
-none_next c k q below here d inside other = ⊎_elim
-    (λ (is : d ≡ k). subst (λ z. z ≢ c → slice_get (class_queue q z) 0 ≡ None) (sym is) here other)
+-- one class more
+pub none_next : (c k : ℕ) (o : Sharded) → ((d : ℕ) → d < k → d ≢ c → NoneWhole (class_queue o.queues d) o.pages)
+    → (k ≢ c → NoneWhole (class_queue o.queues k) o.pages)
+    → (d : ℕ) → d < k + 1 → d ≢ c → NoneWhole (class_queue o.queues d) o.pages
+none_next c k o below here d inside other = ⊎_elim
+    (λ (is : d ≡ k). subst (λ z. z ≢ c → NoneWhole (class_queue o.queues z) o.pages) (sym is) here other)
     (λ (ne : d ≢ k). below d (smaller d k inside ne) other)
     (cases_eq d k)
   where

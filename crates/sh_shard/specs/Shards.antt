@@ -70,6 +70,10 @@ pub record IsSpare (c : ℕ) (g : SeenPage) : Type 0 where
 abbrev pub IsBlank : SeenPage → Type 0
 IsBlank g = g.class ≡ Some 0
 
+-- none of these pages is wholly its owner's
+abbrev pub NoneWhole : List ℕ → Paged → Type 0
+NoneWhole pages v = (p : ℕ) → has_number p pages ≡ true → ¬ WhollyMine (page_at v p)
+
 abbrev pub NoneSpare : ℕ → Paged → Type 0
 NoneSpare c v = (p : ℕ) → p < v.count → ¬ IsSpare c (page_at v p)
 

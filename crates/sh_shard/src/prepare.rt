@@ -4,6 +4,7 @@ ghost use Rattle.std.specs.Prelude.{slice_get};
 ghost use Rattle.sh_queue.specs.Queues.{class_queue, one_more_segment};
 ghost use Rattle.sh_shard.specs.Pages.{page_at};
 ghost use Rattle.sh_shard.specs.Shards.{IsSpare, NoneSpare, NoneOpenedBlank, IsLowest, PreparesPage, PrepareServes};
+ghost use Rattle.sh_shard.specs.Shards.{NoneWhole};
 ghost use Rattle.sh_shard.specs.Shards.{StaysOwner};
 ghost use Rattle.sh_shard.specs.Bounds.{PrepareIsBounded};
 
@@ -92,17 +93,34 @@ impl<'a, L: KeyLayout> Shard<'a, L> {
         Some(page)
     }
 
-    // Whether this other class is the same, or no page stands in its queue.
-    fn has_none(&self, class: u32, other: u32) -> bool
-        requires { other < 8 }
-        ensures { MatchBool result (other ≢ class → slice_get (class_queue self.now.queues other) 0 ≡ None) (Unit {0}) }
+    // Whether the front of its queue tells that no page of the class is wholly the owner's: there is no page, or one
+    // alone, of which a slot is not.
+    fn has_no_whole(&self, class: u32) -> bool
+        requires { class < 8 }
+        ensures { MatchBool result (NoneWhole (class_queue self.now.queues class) self.now.pages) (Unit {0}) }
     {
-        let _queues = &self.queues;
-        other == class || self.queues.front(other).is_none()
+        let _opened = self.queues.opened();
+        let Some(page) = self.queues.front(class) else {
+            return true;
+        };
+        if self.queues.last(class) != Some(page) {
+            return false;
+        }
+        !self.pages.is_wholly_mine(page as u64)
     }
 
-    // Whether no page stands in the queue of another class. So it is where a shard has values of one class.
-    fn is_alone(&self, class: u32) -> bool
+    // Whether this other class is the same, or the front of its queue tells that none of its pages is spare.
+    fn has_none(&self, class: u32, other: u32) -> bool
+        requires { other < 8 }
+        ensures { MatchBool result (other ≢ class → NoneWhole (class_queue self.now.queues other) self.now.pages)
+            (Unit {0}) }
+    {
+        other == class || self.has_no_whole(other)
+    }
+
+    // Whether the fronts of the other classes' queues tell that no page is spare. So it is where a shard has values of
+    // one class, and where it is being filled with values of several: each class then has one page with room.
+    fn fronts_have_none(&self, class: u32) -> bool
         ensures { result ≡ true → NoneSpare class self.now.pages }
     {
         let _opened = self.queues.opened();
@@ -120,7 +138,7 @@ impl<'a, L: KeyLayout> Shard<'a, L> {
         ensures { MatchOption result (NoneSpare class self.now.pages)
             (λ page. (page < self.now.queues.opened) × IsLowest (IsSpare class) page self.now.pages) }
     {
-        if self.is_alone(class) {
+        if self.fronts_have_none(class) {
             return None;
         }
         self.lowest_spare(class)

@@ -2,13 +2,13 @@ use Rattle.std.proofs.Common.{subst, arith}
 use Rattle.sh_queue.specs.Queues.{EachOnce}
 use Rattle.sh_shard.specs.Shards.{Sharded, SortedPages}
 use Rattle.sh_shard.proofs.Preparing.{none_queued_spare, none_next}
-use Rattle.sh_shard.proofs.shard.Shard.is_alone.Goals as goal
+use Rattle.sh_shard.proofs.shard.Shard.fronts_have_none.Goals as goal
 
 pub loop-other-init : goal.loop-other-init
 loop-other-init g c = λ d below other. absurd (omega arith)
 
 pub loop-other-preserved : goal.loop-other-preserved
-loop-other-preserved g c = none_next c.args.class c.loop-other.other c.args.self.now.queues c.loop-other.invariant
+loop-other-preserved g c = none_next c.args.class c.loop-other.other c.args.self.now c.loop-other.invariant
     c.if-not-has_none.ensures
 
 pub returns : goal.returns
