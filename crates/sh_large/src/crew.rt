@@ -1,5 +1,5 @@
 //! The passes of the four threads, and four tasks that run at the same time.
-ghost use Rattle.std.specs.Prelude.{◌≡◌, ◌×◌, IfOk, Ok};
+ghost use Rattle.std.specs.Prelude.{◌≡◌, IfOk, Ok};
 
 use gearlongan::{KeyLayout, Pass, Refusal, Task, both};
 use std::thread::{Threads, join};
@@ -63,10 +63,10 @@ pub fn all_four<R: Threads + Sync, T: Task<Output = A> + Send + Drop, A: Send>(
 pub fn all_done<'a, L: KeyLayout, T: Drop>(
     done: Four<Done<'a, L, T>>,
 ) -> Result<(Crew<'a, L>, Four<T>), Refusal>
-    ensures one { IfOk result (λ r. done.one ≡ Ok (r.0.one, r.1.one)) }
-    ensures two { IfOk result (λ r. done.two ≡ Ok (r.0.two, r.1.two)) }
-    ensures three { IfOk result (λ r. done.three ≡ Ok (r.0.three, r.1.three)) }
-    ensures four { IfOk result (λ r. done.four ≡ Ok (r.0.four, r.1.four)) }
+    ensures one { IfOk result (λ r. done.entry.one ≡ Ok (r.0.one, r.1.one)) }
+    ensures two { IfOk result (λ r. done.entry.two ≡ Ok (r.0.two, r.1.two)) }
+    ensures three { IfOk result (λ r. done.entry.three ≡ Ok (r.0.three, r.1.three)) }
+    ensures four { IfOk result (λ r. done.entry.four ≡ Ok (r.0.four, r.1.four)) }
 {
     let Four {
         one,

@@ -1,5 +1,5 @@
 //! A thread fills its shards, one after the other.
-ghost use Rattle.std.specs.Prelude.{◌≡◌, ◌×◌, ◌≤◌, vec_len, IfOk};
+ghost use Rattle.std.specs.Prelude.{◌≡◌, ◌≤◌, vec_len, IfOk};
 
 use crate::crew::Done;
 use gearlongan::{KeyLayout, Pass, Refusal, Shard, Task, Value};

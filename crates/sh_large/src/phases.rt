@@ -1,5 +1,5 @@
 //! What the four threads do, phase by phase. Each phase ends in all threads before the next one begins.
-ghost use Rattle.std.specs.Prelude.{◌≡◌, ◌×◌, ◌≤◌, ◌+◌, IfOk};
+ghost use Rattle.std.specs.Prelude.{◌≡◌, ◌≤◌, ◌+◌, IfOk};
 ghost use Rattle.sh_large.specs.Crews.{StayAt};
 
 use crate::crew::{Crew, Four, all_done, all_four};

@@ -1,5 +1,5 @@
 //! A thread reads what another inserted.
-ghost use Rattle.std.specs.Prelude.{◌≡◌, ◌×◌, ◌≤◌, length, IfOk};
+ghost use Rattle.std.specs.Prelude.{◌≡◌, ◌≤◌, length, IfOk};
 
 use crate::crew::Done;
 use gearlongan::{KeyLayout, Pass, Reader, Refusal, Task};

@@ -1,5 +1,5 @@
 //! A thread removes its part of all keys, in mixed order.
-ghost use Rattle.std.specs.Prelude.{◌≡◌, ◌×◌, ◌≤◌, ◌<◌, ◌*◌, ◌%◌, length, IfOk};
+ghost use Rattle.std.specs.Prelude.{◌≡◌, ◌≤◌, ◌<◌, ◌*◌, ◌%◌, length, IfOk};
 
 use crate::crew::Done;
 use crate::share::share_of;
