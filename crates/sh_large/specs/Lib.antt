@@ -1,1 +1,3 @@
-pub mod Crews
+pub mod Shares
+pub mod Stories
+pub mod Workers

@@ -1,20 +1,9 @@
-//! The passes of the four threads, and four tasks that run at the same time.
+//! Four tasks that run at the same time, each in a thread.
 ghost use Rattle.std.specs.Prelude.{◌≡◌, IfOk, Ok};
 
-use gearlongan::{KeyLayout, Pass, Refusal, Task, both};
+use crate::worker::Worker;
+use gearlongan::{KeyLayout, Refusal, Task, both};
 use std::thread::{Threads, join};
-
-/// What a thread answers: its pass, and what it did; or why it gave up.
-pub type Done<'a, L, T> = Result<(Pass<'a, L>, T), Refusal>;
-
-/// The passes of the four threads.
-#[derive(Drop)]
-pub struct Crew<'a, L: KeyLayout> {
-    pub one: Pass<'a, L>,
-    pub two: Pass<'a, L>,
-    pub three: Pass<'a, L>,
-    pub four: Pass<'a, L>,
-}
 
 /// One of each thread.
 #[derive(Drop)]
@@ -24,6 +13,12 @@ pub struct Four<T> {
     pub three: T,
     pub four: T,
 }
+
+/// Those who work in the four threads.
+pub type Crew<'a, L> = Four<Worker<'a, L>>;
+
+/// What a thread answers: who worked there, and what was done; or why it gave up.
+pub type Done<'a, L, T> = Result<(Worker<'a, L>, T), Refusal>;
 
 /// Runs four tasks, each in a thread of its own where one can be made. What each is said to give is known of what it
 /// gave.
@@ -59,7 +54,7 @@ pub fn all_four<R: Threads + Sync, T: Task<Output = A> + Send + Drop, A: Send>(
     }
 }
 
-/// The passes, and what was done with them, where no thread gave up.
+/// Who worked in all four threads, and what was done there, where no thread gave up.
 pub fn all_done<'a, L: KeyLayout, T: Drop>(
     done: Four<Done<'a, L, T>>,
 ) -> Result<(Crew<'a, L>, Four<T>), Refusal>
@@ -78,13 +73,14 @@ pub fn all_done<'a, L: KeyLayout, T: Drop>(
     let (second, two) = two?;
     let (third, three) = three?;
     let (fourth, four) = four?;
+    let crew = Four {
+        one: first,
+        two: second,
+        three: third,
+        four: fourth,
+    };
     Ok((
-        Crew {
-            one: first,
-            two: second,
-            three: third,
-            four: fourth,
-        },
+        crew,
         Four {
             one,
             two,

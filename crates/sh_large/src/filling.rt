@@ -1,12 +1,11 @@
-//! A thread fills its shards, one after the other.
+//! A thread fills its shard, or its shards one after the other.
 ghost use Rattle.std.specs.Prelude.{◌≡◌, ◌≤◌, vec_len, IfOk};
+ghost use Rattle.sh_large.specs.Workers.{heap_of};
 
 use crate::crew::Done;
+use crate::worker::{Worker, left};
 use gearlongan::{KeyLayout, Pass, Refusal, Shard, Task, Value};
 use std::alloc::Global;
-
-// How often a leave is tried that answers `Waiting`.
-const LEAVES: u32 = 1_000;
 
 /// What a thread inserts: so many values, of which each next one is a word larger by one, and the shards that it may
 /// fill with them.
@@ -23,14 +22,14 @@ pub struct Part {
 pub struct Filled {
     /// The keys, in the order of the values.
     pub keys: Vec<u64>,
-    /// How many shards it adopted.
+    /// How many shards it filled, wholly or in part.
     pub shards: u64,
 }
 
 /// Inserts the values of a part.
 #[derive(Drop)]
 pub struct Filling<'a, L: KeyLayout> {
-    pub pass: Pass<'a, L>,
+    pub worker: Worker<'a, L>,
     pub part: Part,
     pub alloc: Global,
 }
@@ -38,17 +37,52 @@ pub struct Filling<'a, L: KeyLayout> {
 impl<'a, L: KeyLayout> Task for Filling<'a, L> {
     type Output = Done<'a, L, Filled>;
 
-    // All values are inserted, and the pass that comes back is of the heap of the one that went.
-    ghost gives = { λ task output. IfOk output (λ done. (done.0.heap ≡ task.pass.heap)
+    // All values are inserted, and who comes back is at the heap of whom that went.
+    ghost gives = { λ task output. IfOk output (λ done. (heap_of done.0 ≡ heap_of task.worker)
         × (vec_len done.1.keys ≡ task.part.values)) };
 
     fn run(self) -> Done<'a, L, Filled> {
-        fill(self.alloc, self.pass, self.part)
+        let Filling {
+            worker,
+            part,
+            alloc,
+        } = self;
+        match worker {
+            Worker::Roaming(pass) => {
+                let (pass, filled) = fill_shards(alloc, pass, part)?;
+                Ok((Worker::Roaming(pass), filled))
+            }
+            Worker::Settled(mut owner) => {
+                let filled = fill_own(alloc, &mut owner, part)?;
+                Ok((Worker::Settled(owner), filled))
+            }
+        }
     }
 }
 
+// Inserts all values in the owner's shard. `Full` where it has no room for them.
+fn fill_own<L: KeyLayout>(
+    alloc: Global,
+    owner: &mut Shard<'_, L>,
+    part: Part,
+) -> Result<Filled, Refusal>
+    ensures heap { owner.new.pages.owner.heap ≡ owner.old.pages.owner.heap }
+    ensures all { IfOk result (λ filled. vec_len filled.keys ≡ part.values) }
+{
+    let mut keys = Vec::with_capacity(alloc, part.values)?;
+    insert_all(owner, part, &mut keys)?;
+    if keys.len() < part.values {
+        return Err(Refusal::Full);
+    }
+    Ok(Filled { keys, shards: 1 })
+}
+
 // Fills shards until all values are inserted. `Full` where the shards have no room for them.
-fn fill<'a, L: KeyLayout>(alloc: Global, pass: Pass<'a, L>, part: Part) -> Done<'a, L, Filled>
+fn fill_shards<'a, L: KeyLayout>(
+    alloc: Global,
+    pass: Pass<'a, L>,
+    part: Part,
+) -> Result<(Pass<'a, L>, Filled), Refusal>
     ensures heap { IfOk result (λ done. done.0.heap ≡ pass.entry.heap) }
     ensures all { IfOk result (λ done. vec_len done.1.keys ≡ part.values) }
 {
@@ -103,20 +137,4 @@ fn insert_all<L: KeyLayout>(
         }
     }
     Ok(())
-}
-
-// Leaves a shard. `Waiting` is answered only while another pass is in the middle of a free in this shard. No thread
-// frees while shards are left here, since all threads that removed have ended before; and if one did, it would end its
-// free within a few steps of its own. So a leave that is refused is tried again, and not for ever.
-fn left<'a, L: KeyLayout>(owner: Shard<'a, L>) -> Result<Pass<'a, L>, Refusal>
-    ensures { IfOk result (λ pass. pass.heap ≡ owner.entry.pages.owner.heap) }
-{
-    let mut owner = owner;
-    for _ in 0..LEAVES {
-        match owner.leave() {
-            Ok(pass) => return Ok(pass),
-            Err((back, _waiting)) => owner = back,
-        }
-    }
-    Err(Refusal::Waiting)
 }

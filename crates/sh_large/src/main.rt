@@ -19,6 +19,7 @@ mod removing;
 mod run;
 mod share;
 mod story;
+mod worker;
 
 use std::alloc::{AllocError, Global};
 use std::io;

@@ -13,7 +13,7 @@ pub const MOST_VALUES: u64 = 10_000_000;
 pub enum Layout {
     /// 64 shards for each thread, which goes from one to the next.
     Wide,
-    /// One shard for each thread.
+    /// One shard for each thread, which keeps it.
     Deep,
 }
 

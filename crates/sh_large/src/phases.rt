@@ -1,6 +1,7 @@
 //! What the four threads do, phase by phase. Each phase ends in all threads before the next one begins.
-ghost use Rattle.std.specs.Prelude.{◌≡◌, ◌≤◌, ◌+◌, IfOk};
-ghost use Rattle.sh_large.specs.Crews.{StayAt};
+ghost use Rattle.std.specs.Prelude.{◌≡◌, ◌≤◌, ◌<◌, ◌+◌, length, IfOk};
+ghost use Rattle.sh_large.specs.Shares.{keys_of, share};
+ghost use Rattle.sh_large.specs.Workers.{StayAt};
 
 use crate::crew::{Crew, Four, all_done, all_four};
 use crate::filling::{Filled, Filling, Part};
@@ -16,14 +17,18 @@ use std::thread::Threads;
 pub struct Plan {
     /// How many values, of all threads together.
     pub values: usize,
-    /// How many shards each thread may fill.
+    /// How many shards each thread has.
     pub shards: u64,
+    /// Whether each thread keeps its first shard.
+    pub settles: bool,
     /// The upper half of the first word of the first thread.
     pub round: u64,
 }
 
 // What the thread of this number inserts. No two values of a plan are alike.
-fn part_of(plan: Plan, number: usize) -> Part {
+fn part_of(plan: Plan, number: usize) -> Part
+    ensures { number < 4 → result.values ≡ share plan.values number }
+{
     Part {
         shard: plan.shards.wrapping_mul(number as u64),
         shards: plan.shards,
@@ -37,32 +42,34 @@ fn first_word(plan: Plan, number: usize) -> u64 {
 }
 
 /// Each thread inserts its part of the values, in shards of its own.
+#[tactic(auto, using(crate::proofs::ShareLemmas::shares_all))]
 pub fn fill<'a, L: KeyLayout + Send + Sync, R: Threads + Sync>(
     rt: &R,
     alloc: Global,
     crew: Crew<'a, L>,
     plan: Plan,
 ) -> Result<(Crew<'a, L>, Four<Filled>), Refusal>
-    ensures { IfOk result (λ done. StayAt crew.entry done.0) }
+    ensures stay { IfOk result (λ done. StayAt crew.entry done.0) }
+    ensures all { IfOk result (λ done. keys_of done.1 ≡ plan.values) }
 {
     let tasks = Four {
         one: Filling {
-            pass: crew.one,
+            worker: crew.one,
             part: part_of(plan, 0),
             alloc,
         },
         two: Filling {
-            pass: crew.two,
+            worker: crew.two,
             part: part_of(plan, 1),
             alloc,
         },
         three: Filling {
-            pass: crew.three,
+            worker: crew.three,
             part: part_of(plan, 2),
             alloc,
         },
         four: Filling {
-            pass: crew.four,
+            worker: crew.four,
             part: part_of(plan, 3),
             alloc,
         },
@@ -77,26 +84,27 @@ pub fn read<'a, L: KeyLayout + Send + Sync, R: Threads + Sync>(
     filled: &Four<Filled>,
     plan: Plan,
 ) -> Result<(Crew<'a, L>, usize), Refusal>
-    ensures { IfOk result (λ done. StayAt crew.entry done.0) }
+    ensures stay { IfOk result (λ done. StayAt crew.entry done.0) }
+    ensures most { IfOk result (λ done. done.1 ≤ keys_of filled.now) }
 {
     let tasks = Four {
         one: Reading {
-            pass: crew.one,
+            worker: crew.one,
             keys: &filled.two.keys,
             word: first_word(plan, 1),
         },
         two: Reading {
-            pass: crew.two,
+            worker: crew.two,
             keys: &filled.three.keys,
             word: first_word(plan, 2),
         },
         three: Reading {
-            pass: crew.three,
+            worker: crew.three,
             keys: &filled.four.keys,
             word: first_word(plan, 3),
         },
         four: Reading {
-            pass: crew.four,
+            worker: crew.four,
             keys: &filled.one.keys,
             word: first_word(plan, 0),
         },
@@ -106,31 +114,33 @@ pub fn read<'a, L: KeyLayout + Send + Sync, R: Threads + Sync>(
 }
 
 /// Each thread removes a fourth of all keys, of its own and of the others. Answers how many were removed.
+#[tactic(auto, using(crate::proofs::ShareLemmas::shares_all))]
 pub fn remove<'a, L: KeyLayout + Send + Sync, R: Threads + Sync>(
     rt: &R,
     crew: Crew<'a, L>,
     keys: &[u64],
 ) -> Result<(Crew<'a, L>, usize), Refusal>
-    ensures { IfOk result (λ done. StayAt crew.entry done.0) }
+    ensures stay { IfOk result (λ done. StayAt crew.entry done.0) }
+    ensures most { IfOk result (λ done. done.1 ≤ length keys.now) }
 {
     let tasks = Four {
         one: Removing {
-            pass: crew.one,
+            worker: crew.one,
             keys,
             number: 0,
         },
         two: Removing {
-            pass: crew.two,
+            worker: crew.two,
             keys,
             number: 1,
         },
         three: Removing {
-            pass: crew.three,
+            worker: crew.three,
             keys,
             number: 2,
         },
         four: Removing {
-            pass: crew.four,
+            worker: crew.four,
             keys,
             number: 3,
         },
@@ -140,7 +150,9 @@ pub fn remove<'a, L: KeyLayout + Send + Sync, R: Threads + Sync>(
 }
 
 // The four counts together.
-fn sum_of(counts: Four<usize>) -> usize {
+fn sum_of(counts: Four<usize>) -> usize
+    ensures { result ≤ counts.one + counts.two + counts.three + counts.four }
+{
     let Four {
         one,
         two,

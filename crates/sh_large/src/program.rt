@@ -44,11 +44,11 @@ fn story_of<R: Threads + Sync>(rt: &R, alloc: Global, options: &Options) -> Resu
     match options.layout {
         Layout::Wide => {
             let shape = shape_for::<Wide>(WIDE_SHARDS, options.values)?;
-            run::<Wide, R>(rt, alloc, shape, options.values)
+            run::<Wide, R>(rt, alloc, shape, options.values, false)
         }
         Layout::Deep => {
             let shape = shape_for::<Deep>(DEEP_SHARDS, options.values)?;
-            run::<Deep, R>(rt, alloc, shape, options.values)
+            run::<Deep, R>(rt, alloc, shape, options.values, true)
         }
     }
 }

@@ -1,17 +1,20 @@
 //! A thread removes its part of all keys, in mixed order.
-ghost use Rattle.std.specs.Prelude.{◌≡◌, ◌≤◌, ◌<◌, ◌*◌, ◌%◌, length, IfOk};
+ghost use Rattle.std.specs.Prelude.{◌≡◌, ◌≤◌, ◌<◌, length, IfOk};
+ghost use Rattle.sh_large.specs.Shares.{share};
+ghost use Rattle.sh_large.specs.Workers.{heap_of};
 
 use crate::crew::Done;
 use crate::share::share_of;
-use gearlongan::{KeyLayout, Pass, Refusal, Task};
+use crate::worker::Worker;
+use gearlongan::{KeyLayout, Reader, Refusal, Task};
 
-// A prime number above each count of keys: so the places of all turns are all places.
+// A prime number above each count of keys, so that no two turns have one place.
 const STRIDE: u64 = 2_147_483_647;
 
-/// Removes each fourth of all keys, from the turn of this number on.
+/// Removes the keys of each fourth turn, from the turn of this number on. In all turns together each key has one.
 #[derive(Drop)]
 pub struct Removing<'a, 'k, L: KeyLayout> {
-    pub pass: Pass<'a, L>,
+    pub worker: Worker<'a, L>,
     pub keys: &'k [u64],
     pub number: usize,
 }
@@ -20,34 +23,38 @@ impl<'a, L: KeyLayout> Task for Removing<'a, '_, L> {
     // How many keys it removed itself.
     type Output = Done<'a, L, usize>;
 
-    ghost gives = { λ task output. IfOk output (λ done. (done.0.heap ≡ task.pass.heap)
-        × (done.1 ≤ length task.keys.now)) };
+    ghost gives = { λ task output. IfOk output (λ done. (heap_of done.0 ≡ heap_of task.worker)
+        × (task.number < 4 → done.1 ≤ share (length task.keys.now) task.number)) };
 
     fn run(self) -> Done<'a, L, usize> {
         let Removing {
-            mut pass,
+            worker,
             keys,
             number,
         } = self;
-        let removed = remove_each(&mut pass, keys, number)?;
-        Ok((pass, removed))
+        match worker {
+            Worker::Roaming(mut pass) => {
+                let removed = remove_each(&mut pass, keys, number)?;
+                Ok((Worker::Roaming(pass), removed))
+            }
+            Worker::Settled(mut owner) => {
+                let removed = remove_each(&mut owner, keys, number)?;
+                Ok((Worker::Settled(owner), removed))
+            }
+        }
     }
 }
 
 // How many of its keys it removed.
-fn remove_each<L: KeyLayout>(
-    pass: &mut Pass<'_, L>,
-    keys: &[u64],
-    number: usize,
-) -> Result<usize, Refusal>
-    ensures heap { pass.new.heap ≡ pass.old.heap }
-    ensures most { IfOk result (λ removed. removed ≤ length keys.now) }
+fn remove_each<R: Reader>(reader: &mut R, keys: &[u64], number: usize) -> Result<usize, Refusal>
+    ensures heap { (R.caller reader.new).heap ≡ (R.caller reader.old).heap }
+    ensures most { IfOk result (λ removed. number < 4 → removed ≤ share (length keys.now) number) }
 {
     let mut removed = 0;
     for turn in 0..share_of(keys.len(), number) {
         let place = place_of(turn.wrapping_mul(4).wrapping_add(number), keys.len());
         if let Some(key) = keys.get(place) {
-            if removes(pass, *key)? {
+            if removes(reader, *key)? {
                 removed += 1;
             }
         }
@@ -55,7 +62,7 @@ fn remove_each<L: KeyLayout>(
     Ok(removed)
 }
 
-// The place of a turn. No two turns below the count have one place.
+// The place of the key whose turn it is.
 fn place_of(turn: usize, count: usize) -> usize {
     (turn as u64)
         .wrapping_mul(STRIDE)
@@ -64,10 +71,10 @@ fn place_of(turn: usize, count: usize) -> usize {
 }
 
 // Removes a key. False where it finds nothing.
-fn removes<L: KeyLayout>(pass: &mut Pass<'_, L>, key: u64) -> Result<bool, Refusal>
-    ensures { pass.new.heap ≡ pass.old.heap }
+fn removes<R: Reader>(reader: &mut R, key: u64) -> Result<bool, Refusal>
+    ensures { (R.caller reader.new).heap ≡ (R.caller reader.old).heap }
 {
-    match pass.remove(key) {
+    match reader.remove(key) {
         Ok(()) => Ok(true),
         Err(Refusal::Gone) => Ok(false),
         Err(why) => Err(why),

@@ -1,18 +1,23 @@
 //! A heap that is filled, read, emptied and filled again.
-ghost use Rattle.std.specs.Prelude.{◌≡◌, IfOk};
+ghost use Rattle.std.specs.Prelude.{◌≡◌, vec_len, IfOk};
 ghost use Rattle.gearlongan.specs.Passes.{AreOf};
-ghost use Rattle.sh_large.specs.Crews.{StayAt};
+ghost use Rattle.sh_large.specs.Shares.{keys_of};
+ghost use Rattle.sh_large.specs.Stories.{TellsOf};
+ghost use Rattle.sh_large.specs.Workers.{StayAt, heap_of};
 
 use crate::crew::{Crew, Four};
 use crate::filling::Filled;
 use crate::phases::{Plan, fill, read, remove};
 use crate::story::Story;
+use crate::worker::Worker;
 use gearlongan::{Heap, KeyLayout, Pass, Refusal, Shape, gather, total};
 use std::alloc::{AllocError, Global};
 use std::thread::Threads;
 
 // All keys, those of the first thread first.
-fn all_keys(filled: Four<Filled>) -> Result<Vec<u64>, AllocError> {
+fn all_keys(filled: Four<Filled>) -> Result<Vec<u64>, AllocError>
+    ensures { IfOk result (λ keys. vec_len keys ≡ keys_of filled) }
+{
     let Four {
         one,
         mut two,
@@ -24,16 +29,6 @@ fn all_keys(filled: Four<Filled>) -> Result<Vec<u64>, AllocError> {
     keys.append(&mut three.keys)?;
     keys.append(&mut four.keys)?;
     Ok(keys)
-}
-
-fn keys_in(filled: &Four<Filled>) -> usize {
-    filled
-        .one
-        .keys
-        .len()
-        .saturating_add(filled.two.keys.len())
-        .saturating_add(filled.three.keys.len())
-        .saturating_add(filled.four.keys.len())
 }
 
 fn shards_in(filled: &Four<Filled>) -> u64 {
@@ -52,24 +47,27 @@ fn worked<'a, L: KeyLayout + Send + Sync, R: Threads + Sync>(
     crew: Crew<'a, L>,
     plan: Plan,
 ) -> Result<(Crew<'a, L>, Story), Refusal>
-    ensures { IfOk result (λ done. StayAt crew.entry done.0) }
+    ensures stay { IfOk result (λ done. StayAt crew.entry done.0) }
+    ensures tells { IfOk result (λ done. TellsOf plan.values done.1) }
 {
     let (crew, first) = fill(rt, alloc, crew, plan)?;
-    let (inserted, shards) = (keys_in(&first), shards_in(&first));
+    let shards = shards_in(&first);
     let (crew, right) = read(rt, crew, &first, plan)?;
     let old = all_keys(first)?;
     let (crew, removed) = remove(rt, crew, &old)?;
-    let plan = Plan { round: 4, ..plan };
-    let (crew, second) = fill(rt, alloc, crew, plan)?;
+    let more = Plan { round: 4, ..plan };
+    let (crew, second) = fill(rt, alloc, crew, more)?;
+    let shards_again = shards_in(&second);
     let (crew, stale) = remove(rt, crew, &old)?;
-    let (crew, right_again) = read(rt, crew, &second, plan)?;
+    let (crew, right_again) = read(rt, crew, &second, more)?;
+    let new = all_keys(second)?;
     let story = Story {
-        inserted,
+        inserted: old.len(),
         right,
         removed,
-        again: keys_in(&second),
+        again: new.len(),
         shards,
-        shards_again: shards_in(&second),
+        shards_again,
         stale,
         right_again,
         left: None,
@@ -77,8 +75,46 @@ fn worked<'a, L: KeyLayout + Send + Sync, R: Threads + Sync>(
     Ok((crew, story))
 }
 
-// The same for all passes of a heap, which meet in the end and are counted.
-fn counted<'a, L: KeyLayout + Send + Sync, R: Threads + Sync>(
+// A worker with this pass, in the thread of this number.
+fn worker_of<'a, L: KeyLayout>(
+    alloc: Global,
+    pass: Pass<'a, L>,
+    plan: Plan,
+    number: u64,
+) -> Result<Worker<'a, L>, Refusal>
+    ensures { IfOk result (λ worker. heap_of worker ≡ pass.entry.heap) }
+{
+    if plan.settles {
+        Worker::settled(alloc, pass, number.wrapping_mul(plan.shards))
+    } else {
+        Ok(Worker::Roaming(pass))
+    }
+}
+
+// How many values the heap has, where all passes met.
+fn counted<'a, L: KeyLayout>(
+    alloc: Global,
+    heap: &'a Heap<L>,
+    crew: Crew<'a, L>,
+) -> Result<Option<u32>, Refusal>
+    requires one { heap_of crew.one ≡ heap.now }
+    requires two { heap_of crew.two ≡ heap.now }
+    requires three { heap_of crew.three ≡ heap.now }
+    requires four { heap_of crew.four ≡ heap.now }
+{
+    let mut passes = Vec::with_capacity(alloc, 4)?;
+    passes.push_reserved(crew.one.into_pass()?);
+    passes.push_reserved(crew.two.into_pass()?);
+    passes.push_reserved(crew.three.into_pass()?);
+    passes.push_reserved(crew.four.into_pass()?);
+    match gather(heap, passes) {
+        Ok(mut all) => Ok(Some(total(&mut all).live)),
+        Err(_) => Ok(None),
+    }
+}
+
+// All phases on a heap, with all its passes, which meet in the end.
+fn told<'a, L: KeyLayout + Send + Sync, R: Threads + Sync>(
     rt: &R,
     alloc: Global,
     heap: &'a Heap<L>,
@@ -86,6 +122,7 @@ fn counted<'a, L: KeyLayout + Send + Sync, R: Threads + Sync>(
     plan: Plan,
 ) -> Result<Story, Refusal>
     requires { AreOf heap.now passes.items }
+    ensures { IfOk result (λ story. TellsOf plan.values story) }
 {
     let mut passes = passes.into_iter();
     let (Some(one), Some(two)) = (passes.next(), passes.next()) else {
@@ -94,22 +131,14 @@ fn counted<'a, L: KeyLayout + Send + Sync, R: Threads + Sync>(
     let (Some(three), Some(four)) = (passes.next(), passes.next()) else {
         return Err(Refusal::BadShape);
     };
-    let mut back = Vec::with_capacity(alloc, 4)?;
-    let crew = Crew {
-        one,
-        two,
-        three,
-        four,
+    let crew = Four {
+        one: worker_of(alloc, one, plan, 0)?,
+        two: worker_of(alloc, two, plan, 1)?,
+        three: worker_of(alloc, three, plan, 2)?,
+        four: worker_of(alloc, four, plan, 3)?,
     };
     let (crew, story) = worked(rt, alloc, crew, plan)?;
-    back.push_reserved(crew.one);
-    back.push_reserved(crew.two);
-    back.push_reserved(crew.three);
-    back.push_reserved(crew.four);
-    let left = match gather(heap, back) {
-        Ok(mut all) => Some(total(&mut all).live),
-        Err(_) => None,
-    };
+    let left = counted(alloc, heap, crew)?;
     Ok(Story { left, ..story })
 }
 
@@ -121,19 +150,23 @@ pub fn shape_for<L: KeyLayout>(shards: u32, values: usize) -> Result<Shape, Refu
     Shape::with_room::<L>(all, each, 1, 4)
 }
 
-/// Fills a heap of this shape, reads it, empties it and fills it again.
+/// Fills a heap of this shape, reads it, empties it and fills it again. Each thread keeps its shard where it `settles`.
 pub fn run<L: KeyLayout + Send + Sync, R: Threads + Sync>(
     rt: &R,
     alloc: Global,
     shape: Shape,
     values: usize,
-) -> Result<Story, Refusal> {
+    settles: bool,
+) -> Result<Story, Refusal>
+    ensures { IfOk result (λ story. TellsOf values story) }
+{
     let plan = Plan {
         values,
+        settles,
         shards: u64::from(shape.shards() / 4),
         round: 0,
     };
     let (heap, seats) = Heap::<L>::open(alloc, shape)?;
     let passes = heap.passes(alloc, seats)?;
-    counted(rt, alloc, &heap, passes, plan)
+    told(rt, alloc, &heap, passes, plan)
 }

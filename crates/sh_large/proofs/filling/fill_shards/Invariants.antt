@@ -1,5 +1,5 @@
 use Rattle.std.proofs.Common.{◌≡◌, ◌≤◌, vec_len}
-use Rattle.sh_large.proofs.filling.fill.Given as goal
+use Rattle.sh_large.proofs.filling.fill_shards.Given as goal
 
 abbrev pub invariant-loop-number : goal.invariant-loop-number
 invariant-loop-number g l = record {
