@@ -1,0 +1,12 @@
+-- How things are shared out among four, and added up again.
+use Rattle.std.specs.Prelude.{ℕ, ◌+◌, ◌-◌, ◌/◌, vec_len}
+use Rattle.sh_large.specs.declared.crew.Four.{Four}
+use Rattle.sh_large.specs.declared.filling.Filled.{Filled}
+
+-- the share of a thread, whose number is from 0 to 3
+abbrev pub share : (count number : ℕ) → ℕ
+share count number = (count + 3 - number) / 4
+
+-- how many keys all four have
+abbrev pub keys_of : Four Filled → ℕ
+keys_of f = vec_len f.one.keys + vec_len f.two.keys + vec_len f.three.keys + vec_len f.four.keys

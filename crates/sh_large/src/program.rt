@@ -1,0 +1,95 @@
+//! The whole program, over the words of a command line and two writers.
+use crate::options::{Layout, Options, options_of};
+use crate::run::{run, shape_for};
+use crate::story::Story;
+use clap::Error;
+use clap::error::ErrorKind;
+use gearlongan::{Deep, Refusal, Wide};
+use std::alloc::Global;
+use std::io;
+use std::io::Write;
+use std::thread::Threads;
+
+// How many shards each thread has in a heap of layout `Wide`, and in one of layout `Deep`.
+const WIDE_SHARDS: u32 = 64;
+
+const DEEP_SHARDS: u32 = 1;
+
+// Shows why clap gave no options, and gives the exit status: help goes to `output`, a mistake to `errors`.
+fn show<W: Write, E: Write>(error: &Error, output: &mut W, errors: &mut E) -> u8 {
+    if error.kind() == ErrorKind::OutOfMemory {
+        return refused(Refusal::Memory, errors);
+    }
+    if error.use_stderr() {
+        let _ = write!(errors, "{error}");
+        return 2;
+    }
+    match write!(output, "{error}") {
+        Ok(()) => 0,
+        Err(_) => 3,
+    }
+}
+
+// Says why the heap gave up, and gives the exit status.
+fn refused<E: Write>(why: Refusal, errors: &mut E) -> u8 {
+    let _ = writeln!(errors, "sh_large: refused: {why}");
+    match why {
+        Refusal::Memory => 3,
+        _ => 1,
+    }
+}
+
+// Works on a heap of the layout.
+fn story_of<R: Threads + Sync>(rt: &R, alloc: Global, options: &Options) -> Result<Story, Refusal> {
+    match options.layout {
+        Layout::Wide => {
+            let shape = shape_for::<Wide>(WIDE_SHARDS, options.values)?;
+            run::<Wide, R>(rt, alloc, shape, options.values, false)
+        }
+        Layout::Deep => {
+            let shape = shape_for::<Deep>(DEEP_SHARDS, options.values)?;
+            run::<Deep, R>(rt, alloc, shape, options.values, true)
+        }
+    }
+}
+
+// Tells the counts, and gives the exit status.
+fn report<W: Write, E: Write>(
+    options: &Options,
+    story: &Story,
+    output: &mut W,
+    errors: &mut E,
+) -> u8 {
+    if let Err(error) = told(story, output) {
+        let _ = writeln!(errors, "sh_large: {error}");
+        return 3;
+    }
+    if story.is_of(options.values) {
+        return 0;
+    }
+    let _ = writeln!(errors, "sh_large: a count is not as it should be");
+    1
+}
+
+fn told<W: Write>(story: &Story, output: &mut W) -> io::Result<()> {
+    story.tell(output)?;
+    output.flush()
+}
+
+/// Runs the program, and gives the exit status. The first word is the program's name.
+pub fn run_program<W: Write, E: Write, R: Threads + Sync>(
+    rt: &R,
+    alloc: Global,
+    words: &[&str],
+    output: &mut W,
+    errors: &mut E,
+) -> u8 {
+    let options = match options_of(alloc, words) {
+        Ok(options) => options,
+        Err(error) => return show(&error, output, errors),
+    };
+    match story_of(rt, alloc, &options) {
+        Ok(story) => report(&options, &story, output, errors),
+        Err(why) => refused(why, errors),
+    }
+}
