@@ -3,7 +3,7 @@
 //! Each thread inserts a part of the values in shards of its own: one that is full it leaves, and adopts the next one.
 //! Then each value is read by a thread that did not insert it, all are removed by all threads in mixed order, and as
 //! many others are inserted in their place. The old keys find none of these. At last all passes meet, and what the heap
-//! has is counted.
+//! has is counted. In layout `Deep` each thread keeps its one shard instead.
 //!
 //! Each phase ends in all threads before the next one begins, and passes go to threads and come back (`phases`), so
 //! what is counted does not depend on whose step comes first. This file joins the process to `program`.
