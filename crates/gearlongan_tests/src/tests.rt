@@ -29,11 +29,14 @@ fn owner_and_reader<'a>(
     seats: Seats<Wide>,
 ) -> (Shard<'a, Wide>, Pass<'a, Wide>)
     requires { seats ≡ heap.now }
+    ensures owner { result.0.pages.owner.heap ≡ heap.now }
+    ensures reader { result.1.heap ≡ heap.now }
 {
-    let Ok(mut passes) = heap.passes(alloc, seats) else {
+    let Ok(passes) = heap.passes(alloc, seats) else {
         panic!(rt; "no passes")
     };
-    let (Some(reader), Some(pass)) = (passes.pop(), passes.pop()) else {
+    let mut passes = passes.into_iter();
+    let (Some(pass), Some(reader)) = (passes.next(), passes.next()) else {
         panic!(rt; "not two passes")
     };
     let Ok(owner) = Shard::adopt(alloc, pass, 0) else {

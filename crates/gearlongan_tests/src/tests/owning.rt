@@ -54,11 +54,11 @@ fn a_page_is_made_ready_for_values_of_a_class(rt: HostRuntime) -> Result<(), Fai
 fn an_owner_knows_how_full_its_shard_is(rt: HostRuntime) -> Result<(), Fail> {
     let (heap, seats) = opened(&rt, rt.alloc(), 2);
     let (mut owner, mut reader) = owner_and_reader(&rt, rt.alloc(), &heap, seats);
-    let pages = owner.pages_left();
+    assert_eq!(rt; owner.pages_left(), 8);
     assert_eq!(rt; owner.slots_out(), 0);
     let first = owner.insert(&Value::from(1)).expect(&rt, "a key");
     let second = owner.insert(&Value::from(2)).expect(&rt, "a key");
-    assert_eq!(rt; owner.pages_left(), pages - 1);
+    assert_eq!(rt; owner.pages_left(), 7);
     assert_eq!(rt; owner.slots_out(), 2);
     assert_eq!(rt; owner.remove(first), Ok(()));
     assert_eq!(rt; owner.slots_out(), 1);
