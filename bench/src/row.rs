@@ -70,6 +70,14 @@ impl Row {
         }
     }
 
+    /// How many values each thread keeps, with those by which it fills its shard.
+    pub fn most(&self) -> usize {
+        match self.workload {
+            Workload::Fill => self.live + self.operations,
+            _ => self.live,
+        }
+    }
+
     /// How many pages have values or free slots, where these have one word.
     pub fn pages(&self) -> usize {
         (self.live + self.freed).div_ceil(48)

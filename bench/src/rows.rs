@@ -89,7 +89,15 @@ pub fn large() -> Vec<Row> {
             row(Workload::Insert, 200_000).aims(1.5, 1.2),
         ]
     };
-    [100_000, 1_000_000, 10_000_000].map(beside).concat()
+    [[100_000, 1_000_000, 10_000_000].map(beside).concat(), filling()].concat()
+}
+
+// Shards that are filled: 1,024 pages and 65,536, of one class and of all eight.
+fn filling() -> Vec<Row> {
+    let row = |values, lengths| Row::new(Workload::Fill, 1, values).lengths(lengths).deep();
+    let short = [1024, 65_536].map(|pages| row(pages * 48, Lengths::Each(1)).aims(1.5, 1.2));
+    let mixed = [1024, 65_536].map(|pages| row(pages * 128 / 25, Lengths::Mixed));
+    [short, mixed].concat()
 }
 
 /// Gets beside more and more passes that are open, which the library alone has.
@@ -127,9 +135,21 @@ mod tests {
 
     #[test]
     fn large_heaps_have_up_to_ten_million_values() {
-        let live: HashSet<usize> = large().iter().map(|row| row.live).collect();
+        let beside = |row: &&Row| row.workload != Workload::Fill;
+        let live: HashSet<usize> = large().iter().filter(beside).map(|row| row.live).collect();
         assert_eq!(live, HashSet::from([100_000, 1_000_000, 10_000_000]));
         assert!(large().iter().all(|row| row.is_deep));
+    }
+
+    // Sixteen values of 1 to 16 words fill 1/48 + 1/24 + 1/16 + 1/12 + 2/8 + 2/6 + 4/4 + 4/3 pages, which is 25/8.
+    #[test]
+    fn filled_pages_are_as_many_as_said() {
+        let filled = |row: &Row| match row.lengths {
+            Lengths::Each(_) => row.operations as f64 / 48.0,
+            Lengths::Mixed => row.operations as f64 / 16.0 * 25.0 / 8.0,
+        };
+        let pages: Vec<f64> = filling().iter().map(|row| filled(row).ceil()).collect();
+        assert_eq!(pages, [1024.0, 65_536.0, 1024.0, 65_536.0]);
     }
 
     #[test]

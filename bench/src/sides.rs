@@ -54,7 +54,7 @@ impl Side {
     }
 
     fn rival_turn(self, row: &Row) -> Option<f64> {
-        let room = Room { shards: row.threads, values: row.live + BESIDES, lengths: row.lengths };
+        let room = Room { shards: row.threads, values: row.most() + BESIDES, lengths: row.lengths };
         match (self, row.workload.changes_hands()) {
             (Side::Model, true) => Some(changing::measure(row)),
             (_, true) => None,

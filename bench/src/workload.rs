@@ -13,6 +13,8 @@ pub enum Workload {
     /// As `Read`, and `sh_bench` holds and reads by a guard.
     ReadGuard,
     Insert,
+    /// Values are inserted, and none is removed.
+    Fill,
     Remove,
     Churn,
     Hand,
@@ -31,6 +33,7 @@ impl Workload {
             Workload::ReadInto => "read-into",
             Workload::ReadGuard => "read-guard",
             Workload::Insert => "insert",
+            Workload::Fill => "fill",
             Workload::Remove => "remove",
             Workload::Churn => "churn",
             Workload::Hand => "hand",

@@ -18,7 +18,7 @@ pub fn measure<H: Rival>(rival: &H, row: &Row) -> f64 {
         Workload::Get | Workload::GetGuard => getting(rival, row),
         Workload::Read | Workload::ReadInto | Workload::ReadGuard => getting(rival, row),
         Workload::Hand => handing(rival, row),
-        Workload::Insert | Workload::Remove | Workload::Churn => inserting(rival, row),
+        Workload::Insert | Workload::Fill | Workload::Remove | Workload::Churn => inserting(rival, row),
         Workload::Adopt | Workload::Leave => unreachable!("the model alone has owners that change"),
     };
     longest.as_nanos() as f64 / row.operations as f64
@@ -113,6 +113,14 @@ fn batches<H: Rival>(rival: &H, owner: &mut H::Owner<'_>, samples: &Samples, row
     whole + one_batch(rival, owner, samples, &mut keys[..row.operations % BATCH], row)
 }
 
+// Inserts all values, and removes none.
+fn fill<H: Rival>(rival: &H, owner: &mut H::Owner<'_>, samples: &Samples, row: &Row) -> Duration {
+    let mut keys = vec![0; row.operations];
+    let start = Instant::now();
+    insert_each(rival, owner, samples, &mut keys);
+    start.elapsed()
+}
+
 // Goes through the places, in each of which a value is removed and another of its length inserted.
 fn churn_each<H: Rival>(rival: &H, owner: &mut H::Owner<'_>, samples: &Samples, keys: &mut [u64], order: &[usize]) {
     for place in order {
@@ -142,6 +150,7 @@ fn inserting<H: Rival>(rival: &H, row: &Row) -> Duration {
             gate.pass();
             match row.workload {
                 Workload::Churn => churn(rival, &mut owner, &samples, &mut keys, row),
+                Workload::Fill => fill(rival, &mut owner, &samples, row),
                 _ => batches(rival, &mut owner, &samples, row),
             }
         }

@@ -16,6 +16,10 @@ pub const COUNT: u64 = PRESENT - 1;
 /// One generation of a state word.
 pub const GENERATION: u64 = 1 << 32;
 
+// The bits of a key, above 6 for the slot: as in the layout `deep`.
+const PAGE_BITS: u32 = 20;
+const SHARD_BITS: u32 = 6;
+
 pub fn class_of(len: usize) -> usize {
     WIDTHS.iter().position(|width| len <= *width).expect("at most 16 words")
 }
@@ -96,17 +100,17 @@ impl Words {
     /// The key of a slot in a generation.
     pub fn key(&self, spot: Spot, generation: u64) -> u64 {
         let (shard, page) = (spot.page / self.pages, spot.page % self.pages);
-        ((((generation << 8) + shard as u64) << 16) + page as u64) * 64 + spot.slot as u64
+        ((((generation << SHARD_BITS) + shard as u64) << PAGE_BITS) + page as u64) * 64 + spot.slot as u64
     }
 
     /// The slot and the generation that a key names.
     pub fn place(&self, key: u64) -> Option<(Spot, u64)> {
         let slot = (key & 63) as usize;
-        let page = ((key >> 6) & 0xffff) as usize;
-        let shard = ((key >> 22) & 0xff) as usize;
+        let page = ((key >> 6) & ((1 << PAGE_BITS) - 1)) as usize;
+        let shard = ((key >> (6 + PAGE_BITS)) & ((1 << SHARD_BITS) - 1)) as usize;
         if slot >= SLOTS || page >= self.pages || shard >= self.shards {
             return None;
         }
-        Some((Spot { page: shard * self.pages + page, slot }, key >> 30))
+        Some((Spot { page: shard * self.pages + page, slot }, key >> (6 + PAGE_BITS + SHARD_BITS)))
     }
 }

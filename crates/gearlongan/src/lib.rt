@@ -87,6 +87,7 @@
 //! - A **hold** keeps a key's value readable, also when the key is removed meanwhile. `get` takes one, and `release`
 //!   gives it back. `fetch`, `with` and `take` (of `Reader`) do both, so that no hold is left behind. A `Guard` is a
 //!   hold that is faster.
+//! - A **receipt** tells what its pass was answered until then, and what that had heard of others. It has no bytes.
 //! - A **record** is what `Typed` stores: a type of one's own, or a `u64`, a tuple or an array of them as it is.
 //! - A **layout** says how keys are numbered, and so how many shards, pages, generations and holds there may be.
 //!
@@ -120,17 +121,36 @@
 //! looks whether all passes of the heap are there, and answers the heap as a whole, or hands them back; `join` and
 //! `whole` do the same for one pass after the other. `total` adds up what its slots are, and `all_accounts` lists that
 //! of each page.
+//!
+//! # Order between threads
+//!
+//! The calls of one pass have their order in each history, and so have those of passes that were joined. Else nothing
+//! says that one thread sees what another did before: send a receipt along with the key, and heed it.
+//!
+//! ```text
+//! let key = owner.insert(&value)?;
+//! let receipt = owner.receipt();          // one load; both go to another thread, in any way
+//!
+//! pass.heed(receipt);                     // there: two loads
+//! let hold = pass.get(key)?;              // Gone only where the key was removed
+//! ```
+//!
+//! All that the receipt tells stands before whatever the pass is answered from then on, in each history, and the
+//! receipts that this pass gives tell of it too. `heard_comes_first` says what follows of keys, to be cited by proofs;
+//! `remove_then_get` shows it: who heard of a removal does not find the key any more. A receipt is of one heap, as a
+//! pass is, and `heed` asks that both are of the same. `copy` makes a second receipt for one more thread.
 #![tactic(auto)]
 
 pub use sh_core::Accounts;
 pub use sh_gather::{Whole, gather, join, whole};
 pub use sh_key::{Deep, KeyLayout, Tagged, Tiny, Wide};
 pub use sh_meet::{Task, all, both};
-pub use sh_pass::{Guard, Heap, Pass, Seats};
+pub use sh_pass::{Guard, Heap, Pass, Receipt, Seats, remove_then_get};
 pub use sh_plain::{Lookup, Store};
 pub use sh_readers::Reader;
 pub use sh_shape::Shape;
 pub use sh_shard::Shard;
+pub use sh_table::heard_comes_first;
 pub use sh_totals::{PageAccounts, Totals, all_accounts, total};
 pub use sh_typed::Typed;
 pub use sh_value::{Hold, Record, Refusal, Value};

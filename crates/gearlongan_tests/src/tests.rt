@@ -2,6 +2,7 @@
 ghost use Rattle.std.specs.Prelude.{◌≡◌};
 
 mod gathering;
+mod hearing;
 mod owning;
 mod reading;
 mod storing;

@@ -8,7 +8,7 @@ use crate::parting::{taken, together};
 use sh_key::KeyLayout;
 use sh_load::demand::Demand;
 use sh_load::fault::Fault;
-use sh_load::options::Options;
+use sh_load::options::{MOST_VALUES, Options};
 use sh_load::outcome::{NOTHING, Outcome};
 use sh_load::plan::plan_for;
 use sh_load::samples::Samples;
@@ -67,6 +67,22 @@ fn batches<L: KeyLayout>(
     Ok(outcome.then(one_batch(rt, lot, samples, rest, workload)?))
 }
 
+// Inserts so many values, and removes none.
+fn fill<L: KeyLayout>(
+    rt: &impl Clock,
+    alloc: Global,
+    lot: &mut Lot<'_, L>,
+    samples: &Samples,
+    operations: usize,
+) -> Result<Outcome, Fault>
+    ensures { IfOk result (λ outcome. outcome.operations ≡ operations) }
+{
+    let mut keys = vec![in alloc; 0u64; operations]?;
+    let start = Instant::now(rt)?;
+    let sum = insert_each(&mut lot.owner, samples, keys.as_mut_slice())?;
+    Ok(Outcome::of(start.elapsed(rt)?, operations, sum))
+}
+
 // Goes through the places, in each of which a value is removed and another of its length inserted.
 fn churn_each<L: KeyLayout>(
     lot: &mut Lot<'_, L>,
@@ -117,6 +133,7 @@ fn churn<L: KeyLayout>(
 
 fn measure_lot<L: KeyLayout>(
     rt: &impl Clock,
+    alloc: Global,
     options: &Options,
     lot: &mut Lot<'_, L>,
     samples: &Samples,
@@ -126,6 +143,7 @@ fn measure_lot<L: KeyLayout>(
 {
     let mut outcome = match options.workload {
         Workload::Churn => churn(rt, lot, samples, operations)?,
+        Workload::Fill => fill(rt, alloc, lot, samples, operations)?,
         workload => batches(rt, lot, samples, operations, workload)?,
     };
     outcome.standing = standing(lot, samples)?;
@@ -147,7 +165,7 @@ fn work<L: KeyLayout>(
     let mut outcome = NOTHING;
     for (number, lot) in lots.iter_mut().enumerate() {
         let operations = share(options.operations, parts, number);
-        outcome = outcome.then(measure_lot(rt, options, lot, &samples, operations)?);
+        outcome = outcome.then(measure_lot(rt, alloc, options, lot, &samples, operations)?);
     }
     Ok(outcome)
 }
@@ -170,16 +188,17 @@ fn jobs<'a, L: KeyLayout>(
 }
 
 fn demand(options: &Options) -> Demand {
-    let more = match options.workload {
-        Workload::Churn => 0,
-        _ => BATCH,
+    let (filled, more) = match options.workload {
+        Workload::Churn => (0, 0),
+        Workload::Fill => (options.operations.min(MOST_VALUES as usize), 0),
+        _ => (0, BATCH),
     };
     Demand {
         owners: options.threads,
         others: 0,
         passes: options.passes,
         lengths: options.lengths,
-        values: options.live,
+        values: options.live + filled,
         more,
     }
 }

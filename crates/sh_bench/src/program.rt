@@ -26,7 +26,7 @@ fn measure_with<L: KeyLayout + Send + Sync, R: Threads + Clock + Sync>(
         | Workload::ReadInto
         | Workload::GetGuard
         | Workload::ReadGuard => getting::measure::<L, R>(rt, alloc, options),
-        Workload::Insert | Workload::Remove | Workload::Churn => {
+        Workload::Insert | Workload::Fill | Workload::Remove | Workload::Churn => {
             inserting::measure::<L, R>(rt, alloc, options)
         }
         Workload::Hand => handing::measure::<L, R>(rt, alloc, options),

@@ -1,5 +1,5 @@
 -- All passes in one thread: a line more, and the end.
-use Rattle.std.proofs.Common.{◌≡◌, ◌≢◌, ℕ, zero, suc, ◌+◌, ◌<◌, ◌≤◌, List, [], ◌∷◌, ◌++◌, length, take, set, map}
+use Rattle.std.proofs.Common.{◌≡◌, ◌≢◌, ℕ, zero, suc, ◌+◌, ◌<◌, ◌≤◌, Bool, true, false, List, [], ◌∷◌, ◌++◌, length, take, set, map}
 use Rattle.std.proofs.Common.{slice_get, Option, Some, None, sym, refl, ap, ◌∙◌, subst, arith, append_assoc, append-nil}
 use Rattle.std.proofs.Common.{IfSome, length-append, length-set, ◌⊎◌, inl, inr, ⊎_elim}
 use Rattle.std.specs.Prelude.{IfNone, Err}
@@ -17,10 +17,11 @@ use Rattle.sh_calls.specs.Calls.{CallAnswers}
 use Rattle.sh_output.specs.Replies.{reply_line, replies_text}
 use Rattle.sh_calls.specs.Runs.{CallsRun, LineAnswered, LinesAnswered, opening_calls, next_run, with_part, with_number}
 use Rattle.sh_calls.specs.Runs.{number_meant}
-use Rattle.sh_calls.specs.Told.{AreReplies, IsTold, part_told}
-use Rattle.sh_calls.specs.Meeting.{CarriesTale, MeetsCarrier, OwnsNone, HasMet, SomeWaits, tales_told, AllOfHeap}
+use Rattle.sh_calls.specs.Receipts.{MayHeed}
+use Rattle.sh_calls.specs.Told.{AreReplies, part_told}
+use Rattle.sh_calls.specs.Meeting.{CarriesTale, MeetsCarrier, HasMet, SomeWaits, tales_told, AllOfHeap}
 use Rattle.sh_calls.specs.Alone.{seen_with_part, AnsweredSoFar}
-use Rattle.sh_calls.specs.Finished.{CarrierRan, LinesRan}
+use Rattle.sh_calls.specs.Finished.{CarrierRan, AreWaiting, LinesRan}
 use Rattle.sh_calls.proofs.ListLemmas.{get_set_same, get_set_other, take_at, take_past, next, map_more, up_length}
 use Rattle.sh_calls.proofs.LineLemmas.{one_more, part_here, part_there}
 use Rattle.sh_calls.proofs.Newcomers.{newcomers_length, newcomers_get, length_map, get_middle}
@@ -95,9 +96,9 @@ all_met {S} seen heap terms all ys its n c o e l z h is stands =
 
 -- ---- a line more
 
-pub begins_alone : (heap : Option Heap) (terms : RunTerms) (tag : Option ℕ) (lines : List CallLine)
+abbrev pub begins_alone : (heap : Option Heap) (terms : RunTerms) (tag : Option ℕ) (lines : List CallLine)
     (sides : List SeenPass) → sides ≡ new_passes heap terms terms.shape.passes
-    → AnsweredSoFar heap terms tag lines 0 [] sides []
+    → AnsweredSoFar true heap terms tag lines 0 [] sides []
 begins_alone heap terms tag lines sides e = record {
   answers = [];
   run = opening_calls heap;
@@ -105,54 +106,66 @@ begins_alone heap terms tag lines sides e = record {
   numbers_are = refl;
   text = refl;
   all = ap length e ∙ newcomers_length heap terms terms.shape.passes;
-  each = λ p s at. newcomers_get heap terms terms.shape.passes p s
-      (subst (λ (z : List SeenPass). slice_get z p ≡ Some s) e at);
+  each = λ p s at. let is : s ≡ new_pass heap terms p = newcomers_get heap terms terms.shape.passes p s
+      (subst (λ (z : List SeenPass). slice_get z p ≡ Some s) e at)
+      in is ∙ ap (λ (z : SeenPass). record (new_pass heap terms p) { orders = z.orders }) (sym is);
 }
 
 module _ (heap : Option Heap) (terms : RunTerms) (tag : Option ℕ) (lines : List CallLine) (i : ℕ)
     (numbers : List (Option ℕ)) (sides : List SeenPass) (output : List ℕ)
-    (was : AnsweredSoFar heap terms tag lines i numbers sides output) (l : CallLine) (at : slice_get lines i ≡ Some l)
-    (side now : SeenPass) (own : slice_get sides l.pass ≡ Some side) (same : SamePass side now) (a : Answer)
-    (does : CallAnswers side.terms tag side.pass side.part l.call (number_meant numbers l.call) a now.part) where
-  is : side ≡ seen_with_part heap terms was.run.parts l.pass
-  is = was.each l.pass side own
+    (was : AnsweredSoFar true heap terms tag lines i numbers sides output) (l : CallLine) (at : slice_get lines i ≡ Some l)
+    (side mid now : SeenPass) (own : slice_get sides l.pass ≡ Some side)
+    (only : mid ≡ record side { part = mid.part; orders = mid.orders }) (may : MayHeed true side.part mid.part)
+    (same : SamePass mid now) (a : Answer)
+    (does : CallAnswers mid.terms tag mid.pass mid.part l.call (number_meant numbers l.call) a now.part) where
+  is : mid ≡ record (seen_with_part heap terms was.run.parts l.pass) { part = mid.part; orders = mid.orders }
+  is = only ∙ ap (λ (z : SeenPass). record z { part = mid.part; orders = mid.orders }) (was.each l.pass side own)
 
-  took : take (i + 1) lines ≡ take i lines ++ l ∷ []
+  pub took : take (i + 1) lines ≡ take i lines ++ l ∷ []
   took = ap (λ (k : ℕ). take k lines) (sym (next i)) ∙ take_at lines i l at
 
   abbrev then : CallsRun
   then = next_run was.run l a now.part
 
-  steps : LineAnswered terms tag was.run l a then
+  pub steps : LineAnswered true terms tag was.run l a then
   steps =
       let D : SeenPass × List (Option ℕ) → Type 0 = λ z. CallAnswers z.0.terms tag z.0.pass z.0.part l.call
       (number_meant z.1 l.call) a now.part in
-      record { part = now.part; does = subst D (λ j. (is j, was.numbers_are j)) does; next_is = refl }
+      record {
+        begins = mid.part;
+        heeds = subst (λ (u : PassPart). MayHeed true u mid.part)
+            (ap (λ (z : SeenPass). z.part) (was.each l.pass side own)) may;
+        part = now.part;
+        does = subst D (λ j. (is j, was.numbers_are j)) does;
+        next_is = refl;
+      }
 
-  now_is : now ≡ record (new_pass heap terms l.pass) { part = now.part }
-  now_is = same ∙ ap (λ (z : SeenPass). record z { part = now.part }) is
+  now_is : now ≡ record (new_pass heap terms l.pass) { part = now.part; orders = now.orders }
+  now_is = same ∙ (ap (λ (z : SeenPass). record z { part = now.part }) is
+      ∙ ap (λ (z : SeenPass). record (new_pass heap terms l.pass) { part = now.part; orders = z.orders }) (sym same))
 
-  here : (p : ℕ) (s : SeenPass) → p ≡ l.pass → slice_get (set sides l.pass now) p ≡ Some s → s
-      ≡ seen_with_part heap terms (with_part was.run.parts l.pass now.part) p
+  pub here : (p : ℕ) (s : SeenPass) → p ≡ l.pass → slice_get (set sides l.pass now) p ≡ Some s → s
+      ≡ record (seen_with_part heap terms (with_part was.run.parts l.pass now.part) p) { orders = s.orders }
   here p s e at_p =
       let eq : now ≡ s = same_Some now s (sym (get_set_same sides l.pass side now own)
       ∙ (ap (slice_get (set sides l.pass now)) (sym e) ∙ at_p)) in
-      let Q : ℕ × PassPart → SeenPass = λ z. record (new_pass heap terms z.0) { part = z.1 } in
-      sym eq ∙ (now_is ∙ ap Q (λ j. (sym e j, sym (part_here was.run.parts l.pass p now.part e) j)))
+      let Q : ℕ × PassPart × SeenPass → SeenPass = λ z. record (new_pass heap terms z.0)
+      { part = z.1; orders = z.2.orders } in
+      sym eq ∙ (now_is ∙ ap Q (λ j. (sym e j, sym (part_here was.run.parts l.pass p now.part e) j, eq j)))
 
-  there : (p : ℕ) (s : SeenPass) → p ≢ l.pass → slice_get (set sides l.pass now) p ≡ Some s → s
-      ≡ seen_with_part heap terms (with_part was.run.parts l.pass now.part) p
+  pub there : (p : ℕ) (s : SeenPass) → p ≢ l.pass → slice_get (set sides l.pass now) p ≡ Some s → s
+      ≡ record (seen_with_part heap terms (with_part was.run.parts l.pass now.part) p) { orders = s.orders }
   there p s ne at_p =
-      let Q : PassPart → SeenPass = λ z. record (new_pass heap terms p) { part = z } in
+      let Q : PassPart → SeenPass = λ z. record (new_pass heap terms p) { part = z; orders = s.orders } in
       was.each p s (sym (get_set_other sides l.pass p now ne) ∙ at_p)
       ∙ ap Q (sym (part_there was.run.parts l.pass p now.part ne))
 
-  pub answered_more : (after : List (Option ℕ)) (new : List SeenPass) (longer : List ℕ) → after
+  abbrev pub answered_more : (after : List (Option ℕ)) (new : List SeenPass) (longer : List ℕ) → after
       ≡ with_number numbers l.call a → new ≡ set sides l.pass now → longer ≡ output ++ reply_line l a
-      → AnsweredSoFar heap terms tag lines (i + 1) after new longer
+      → AnsweredSoFar true heap terms tag lines (i + 1) after new longer
   answered_more after new longer named put printed =
-      let more = one_more terms tag (opening_calls heap) was.run then (take i lines) was.answers l a was.ran steps in
-      let R : List CallLine → Type 0 = λ ls. LinesAnswered terms tag (opening_calls heap) ls (was.answers ++ a ∷ []) then in
+      let more = one_more true terms tag (opening_calls heap) was.run then (take i lines) was.answers l a was.ran steps in
+      let R : List CallLine → Type 0 = λ ls. LinesAnswered true terms tag (opening_calls heap) ls (was.answers ++ a ∷ []) then in
       record {
         answers = was.answers ++ a ∷ [];
         run = then;
@@ -168,13 +181,28 @@ module _ (heap : Option Heap) (terms : RunTerms) (tag : Option ℕ) (lines : Lis
 
 -- ---- the end
 
-ext : {A : Type 0} (xs ys : List A) → length xs ≡ length ys →
-    ((k : ℕ) (x : A) → slice_get xs k ≡ Some x → slice_get ys k ≡ Some x) → xs ≡ ys
-ext [] [] e f = refl
-ext [] (y ∷ ys) e f = absurd (omega (arith, e))
-ext (x ∷ xs) [] e f = absurd (omega (arith, e))
-ext (x ∷ xs) (y ∷ ys) e f = (λ i. sym (same_Some y x (f 0 x refl)) i ∷ ext xs ys (omega (arith, e))
+ext : {A B : Type 0} (g : A → B) (xs : List A) (ys : List B) → length xs ≡ length ys →
+    ((k : ℕ) (x : A) → slice_get xs k ≡ Some x → slice_get ys k ≡ Some (g x)) → map g xs ≡ ys
+ext g [] [] e f = refl
+ext g [] (y ∷ ys) e f = absurd (omega (arith, e))
+ext g (x ∷ xs) [] e f = absurd (omega (arith, e))
+ext g (x ∷ xs) (y ∷ ys) e f = (λ i. sym (same_Some y (g x) (f 0 x refl)) i ∷ ext g xs ys (omega (arith, e))
     (λ k z h. f (suc k) z h) i)
+
+-- without what it heard
+bare : SeenPass → SeenPass
+bare s = record s { orders = [] }
+
+bare_tales : (ss : List SeenPass) → tales_told (map bare ss) ≡ tales_told ss
+unfolding bare
+bare_tales [] = refl
+bare_tales (s ∷ ss) = ap (λ (z : List PassTold). tale_told s ++ z) (bare_tales ss)
+
+bare_heap : (heap : Option Heap) (terms : RunTerms) (ss : List SeenPass) → AllOfHeap heap terms (map bare ss)
+    → AllOfHeap heap terms ss
+unfolding bare
+bare_heap heap terms [] h = tt
+bare_heap heap terms (s ∷ ss) h = (h.0, h.1, bare_heap heap terms ss h.2)
 
 get_left : {A : Type 0} (xs ys : List A) (k : ℕ) (x : A) → slice_get xs k ≡ Some x → slice_get (xs ++ ys) k ≡ Some x
 get_left [] ys k x e = absurd (none-some x e)
@@ -185,29 +213,31 @@ get_last : {A : Type 0} (xs : List A) (x : A) → slice_get (xs ++ x ∷ []) (le
 get_last [] x = refl
 get_last (z ∷ zs) x = get_last zs x
 
-up_get : (n p : ℕ) → p < n → slice_get (passes_below n) p ≡ Some p
+pub up_get : (n p : ℕ) → p < n → slice_get (passes_below n) p ≡ Some p
 up_get zero p l = absurd (omega arith)
 up_get (suc n) p l = dite (ℕ_discrete p n)
     (λ e. ap (slice_get (passes_below n ++ n ∷ [])) (e ∙ sym (up_length n))
     ∙ (get_last (passes_below n) n ∙ ap (λ (z : ℕ). Some z) (sym e)))
     (λ ne. get_left (passes_below n) (n ∷ []) p p (up_get n p (omega arith)))
 
-within : {A : Type 0} (xs : List A) (k : ℕ) (x : A) → slice_get xs k ≡ Some x → k < length xs
+pub within : {A : Type 0} (xs : List A) (k : ℕ) (x : A) → slice_get xs k ≡ Some x → k < length xs
 within [] k x e = absurd (none-some x e)
 within (y ∷ ys) zero x e = omega arith
 within (y ∷ ys) (suc k) x e = let h = within ys k x e in omega (arith, h)
 
 sides_are : (heap : Option Heap) (terms : RunTerms) (parts : ℕ → PassPart) (sides : List SeenPass) → length sides
-    ≡ terms.shape.passes → ((p : ℕ) (s : SeenPass) → slice_get sides p ≡ Some s → s ≡ seen_with_part heap terms parts p)
-    → sides ≡ map (seen_with_part heap terms parts) (passes_below terms.shape.passes)
+    ≡ terms.shape.passes → ((p : ℕ) (s : SeenPass) → slice_get sides p ≡ Some s
+    → s ≡ record (seen_with_part heap terms parts p) { orders = s.orders })
+    → map bare sides ≡ map (seen_with_part heap terms parts) (passes_below terms.shape.passes)
+unfolding bare
 sides_are heap terms parts sides long each =
     let n : ℕ = terms.shape.passes in
-    ext sides (map (seen_with_part heap terms parts) (passes_below n))
+    ext bare sides (map (seen_with_part heap terms parts) (passes_below n))
     (long ∙ sym (length_map (seen_with_part heap terms parts) (passes_below n) ∙ up_length n)) (λ k s e.
     let few : k < n = let w = within sides k s e in omega (arith, w, long) in
     slice_get-map (seen_with_part heap terms parts) (passes_below n) k
     ∙ (ap (option_map (seen_with_part heap terms parts)) (up_get n k few)
-    ∙ ap (λ (z : SeenPass). Some z) (sym (each k s e))))
+    ∙ ap (λ (z : SeenPass). Some z) (sym (ap bare (each k s e)))))
 
 all_of : (heap : Option Heap) (terms : RunTerms) (parts : ℕ → PassPart) (ns : List ℕ)
     → AllOfHeap heap terms (map (seen_with_part heap terms parts) ns)
@@ -219,19 +249,19 @@ tales_are : (heap : Option Heap) (terms : RunTerms) (parts : ℕ → PassPart) (
 tales_are heap terms parts [] = refl
 tales_are heap terms parts (n ∷ ns) = ap (λ (z : List PassTold). part_told parts n ∷ z) (tales_are heap terms parts ns)
 
-pub all_are : (heap : Option Heap) (terms : RunTerms) (tag : Option ℕ) (lines : List CallLine) (i : ℕ)
+pub all_are : (alone : Bool) (heap : Option Heap) (terms : RunTerms) (tag : Option ℕ) (lines : List CallLine) (i : ℕ)
     (numbers : List (Option ℕ)) (sides : List SeenPass) (output : List ℕ)
-    → AnsweredSoFar heap terms tag lines i numbers sides output → AllOfHeap heap terms sides
-all_are heap terms tag lines i numbers sides output h = subst (AllOfHeap heap terms)
+    → AnsweredSoFar alone heap terms tag lines i numbers sides output → AllOfHeap heap terms sides
+all_are alone heap terms tag lines i numbers sides output h = bare_heap heap terms sides (subst (AllOfHeap heap terms)
     (sym (sides_are heap terms h.run.parts sides h.all h.each))
-    (all_of heap terms h.run.parts (passes_below terms.shape.passes))
+    (all_of heap terms h.run.parts (passes_below terms.shape.passes)))
 
-abbrev pub ends_alone : (heap : Option Heap) (terms : RunTerms) (tag : Option ℕ) (lines : List CallLine) (i : ℕ)
+abbrev pub ends_alone : (alone : Bool) (heap : Option Heap) (terms : RunTerms) (tag : Option ℕ) (lines : List CallLine) (i : ℕ)
     (numbers : List (Option ℕ)) (sides : List SeenPass) (output : List ℕ) → length lines ≤ i
-    → AnsweredSoFar heap terms tag lines i numbers sides output → AreReplies heap terms tag lines output
-ends_alone heap terms tag lines i numbers sides output past h =
+    → AnsweredSoFar alone heap terms tag lines i numbers sides output → AreReplies alone heap terms tag lines output
+ends_alone alone heap terms tag lines i numbers sides output past h =
     let whole : take i lines ≡ lines = take_past lines i past in
-    let R : List CallLine → Type 0 = λ ls. LinesAnswered terms tag (opening_calls heap) ls h.answers h.run in
+    let R : List CallLine → Type 0 = λ ls. LinesAnswered alone terms tag (opening_calls heap) ls h.answers h.run in
     record {
       answers = h.answers;
       after = h.run;
@@ -239,23 +269,33 @@ ends_alone heap terms tag lines i numbers sides output past h =
       is = h.text ∙ ap (λ ls. replies_text ls h.answers) whole;
     }
 
-told_alone : (heap : Option Heap) (terms : RunTerms) (tag : Option ℕ) (lines : List CallLine) (i : ℕ)
+-- they speak for the parts of all passes
+pub tale_of_parts : (alone : Bool) (heap : Option Heap) (terms : RunTerms) (tag : Option ℕ) (lines : List CallLine) (i : ℕ)
+    (numbers : List (Option ℕ)) (sides : List SeenPass) (output : List ℕ)
+    (h : AnsweredSoFar alone heap terms tag lines i numbers sides output) → tales_told sides
+    ≡ map (part_told h.run.parts) (passes_below terms.shape.passes)
+tale_of_parts alone heap terms tag lines i numbers sides output h = sym (bare_tales sides)
+    ∙ (ap tales_told (sides_are heap terms h.run.parts sides h.all h.each) ∙ tales_are heap terms h.run.parts
+    (passes_below terms.shape.passes))
+
+apart : {A : Type 0} → false ≡ true → A
+apart e = absurd (let z : false ≡ true = e in cc)
+
+ran_apart : (heap : Option Heap) (terms : RunTerms) (tag : Option ℕ) (lines : List CallLine) (i : ℕ)
     (numbers : List (Option ℕ)) (sides : List SeenPass) (output : List ℕ) (s : SeenPass) → length lines ≤ i
-    → AnsweredSoFar heap terms tag lines i numbers sides output
-    → HasMet heap terms s (tales_told sides) → IsTold heap terms tag lines output (tale_told s)
-    × CarriesTale heap terms (Some s) (tale_told s) × OwnsNone (Some s)
-told_alone heap terms tag lines i numbers sides output s past h m =
-    let tale : tales_told sides ≡ map (part_told h.run.parts) (passes_below terms.shape.passes) = ap tales_told
-    (sides_are heap terms h.run.parts sides h.all h.each) ∙ tales_are heap terms h.run.parts
-    (passes_below terms.shape.passes) in (
-      record {
-        replies = ends_alone heap terms tag lines i numbers sides output past h;
-        tale_is = m.carries.2 ∙ tale;
-        whole = subst (HasWholeTale terms) (sym m.carries.2) m.whole;
-      },
-      (m.carries.0, m.carries.1, refl),
-      m.none,
-    )
+    → AnsweredSoFar false heap terms tag lines i numbers sides output
+    → HasMet heap terms s (tales_told sides) → CarrierRan false heap terms tag lines output s
+ran_apart heap terms tag lines i numbers sides output s past h m = record {
+  told = record {
+    replies = ends_alone false heap terms tag lines i numbers sides output past h;
+    tale_is = m.carries.2 ∙ tale_of_parts false heap terms tag lines i numbers sides output h;
+    whole = subst (HasWholeTale terms) (sym m.carries.2) m.whole;
+    in_order = apart;
+  };
+  carries = (m.carries.0, m.carries.1, refl);
+  none = m.none;
+  ordered = apart;
+}
 
 -- what holds of what is seen of the carrier, where there is one
 some_met : {S : Type 0} {P : S → Type 0} (seen : S → SeenPass) (Q : SeenPass → Type 0) → ((s : S) → P s → Q (seen s))
@@ -291,23 +331,32 @@ none_met : {S : Type 0} {P Q : Type 0} (seen : S → SeenPass) → (P → Q) →
 none_met seen f None h = f h
 none_met seen f (Some s) h = h
 
--- what the carrier has, if all could meet, and else whose leave was refused
+-- whose leave was refused, if nobody carries the tale
+pub lines_wait : {S : Type 0} (seen : S → SeenPass) (alone : Bool) (heap : Option Heap) (terms : RunTerms)
+    (tag : Option ℕ) (lines : List CallLine) (i : ℕ) (numbers : List (Option ℕ)) (sides : List SeenPass)
+    (output : List ℕ) (carrier : Option S) → length lines ≤ i
+    → AnsweredSoFar alone heap terms tag lines i numbers sides output
+    → IfNone carrier (SomeWaits sides ⊎ (sides ≡ []))
+    → IfNone (option_map seen carrier) (AreWaiting alone heap terms tag lines output ⊎ (terms.shape.passes ≡ 0))
+lines_wait seen alone heap terms tag lines i numbers sides output carrier past h stays =
+    none_met seen (⊎_elim (λ (o : SomeWaits sides). inl (record {
+      replies = ends_alone alone heap terms tag lines i numbers sides output past h;
+      pass = o.0;
+      stays = o.3.0;
+      waits = subst (λ (s : SeenPass). ShardLeaves s.part.stands (Err refusal.Waiting) o.3.0) (h.each o.0 o.1 o.2) o.3.1;
+    })) (λ (e : sides ≡ []). inr (sym h.all ∙ ap length e))) carrier stays
+
+-- what the carrier has, if all could meet, and else whose leave was refused, where no receipt went round
 pub lines_ran : {S : Type 0} (seen : S → SeenPass) (heap : Option Heap) (terms : RunTerms) (tag : Option ℕ)
     (lines : List CallLine) (i : ℕ) (numbers : List (Option ℕ)) (sides : List SeenPass) (output : List ℕ)
-    (carrier : Option S) → length lines ≤ i → AnsweredSoFar heap terms tag lines i numbers sides output
+    (carrier : Option S) → length lines ≤ i → AnsweredSoFar false heap terms tag lines i numbers sides output
     → IfSome carrier (λ s. HasMet heap terms (seen s) (tales_told sides))
     → IfNone carrier (SomeWaits sides ⊎ (sides ≡ []))
-    → LinesRan heap terms tag lines output (option_map seen carrier)
+    → LinesRan false heap terms tag lines output (option_map seen carrier)
 lines_ran seen heap terms tag lines i numbers sides output carrier past h met stays = record {
-  met = some_met seen (CarrierRan heap terms tag lines output) (λ s m.
-      let t = told_alone heap terms tag lines i numbers sides output (seen s) past h m in
-      record { told = t.0; carries = t.1; none = t.2 }) carrier met;
-  stays = none_met seen (⊎_elim (λ (o : SomeWaits sides). inl (record {
-    replies = ends_alone heap terms tag lines i numbers sides output past h;
-    pass = o.0;
-    stays = o.3.0;
-    waits = subst (λ (s : SeenPass). ShardLeaves s.part.stands (Err refusal.Waiting) o.3.0) (h.each o.0 o.1 o.2) o.3.1;
-  })) (λ (e : sides ≡ []). inr (sym h.all ∙ ap length e))) carrier stays;
+  met = some_met seen (CarrierRan false heap terms tag lines output) (λ s m.
+      ran_apart heap terms tag lines i numbers sides output (seen s) past h m) carrier met;
+  stays = lines_wait seen false heap terms tag lines i numbers sides output carrier past h stays;
 }
 
 pub map_set : {A B : Type 0} (f : A → B) (xs : List A) (k : ℕ) (y : A) → map f (set xs k y) ≡ set (map f xs) k (f y)
@@ -315,23 +364,29 @@ map_set f [] k y = refl
 map_set f (x ∷ xs) zero y = refl
 map_set f (x ∷ xs) (suc k) y = ap (λ z. f x ∷ z) (map_set f xs k y)
 
-pub terms_at : (heap : Option Heap) (terms : RunTerms) (tag : Option ℕ) (lines : List CallLine) (i : ℕ)
+pub heap_at : (alone : Bool) (heap : Option Heap) (terms : RunTerms) (tag : Option ℕ) (lines : List CallLine) (i : ℕ)
     (numbers : List (Option ℕ)) (sides : List SeenPass) (output : List ℕ)
-    → AnsweredSoFar heap terms tag lines i numbers sides output → (p : ℕ) (s : SeenPass) → slice_get sides p ≡ Some s
+    → AnsweredSoFar alone heap terms tag lines i numbers sides output → (p : ℕ) (s : SeenPass) → slice_get sides p ≡ Some s
+    → s.heap ≡ heap
+heap_at alone heap terms tag lines i numbers sides output h p s e = ap (λ (z : SeenPass). z.heap) (h.each p s e)
+
+pub terms_at : (alone : Bool) (heap : Option Heap) (terms : RunTerms) (tag : Option ℕ) (lines : List CallLine) (i : ℕ)
+    (numbers : List (Option ℕ)) (sides : List SeenPass) (output : List ℕ)
+    → AnsweredSoFar alone heap terms tag lines i numbers sides output → (p : ℕ) (s : SeenPass) → slice_get sides p ≡ Some s
     → s.terms ≡ terms
-terms_at heap terms tag lines i numbers sides output h p s e = ap (λ (z : SeenPass). z.terms) (h.each p s e)
+terms_at alone heap terms tag lines i numbers sides output h p s e = ap (λ (z : SeenPass). z.terms) (h.each p s e)
 
 passes_are : (parts : ℕ → PassPart) (ns : List ℕ) → map told_pass (map (part_told parts) ns) ≡ ns
 passes_are parts [] = refl
 passes_are parts (n ∷ ns) = ap (λ (z : List ℕ). n ∷ z) (passes_are parts ns)
 
 -- they speak for all passes
-pub all_speak : (heap : Option Heap) (terms : RunTerms) (tag : Option ℕ) (lines : List CallLine) (i : ℕ)
+pub all_speak : (alone : Bool) (heap : Option Heap) (terms : RunTerms) (tag : Option ℕ) (lines : List CallLine) (i : ℕ)
     (numbers : List (Option ℕ)) (sides : List SeenPass) (output : List ℕ)
-    → AnsweredSoFar heap terms tag lines i numbers sides output → map told_pass (tales_told sides)
+    → AnsweredSoFar alone heap terms tag lines i numbers sides output → map told_pass (tales_told sides)
     ≡ passes_below terms.shape.passes
-all_speak heap terms tag lines i numbers sides output h =
-    ap (λ z. map told_pass (tales_told z)) (sides_are heap terms h.run.parts sides h.all h.each)
+all_speak alone heap terms tag lines i numbers sides output h =
+    ap (map told_pass) (sym (bare_tales sides) ∙ ap tales_told (sides_are heap terms h.run.parts sides h.all h.each))
     ∙ (ap (map told_pass) (tales_are heap terms h.run.parts (passes_below terms.shape.passes))
     ∙ passes_are h.run.parts (passes_below terms.shape.passes))
 

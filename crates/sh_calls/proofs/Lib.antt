@@ -2,6 +2,9 @@ pub mod ListLemmas
 pub mod LineLemmas
 pub mod CallLemmas
 pub mod Newcomers
+pub mod OrderLemmas
+pub mod GrowLemmas
 pub mod InTurn
+pub mod AloneLaws
 pub mod RunningLaws
 pub mod TaleLaws

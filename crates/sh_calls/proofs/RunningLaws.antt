@@ -29,11 +29,15 @@ use Rattle.sh_table.specs.declared.view.View.{View}
 use Rattle.sh_table.specs.declared.view.Told.{Told}
 use Rattle.sh_table.specs.Tales.{ViewStands}
 use Rattle.sh_table.specs.Views.{told_of, joined_view}
+use Rattle.sh_table.specs.declared.view.Heard.{Heard}
+use Rattle.sh_table.specs.declared.view.Order.{Order}
+use Rattle.sh_pass.specs.Receipts.{receipt_by, heeded}
+use Rattle.sh_calls.specs.Receipts.{seen_of_receipt, told_heard, receipt_seen, Heeds}
 use Rattle.sh_pass.specs.Growing.{SameTale}
 use Rattle.sh_pass.specs.Owners.{IsKeyIn}
 use Rattle.sh_pass.proofs.OwnMay.{home_is}
 use Rattle.sh_shard.specs.Pages.{ShardLeft}
-use Rattle.sh_shard.specs.Shards.{Sharded, AdoptServes, LeaveServes, InsertServes}
+use Rattle.sh_shard.specs.Shards.{Sharded, AdoptServes, LeaveServes, InsertServes, shard_heeded}
 use Rattle.sh_pass.specs.Passes.{Caller, IsKeyOfHeap, GetDoes, ReadDoes, RemoveDoes, ReleaseDoes, holds}
 use Rattle.sh_calls.specs.Standing.{Standing, Alone, Owning, Serves, PassAdopts, ShardLeaves, AdoptServed, LeaveServed}
 use Rattle.sh_calls.specs.Parts.{PassPart, PassTold, SeenPass, SamePass, Becomes, tale_told, is_placed_key}
@@ -141,6 +145,7 @@ module _ (layout : Layout) (v w : Caller) (stands : ViewStands layout v.view) (s
     pass = same.pass i;
     part = part_of_caller w t;
     told = map log_told (same.told i);
+    orders = same.orders i;
   }
 
   adds : (e : LogEntry) → w.view.own.log ≡ v.view.own.log ++ e ∷ []
@@ -356,6 +361,7 @@ module _ (layout : Layout) (v : Caller) where
     pass = same.pass i;
     part = part_of_caller w t;
     told = map log_told (same.told i);
+    orders = same.orders i;
   }
 
   kept : (w : Caller) → w ≡ v → SamePass seen_caller (seen_of_caller layout w)
@@ -524,3 +530,29 @@ joined_tale layout v w r e =
     let T : View → List PassTold = λ z. record { pass = z.pass; log = z.own.log } ∷ map log_told z.told in
     ap T e ∙ ap (λ z. record { pass = v.view.pass; log = v.view.own.log } ∷ z)
     (map_append v.view.told (told_of w.view ∷ w.view.told))
+
+-- ---- receipts
+
+heard_told : (ts : List Told) → map (λ t. record { pass = t.pass; log = t.own.log }) ts
+    ≡ map told_heard (map log_told ts)
+heard_told [] = refl
+heard_told (t ∷ ts) = ap (λ (l : List Heard). record { pass = t.pass; log = t.own.log } ∷ l) (heard_told ts)
+
+pub receipt_told : (layout : Layout) (v r : Caller) (t : Standing) → r ≡ receipt_by v → seen_of_receipt r
+    ≡ receipt_seen (seen_standing layout v t)
+receipt_told layout v r t e = ap seen_of_receipt e ∙ (λ i. record {
+  heap = Some v.heap;
+  heard = record { pass = v.view.pass; log = v.view.own.log } ∷ (heard_told v.view.told i
+      ++ map (λ (o : Order). o.heard) v.view.orders);
+  orders = v.view.orders;
+})
+
+pub pass_heeds : (layout : Layout) (v r w : Caller) → w ≡ heeded v r
+    → Heeds r (seen_of_caller layout v) (seen_of_caller layout w)
+pass_heeds layout v r w e = subst (λ (z : Caller). Heeds r (seen_of_caller layout v) (seen_of_caller layout z)) (sym e)
+    (record { is = refl; part = record { is = refl; stands = refl } })
+
+pub owner_heeds : (layout : Layout) (o n : Sharded) (r : Caller) → n ≡ shard_heeded o r
+    → Heeds r (seen_of_shard layout o) (seen_of_shard layout n)
+owner_heeds layout o n r e = subst (λ (z : Sharded). Heeds r (seen_of_shard layout o) (seen_of_shard layout z)) (sym e)
+    (record { is = refl; part = record { is = refl; stands = refl } })

@@ -9,12 +9,14 @@ use Rattle.sh_shape.specs.Shape.{Numbers}
 use Rattle.sh_history.specs.declared.entry.Entry.{Entry}
 use Rattle.sh_history.specs.Log.{pass_of, entries_of}
 use Rattle.sh_table.specs.declared.view.Told.{Told}
-use Rattle.sh_table.specs.Tales.{ViewStands, IsLogOf, IsTale}
+use Rattle.sh_table.specs.Tales.{ViewStands, IsLogOf, Before, IsTale}
 use Rattle.sh_table.specs.Views.{Each, names_told}
 use Rattle.sh_table.specs.Whole.{IsWhole}
 use Rattle.sh_pass.specs.Passes.{Caller}
 use Rattle.sh_calls.specs.Parts.{HasAllLogs, HasWholeTale, tale_told, told_pass, passes_below, heap_terms}
-use Rattle.sh_calls.specs.Running.{seen_of_caller, log_told}
+use Rattle.sh_calls.specs.Standing.{Standing}
+use Rattle.sh_calls.specs.Receipts.{HasOrderedTale}
+use Rattle.sh_calls.specs.Running.{seen_standing, seen_of_caller, log_told}
 
 told_have : (history : List Entry) (ts : List Told) → Each (λ t. IsLogOf t.pass t.own history) ts
     → HasAllLogs history (map log_told ts)
@@ -52,9 +54,14 @@ whole_told layout v n history same tale ours =
       refl,
     ) in subst P same at
 
-pub whole_tale : (layout : Layout) (v : Caller) → ViewStands layout v.view
-    → HasWholeTale (seen_of_caller layout v).terms (tale_told (seen_of_caller layout v))
-whole_tale layout v stands = (whole_told layout v v.view.shape stands.history refl stands.tale stands.ours).0
+pub whole_tale : (layout : Layout) (v : Caller) (t : Standing) → ViewStands layout v.view
+    → HasOrderedTale (seen_standing layout v t)
+whole_tale layout v t stands =
+    let w = whole_told layout v v.view.shape stands.history refl stands.tale stands.ours in
+    record {
+      whole = w.0;
+      orders = subst (λ (l : List Entry). Each (Before l) v.view.orders) (sym w.1) stands.tale.orders;
+    }
 
 -- ---- a tale of all passes
 

@@ -1,10 +1,17 @@
 -- What came of the lines of a script on the passes of a heap.
-use Rattle.std.specs.Prelude.{◌≡◌, ℕ, List, [], ◌∷◌, ◌⊎◌, Option, Some, None, IfSome, IfNone, Err}
+use Rattle.std.specs.Prelude.{◌≡◌, ℕ, nat_lt, not, Bool, true, List, [], ◌∷◌, ◌⊎◌, Option, Some, None, IfSome, IfNone}
+use Rattle.std.specs.Prelude.{Err}
 use Rattle.sh_value.specs.declared.refusal.Refusal.TheVariants as refusal
+use Rattle.sh_history.specs.declared.entry.Entry.{Entry}
+use Rattle.sh_history.specs.Log.{entries_of}
 use Rattle.sh_script.specs.declared.calls.CallLine.{CallLine}
+use Rattle.sh_output.specs.declared.answer.Answer.{Answer}
 use Rattle.sh_table.specs.Seats.{Heap}
+use Rattle.sh_table.specs.Tales.{Before}
+use Rattle.sh_table.specs.Views.{Each}
 use Rattle.sh_calls.specs.Standing.{Standing, ShardLeaves}
-use Rattle.sh_calls.specs.Parts.{SeenPass, RunTerms, no_terms, new_passes, tale_told}
+use Rattle.sh_calls.specs.Parts.{SeenPass, RunTerms, HasAllLogs, no_terms, new_passes, tale_told}
+use Rattle.sh_calls.specs.InOrder.{IsInOrder}
 use Rattle.sh_calls.specs.Told.{AreReplies, IsTold}
 use Rattle.sh_calls.specs.Meeting.{CarriesTale, OwnsNone}
 
@@ -21,24 +28,32 @@ terms_seen (s ∷ ss) = s.terms
 abbrev pub AreAllNew : List SeenPass → Type 0
 AreAllNew ss = ss ≡ new_passes (heap_seen ss) (terms_seen ss) (terms_seen ss).shape.passes
 
--- the replies were told, and this pass owns no shard and carries the tale of all
-pub record CarrierRan (heap : Option Heap) (terms : RunTerms) (tag : Option ℕ) (lines : List CallLine) (output : List ℕ)
-    (c : SeenPass) : Type 0 where
-  pub told : IsTold heap terms tag lines output (tale_told c)
+-- in every history of the tale that keeps the orders the entries stand in the order of the lines that added them
+abbrev pub IsOrderedBy : RunTerms → List CallLine → List Answer → SeenPass → Type 0
+IsOrderedBy terms lines answers c = (history : List Entry) → HasAllLogs history (tale_told c)
+    → entries_of (λ p. not (nat_lt p terms.shape.passes)) history ≡ [] → Each (Before history) c.orders
+    → IsInOrder lines answers history
+
+-- The replies were told, and this pass owns no shard and carries the tale of all. Where the lines ran one after the
+-- other, it has heard of their order.
+pub record CarrierRan (alone : Bool) (heap : Option Heap) (terms : RunTerms) (tag : Option ℕ) (lines : List CallLine)
+    (output : List ℕ) (c : SeenPass) : Type 0 where
+  pub told : IsTold alone heap terms tag lines output (tale_told c)
   pub carries : CarriesTale heap terms (Some c) (tale_told c)
   pub none : OwnsNone (Some c)
+  pub ordered : alone ≡ true → IsOrderedBy terms lines told.replies.answers c
 
 -- the replies were told, and this pass was refused when it left its shard after them, as the contract of leaving says
-pub record AreWaiting (heap : Option Heap) (terms : RunTerms) (tag : Option ℕ) (lines : List CallLine)
+pub record AreWaiting (alone : Bool) (heap : Option Heap) (terms : RunTerms) (tag : Option ℕ) (lines : List CallLine)
     (output : List ℕ) : Type 0 where
-  pub replies : AreReplies heap terms tag lines output
+  pub replies : AreReplies alone heap terms tag lines output
   pub pass : ℕ
   pub stays : Standing
   pub waits : ShardLeaves (replies.after.parts pass).stands (Err refusal.Waiting) stays
 
 -- the replies were told; if there is a carrier, it carries the tale of all, and there is none only where a pass was
 -- refused when it left its shard, or where there is no pass
-pub record LinesRan (heap : Option Heap) (terms : RunTerms) (tag : Option ℕ) (lines : List CallLine) (output : List ℕ)
-    (carrier : Option SeenPass) : Type 0 where
-  pub met : IfSome carrier (CarrierRan heap terms tag lines output)
-  pub stays : IfNone carrier (AreWaiting heap terms tag lines output ⊎ (terms.shape.passes ≡ 0))
+pub record LinesRan (alone : Bool) (heap : Option Heap) (terms : RunTerms) (tag : Option ℕ) (lines : List CallLine)
+    (output : List ℕ) (carrier : Option SeenPass) : Type 0 where
+  pub met : IfSome carrier (CarrierRan alone heap terms tag lines output)
+  pub stays : IfNone carrier (AreWaiting alone heap terms tag lines output ⊎ (terms.shape.passes ≡ 0))

@@ -1,5 +1,7 @@
 pub mod Standing
 pub mod Parts
+pub mod Receipts
+pub mod InOrder
 pub mod Calls
 pub mod Runs
 pub mod Told

@@ -9,6 +9,7 @@ use Rattle.sh_history.specs.declared.log.LogEntry.{LogEntry}
 use Rattle.sh_history.specs.History.{Legal}
 use Rattle.sh_history.specs.Log.{Agrees, entries_of}
 use Rattle.sh_step.specs.Moves.{has_place}
+use Rattle.sh_table.specs.declared.view.Order.{Order}
 use Rattle.sh_table.specs.Seats.{Heap}
 use Rattle.sh_calls.specs.Standing.{Standing, new_standing}
 
@@ -32,13 +33,14 @@ pub record PassTold : Type 0 where
   pub pass : ℕ
   pub log : List LogEntry
 
--- which heap it is of, its number, its part, and the passes that it took in
+-- which heap it is of, its number, its part, the passes that it took in, and what it heard of others
 pub record SeenPass : Type 0 where
   pub heap : Option Heap
   pub terms : RunTerms
   pub pass : ℕ
   pub part : PassPart
   pub told : List PassTold
+  pub orders : List Order
 
 -- the pass has done nothing yet
 abbrev pub new_pass : Option Heap → RunTerms → ℕ → SeenPass
@@ -48,6 +50,7 @@ new_pass heap terms pass = record {
   pass = pass;
   part = new_part heap pass;
   told = [];
+  orders = [];
 }
 
 -- passes 0 to n - 1 of a heap

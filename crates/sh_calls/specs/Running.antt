@@ -15,7 +15,7 @@ log_told t = record { pass = t.pass; log = t.own.log }
 abbrev pub part_of_caller : Caller → Standing → PassPart
 part_of_caller c stands = record { log = c.view.own.log; shard = c.view.own.body.owned; stands = stands }
 
--- its heap, its number, its part, and the passes that it took in
+-- its heap, its number, its part, the passes that it took in, and what it heard of others
 abbrev pub seen_standing : Layout → Caller → Standing → SeenPass
 seen_standing layout c stands = record {
   heap = Some c.heap;
@@ -23,6 +23,7 @@ seen_standing layout c stands = record {
   pass = c.view.pass;
   part = part_of_caller c stands;
   told = map log_told c.view.told;
+  orders = c.view.orders;
 }
 
 -- a pass that owns no shard

@@ -1,11 +1,13 @@
 -- A run of lines of several passes: what each was answered.
-use Rattle.std.specs.Prelude.{◌≡◌, ℕ, ◌+◌, ◌<◌, ◌≤◌, ◌⊎◌, ◌==◌, true, cond, length, List, [], ◌∷◌, ◌++◌, slice_get, Option, Some, None}
+use Rattle.std.specs.Prelude.{◌≡◌, ℕ, ◌+◌, ◌<◌, ◌≤◌, ◌⊎◌, ◌==◌, Bool, true, cond, length, List, [], ◌∷◌, ◌++◌, slice_get}
+use Rattle.std.specs.Prelude.{Option, Some, None}
 use Rattle.sh_script.specs.declared.calls.Call.{Call}
 use Rattle.sh_script.specs.declared.calls.CallLine.{CallLine}
 use Rattle.sh_output.specs.declared.answer.Answer.{Answer}
 use Rattle.sh_output.specs.Replies.{reply_line}
 use Rattle.sh_table.specs.Seats.{Heap}
 use Rattle.sh_calls.specs.Parts.{RunTerms, PassPart, new_part}
+use Rattle.sh_calls.specs.Receipts.{MayHeed}
 use Rattle.sh_calls.specs.Calls.{CallAnswers, name_used, binds, number_told}
 
 -- for each name that is bound the number that it stands for, if its insert was answered one; for each pass its part
@@ -44,17 +46,21 @@ abbrev pub EndsAt : (room name_room : ℕ) → List ℕ → List (Option ℕ) �
 EndsAt room name_room output numbers line a =
     (room < length output + length (reply_line line a)) ⊎ ((binds line.call ≡ true) × (name_room ≤ length numbers))
 
--- The line is answered so. It sees the part of its own pass alone, and the numbers of the names bound before.
-pub record LineAnswered (terms : RunTerms) (tag : Option ℕ) (run : CallsRun) (line : CallLine) (a : Answer)
-    (next : CallsRun) : Type 0 where
+-- The line is answered so. It sees the part of its own pass alone, and the numbers of the names bound before. Where the
+-- lines run one after the other, the pass may have heeded a receipt of the line before.
+pub record LineAnswered (alone : Bool) (terms : RunTerms) (tag : Option ℕ) (run : CallsRun) (line : CallLine)
+    (a : Answer) (next : CallsRun) : Type 0 where
+  pub begins : PassPart
+  pub heeds : MayHeed alone (run.parts line.pass) begins
   pub part : PassPart
-  pub does : CallAnswers terms tag line.pass (run.parts line.pass) line.call (number_meant run.numbers line.call) a part
+  pub does : CallAnswers terms tag line.pass begins line.call (number_meant run.numbers line.call) a part
   pub next_is : next ≡ next_run run line a part
 
 -- these lines are answered so
-abbrev pub LinesAnswered : RunTerms → Option ℕ → CallsRun → List CallLine → List Answer → CallsRun → Type 0
-LinesAnswered terms tag run [] [] after = after ≡ run
-LinesAnswered terms tag run [] (a ∷ answers) after = ⊥
-LinesAnswered terms tag run (l ∷ lines) [] after = ⊥
-LinesAnswered terms tag run (l ∷ lines) (a ∷ answers) after = (next : CallsRun) × LineAnswered terms tag run l a next
-    × LinesAnswered terms tag next lines answers after
+abbrev pub LinesAnswered : (alone : Bool) → RunTerms → Option ℕ → CallsRun → List CallLine → List Answer → CallsRun
+    → Type 0
+LinesAnswered alone terms tag run [] [] after = after ≡ run
+LinesAnswered alone terms tag run [] (a ∷ answers) after = ⊥
+LinesAnswered alone terms tag run (l ∷ lines) [] after = ⊥
+LinesAnswered alone terms tag run (l ∷ lines) (a ∷ answers) after = (next : CallsRun)
+    × LineAnswered alone terms tag run l a next × LinesAnswered alone terms tag next lines answers after

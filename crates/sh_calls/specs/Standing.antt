@@ -5,7 +5,9 @@ use Rattle.sh_value.specs.declared.refusal.Refusal.{Refusal}
 use Rattle.sh_table.specs.Seats.{Heap}
 use Rattle.sh_table.specs.Views.{newly}
 use Rattle.sh_pass.specs.Passes.{Caller}
+use Rattle.sh_pass.specs.Receipts.{heeded}
 use Rattle.sh_shard.specs.Shards.{Sharded, StaysOwner, AdoptServes, LeaveServes, InsertServes, value_class}
+use Rattle.sh_shard.specs.Shards.{shard_heeded}
 
 -- a pass that owns no shard, or the shard that a pass owns, each as its own contracts see it; of no heap nothing stands
 pub data Standing : Type 0 where
@@ -17,6 +19,12 @@ pub data Standing : Type 0 where
 abbrev pub new_standing : Option Heap → ℕ → Standing
 new_standing (Some heap) pass = Alone (record { heap = heap; view = newly heap.shape pass })
 new_standing None pass = Nowhere
+
+-- the pass, or the owner of the shard, heeds the receipt
+abbrev pub StandingHeeds : Caller → Standing → Standing → Type 0
+StandingHeeds r (Alone v) (Alone w) = w ≡ heeded v r
+StandingHeeds r (Owning o) (Owning n) = n ≡ shard_heeded o r
+StandingHeeds r _ _ = ⊥
 
 -- a call that a pass and an owner have alike: the pass does this, and an owner stays the owner of its shard
 abbrev pub Serves : Layout → (Caller → Caller → Type 0) → Standing → Standing → Type 0

@@ -1,10 +1,11 @@
 -- What a run on the running heap writes.
-use Rattle.std.specs.Prelude.{◌≡◌, ℕ, List, map, Option}
+use Rattle.std.specs.Prelude.{◌≡◌, ℕ, Bool, true, List, map, Option}
 use Rattle.sh_script.specs.declared.calls.CallLine.{CallLine}
 use Rattle.sh_output.specs.declared.answer.Answer.{Answer}
 use Rattle.sh_output.specs.Replies.{replies_text}
 use Rattle.sh_table.specs.Seats.{Heap}
 use Rattle.sh_calls.specs.Parts.{RunTerms, PassPart, PassTold, HasWholeTale, passes_below}
+use Rattle.sh_calls.specs.InOrder.{IsInOrder}
 use Rattle.sh_calls.specs.Runs.{CallsRun, LinesAnswered, opening_calls}
 
 -- each pass with the entries of its part
@@ -13,17 +14,19 @@ part_told parts pass = record { pass = pass; log = (parts pass).log }
 
 -- The output is the reply lines of answers to these lines, in their order. Each answer is one that the line's call may
 -- have, by what its own pass of the heap did on the lines before and by the numbers that names were answered.
-pub record AreReplies (heap : Option Heap) (terms : RunTerms) (tag : Option ℕ) (lines : List CallLine)
+pub record AreReplies (alone : Bool) (heap : Option Heap) (terms : RunTerms) (tag : Option ℕ) (lines : List CallLine)
     (output : List ℕ) : Type 0 where
   pub answers : List Answer
   pub after : CallsRun
-  pub ran : LinesAnswered terms tag (opening_calls heap) lines answers after
+  pub ran : LinesAnswered alone terms tag (opening_calls heap) lines answers after
   pub is : output ≡ replies_text lines answers
 
 -- The same, where all passes met at the end: this is their tale. There is one legal history in which the entries of
--- each pass are just those that its answers say, in order, and there are no others.
-pub record IsTold (heap : Option Heap) (terms : RunTerms) (tag : Option ℕ) (lines : List CallLine) (output : List ℕ)
-    (tale : List PassTold) : Type 0 where
-  pub replies : AreReplies heap terms tag lines output
+-- each pass are just those that its answers say, in order, and there are no others. Where the lines ran one after the
+-- other, the entries of all passes stand in the order of the lines.
+pub record IsTold (alone : Bool) (heap : Option Heap) (terms : RunTerms) (tag : Option ℕ) (lines : List CallLine)
+    (output : List ℕ) (tale : List PassTold) : Type 0 where
+  pub replies : AreReplies alone heap terms tag lines output
   pub tale_is : tale ≡ map (part_told replies.after.parts) (passes_below terms.shape.passes)
   pub whole : HasWholeTale terms tale
+  pub in_order : alone ≡ true → IsInOrder lines replies.answers whole.history

@@ -2,11 +2,13 @@
 ghost use Rattle.std.specs.Prelude.{◌≡◌, ◌<◌, ◌+◌, ◌++◌, IfOk, MatchResult, Ok, Err, None, map};
 ghost use Rattle.sh_key.specs.Layout.{first_key, key_count};
 ghost use Rattle.sh_calls.specs.Standing.{ShardInserts};
-ghost use Rattle.sh_calls.specs.Parts.{SeenPass, SamePass, HasWholeTale, tale_told, told_pass, passes_below};
+ghost use Rattle.sh_calls.specs.Parts.{SeenPass, SamePass, tale_told, told_pass, passes_below};
 ghost use Rattle.sh_calls.specs.Calls.{AdoptAnswers, LeaveAnswers, ValueInserted, GetAnswers, ReadAnswers};
 ghost use Rattle.sh_calls.specs.Calls.{RemoveAnswers, ReleaseAnswers};
+ghost use Rattle.sh_calls.specs.Receipts.{seen_of_receipt, receipt_seen, Heeds, HasOrderedTale};
 
 use crate::side::Side;
+use sh_pass::Receipt;
 use sh_value::{Hold, Refusal, Value};
 use std::alloc::Global;
 use std::marker::Model;
@@ -45,10 +47,21 @@ pub trait Calls: Drop {
         ensures same { SamePass (seen self.old) (seen self.new) }
         ensures shard { (seen self.new).part.shard ≡ (seen self.old).part.shard };
 
-    /// One legal history has all that it speaks for, and nothing else, where it speaks for all passes.
+    /// A receipt of all that it was answered, and of all that it heard of others.
+    fn receipt(&mut self) -> Receipt
+        ensures tells { seen_of_receipt result ≡ receipt_seen (seen self.old) }
+        ensures same { seen self.new ≡ seen self.old };
+
+    /// All that the receipt tells stands before what it is answered from now on.
+    fn heed(&mut self, receipt: Receipt)
+        requires { (seen_of_receipt receipt).heap ≡ (seen self.old).heap }
+        ensures { Heeds receipt (seen self.old) (seen self.new) };
+
+    /// One legal history has all that it speaks for, and nothing else, and keeps the orders that it heard of, where it
+    /// speaks for all passes.
     fn whole(&self)
         requires { map told_pass (tale_told (seen self.now)) ≡ passes_below (seen self.now).terms.shape.passes }
-        ensures { HasWholeTale (seen self.now).terms (tale_told (seen self.now)) };
+        ensures { HasOrderedTale (seen self.now) };
 }
 
 /// A pass that becomes a shard when it adopts one, and gets back when it leaves it.
@@ -219,6 +232,22 @@ impl<P: Adopts<S>, S: Calls> Side for Holder<P, S> {
         match &mut self.state {
             State::Pass(pass) => pass.release(hold),
             State::Shard(owner) => owner.release(hold),
+            State::Moving => unreachable!(),
+        }
+    }
+
+    fn receipt(&mut self) -> Receipt {
+        match &mut self.state {
+            State::Pass(pass) => pass.receipt(),
+            State::Shard(owner) => owner.receipt(),
+            State::Moving => unreachable!(),
+        }
+    }
+
+    fn heed(&mut self, receipt: Receipt) {
+        match &mut self.state {
+            State::Pass(pass) => pass.heed(receipt),
+            State::Shard(owner) => owner.heed(receipt),
             State::Moving => unreachable!(),
         }
     }

@@ -4,7 +4,7 @@ ghost use Rattle.sh_calls.specs.Running.{seen_of_caller, seen_of_shard};
 
 use crate::holder::{Adopts, Calls};
 use sh_key::KeyLayout;
-use sh_pass::{Pass, merge};
+use sh_pass::{Pass, Receipt, merge};
 use sh_shard::Shard;
 use sh_value::{Hold, Refusal, Value};
 use std::alloc::Global;
@@ -41,6 +41,14 @@ impl<'a, L: KeyLayout> Calls for Pass<'a, L> {
         result
     }
 
+    fn receipt(&mut self) -> Receipt {
+        Pass::receipt(self)
+    }
+
+    fn heed(&mut self, receipt: Receipt) {
+        Pass::heed(self, receipt);
+    }
+
     fn whole(&self) {
         let _ = self.shape();
     }
@@ -68,6 +76,14 @@ impl<'a, L: KeyLayout> Calls for Shard<'a, L> {
     fn release(&mut self, hold: Hold) -> Result<(), Refusal> {
         let _ = self.shape();
         Shard::release(self, hold)
+    }
+
+    fn receipt(&mut self) -> Receipt {
+        Shard::receipt(self)
+    }
+
+    fn heed(&mut self, receipt: Receipt) {
+        Shard::heed(self, receipt);
     }
 
     fn whole(&self) {

@@ -1,10 +1,12 @@
 //! A pass of a heap, with or without a shard: what runs the calls of a script.
 ghost use Rattle.std.specs.Prelude.{◌≡◌, ◌<◌, ◌+◌, ◌∷◌, ◌++◌, IfOk, None, map};
 ghost use Rattle.sh_key.specs.Layout.{first_key, key_count};
-ghost use Rattle.sh_calls.specs.Parts.{SeenPass, SamePass, HasWholeTale, tale_told, told_pass, passes_below};
+ghost use Rattle.sh_calls.specs.Parts.{SeenPass, SamePass, tale_told, told_pass, passes_below};
 ghost use Rattle.sh_calls.specs.Calls.{AdoptAnswers, LeaveAnswers, InsertAnswers, GetAnswers, ReadAnswers};
 ghost use Rattle.sh_calls.specs.Calls.{RemoveAnswers, ReleaseAnswers};
+ghost use Rattle.sh_calls.specs.Receipts.{seen_of_receipt, receipt_seen, Heeds, HasOrderedTale};
 
+use sh_pass::Receipt;
 use sh_value::{Hold, Refusal, Value};
 use std::alloc::Global;
 
@@ -58,6 +60,16 @@ pub trait Side: Drop {
             (seen self.new).part }
         ensures same { SamePass (seen self.old) (seen self.new) };
 
+    /// A receipt of all that it was answered, and of all that it heard of others.
+    fn receipt(&mut self) -> Receipt
+        ensures tells { seen_of_receipt result ≡ receipt_seen (seen self.old) }
+        ensures same { seen self.new ≡ seen self.old };
+
+    /// All that the receipt tells stands before what it is answered from now on.
+    fn heed(&mut self, receipt: Receipt)
+        requires { (seen_of_receipt receipt).heap ≡ (seen self.old).heap }
+        ensures { Heeds receipt (seen self.old) (seen self.new) };
+
     /// The first side, which now speaks for both. Neither owns a shard.
     fn join(self, other: Self) -> Self
     where
@@ -69,8 +81,9 @@ pub trait Side: Drop {
         ensures terms { (seen result).terms ≡ (seen self).terms }
         ensures tale { tale_told (seen result) ≡ tale_told (seen self) ++ tale_told (seen other) };
 
-    /// One legal history has all that it speaks for, and nothing else, where it speaks for all passes.
+    /// One legal history has all that it speaks for, and nothing else, and keeps the orders that it heard of, where it
+    /// speaks for all passes.
     fn whole(&self)
         requires { map told_pass (tale_told (seen self.now)) ≡ passes_below (seen self.now).terms.shape.passes }
-        ensures { HasWholeTale (seen self.now).terms (tale_told (seen self.now)) };
+        ensures { HasOrderedTale (seen self.now) };
 }

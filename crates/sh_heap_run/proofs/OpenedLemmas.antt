@@ -1,5 +1,5 @@
 -- Lines on the passes of a heap that was opened.
-use Rattle.std.proofs.Common.{◌≡◌, ℕ, ◌<◌, ◌≤◌, List, Option, Some, None, refl, sym, ap, ◌∙◌, subst, arith}
+use Rattle.std.proofs.Common.{◌≡◌, ℕ, ◌<◌, ◌≤◌, Bool, List, Option, Some, None, refl, sym, ap, ◌∙◌, subst, arith}
 use Rattle.std.specs.Option.{option_map}
 use Rattle.std.specs.List.{All}
 use Rattle.sh_key.specs.Layout.{Layout}
@@ -45,13 +45,13 @@ module _ (layout : Layout) (heap : Heap) (shape : IsShape heap.shape) (seen : He
       subst (λ (r : RunTerms). All (λ (l : CallLine). l.pass < r.shape.passes) lines) (sym terms)
       (subst (All (λ (l : CallLine). l.pass < heap.shape.passes)) (sym e) within)
 
-  pub opened_ran : (tag t : Option ℕ) (lines ls : List CallLine) (output : List ℕ) (carrier : Option SeenPass)
-      → tag ≡ t → lines ≡ ls
-      → LinesRan (heap_seen ss) (terms_seen ss) tag lines output (option_map (λ h. h) carrier)
-      → LinesRan (Some heap) (heap_terms layout heap.shape) t ls output carrier
-  opened_ran tag t lines ls output carrier e f ran =
-      subst (λ c. LinesRan (Some heap) (heap_terms layout heap.shape) t ls output c) (same_option carrier)
-      (subst (λ h. LinesRan h (heap_terms layout heap.shape) t ls output (option_map (λ h. h) carrier)) is_heap
-      (subst (λ r. LinesRan (heap_seen ss) r t ls output (option_map (λ h. h) carrier)) terms
-      (subst (λ x. LinesRan (heap_seen ss) (terms_seen ss) x ls output (option_map (λ h. h) carrier)) e
-      (subst (λ x. LinesRan (heap_seen ss) (terms_seen ss) tag x output (option_map (λ h. h) carrier)) f ran))))
+  pub opened_ran : (alone : Bool) (tag t : Option ℕ) (lines ls : List CallLine) (output : List ℕ)
+      (carrier : Option SeenPass) → tag ≡ t → lines ≡ ls
+      → LinesRan alone (heap_seen ss) (terms_seen ss) tag lines output (option_map (λ h. h) carrier)
+      → LinesRan alone (Some heap) (heap_terms layout heap.shape) t ls output carrier
+  opened_ran alone tag t lines ls output carrier e f ran =
+      subst (λ c. LinesRan alone (Some heap) (heap_terms layout heap.shape) t ls output c) (same_option carrier)
+      (subst (λ h. LinesRan alone h (heap_terms layout heap.shape) t ls output (option_map (λ h. h) carrier)) is_heap
+      (subst (λ r. LinesRan alone (heap_seen ss) r t ls output (option_map (λ h. h) carrier)) terms
+      (subst (λ x. LinesRan alone (heap_seen ss) (terms_seen ss) x ls output (option_map (λ h. h) carrier)) e
+      (subst (λ x. LinesRan alone (heap_seen ss) (terms_seen ss) tag x output (option_map (λ h. h) carrier)) f ran))))

@@ -1,5 +1,5 @@
 -- What more notes leave of what a pass knows that carries the tales of all.
-use Rattle.std.proofs.Common.{◌≡◌, ℕ, zero, suc, ◌++◌, true, false, List, [], ◌∷◌, map, refl, sym, ap, ◌∙◌, subst}
+use Rattle.std.proofs.Common.{◌≡◌, ℕ, zero, suc, ◌++◌, Bool, true, false, List, [], ◌∷◌, map, refl, sym, ap, ◌∙◌, subst}
 use Rattle.std.proofs.Common.{Option, Some, Result, Ok, Err, OnOk, append-nil}
 use Rattle.std.proofs.lemmas.Option.{same_Some}
 use Rattle.sh_key.specs.Layout.{Layout}
@@ -12,8 +12,9 @@ use Rattle.sh_core.specs.Worlds.{run}
 use Rattle.sh_table.specs.declared.view.View.{View}
 use Rattle.sh_script.specs.declared.calls.CallLine.{CallLine}
 use Rattle.sh_table.specs.Seats.{Heap}
+use Rattle.sh_table.specs.Tales.{Before}
 use Rattle.sh_table.specs.Whole.{IsWhole}
-use Rattle.sh_table.specs.Views.{newly}
+use Rattle.sh_table.specs.Views.{Each, newly}
 use Rattle.sh_pass.specs.Passes.{Caller, newcomers}
 use Rattle.sh_gather.specs.Histories.{IsHistory}
 use Rattle.sh_gather.specs.Gathering.{NotedMore}
@@ -62,7 +63,8 @@ pub tells_tale : (layout : Layout) (v w : Caller) (es : List Event) (old new : L
     → new ≡ old ++ accounts_text v.heap.shape (accounts_after (plan_of layout v.heap.shape) es)
     → ShardsSaid (λ q a. PageSaid layout w q a) v.heap.shape (accounts_after (plan_of layout v.heap.shape) es)
     v.heap.shape.shards
-    → (text : List ℕ) × (new ≡ old ++ text) × TellsTale layout v.heap.shape (tale_told (seen_of_caller layout v)) text
+    → (text : List ℕ) × (new ≡ old ++ text)
+    × TellsTale layout v.heap.shape (tale_told (seen_of_caller layout v)) v.view.orders text
 tells_tale layout v w es old new later lw is said =
     let n : Numbers = v.heap.shape in
     let H : List Entry = (run (plan_of layout n) es).log in
@@ -77,6 +79,7 @@ tells_tale layout v w es old new later lw is said =
       is,
       record {
         whole = told.0;
+        kept = subst (λ (l : List Entry). Each (Before l) v.view.orders) (sym told.1) at_v.tale.orders;
         lines = record {
           events = es;
           log = sym told.1;
@@ -102,10 +105,10 @@ pub tells_result : {T E : Type 0} (r : Result T E) (layout : Layout) (v w first 
     → ((es : List Event) → LeadsToWhole layout w es → OnOk r (ShardsSaid (λ q a. PageSaid layout w q a)
     first.heap.shape (accounts_after (plan_of layout first.heap.shape) es) first.heap.shape.shards))
     → OnOk r ((text : List ℕ) × (new ≡ old ++ text)
-    × TellsTale layout v.heap.shape (tale_told (seen_of_caller layout v)) text)
+    × TellsTale layout v.heap.shape (tale_told (seen_of_caller layout v)) v.view.orders text)
 tells_result (Ok x) layout v w first old new is later reached text said =
     let P : Caller → Type 0 = λ u. (text : List ℕ) × (new ≡ old ++ text)
-    × TellsTale layout u.heap.shape (tale_told (seen_of_caller layout u)) text in
+    × TellsTale layout u.heap.shape (tale_told (seen_of_caller layout u)) u.view.orders text in
     subst P is
     (tells_tale layout first w reached.0 old new later reached.1 (text reached.0 reached.1) (said reached.0 reached.1))
 tells_result (Err e) layout v w first old new is later reached text said = tt
@@ -140,8 +143,9 @@ parts_passes : (parts : ℕ → PassPart) (xs : List ℕ) → map told_pass (map
 parts_passes parts [] = refl
 parts_passes parts (x ∷ xs) = ap (λ l. x ∷ l) (parts_passes parts xs)
 
-module _ (layout : Layout) (heap : Heap) (tag : Option ℕ) (lines : List CallLine) (output : List ℕ) (v : Caller)
-    (ran : CarrierRan (Some heap) (heap_terms layout heap.shape) tag lines output (seen_of_caller layout v)) where
+module _ (alone : Bool) (layout : Layout) (heap : Heap) (tag : Option ℕ) (lines : List CallLine) (output : List ℕ)
+    (v : Caller)
+    (ran : CarrierRan alone (Some heap) (heap_terms layout heap.shape) tag lines output (seen_of_caller layout v)) where
   pub carrier_heap : v.heap ≡ heap
   carrier_heap = same_Some v.heap heap ran.carries.0
 
@@ -156,23 +160,29 @@ module _ (layout : Layout) (heap : Heap) (tag : Option ℕ) (lines : List CallLi
   -- with the accounts by the history of the tale
   pub with_accounts : (new : List ℕ)
       → ((text : List ℕ) × (new ≡ output ++ text)
-      × TellsTale layout v.heap.shape (tale_told (seen_of_caller layout v)) text)
-      → IsHeapOutput layout heap.shape tag lines true new
+      × TellsTale layout v.heap.shape (tale_told (seen_of_caller layout v)) v.view.orders text)
+      → IsHeapOutput alone layout heap.shape tag lines true new
   with_accounts new t =
-      let tells : TellsTale layout heap.shape (tale_told (seen_of_caller layout v)) t.0 =
-      subst (λ (h : Heap). TellsTale layout h.shape (tale_told (seen_of_caller layout v)) t.0) carrier_heap t.2 in
+      let tells : TellsTale layout heap.shape (tale_told (seen_of_caller layout v)) v.view.orders t.0 =
+      subst (λ (h : Heap). TellsTale layout h.shape (tale_told (seen_of_caller layout v)) v.view.orders t.0)
+      carrier_heap t.2 in
       record {
         heap = heap;
         of_shape = refl;
         replies = output;
         tale = tale_told (seen_of_caller layout v);
-        told = record { replies = ran.told.replies; tale_is = ran.told.tale_is; whole = tells.whole };
+        told = record {
+          replies = ran.told.replies;
+          tale_is = ran.told.tale_is;
+          whole = tells.whole;
+          in_order = λ e. ran.ordered e tells.whole.history tells.whole.has tells.whole.only tells.kept;
+        };
         accounts = t.0;
         is = t.1;
         are = tells.lines;
       }
 
-  pub without_accounts : IsHeapOutput layout heap.shape tag lines false output
+  pub without_accounts : IsHeapOutput alone layout heap.shape tag lines false output
   without_accounts = record {
     heap = heap;
     of_shape = refl;

@@ -8,15 +8,20 @@ use Rattle.sh_script.specs.HeaderMeaning.{layout_of}
 use Rattle.sh_script.specs.Scripts.{IsCalls}
 use Rattle.sh_script.specs.declared.calls.CallLine.{CallLine}
 use Rattle.sh_script.specs.declared.header.Header.{Header}
+use Rattle.sh_table.specs.declared.view.Order.{Order}
 use Rattle.sh_table.specs.Seats.{Heap}
+use Rattle.sh_table.specs.Tales.{Before}
+use Rattle.sh_table.specs.Views.{Each}
 use Rattle.sh_calls.specs.Parts.{PassTold, HasWholeTale, heap_terms}
 use Rattle.sh_calls.specs.Told.{IsTold}
 use Rattle.sh_calls.specs.Finished.{AreWaiting}
 use Rattle.sh_heap_run.specs.WholeAccounts.{AreAccountLines}
 
--- account lines by one history of this tale
-pub record TellsTale (layout : Layout) (shape : Numbers) (tale : List PassTold) (text : List ℕ) : Type 0 where
+-- account lines by one history of this tale, which keeps these orders
+pub record TellsTale (layout : Layout) (shape : Numbers) (tale : List PassTold) (orders : List Order) (text : List ℕ) :
+    Type 0 where
   pub whole : HasWholeTale (heap_terms layout shape) tale
+  pub kept : Each (Before whole.history) orders
   pub lines : AreAccountLines layout shape whole.history text
 
 -- account lines by this history, where they are asked for; else none
@@ -25,48 +30,50 @@ AccountsAsked true layout shape history text = AreAccountLines layout shape hist
 AccountsAsked false layout shape history text = text ≡ []
 
 -- The replies are told by the tale of all passes of a heap of this shape, and after them come the account lines by its
--- history, where they are asked for.
-pub record IsHeapOutput (layout : Layout) (shape : Numbers) (tag : Option ℕ) (lines : List CallLine) (asked : Bool)
-    (output : List ℕ) : Type 0 where
+-- history, where they are asked for. Where the lines ran one after the other, that history has the entries in the order
+-- of the lines.
+pub record IsHeapOutput (alone : Bool) (layout : Layout) (shape : Numbers) (tag : Option ℕ) (lines : List CallLine)
+    (asked : Bool) (output : List ℕ) : Type 0 where
   pub heap : Heap
   pub of_shape : heap.shape ≡ shape
   pub replies : List ℕ
   pub tale : List PassTold
-  pub told : IsTold (Some heap) (heap_terms layout shape) tag lines replies tale
+  pub told : IsTold alone (Some heap) (heap_terms layout shape) tag lines replies tale
   pub accounts : List ℕ
   pub is : output ≡ replies ++ accounts
   pub are : AccountsAsked asked layout shape told.whole.history accounts
 
 -- the text is a script of calls, and this is what its run on the running heap may write
-pub record IsHeap (asked : Bool) (text output : List ℕ) : Type 0 where
+pub record IsHeap (alone asked : Bool) (text output : List ℕ) : Type 0 where
   pub header : Header
   pub lines : List CallLine
   pub is_calls : IsCalls text header lines
-  pub is_output : IsHeapOutput (layout_of header.layout) header.shape header.tag lines asked output
+  pub is_output : IsHeapOutput alone (layout_of header.layout) header.shape header.tag lines asked output
 
 -- These are the replies of a run on a heap of this shape, after which a pass was refused when it left its shard.
-pub record IsStopped (layout : Layout) (shape : Numbers) (tag : Option ℕ) (lines : List CallLine) (output : List ℕ) :
-    Type 0 where
+pub record IsStopped (alone : Bool) (layout : Layout) (shape : Numbers) (tag : Option ℕ) (lines : List CallLine)
+    (output : List ℕ) : Type 0 where
   pub heap : Heap
   pub of_shape : heap.shape ≡ shape
-  pub waiting : AreWaiting (Some heap) (heap_terms layout shape) tag lines output
+  pub waiting : AreWaiting alone (Some heap) (heap_terms layout shape) tag lines output
 
 -- The text is a script of calls, and these are the replies of a run of it at whose end a pass was refused when it left
 -- its shard: there is no account line then.
-pub record IsHeapWaiting (text output : List ℕ) : Type 0 where
+pub record IsHeapWaiting (alone : Bool) (text output : List ℕ) : Type 0 where
   pub header : Header
   pub lines : List CallLine
   pub is_calls : IsCalls text header lines
-  pub stopped : IsStopped (layout_of header.layout) header.shape header.tag lines output
+  pub stopped : IsStopped alone (layout_of header.layout) header.shape header.tag lines output
 
 -- ---- how it is made
 
 -- what came of the lines, and whether an owner could not leave
-abbrev pub IsRan : Layout → Numbers → Option ℕ → List CallLine → (asked : Bool) → List ℕ → (is_waiting : Bool) → Type 0
-IsRan layout shape tag lines asked output true = IsStopped layout shape tag lines output
-IsRan layout shape tag lines asked output false = IsHeapOutput layout shape tag lines asked output
+abbrev pub IsRan : (alone : Bool) → Layout → Numbers → Option ℕ → List CallLine → (asked : Bool) → List ℕ
+    → (is_waiting : Bool) → Type 0
+IsRan alone layout shape tag lines asked output true = IsStopped alone layout shape tag lines output
+IsRan alone layout shape tag lines asked output false = IsHeapOutput alone layout shape tag lines asked output
 
 -- what came of a script on the running heap, and whether an owner could not leave
-abbrev pub IsHeapRun : (asked : Bool) → (text output : List ℕ) → (is_waiting : Bool) → Type 0
-IsHeapRun asked text output true = IsHeapWaiting text output
-IsHeapRun asked text output false = IsHeap asked text output
+abbrev pub IsHeapRun : (alone asked : Bool) → (text output : List ℕ) → (is_waiting : Bool) → Type 0
+IsHeapRun alone asked text output true = IsHeapWaiting alone text output
+IsHeapRun alone asked text output false = IsHeap alone asked text output

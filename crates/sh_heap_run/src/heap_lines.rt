@@ -1,5 +1,5 @@
 //! The calls of a script on a running heap: the heap is opened, the lines are run, and the passes tell what they know.
-ghost use Rattle.std.specs.Prelude.{◌≡◌, ◌++◌, ℕ, List, IfOk, IfErr, OnOk, Option, Some, map, option_map};
+ghost use Rattle.std.specs.Prelude.{◌≡◌, ◌++◌, ℕ, Bool, List, IfOk, IfErr, OnOk, Option, Some, map, option_map};
 ghost use Rattle.sh_shape.specs.Shape.{IsShape, Fits};
 ghost use Rattle.sh_script.specs.declared.calls.CallLine.{CallLine};
 ghost use Rattle.sh_table.specs.Seats.{Heap as HeapSeen};
@@ -85,7 +85,8 @@ fn push_whole<L: KeyLayout>(output: &mut Vec<u8>, pass: Pass<'_, L>) -> Result<(
     requires shape { IsShape pass.heap.shape }
     requires whole { IsWhole pass.view }
     ensures { OnOk result ((text : List ℕ) × (output.new.items ≡ output.old.items ++ text)
-        × TellsTale L.layout pass.entry.heap.shape (tale_told (seen_of_caller L.layout pass.entry)) text) }
+        × TellsTale L.layout pass.entry.heap.shape (tale_told (seen_of_caller L.layout pass.entry))
+        pass.entry.view.orders text) }
 {
     let _ = pass.shape();
     let Ok(whole) = whole(pass) else {
@@ -100,10 +101,10 @@ fn told<L: KeyLayout>(
     carrier: PassHolder<'_, L>,
     asked: bool,
 ) -> Result<Vec<u8>, AllocError>
-    ghost at: { HeapSeen × Option ℕ × List CallLine }
+    ghost at: { HeapSeen × Option ℕ × List CallLine × Bool }
     requires shape { IsShape at.0.shape }
-    requires ran { CarrierRan (Some at.0) (heap_terms L.layout at.0.shape) at.1 at.2 output.items carrier }
-    ensures { IfOk result (λ output. IsHeapOutput L.layout at.0.shape at.1 at.2 asked output.items) }
+    requires ran { CarrierRan at.3 (Some at.0) (heap_terms L.layout at.0.shape) at.1 at.2 output.items carrier }
+    ensures { IfOk result (λ output. IsHeapOutput at.3 L.layout at.0.shape at.1 at.2 asked output.items) }
 {
     let pass = carrier.into_pass();
     if asked {
@@ -119,10 +120,10 @@ pub fn gathered<L: KeyLayout>(
     carrier: Option<PassHolder<'_, L>>,
     asked: bool,
 ) -> Result<Ran, Fault>
-    ghost at: { HeapSeen × Option ℕ × List CallLine }
+    ghost at: { HeapSeen × Option ℕ × List CallLine × Bool }
     requires shape { IsShape at.0.shape }
-    requires ran { LinesRan (Some at.0) (heap_terms L.layout at.0.shape) at.1 at.2 output.items carrier }
-    ensures told { IfOk result (λ r. IsRan L.layout at.0.shape at.1 at.2 asked r.output.items r.is_waiting) }
+    requires ran { LinesRan at.3 (Some at.0) (heap_terms L.layout at.0.shape) at.1 at.2 output.items carrier }
+    ensures told { IfOk result (λ r. IsRan at.3 L.layout at.0.shape at.1 at.2 asked r.output.items r.is_waiting) }
     ensures memory { IfErr result (λ fault. fault ≡ Fault.Memory) }
 {
     let Some(carrier) = carrier else {

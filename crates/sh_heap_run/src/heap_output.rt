@@ -1,5 +1,5 @@
 //! What mode heap writes.
-ghost use Rattle.std.specs.Prelude.{◌≡◌, ℕ, ◌<◌, List, [], Option, IfOk, IfErr};
+ghost use Rattle.std.specs.Prelude.{true, ◌≡◌, ℕ, ◌<◌, List, [], Option, IfOk, IfErr};
 ghost use Rattle.std.specs.List.{All};
 ghost use Rattle.sh_shape.specs.Shape.{IsShape, Fits};
 ghost use Rattle.sh_script.specs.declared.calls.CallLine.{CallLine};
@@ -35,7 +35,7 @@ fn lines_on<L: KeyLayout>(
     requires shape { IsShape at.0.shape }
     requires room { HasTagRoom L.layout at.1 }
     requires passes { All (λ (l : CallLine). l.pass < at.0.shape.passes) at.2 }
-    ensures told { IfOk result (λ r. IsRan L.layout at.0.shape at.1 at.2 asked r.output.items r.is_waiting) }
+    ensures told { IfOk result (λ r. IsRan true L.layout at.0.shape at.1 at.2 asked r.output.items r.is_waiting) }
     ensures memory { IfErr result (λ fault. fault ≡ Fault.Memory) }
 {
     let sides = holders(alloc, heap, seats)?;
@@ -55,7 +55,7 @@ fn heap_lines<L: KeyLayout>(
     requires fits { Fits L.layout shape }
     requires room { HasTagRoom L.layout tag }
     requires passes { All (λ (l : CallLine). l.pass < shape.passes) lines.now }
-    ensures told { IfOk result (λ r. IsRan L.layout shape tag lines.now asked r.output.items r.is_waiting) }
+    ensures told { IfOk result (λ r. IsRan true L.layout shape tag lines.now asked r.output.items r.is_waiting) }
     ensures memory { IfErr result (λ fault. fault ≡ Fault.Memory) }
 {
     let (heap, seats) = opened::<L>(alloc, shape)?;
@@ -64,7 +64,7 @@ fn heap_lines<L: KeyLayout>(
 
 /// What is written for a script of calls on the running heap, or its fault.
 pub fn heap_output(alloc: Global, text: &[u8], asked: bool) -> Result<Ran, Fault>
-    ensures output { IfOk result (λ r. IsHeapRun asked text.now r.output.items r.is_waiting) }
+    ensures output { IfOk result (λ r. IsHeapRun true asked text.now r.output.items r.is_waiting) }
     ensures fault { IfErr result (IsFaultOf Mode.Heap text.now) }
     ensures answers { IsScriptOf Mode.Heap text.now → IfErr result IsEndFault }
 {

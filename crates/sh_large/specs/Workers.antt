@@ -1,6 +1,6 @@
 -- The heaps of those who work in the threads.
 use Rattle.std.specs.Prelude.{◌≡◌}
-use Rattle.sh_table.specs.Seats.{Heap}
+use Rattle.gearlongan.specs.Passes.{Heap}
 use Rattle.sh_large.specs.declared.crew.Four.{Four}
 use Rattle.sh_large.specs.declared.worker.Worker.{Worker}
 use Rattle.sh_large.specs.declared.worker.Worker.TheVariants.{Roaming, Settled}

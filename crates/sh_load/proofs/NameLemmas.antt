@@ -23,6 +23,7 @@ lettered first third fourth sixth =
     if first == 103 then getting fourth
     else if first == 114 then (if third == 97 then reading sixth else workload.Remove)
     else if first == 105 then workload.Insert
+    else if first == 102 then workload.Fill
     else if first == 99 then workload.Churn
     else if first == 104 then workload.Hand
     else if first == 97 then workload.Adopt
@@ -38,6 +39,7 @@ back workload.ReadInto = refl
 back workload.GetGuard = refl
 back workload.ReadGuard = refl
 back workload.Insert = refl
+back workload.Fill = refl
 back workload.Remove = refl
 back workload.Churn = refl
 back workload.Hand = refl

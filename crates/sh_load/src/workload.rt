@@ -15,8 +15,10 @@ pub enum Workload {
     GetGuard,
     /// The same as `ReadInto`, by a hold that keeps its place.
     ReadGuard,
-    /// An owner inserts.
+    /// An owner inserts, beside as many values as stand.
     Insert,
+    /// An owner fills its shard: it inserts, and nothing is removed.
+    Fill,
     /// An owner removes what it inserted.
     Remove,
     /// An owner removes one of its values and inserts another in its place.
@@ -40,6 +42,7 @@ pub fn name(workload: Workload) -> &'static str
         Workload::GetGuard => "get-guard",
         Workload::ReadGuard => "read-guard",
         Workload::Insert => "insert",
+        Workload::Fill => "fill",
         Workload::Remove => "remove",
         Workload::Churn => "churn",
         Workload::Hand => "hand",
@@ -60,6 +63,7 @@ pub fn workload_named(word: &str) -> Option<Workload>
         "get-guard" => Some(Workload::GetGuard),
         "read-guard" => Some(Workload::ReadGuard),
         "insert" => Some(Workload::Insert),
+        "fill" => Some(Workload::Fill),
         "remove" => Some(Workload::Remove),
         "churn" => Some(Workload::Churn),
         "hand" => Some(Workload::Hand),

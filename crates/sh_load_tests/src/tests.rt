@@ -48,6 +48,7 @@ fn each_workload_has_its_name(rt: HostRuntime) -> Result<(), Fail> {
         ("get-guard", Workload::GetGuard),
         ("read-guard", Workload::ReadGuard),
         ("insert", Workload::Insert),
+        ("fill", Workload::Fill),
         ("remove", Workload::Remove),
         ("churn", Workload::Churn),
         ("hand", Workload::Hand),

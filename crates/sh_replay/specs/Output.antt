@@ -14,14 +14,15 @@ use Rattle.sh_heap_run.specs.HeapOutput.{IsHeap, IsHeapWaiting}
 abbrev pub IsOutput : Mode → (accounts : Bool) → (text output : List ℕ) → Type 0
 IsOutput mode.Plain accounts text output = IsPlain text output
 IsOutput mode.Steps accounts text output = IsSteps accounts text output
-IsOutput mode.Heap accounts text output = IsHeap accounts text output
-IsOutput mode.Threads accounts text output = IsHeap accounts text output
+IsOutput mode.Heap accounts text output = IsHeap true accounts text output
+IsOutput mode.Threads accounts text output = IsHeap false accounts text output
 
 -- the same, of a run at whose end an owner could not leave
 abbrev pub IsWaiting : Mode → (text output : List ℕ) → Type 0
 IsWaiting mode.Plain text output = ⊥
 IsWaiting mode.Steps text output = ⊥
-IsWaiting _ text output = IsHeapWaiting text output
+IsWaiting mode.Heap text output = IsHeapWaiting true text output
+IsWaiting mode.Threads text output = IsHeapWaiting false text output
 
 -- what came of a script, and whether an owner could not leave
 abbrev pub IsRunOf : Mode → (accounts : Bool) → (text output : List ℕ) → (is_waiting : Bool) → Type 0

@@ -1,5 +1,5 @@
 //! What mode threads writes.
-ghost use Rattle.std.specs.Prelude.{◌≡◌, ℕ, ◌<◌, List, [], Option, IfOk, IfErr};
+ghost use Rattle.std.specs.Prelude.{false, ◌≡◌, ℕ, ◌<◌, List, [], Option, IfOk, IfErr};
 ghost use Rattle.std.specs.List.{All};
 ghost use Rattle.sh_shape.specs.Shape.{IsShape, Fits};
 ghost use Rattle.sh_script.specs.declared.calls.CallLine.{CallLine};
@@ -40,7 +40,7 @@ fn lines_on<L: KeyLayout + Send + Sync, R: Threads + Wait + Sync, G: Gate + Sync
     requires shape { IsShape at.0.shape }
     requires room { HasTagRoom L.layout at.1 }
     requires passes { All (λ (l : CallLine). l.pass < at.0.shape.passes) at.2 }
-    ensures told { IfOk result (λ r. IsRan L.layout at.0.shape at.1 at.2 asked r.output.items r.is_waiting) }
+    ensures told { IfOk result (λ r. IsRan false L.layout at.0.shape at.1 at.2 asked r.output.items r.is_waiting) }
     ensures fault { IfErr result IsEndFault }
 {
     let sides = holders(alloc, heap, seats)?;
@@ -62,7 +62,7 @@ fn heap_lines<L: KeyLayout + Send + Sync, R: Threads + Wait + Sync, G: Gate + Sy
     requires fits { Fits L.layout shape }
     requires room { HasTagRoom L.layout tag }
     requires passes { All (λ (l : CallLine). l.pass < shape.passes) lines.now }
-    ensures told { IfOk result (λ r. IsRan L.layout shape tag lines.now asked r.output.items r.is_waiting) }
+    ensures told { IfOk result (λ r. IsRan false L.layout shape tag lines.now asked r.output.items r.is_waiting) }
     ensures fault { IfErr result IsEndFault }
 {
     let (heap, seats) = opened::<L>(alloc, shape)?;
@@ -77,7 +77,7 @@ pub fn threads_output<R: Threads + Wait + Sync, G: Gate + Sync>(
     asked: bool,
     gate: &G,
 ) -> Result<Ran, Fault>
-    ensures output { IfOk result (λ r. IsHeapRun asked text.now r.output.items r.is_waiting) }
+    ensures output { IfOk result (λ r. IsHeapRun false asked text.now r.output.items r.is_waiting) }
     ensures fault { IfErr result (IsFaultOf Mode.Threads text.now) }
     ensures answers { IsScriptOf Mode.Threads text.now → IfErr result IsEndFault }
 {

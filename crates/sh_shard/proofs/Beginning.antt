@@ -1,9 +1,9 @@
 -- Reading the class words of a shard that was adopted.
-use Rattle.std.proofs.Common.{◌≡◌, ◌≢◌, ℕ, zero, suc, ◌+◌, ◌<◌, ◌≤◌, ⊎_elim, false, Some, None, List, [], ◌∷◌}
-use Rattle.std.proofs.Common.{◌++◌, length, get_or, refl, ap, ◌∙◌, sym, subst, arith, append-nil}
+use Rattle.std.proofs.Common.{◌≡◌, ◌≢◌, ℕ, zero, suc, ◌+◌, ◌<◌, ◌≤◌, ⊎_elim, false, Some, None, List, []}
+use Rattle.std.proofs.Common.{length, set, replicate, refl, ap, ◌∙◌, sym, subst, arith, append-nil}
 use Rattle.std.proofs.lemmas.Bool.{cases_eq}
 use Rattle.std.proofs.lemmas.Bool.Decides.{nat_tests}
-use Rattle.std.proofs.lemmas.List.{length-append}
+use Rattle.std.proofs.lemmas.List.{get_or-set_same, get_or-set_other}
 use Rattle.sh_key.specs.Layout.{Layout}
 use Rattle.sh_shape.specs.Places.{pages_of}
 use Rattle.sh_slots.specs.declared.hand.Hand.TheVariants.{Idle}
@@ -11,10 +11,11 @@ use Rattle.sh_table.specs.Tales.{ViewStands}
 use Rattle.sh_pass.specs.Passes.{Caller}
 use Rattle.sh_pass.specs.Owners.{SeenPage, SeenBell, Aside, OwnerActs, OnPage, SameBells, HasNothing}
 use Rattle.sh_pass.specs.Owners.{heap_page, own_body, seen_page, page_noted}
-use Rattle.sh_shard.specs.declared.pages.PageState.{PageState}
+use Rattle.sh_states.specs.declared.states.PageState.{PageState}
 use Rattle.sh_shard.specs.Pages.{shard_page, AdoptsShard}
 use Rattle.sh_shard.specs.Steps.{StepsAtMost}
-use Rattle.sh_shard.specs.Kept.{KeepsPage, KeepsPages, bare_lists, blank_state}
+use Rattle.sh_states.specs.States.{bare_lists, blank_state, state_at}
+use Rattle.sh_shard.specs.Kept.{KeepsPage, KeepsPages}
 use Rattle.sh_shard.proofs.Keeping.{page_of, here_at, others_at}
 use Rattle.sh_shard.proofs.Sides.{aside_none, aside_then}
 use Rattle.sh_shard.proofs.Working.{paged_of}
@@ -22,8 +23,8 @@ use Rattle.sh_shard.proofs.Working.{paged_of}
 abbrev pub state_of : ℕ → PageState
 state_of n = record { lists = bare_lists; class_word = n; armed = false }
 
--- the class words of the first pages were read
-pub record Reading (layout : Layout) (shard : ℕ) (v w : Caller) (states : List PageState) : Type 0 where
+-- the class words of the first n pages were read
+pub record Reading (layout : Layout) (shard n : ℕ) (v w : Caller) (states : List PageState) : Type 0 where
   pub aside : Aside v w
   pub log : w.view.own.log ≡ v.view.own.log
   pub stands : ViewStands layout w.view
@@ -31,13 +32,19 @@ pub record Reading (layout : Layout) (shard : ℕ) (v w : Caller) (states : List
   pub owned : (own_body w).owned ≡ Some shard
   pub bell : (own_body w).bell_cursor ≡ None
   pub none : (q : ℕ) → HasNothing (seen_page w q)
-  pub pages : (p : ℕ) → p < length states → KeepsPage (get_or states p blank_state) (page_of w shard p)
-  pub steps : length w.view.own.trail ≡ length v.view.own.trail + length states
+  pub pages : (p : ℕ) → p < n → KeepsPage (state_at states p) (page_of w shard p)
+  pub later : (p : ℕ) → n ≤ p → state_at states p ≡ blank_state
+  pub steps : length w.view.own.trail ≡ length v.view.own.trail + n
 
-pub reading_none : {layout : Layout} (shard : ℕ) (v : Caller) → (own_body v).hand ≡ Idle → (own_body v).owned
-    ≡ Some shard → (own_body v).bell_cursor ≡ None → ((q : ℕ) → HasNothing (seen_page v q)) → ViewStands layout v.view
-    → Reading layout shard v v []
-reading_none shard v idle owned bell none stands = record {
+all_blank : (n p : ℕ) → state_at (replicate n blank_state) p ≡ blank_state
+all_blank zero p = refl
+all_blank (suc n) zero = refl
+all_blank (suc n) (suc p) = all_blank n p
+
+pub reading_none : {layout : Layout} (shard n : ℕ) (v : Caller) (states : List PageState) → (own_body v).hand ≡ Idle
+    → (own_body v).owned ≡ Some shard → (own_body v).bell_cursor ≡ None → ((q : ℕ) → HasNothing (seen_page v q))
+    → ViewStands layout v.view → states ≡ replicate n blank_state → Reading layout shard 0 v v states
+reading_none shard n v states idle owned bell none stands blank = record {
   aside = aside_none v;
   log = refl;
   stands = stands;
@@ -47,18 +54,9 @@ reading_none shard v idle owned bell none stands = record {
   bell = bell;
   none = none;
   pages = λ p l. absurd (omega arith);
+  later = λ p l. ap (λ (z : List PageState). state_at z p) blank ∙ all_blank n p;
   steps = omega arith;
 }
-
-last_of : (xs : List PageState) (x : PageState) → get_or (xs ++ x ∷ []) (length xs) blank_state ≡ x
-last_of [] x = refl
-last_of (y ∷ xs) x = last_of xs x
-
-first_of : (xs : List PageState) (x : PageState) (p : ℕ) → p < length xs → get_or (xs ++ x ∷ []) p blank_state
-    ≡ get_or xs p blank_state
-first_of [] x p l = absurd (omega arith)
-first_of (y ∷ xs) x zero l = refl
-first_of (y ∷ xs) x (suc p) l = first_of xs x p (omega arith)
 
 noted_nothing : (g : SeenPage) (n : ℕ) → HasNothing g → HasNothing (page_noted g n)
 noted_nothing g n h = record { mine = h.mine; cursor = h.cursor; armed = h.armed }
@@ -74,13 +72,13 @@ kept_first g n h l = record {
   unread = λ e. refl;
 }
 
-pub reading_more : {layout : Layout} (shard n : ℕ) (v w x : Caller) (states : List PageState)
-    → Reading layout shard v w states → OwnerActs Idle [] 1 w x → SameBells layout w x
-    → OnPage (heap_page w (shard_page shard (length states))) (page_noted (page_of w shard (length states)) n) w x
-    → ViewStands layout x.view → n ≤ 8
-    → Reading layout shard v x (states ++ state_of n ∷ [])
-reading_more {layout} shard n v w x states r acts bells on stands few = record {
-  steps = let e = length-append states (state_of n ∷ []) in one_more _ _ _ _ _ r.steps acts.steps e;
+pub reading_more : {layout : Layout} (shard n word : ℕ) (v w x : Caller) (states after : List PageState)
+    → Reading layout shard n v w states → n < length states → OwnerActs Idle [] 1 w x → SameBells layout w x
+    → OnPage (heap_page w (shard_page shard n)) (page_noted (page_of w shard n) word) w x
+    → ViewStands layout x.view → word ≤ 8 → after ≡ set states n (state_of word)
+    → Reading layout shard (n + 1) v x after
+reading_more {layout} shard n word v w x states after r inside acts bells on stands few is = record {
+  steps = let e = r.steps in let f = acts.steps in omega arith;
   aside = aside_then r.aside acts.aside;
   log = acts.log ∙ (append-nil w.view.own.log ∙ r.log);
   stands = stands;
@@ -88,85 +86,71 @@ reading_more {layout} shard n v w x states r acts bells on stands few = record {
   owned = acts.aside.owned ∙ r.owned;
   bell = ap (λ (b : SeenBell). b.cursor) (bells shard) ∙ r.bell;
   none = λ q. ⊎_elim
-      (λ (is : q ≡ heap_page w (shard_page shard (length states))). subst (λ z. HasNothing (seen_page x z)) (sym is)
-      (subst HasNothing (sym on.here) (noted_nothing (page_of w shard (length states)) n
-      (r.none (heap_page w (shard_page shard (length states)))))))
-      (λ (ne : q ≢ heap_page w (shard_page shard (length states))). subst HasNothing (sym (on.others q ne)) (r.none q))
-      (cases_eq q (heap_page w (shard_page shard (length states))));
+      (λ (e : q ≡ heap_page w (shard_page shard n)). subst (λ z. HasNothing (seen_page x z)) (sym e)
+      (subst HasNothing (sym on.here) (noted_nothing (page_of w shard n) word
+      (r.none (heap_page w (shard_page shard n))))))
+      (λ (ne : q ≢ heap_page w (shard_page shard n)). subst HasNothing (sym (on.others q ne)) (r.none q))
+      (cases_eq q (heap_page w (shard_page shard n)));
   pages = λ p l. ⊎_elim
-      (λ (is : p ≡ length states). subst (λ z. KeepsPage (get_or (states ++ state_of n ∷ []) z blank_state)
-      (page_of x shard z)) (sym is) (last here))
-      (λ (ne : p ≢ length states). first p (within p l ne) (others_at w x shard (length states) acts.aside.same.shape on
-      p ne))
-      (cases_eq p (length states));
+      (λ (e : p ≡ n). subst (λ z. KeepsPage (state_at after z) (page_of x shard z)) (sym e) last)
+      (λ (ne : p ≢ n). let P : PageState × SeenPage → Type 0 = λ z. KeepsPage z.0 z.1 in
+      let h = others_at w x shard n acts.aside.same.shape on p ne in
+      subst P (λ i. (sym (other p ne) i, sym h i)) (r.pages p (less p n l ne)))
+      (cases_eq p n);
+  later = λ p l. other p (λ e. absurd (omega arith)) ∙ r.later p (omega arith);
 } where
-  one_more : (a b c k l : ℕ) → b ≡ a + k → c ≡ b + 1 → l ≡ k + 1 → c ≡ a + l
-  one_more a b c k l g h e = omega arith
+  less : (p k : ℕ) → p < k + 1 → p ≢ k → p < k
+  less p k l ne = grind (arith, nat_tests)
 
-  here : page_of x shard (length states) ≡ page_noted (page_of w shard (length states)) n
-  here = here_at w x shard (length states) acts.aside.same.shape on
+  other : (p : ℕ) → p ≢ n → state_at after p ≡ state_at states p
+  other p ne = ap (λ (z : List PageState). state_at z p) is
+      ∙ get_or-set_other states n p (state_of word) blank_state ne
 
-  last : page_of x shard (length states) ≡ page_noted (page_of w shard (length states)) n
-      → KeepsPage (get_or (states ++ state_of n ∷ []) (length states) blank_state) (page_of x shard (length states))
-  last e = subst (λ (z : PageState). KeepsPage z (page_of x shard (length states))) (sym (last_of states (state_of n)))
-      (subst (KeepsPage (state_of n)) (sym e) (kept_first (page_of w shard (length states)) n
-      (r.none (heap_page w (shard_page shard (length states)))) few))
+  here : page_of x shard n ≡ page_noted (page_of w shard n) word
+  here = here_at w x shard n acts.aside.same.shape on
 
-  first : (p : ℕ) → p < length states → page_of x shard p ≡ page_of w shard p
-      → KeepsPage (get_or (states ++ state_of n ∷ []) p blank_state) (page_of x shard p)
-  first p k e = subst (λ (z : PageState). KeepsPage z (page_of x shard p)) (sym (first_of states (state_of n) p k))
-      (subst (KeepsPage (get_or states p blank_state)) (sym e) (r.pages p k))
+  last : KeepsPage (state_at after n) (page_of x shard n)
+  last = subst (λ (z : PageState). KeepsPage z (page_of x shard n))
+      (sym (ap (λ (z : List PageState). state_at z n) is
+      ∙ get_or-set_same states n (state_of word) blank_state inside))
+      (subst (KeepsPage (state_of word)) (sym here) (kept_first (page_of w shard n) word
+      (r.none (heap_page w (shard_page shard n))) few))
 
-  within : (p : ℕ) → p < length (states ++ state_of n ∷ []) → p ≢ length states → p < length states
-  within p l ne = let e = length-append states (state_of n ∷ []) in less p (length states) (omega (arith, l, e)) ne
-    where
-      less : (p k : ℕ) → p < k + 1 → p ≢ k → p < k
-      less p k l ne = grind (arith, nat_tests)
-
-pub reading_keeps : {layout : Layout} (shard : ℕ) (v w : Caller) (states : List PageState)
-    → Reading layout shard v w states → length states ≡ pages_of v.view.shape → KeepsPages layout w shard None states
-reading_keeps shard v w states r size = record {
+pub reading_keeps : {layout : Layout} (shard n : ℕ) (v w : Caller) (states : List PageState)
+    → Reading layout shard n v w states → length states ≡ n → n ≡ pages_of v.view.shape
+    → KeepsPages layout w shard None states
+reading_keeps shard n v w states r all size = record {
   stands = r.stands;
   idle = r.idle;
   owned = r.owned;
   bell = r.bell;
-  few =
-      size ∙ ap pages_of (sym r.aside.same.shape);
-  pages = r.pages;
+  few = all ∙ (size ∙ ap pages_of (sym r.aside.same.shape));
+  pages = λ p l. r.pages p (omega arith);
 }
 
-pub reading_adopts : (layout : Layout) (shard : ℕ) (v w : Caller) (states : List PageState)
-    → Reading layout shard v w states → length states ≡ pages_of v.view.shape
+pub reading_adopts : (layout : Layout) (shard n : ℕ) (v w : Caller) (states : List PageState)
+    → Reading layout shard n v w states → length states ≡ n → n ≡ pages_of v.view.shape
     → AdoptsShard v shard (paged_of layout w shard (length states))
-reading_adopts layout shard v w states r size = record {
+reading_adopts layout shard n v w states r all size = record {
   heap = r.aside.heap;
   same = r.aside.same;
   log = r.log;
   holds = r.aside.holds;
   owned = r.owned;
   shard = refl;
-  count = size;
+  count = all ∙ size;
   bell = r.bell;
-  pages = λ p l. let h = r.none (heap_page w (shard_page shard p)) in let k = r.pages p l
+  pages = λ p l. let h = r.none (heap_page w (shard_page shard p)) in let k = r.pages p (omega arith)
       in record {
         mine = h.mine;
         cursor = h.cursor;
         armed = h.armed;
-        word = (get_or states p blank_state).class_word;
+        word = (state_at states p).class_word;
         class = k.class;
         few = k.few;
       };
 }
 
-pub reading_more_at : {layout : Layout} (shard n : ℕ) (v w x : Caller) (states : List PageState) (p : ℕ) → length states
-    ≡ p → Reading layout shard v w states → OwnerActs Idle [] 1 w x → SameBells layout w x
-    → OnPage (heap_page w (shard_page shard p)) (page_noted (page_of w shard p) n) w x → ViewStands layout x.view
-    → n ≤ 8
-    → Reading layout shard v x (states ++ state_of n ∷ [])
-reading_more_at shard n v w x states p is r acts bells on stands few = reading_more shard n v w x states r acts bells
-    (subst (λ z. OnPage (heap_page w (shard_page shard z)) (page_noted (page_of w shard z) n) w x) (sym is) on) stands
-    few
-
-pub reading_in : {layout : Layout} (shard : ℕ) (v w : Caller) (states : List PageState)
-    → Reading layout shard v w states → StepsAtMost (length states) v w
-reading_in shard v w states r = let e = r.steps in omega arith
+pub reading_in : {layout : Layout} (shard n : ℕ) (v w : Caller) (states : List PageState)
+    → Reading layout shard n v w states → length states ≡ n → StepsAtMost (length states) v w
+reading_in shard n v w states r all = let e = r.steps in omega arith

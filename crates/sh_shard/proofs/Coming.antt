@@ -12,9 +12,10 @@ use Rattle.sh_table.specs.Tales.{ViewStands}
 use Rattle.sh_pass.specs.Passes.{Caller}
 use Rattle.sh_pass.specs.Owners.{SeenBell, CallLeaves, SlotCame, MayTouch, OnPage, heap_page}
 use Rattle.sh_pass.specs.Owners.{seen_page, page_with}
-use Rattle.sh_shard.specs.declared.pages.PageState.{PageState}
+use Rattle.sh_states.specs.declared.states.PageState.{PageState}
 use Rattle.sh_shard.specs.Pages.{shard_page, SlotComes}
-use Rattle.sh_shard.specs.Kept.{KeepsPage, KeepsPages, MayCome, Came, blank_state, with_local}
+use Rattle.sh_states.specs.States.{blank_state, with_local}
+use Rattle.sh_shard.specs.Kept.{KeepsPage, KeepsPages, MayCome, Came}
 use Rattle.sh_shard.proofs.PageLaws.{kept_with, misses_has}
 use Rattle.sh_shard.proofs.Keeping.{page_of, here_at, others_at, all_at, rings_same}
 use Rattle.sh_shard.proofs.Working.{paged_of}

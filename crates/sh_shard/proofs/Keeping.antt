@@ -3,7 +3,7 @@ use Rattle.std.proofs.Common.{◌≡◌, ◌≢◌, ℕ, zero, suc, ◌+◌, ◌
 use Rattle.std.proofs.Common.{cond, Option, Some, None, List, [], ◌++◌, length, get_or, set, IfSome, refl, ap, ◌∙◌, sym}
 use Rattle.std.proofs.Common.{subst, arith, append-nil}
 use Rattle.std.specs.Prelude.{nat_lt}
-use Rattle.std.proofs.lemmas.List.{get_or-set_same, get_or-set_other, length-set, get_or_read}
+use Rattle.std.proofs.lemmas.List.{get_or-set_same, get_or-set_other, length-set}
 use Rattle.std.proofs.lemmas.Bool.{cases_eq}
 use Rattle.std.proofs.lemmas.Bool.Decides.{nat_tests}
 use Rattle.std.proofs.Math.Nat.{lt-div-mul-add, div-mul-le_self}
@@ -23,9 +23,10 @@ use Rattle.sh_table.specs.Tales.{ViewStands}
 use Rattle.sh_pass.specs.Passes.{Caller}
 use Rattle.sh_pass.specs.Owners.{HasNothing, SeenPage, SeenBell, Aside, OwnerActs, OnPage, SamePages, SameBells}
 use Rattle.sh_pass.specs.Owners.{MayTouch, heap_page, own_body, seen_page, seen_bell, page_on_bell, bell_followed}
-use Rattle.sh_shard.specs.declared.pages.PageState.{PageState}
+use Rattle.sh_states.specs.declared.states.PageState.{PageState}
 use Rattle.sh_shard.specs.Pages.{shard_page}
-use Rattle.sh_shard.specs.Kept.{KeepsPage, KeepsPages, blank_state, rings_at}
+use Rattle.sh_states.specs.States.{blank_state, state_at}
+use Rattle.sh_shard.specs.Kept.{KeepsPage, KeepsPages, rings_at}
 use Rattle.sh_shard.proofs.PageLaws.{misses_has}
 
 -- page p of the shard as the owner sees it
@@ -106,13 +107,6 @@ pub keeps_same : {layout : Layout} {v w : Caller} {shard : ℕ} {rings : Option 
     → KeepsPage (get_or states p blank_state) g → KeepsPages layout w shard rings states
 keeps_same p k acts bells on stands a = keeps_on p k acts (bell_kept k acts.aside bells) on stands refl a (λ q ne. refl)
 
--- what the code has in hand of a page
-pub state_kept : {layout : Layout} {v : Caller} {shard : ℕ} {rings : Option ℕ} {states : List PageState} (p : ℕ)
-    (st : PageState) → KeepsPages layout v shard rings states → p < length states → st ≡ get_or states p st
-    → KeepsPage st (page_of v shard p)
-state_kept {v = v} {shard = shard} {states = states} p st k l e = subst
-    (λ (z : PageState). KeepsPage z (page_of v shard p)) (sym (get_or_read states p st l e blank_state)) (k.pages p l)
-
 pub may_touch : {layout : Layout} {v : Caller} {shard : ℕ} {rings : Option ℕ} {states : List PageState} (p : ℕ)
     → KeepsPages layout v shard rings states → p < length states → MayTouch v (shard_page shard p)
 may_touch p k l = record { idle = k.idle; owned = k.owned; page = let f = k.few in omega arith }
@@ -123,10 +117,10 @@ pub record Ready (st : PageState) (s : ℕ) : Type 0 where
   pub apart : Misses s (st.lists.free ++ st.lists.local)
 
 pub ready : {layout : Layout} {v : Caller} {shard : ℕ} {rings : Option ℕ} {states : List PageState} (p s : ℕ)
-    (st : PageState) → KeepsPages layout v shard rings states → p < length states → st ≡ get_or states p st
-    → (page_of v shard p).cursor ≡ Some s → Ready st s
-ready {v = v} {shard = shard} p s st k l e cursor =
-    let a = state_kept p st k l e in
+    → KeepsPages layout v shard rings states → p < length states → (page_of v shard p).cursor ≡ Some s
+    → Ready (state_at states p) s
+ready {v = v} {shard = shard} p s k l cursor =
+    let a = k.pages p l in
     let c = k.stands.owner.cursors (heap_page v (shard_page shard p)) s cursor in record {
       small = c.2;
       apart = misses_has s _ (a.mine s ∙ c.3);

@@ -6,7 +6,6 @@ pub mod Searching
 pub mod Hearing
 pub mod Trying
 pub mod Preparing
-pub mod Fronts
 pub mod Filing
 pub mod FullPages
 pub mod PageLaws

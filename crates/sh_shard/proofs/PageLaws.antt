@@ -13,7 +13,7 @@ use Rattle.sh_shape.specs.Classes.{slots}
 use Rattle.sh_stack.specs.Stack.{top_item, link_item}
 use Rattle.sh_pass.specs.Owners.{SeenPage, page_taken, page_armed, page_followed, page_without, page_with, page_given}
 use Rattle.sh_pass.specs.Owners.{page_rung}
-use Rattle.sh_shard.specs.declared.pages.PageState.{PageState}
+use Rattle.sh_states.specs.declared.states.PageState.{PageState}
 use Rattle.sh_shard.specs.Pages.{seen_class}
 use Rattle.sh_shard.specs.Kept.{KeepsPage}
 

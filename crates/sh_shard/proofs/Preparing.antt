@@ -1,24 +1,24 @@
 -- A page is given another class, and an insert goes there.
 use Rattle.std.proofs.Common.{◌≡◌, ◌≢◌, ℕ, suc, ◌+◌, ◌*◌, ◌<◌, ◌≤◌, ◌⊎◌, inl, inr, ⊎_elim, Bool, true, false}
-use Rattle.std.proofs.Common.{Option, Some, None, MatchOption, IfSome, List, [], ◌∷◌, length, slice_get, refl, ap, ◌∙◌}
+use Rattle.std.proofs.Common.{Option, Some, None, MatchOption, IfSome, List, ◌∷◌, length, slice_get, refl, ap, ◌∙◌}
 use Rattle.std.proofs.Common.{sym, subst, arith}
 use Rattle.std.specs.Prelude.{Result, Ok, Err}
 use Rattle.std.proofs.lemmas.Bool.{cases_eq, cases_lt, false≢true}
 use Rattle.sh_queue.specs.Numbers.{has_number}
 use Rattle.sh_queue.specs.Queues.{PageQueues, EachOnce, class_queue, at_front, one_more_segment}
-use Rattle.sh_queue.proofs.PageLaws.{class_queue-at_front_same, without_number-hasnt, opened_somewhere}
+use Rattle.sh_queue.proofs.PageLaws.{class_queue-at_front_same, without_number-hasnt}
 use Rattle.sh_key.specs.Layout.{Layout}
 use Rattle.sh_value.specs.declared.refusal.Refusal.{Refusal}
 use Rattle.sh_value.specs.declared.refusal.Refusal.TheVariants as refusal
 use Rattle.sh_pass.specs.Owners.{SeenPage}
-use Rattle.sh_shard.specs.Pages.{Paged, page_at, seen_class, NothingMine, NamesSlot, PageInserts, GivesClass}
+use Rattle.sh_shard.specs.Pages.{Paged, page_at, NothingMine, NamesSlot, PageInserts, GivesClass}
 use Rattle.sh_shard.specs.Pages.{TakesSteps}
 use Rattle.sh_shard.specs.Works.{WorksThroughout}
 use Rattle.sh_shard.specs.Steps.{StepsAtMost}
 use Rattle.sh_shard.specs.Bounds.{PrepareIsBounded, InsertIsBounded}
 use Rattle.sh_shard.specs.Filing.{OpensFor}
-use Rattle.sh_shard.specs.Shards.{Sharded, SortedPages, FullPage, NoneLeft, NoRoom, IsSpare, NeedsSegment}
-use Rattle.sh_shard.specs.Shards.{IsBlank, NoneSpare, NoneWhole, NoneOpenedBlank, IsLowest, IsNextFor, PreparesPage}
+use Rattle.sh_shard.specs.Shards.{Sharded, SortedPages, NoneLeft, NoRoom, IsSpare, NeedsSegment}
+use Rattle.sh_shard.specs.Shards.{IsBlank, NoneSpare, NoneOpenedBlank, IsLowest, IsNextFor, PreparesPage}
 use Rattle.sh_shard.specs.Shards.{PrepareServes, InsertServes, IsQuick}
 use Rattle.sh_shard.specs.Finding.{StoresAtFront, InsertsElsewhere}
 use Rattle.sh_shard.specs.Searches.{Tried}
@@ -26,7 +26,6 @@ use Rattle.sh_shard.proofs.Works.{through_none}
 use Rattle.sh_shard.proofs.Bounding.{steps_none}
 use Rattle.sh_shard.proofs.Working.{names_before}
 use Rattle.sh_shard.proofs.Searching.{added_since, added_given, front_has, stored, none_left, some_given, not_whole}
-use Rattle.sh_shard.proofs.Searching.{word_of}
 
 -- ---- a page
 
@@ -130,46 +129,6 @@ spare_next c k o below here p inside = ⊎_elim
   where
     smaller : (p k : ℕ) → p < k + 1 → p ≢ k → p < k
     smaller p k l ne = ⊎_elim (λ (h : p < k). h) (λ (h : k ≤ p). absurd (ne (omega arith))) (cases_lt p k)
-
--- no page is spare where none in the queue of another class is wholly its owner's
-pub none_queued_spare : (c : ℕ) (o : Sharded) → SortedPages o.pages o.queues → EachOnce o.queues
-    → ((d : ℕ) → d < 8 → d ≢ c → NoneWhole (class_queue o.queues d) o.pages) → NoneSpare c o.pages
-none_queued_spare c o sorted once none p inside spare = ⊎_elim
-    (λ (l : p < o.queues.opened). stands (opened_somewhere p o.queues once l))
-    (λ (l : o.queues.opened ≤ p). not_blank (sorted.later p l inside))
-    (cases_lt p o.queues.opened)
-  where
-    not_blank : (page_at o.pages p).class ≡ Some 0 → ⊥
-    not_blank is =
-        let e : Some 0 ≡ Some (suc spare.whole.class) = sym is ∙ spare.whole.classed in
-        let f : 0 ≡ suc spare.whole.class = cc in absurd (omega arith)
-
-    in_full : FullPage (page_at o.pages p) → ⊥
-    in_full f =
-        let k = spare.whole.class in
-        let word : seen_class (page_at o.pages p) ≡ suc k = word_of (page_at o.pages p) (suc k) spare.whole.classed in
-        let few = f.few in
-        let more : suc k ≡ k + 1 = omega arith in
-        not_whole k p o.pages (omega arith) f.mine (spare.whole.classed ∙ ap (λ z. Some z) more) spare.whole
-
-    stands : ((d : ℕ) × (d < 8) × (has_number p (class_queue o.queues d) ≡ true))
-        ⊎ ((has_number p o.queues.full ≡ true) ⊎ (has_number p o.queues.blank ≡ true)) → ⊥
-    stands (inl r) = none r.0 r.1 (λ same. spare.other (sorted.classes r.0 p r.2 ∙ ap (λ z. Some (z + 1)) same)) p r.2
-        spare.whole
-    stands (inr (inl t)) = in_full (sorted.full p t)
-    stands (inr (inr t)) = not_blank (sorted.blank p t)
-
--- one class more
-pub none_next : (c k : ℕ) (o : Sharded) → ((d : ℕ) → d < k → d ≢ c → NoneWhole (class_queue o.queues d) o.pages)
-    → (k ≢ c → NoneWhole (class_queue o.queues k) o.pages)
-    → (d : ℕ) → d < k + 1 → d ≢ c → NoneWhole (class_queue o.queues d) o.pages
-none_next c k o below here d inside other = ⊎_elim
-    (λ (is : d ≡ k). subst (λ z. z ≢ c → NoneWhole (class_queue o.queues z) o.pages) (sym is) here other)
-    (λ (ne : d ≢ k). below d (smaller d k inside ne) other)
-    (cases_eq d k)
-  where
-    smaller : (d k : ℕ) → d < k + 1 → d ≢ k → d < k
-    smaller d k l ne = ⊎_elim (λ (h : d < k). h) (λ (h : k ≤ d). absurd (ne (omega arith))) (cases_lt d k)
 
 -- ---- an insert
 

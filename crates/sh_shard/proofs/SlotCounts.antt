@@ -10,7 +10,7 @@ use Rattle.sh_queue.specs.Numbers.{has_number}
 use Rattle.sh_shape.specs.Classes.{slots}
 use Rattle.sh_step.specs.Collections.{if1}
 use Rattle.sh_pass.specs.Owners.{SeenPage}
-use Rattle.sh_shard.specs.declared.pages.PageState.{PageState}
+use Rattle.sh_states.specs.declared.states.PageState.{PageState}
 use Rattle.sh_shard.specs.Kept.{KeepsPage}
 use Rattle.sh_shard.specs.Pages.{count_below, sum_below, own_slots, page_out, seen_class, word_slots}
 use Rattle.sh_shard.proofs.PageLaws.{has_misses}

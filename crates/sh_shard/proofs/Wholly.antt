@@ -1,8 +1,7 @@
 -- How many slots the lists of a page have, and whether these are all of its class.
-use Rattle.std.proofs.Common.{◌≡◌, ℕ, zero, suc, ◌+◌, ◌-◌, ◌<◌, ◌≤◌, ◌==◌, ◌||◌, Bool, true, false, Some}
+use Rattle.std.proofs.Common.{◌≡◌, ℕ, zero, suc, ◌+◌, ◌-◌, ◌<◌, ◌≤◌, ◌==◌, ◌||◌, Bool, true, false, Option, Some, None, IfSome, MatchOption}
 use Rattle.std.proofs.Common.{MatchBool, List, [], ◌∷◌, ◌++◌, length, refl, ap, ◌∙◌, sym, subst, arith}
-use Rattle.std.specs.Prelude.{nat_lt, nat_eq}
-use Rattle.std.proofs.lemmas.Bool.{false≢true}
+use Rattle.std.specs.Prelude.{nat_lt}
 use Rattle.std.proofs.lemmas.Bool.Decides.{nat_tests}
 use Rattle.std.proofs.lemmas.List.{length-append}
 use Rattle.sh_lists.specs.Lists.{SlotsOnce}
@@ -11,11 +10,15 @@ use Rattle.sh_lists.proofs.Distincts.{length-le_from_Distinct}
 use Rattle.sh_queue.specs.Numbers.{has_number}
 use Rattle.sh_shape.specs.Classes.{slots}
 use Rattle.sh_step.specs.Collections.{if1}
+use Rattle.sh_key.specs.Layout.{Layout}
+use Rattle.sh_pass.specs.Passes.{Caller}
 use Rattle.sh_pass.specs.Owners.{SeenPage}
-use Rattle.sh_shard.specs.declared.pages.PageState.{PageState}
-use Rattle.sh_shard.specs.Kept.{KeepsPage}
+use Rattle.sh_states.specs.declared.states.PageState.{PageState}
+use Rattle.sh_states.specs.States.{state_at, WholeState, NoneWholeBelow, FirstWhole}
+use Rattle.sh_shard.specs.Kept.{KeepsPage, KeepsPages}
 use Rattle.sh_shard.specs.Pages.{count_below, NothingMine, WhollyMine}
 use Rattle.sh_shard.proofs.PageLaws.{misses_has}
+use Rattle.sh_shard.proofs.Keeping.{page_of, below_class}
 
 -- ---- numbers of a list
 
@@ -86,33 +89,62 @@ some_slot st g n a e = go (st.lists.free ++ st.lists.local) a.mine (length-appen
       go (x ∷ xs) h l true t = (x, sym (h x) ∙ head_has x xs)
       go (x ∷ xs) h l false t = absurd (let z : n ≤ 0 = grind (arith, nat_tests) in omega arith)
 
+-- a page whose lists have all slots of its class
+pub wholly : (st : PageState) (g : SeenPage) → KeepsPage st g → SlotsOnce st.lists
+    → ((st.class_word ≡ 0 → ⊥) → (s : ℕ) → g.mine s ≡ true → s < slots (st.class_word - 1)) → WholeState st
+    → WhollyMine g
+wholly st g a once few w = record {
+  class = w.class;
+  classed = a.class ∙ ap Some w.classed;
+  mine = λ s l. sym (a.mine s) ∙ all_there (slots w.class) s (st.lists.free ++ st.lists.local) once.distinct below
+      (let m = w.all in let n = length-append st.lists.free st.lists.local in omega arith) l;
+} where
+  is : w.class ≡ st.class_word - 1
+  is = let h = w.classed in omega arith
+
+  below : AllBelow (slots w.class) (st.lists.free ++ st.lists.local)
+  below = below_all (slots w.class) (st.lists.free ++ st.lists.local)
+      (λ s h. subst (λ c. s < slots c) (sym is)
+      (few (λ z. let h = w.classed in absurd (omega arith)) s (sym (a.mine s) ∙ h)))
+
+-- and only such a page is wholly its owner's
+pub has_all : (st : PageState) (g : SeenPage) → KeepsPage st g → WhollyMine g → WholeState st
+has_all st g a w = record {
+  class = w.class;
+  classed = let h : Some (suc w.class) ≡ Some st.class_word = sym w.classed ∙ a.class in
+      let e : suc w.class ≡ st.class_word = cc in sym e;
+  all = let l = enough (slots w.class) (st.lists.free ++ st.lists.local) (λ s h. a.mine s ∙ w.mine s h) in
+      let n = length-append st.lists.free st.lists.local in omega arith;
+}
+
 -- whether they have as many as the class has
-pub whole_page : (st : PageState) (g : SeenPage) (n k : ℕ) → KeepsPage st g → SlotsOnce st.lists
-    → (st.class_word ≡ 0 → ⊥) → ((s : ℕ) → g.mine s ≡ true → s < slots (st.class_word - 1)) → n
-    ≡ length st.lists.free + length st.lists.local → k ≡ slots (st.class_word - 1)
-    → MatchBool (nat_eq n k) (WhollyMine g) (¬ WhollyMine g)
-whole_page st g n k a once some few e f = go (nat_eq n k) refl where
-  size : length (st.lists.free ++ st.lists.local) ≡ length st.lists.free + length st.lists.local
-  size = length-append st.lists.free st.lists.local
+pub tells_whole : {layout : Layout} {v : Caller} {shard : ℕ} {rings : Option ℕ} {states : List PageState} (p : ℕ)
+    (b : Bool) → KeepsPages layout v shard rings states → p < length states → SlotsOnce (state_at states p).lists
+    → MatchBool b (WholeState (state_at states p)) (¬ WholeState (state_at states p))
+    → MatchBool b (WhollyMine (page_of v shard p)) (¬ WhollyMine (page_of v shard p))
+tells_whole {v = v} {shard = shard} {states = states} p true k l once w = wholly (state_at states p) (page_of v shard p)
+    (k.pages p l) once (below_class p (state_at states p) k (k.pages p l)) w
+tells_whole {v = v} {shard = shard} {states = states} p false k l once w = λ z. w
+    (has_all (state_at states p) (page_of v shard p) (k.pages p l) z)
 
-  below : AllBelow (slots (st.class_word - 1)) (st.lists.free ++ st.lists.local)
-  below = below_all (slots (st.class_word - 1)) (st.lists.free ++ st.lists.local) (λ s h. few s (sym (a.mine s) ∙ h))
+none_wholly : {layout : Layout} {v : Caller} {shard : ℕ} {rings : Option ℕ} {states : List PageState} (n : ℕ)
+    → KeepsPages layout v shard rings states → n ≤ length states → NoneWholeBelow n states → (p : ℕ) → p < n
+    → ¬ WhollyMine (page_of v shard p)
+none_wholly {v = v} {shard = shard} {states = states} n k l none p below w = none p below
+    (has_all (state_at states p) (page_of v shard p) (k.pages p (omega arith)) w)
 
-  go : (b : Bool) → nat_eq n k ≡ b → MatchBool b (WhollyMine g) (¬ WhollyMine g)
-  go true t =
-      let is : n ≡ k = grind (arith, nat_tests) in record {
-        class = st.class_word - 1;
-        classed = a.class ∙ ap Some (omega (arith, some));
-        mine = λ s l. sym (a.mine s) ∙ all_there (slots (st.class_word - 1)) s (st.lists.free ++ st.lists.local)
-            once.distinct below (omega (arith, size)) l;
-      }
-  go false t = λ w.
-      let same : suc w.class ≡ st.class_word = let h : Some (suc w.class) ≡ Some st.class_word = sym w.classed ∙ a.class
-      in cc in
-      let is : w.class ≡ st.class_word - 1 = omega arith in
-      let l = enough (slots (st.class_word - 1)) (st.lists.free ++ st.lists.local)
-      (λ s h. a.mine s ∙ w.mine s (subst (λ z. s < slots z) (sym is) h)) in
-      let m = length-le_from_Distinct (slots (st.class_word - 1)) (st.lists.free ++ st.lists.local) once.distinct below
-      in
-      absurd (false≢true (sym t ∙ (let is : n ≡ k = omega (arith, size) in let z : nat_eq n k
-      ≡ true = grind (arith, nat_tests) in z)))
+-- which is the first that has
+pub tells_first : {layout : Layout} {v : Caller} {shard : ℕ} {rings : Option ℕ} {states : List PageState} (n : ℕ)
+    (r : Option ℕ) → KeepsPages layout v shard rings states → n ≤ length states
+    → IfSome r (λ p. SlotsOnce (state_at states p).lists)
+    → MatchOption r (NoneWholeBelow n states) (λ p. (p < n) × FirstWhole p states)
+    → MatchOption r ((p : ℕ) → p < n → ¬ WhollyMine (page_of v shard p))
+    (λ p. (p < n) × WhollyMine (page_of v shard p) × ((q : ℕ) → q < p → ¬ WhollyMine (page_of v shard q)))
+tells_first n None k l once none = none_wholly n k l none
+tells_first {v = v} {shard = shard} {states = states} n (Some p) k l once (below, first) =
+    let inside : p < length states = omega arith in (
+      below,
+      wholly (state_at states p) (page_of v shard p) (k.pages p inside) once
+          (below_class p (state_at states p) k (k.pages p inside)) first.whole,
+      none_wholly p k (omega arith) first.none,
+    )

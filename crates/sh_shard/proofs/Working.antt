@@ -14,7 +14,7 @@ use Rattle.sh_shape.specs.Shape.{Numbers}
 use Rattle.sh_slots.specs.declared.hand.Name.{Name}
 use Rattle.sh_step.specs.Moves.{place_named}
 use Rattle.sh_step.specs.Plans.{plan_of, home}
-use Rattle.sh_shard.specs.declared.pages.PageState.{PageState}
+use Rattle.sh_states.specs.declared.states.PageState.{PageState}
 use Rattle.sh_shard.specs.Kept.{KeepsPage}
 use Rattle.sh_slots.specs.declared.hand.Hand.TheVariants.{Idle}
 use Rattle.sh_stack.specs.Stack.{link_item}

@@ -1,8 +1,7 @@
 -- What is kept of the pages of an owner's shard.
-use Rattle.std.specs.Prelude.{◌≡◌, ℕ, ◌+◌, ◌*◌, ◌<◌, ◌≤◌, false, List, [], ◌∷◌, ◌++◌, length, get_or, slice_set, Option}
+use Rattle.std.specs.Prelude.{◌≡◌, ℕ, ◌+◌, ◌*◌, ◌<◌, ◌≤◌, false, List, ◌++◌, length, get_or, slice_set, Option}
 use Rattle.std.specs.Prelude.{Some, None}
 use Rattle.sh_key.specs.Layout.{Layout}
-use Rattle.sh_lists.specs.Lists.{Lists}
 use Rattle.sh_lists.specs.Numbers.{Misses}
 use Rattle.sh_queue.specs.Numbers.{has_number}
 use Rattle.sh_shape.specs.Places.{pages_of}
@@ -11,14 +10,9 @@ use Rattle.sh_slots.specs.declared.hand.Spot.{Spot}
 use Rattle.sh_table.specs.Tales.{ViewStands}
 use Rattle.sh_pass.specs.Passes.{Caller}
 use Rattle.sh_pass.specs.Owners.{SeenPage, heap_page, own_body, seen_page}
-use Rattle.sh_shard.specs.declared.pages.PageState.{PageState}
+use Rattle.sh_states.specs.States.{blank_state, with_local}
+use Rattle.sh_states.specs.declared.states.PageState.{PageState}
 use Rattle.sh_shard.specs.Pages.{shard_page}
-
-abbrev pub bare_lists : Lists
-bare_lists = record { free = []; local = []; cursor = None }
-
-abbrev pub blank_state : PageState
-blank_state = record { lists = bare_lists; class_word = 0; armed = false }
 
 -- what is kept of a page is what its owner knows of it: each slot of the lists is its own, and no other is; a blank
 -- page is not armed, and has no cursor
@@ -51,15 +45,6 @@ abbrev pub MayCome : ℕ → List PageState → Option Spot → Type 0
 MayCome shard states None = Unit {0}
 MayCome shard states (Some x) = (p : ℕ) × (p < length states) × (x.page ≡ shard * length states + p) × (x.slot < 48)
     × Misses x.slot ((get_or states p blank_state).lists.free ++ (get_or states p blank_state).lists.local)
-
--- the state with the slot in front of `local`
-abbrev pub with_local : PageState → ℕ → PageState
-with_local st s = record {
-  lists = record st.lists { local = s ∷ st.lists.local };
-  class_word = st.class_word;
-  armed =
-      st.armed;
-}
 
 -- the slot came to the lists of its page, whose number in the shard is answered
 abbrev pub Came : ℕ → Option Spot → List PageState → Option ℕ → List PageState → Type 0

@@ -14,6 +14,7 @@ use Rattle.sh_value.specs.declared.refusal.Refusal.{Refusal}
 use Rattle.sh_value.specs.declared.refusal.Refusal.TheVariants as refusal
 use Rattle.sh_pass.specs.Growing.{SameTale}
 use Rattle.sh_pass.specs.Passes.{Caller}
+use Rattle.sh_pass.specs.Receipts.{heeded}
 use Rattle.sh_pass.specs.Owners.{SeenPage, SeenBell, Aside, NonePut, NoneArmed, HasNothing, heap_page, own_body}
 use Rattle.sh_pass.specs.Owners.{page_given, page_with, seen_page, IsKeyIn, IsKeyOn}
 
@@ -23,6 +24,10 @@ pub record Paged : Type 0 where
   pub shard : ℕ
   pub count : ℕ
   pub bell : SeenBell
+
+-- the pages, once their owner heeded the receipt
+abbrev pub pages_heeded : Paged → Caller → Paged
+pages_heeded v r = record { owner = heeded v.owner r; shard = v.shard; count = v.count; bell = v.bell }
 
 -- page p of the shard
 abbrev pub shard_page : ℕ → ℕ → PageName
@@ -75,6 +80,10 @@ pub record WhollyMine (g : SeenPage) : Type 0 where
   pub class : ℕ
   pub classed : g.class ≡ Some (suc class)
   pub mine : (s : ℕ) → s < slots class → g.mine s ≡ true
+
+-- none of the first n pages is so
+abbrev pub NoneWhollyMine : ℕ → Paged → Type 0
+NoneWhollyMine n v = (p : ℕ) → p < n → ¬ WhollyMine (page_at v p)
 
 -- the pages from k on are blank
 abbrev pub BlankFrom : ℕ → Paged → Type 0

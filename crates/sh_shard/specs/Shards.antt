@@ -10,6 +10,7 @@ use Rattle.sh_value.specs.declared.refusal.Refusal.{Refusal}
 use Rattle.sh_value.specs.declared.refusal.Refusal.TheVariants as refusal
 use Rattle.sh_shape.specs.Classes.{class_of}
 use Rattle.sh_pass.specs.Passes.{Caller}
+use Rattle.sh_shard.specs.Pages.{pages_heeded}
 use Rattle.sh_slots.specs.declared.hand.Hand.TheVariants.{Idle}
 use Rattle.sh_table.specs.Tales.{ViewStands}
 use Rattle.sh_pass.specs.Growing.{SameTale}
@@ -54,6 +55,10 @@ pub record StaysOwner (layout : Layout) (o n : Sharded) : Type 0 where
   pub shard : n.pages.shard ≡ o.pages.shard
   pub same : SameTale o.pages.owner.view n.pages.owner.view
 
+-- the shard, once its owner heeded the receipt
+abbrev pub shard_heeded : Sharded → Caller → Sharded
+shard_heeded o r = record { pages = pages_heeded o.pages r; queues = o.queues }
+
 -- ---- what an insert does
 
 -- nothing of class c is left in any page of the class, and the bell is done
@@ -69,10 +74,6 @@ pub record IsSpare (c : ℕ) (g : SeenPage) : Type 0 where
 
 abbrev pub IsBlank : SeenPage → Type 0
 IsBlank g = g.class ≡ Some 0
-
--- none of these pages is wholly its owner's
-abbrev pub NoneWhole : List ℕ → Paged → Type 0
-NoneWhole pages v = (p : ℕ) → has_number p pages ≡ true → ¬ WhollyMine (page_at v p)
 
 abbrev pub NoneSpare : ℕ → Paged → Type 0
 NoneSpare c v = (p : ℕ) → p < v.count → ¬ IsSpare c (page_at v p)

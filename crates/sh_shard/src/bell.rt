@@ -40,8 +40,7 @@ impl<'a, L: KeyLayout> Pages<'a, L> {
             return None;
         }
         self.rings = link_item(found);
-        let state = &mut self.states[page as usize];
-        state.armed = false;
+        self.states.disarm(page);
         Some(page)
     }
 }

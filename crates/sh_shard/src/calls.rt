@@ -4,24 +4,24 @@ ghost use Rattle.sh_pass.specs.Passes.{GetDoes, ReadIntoDoes, RemoveDoes, Releas
 ghost use Rattle.sh_shard.specs.Kept.{MayCome, Came};
 ghost use Rattle.sh_shard.specs.Pages.{SlotComes};
 
-use crate::pages::{PageState, Pages};
+use crate::pages::Pages;
 use sh_key::KeyLayout;
 use sh_pass::Guard;
 use sh_slots::Spot;
+use sh_states::PageStates;
 use sh_value::{Hold, Refusal, Value};
 
 // Puts a slot that came in front of `local`. Answers its page's number in the shard.
-fn keep(states: &mut Vec<PageState>, shard: u64, came: Option<Spot>) -> Option<u64>
-    requires few { shard * length states.old.items + length states.old.items ≤ 2 ^ 24 }
-    requires may { MayCome shard states.old.items came }
-    ensures { Came shard came states.old.items result states.new.items }
+fn keep(states: &mut PageStates, shard: u64, came: Option<Spot>) -> Option<u64>
+    requires few { shard * length states.old + length states.old ≤ 2 ^ 24 }
+    requires may { MayCome shard states.old came }
+    ensures { Came shard came states.old result states.new }
 {
     let Some(spot) = came else {
         return None;
     };
-    let page = spot.page - shard * states.len() as u64;
-    let state = &mut states[page as usize];
-    state.lists.push_local(spot.slot as u32);
+    let page = spot.page - shard * states.len();
+    states.push_local(page, spot.slot as u32);
     Some(page)
 }
 

@@ -42,9 +42,8 @@ impl<'a, L: KeyLayout> Pages<'a, L> {
         };
         let found = self.owner.take(name);
         let cursor = small(top_item(top_of(found)));
-        let state = &mut self.states[page as usize];
-        state.lists.set_cursor(cursor);
-        state.armed = still_armed(state.armed, found);
+        let armed = still_armed(self.states.is_armed(page), found);
+        self.states.begin_reading(page, cursor, armed);
     }
 
     // One step: the same, and the page is armed.
@@ -63,9 +62,7 @@ impl<'a, L: KeyLayout> Pages<'a, L> {
         };
         let found = self.owner.arm(name);
         let cursor = small(top_item(top_of(found)));
-        let state = &mut self.states[page as usize];
-        state.lists.set_cursor(cursor);
-        state.armed = true;
+        self.states.begin_reading(page, cursor, true);
     }
 
     // One step: the cursor's slot joins the lists, unless its link is not written. True where it went on.
@@ -77,7 +74,7 @@ impl<'a, L: KeyLayout> Pages<'a, L> {
             shard: self.shard,
             page,
         };
-        let Some(slot) = self.states[page as usize].lists.cursor() else {
+        let Some(slot) = self.states.cursor(page) else {
             return false;
         };
         let found = self.owner.follow(name, slot as u64);
@@ -85,14 +82,23 @@ impl<'a, L: KeyLayout> Pages<'a, L> {
             return false;
         }
         let cursor = small(link_item(found));
-        let state = &mut self.states[page as usize];
-        state.lists.add_read(slot);
-        state.lists.set_cursor(cursor);
+        self.states.add_read(page, slot, cursor);
         true
     }
 
     /// Follows the cursor to the end or to a link that is not written.
+    #[inline(always)]
     pub(crate) fn follow_all(&mut self, page: u64)
+        requires inside { page < self.old.count }
+        ensures { CursorStops page self.old self.new }
+    {
+        if self.has_cursor(page) {
+            self.follow_on(page);
+        }
+    }
+
+    // The same, where there is a cursor.
+    fn follow_on(&mut self, page: u64)
         requires inside { page < self.old.count }
         ensures { CursorStops page self.old self.new }
     {

@@ -14,11 +14,11 @@ impl<'a, L: KeyLayout> Pages<'a, L> {
         ensures is { result ≡ page_out (page_at self.now page) }
         ensures few { result ≤ 48 }
     {
-        let state = &self.states[page as usize];
-        if state.class_word == 0 {
+        let class_word = self.states.class_word(page);
+        if class_word == 0 {
             return 0;
         }
-        classes::slots((state.class_word - 1) as u32) - state.lists.len()
+        classes::slots((class_word - 1) as u32) - self.states.slots(page)
     }
 }
 

@@ -108,7 +108,7 @@ impl<'a, L: KeyLayout> Pages<'a, L> {
         requires { page < self.now.count }
         ensures { result ≡ number_of self.now.owner (shard_page self.now.shard page) }
     {
-        self.shard * self.states.len() as u64 + page
+        self.shard * self.states.len() + page
     }
 
     // Two steps: the next slot of the lists is put on the page's stack. False where there is none.
@@ -123,8 +123,7 @@ impl<'a, L: KeyLayout> Pages<'a, L> {
             page,
         };
         let number = self.heap_page(page);
-        let state = &mut self.states[page as usize];
-        let Some(slot) = state.lists.next_slot() else {
+        let Some(slot) = self.states.next_slot(page) else {
             return false;
         };
         let slot = slot as u64;

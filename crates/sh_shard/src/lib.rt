@@ -14,6 +14,7 @@ mod insert;
 mod leaving;
 pub mod pages;
 mod prepare;
+mod receipts;
 mod returning;
 mod ringing;
 mod search;

@@ -1,30 +1,19 @@
 //! The pages of an owner's shard: what is kept of each is what the owner knows of it.
-ghost use Rattle.std.specs.Prelude.{◌≡◌, ℕ, ◌+◌, ◌^◌, ◌<◌, ◌≤◌, Option, None, Some, MatchBool, MatchResult, true, false};
+ghost use Rattle.std.specs.Prelude.{◌≡◌, ℕ, ◌+◌, ◌^◌, ◌<◌, ◌≤◌, Option, None, Some, MatchOption, MatchBool, MatchResult, true, false};
 ghost use Rattle.sh_slots.specs.declared.hand.Hand.TheVariants.{Idle};
 ghost use Rattle.sh_table.specs.Tales.{ViewStands};
 ghost use Rattle.sh_pass.specs.Owners.{HasNothing, own_body, seen_page};
 ghost use Rattle.sh_shard.specs.Pages.{page_at, AdoptsPages, AdoptsShard, CursorStands, NothingMine, ShardLeft};
-ghost use Rattle.sh_shard.specs.Pages.{WhollyMine, BlankHasNothing, seen_class};
+ghost use Rattle.sh_shard.specs.Pages.{WhollyMine, NoneWhollyMine, BlankHasNothing, seen_class};
 ghost use Rattle.sh_shard.specs.Steps.{StepsAtMost};
 
 use sh_key::KeyLayout;
-use sh_lists::PageLists;
 use sh_pass::{Owner, Pass};
-use sh_shape::classes;
+use sh_states::PageStates;
 use sh_step::PageName;
 use sh_value::Refusal;
 use std::alloc::Global;
 use std::marker::Model;
-
-// What is kept of a page.
-#[derive(Drop)]
-pub struct PageState {
-    // Its slots that are the owner's, and the slot of its stack to follow next.
-    pub(crate) lists: PageLists,
-    // 0 blank, c + 1 of class c.
-    pub(crate) class_word: u64,
-    pub(crate) armed: bool,
-}
 
 /// The pages of an owner's shard.
 #[derive(Drop)]
@@ -34,7 +23,7 @@ pub struct Pages<'a, L: KeyLayout> {
     // The page of the bell whose link is to be followed next.
     pub(crate) rings: Option<u64>,
     // One for each page of the shard.
-    pub(crate) states: Vec<PageState>,
+    pub(crate) states: PageStates,
 }
 
 impl<'a, L: KeyLayout> Model for Pages<'a, L> {
@@ -48,12 +37,12 @@ impl<'a, L: KeyLayout> Model for Pages<'a, L> {
     ghost view = { λ p. record {
       owner = p.owner;
       shard = p.shard;
-      count = length p.states.items;
+      count = length p.states;
       bell = seen_bell
           L.layout p.owner p.shard;
     } };
 
-    ghost invariant = { λ p. KeepsPages L.layout p.owner p.shard p.rings p.states.items };
+    ghost invariant = { λ p. KeepsPages L.layout p.owner p.shard p.rings p.states };
 }
 
 impl<'a, L: KeyLayout> Pages<'a, L> {
@@ -96,17 +85,13 @@ impl<'a, L: KeyLayout> Pages<'a, L> {
     {
         let mut owner = owner;
         let count = owner.pages();
-        let Ok(mut states) = Vec::with_capacity(alloc, count as usize) else {
+        let Ok(mut states) = PageStates::new(alloc, count) else {
             owner.leave(shard);
             return Err(owner);
         };
         for page in 0..count {
             let class_word = owner.read_page(PageName { shard, page });
-            states.push_reserved(PageState {
-                lists: PageLists::bare(),
-                class_word,
-                armed: false,
-            });
+            states.set_word(page, class_word);
         }
         Ok(Pages {
             owner,
@@ -121,7 +106,7 @@ impl<'a, L: KeyLayout> Pages<'a, L> {
         ensures count { result ≡ self.now.count }
         ensures few { result ≤ 2 ^ 24 }
     {
-        self.states.len() as u64
+        self.states.len()
     }
 
     /// The class word of a page: 0 where it is blank, and else one more than its class.
@@ -130,7 +115,7 @@ impl<'a, L: KeyLayout> Pages<'a, L> {
         ensures word { (page_at self.now page).class ≡ Some result }
         ensures few { result ≤ 8 }
     {
-        self.states[page as usize].class_word
+        self.states.class_word(page)
     }
 
     /// Whether the page has a cursor.
@@ -139,7 +124,7 @@ impl<'a, L: KeyLayout> Pages<'a, L> {
         ensures { MatchBool result (CursorStands (page_at self.now page).cursor)
             ((page_at self.now page).cursor ≡ None) }
     {
-        self.states[page as usize].lists.cursor().is_some()
+        self.states.cursor(page).is_some()
     }
 
     /// Whether the page is armed.
@@ -148,7 +133,7 @@ impl<'a, L: KeyLayout> Pages<'a, L> {
         ensures armed { result ≡ (page_at self.now page).armed }
         ensures classed { result ≡ true → 0 < seen_class (page_at self.now page) }
     {
-        self.states[page as usize].armed
+        self.states.is_armed(page)
     }
 
     /// Whether a slot of the page is the owner's.
@@ -157,7 +142,7 @@ impl<'a, L: KeyLayout> Pages<'a, L> {
         ensures { MatchBool result ((s : ℕ) × ((page_at self.now page).mine s ≡ true))
             (NothingMine (page_at self.now page)) }
     {
-        self.states[page as usize].lists.len() > 0
+        self.states.slots(page) > 0
     }
 
     /// Whether the page has a class, all of whose slots are the owner's.
@@ -165,11 +150,18 @@ impl<'a, L: KeyLayout> Pages<'a, L> {
         requires { page < self.now.count }
         ensures { MatchBool result (WhollyMine (page_at self.now page)) (¬ WhollyMine (page_at self.now page)) }
     {
-        let state = &self.states[page as usize];
-        if state.class_word == 0 {
-            return false;
-        }
-        state.lists.len() == classes::slots((state.class_word - 1) as u32)
+        self.states.is_whole(page)
+    }
+
+    /// The first of the pages below `end` that has a class, all of whose slots are the owner's. A page that was seen to
+    /// have a slot out is looked at again only once a slot came to it.
+    pub(crate) fn first_whole(&mut self, end: u64) -> Option<u64>
+        requires { end ≤ self.old.count }
+        ensures same { self.new ≡ self.old }
+        ensures first { MatchOption result (NoneWhollyMine end self.old)
+            (λ page. (page < end) × WhollyMine (page_at self.old page) × NoneWhollyMine page self.old) }
+    {
+        self.states.first_whole(end)
     }
 
     // What is known of blank pages.

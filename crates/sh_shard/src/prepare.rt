@@ -1,10 +1,9 @@
 // Giving a class to a page that is blank, or that has another class and all of whose slots are the owner's.
 ghost use Rattle.std.specs.Prelude.{◌≡◌, ◌≢◌, ◌+◌, ◌<◌, true, None, Some, MatchOption, MatchBool, IfErr, OnOk, OnErr};
 ghost use Rattle.std.specs.Prelude.{slice_get};
-ghost use Rattle.sh_queue.specs.Queues.{class_queue, one_more_segment};
-ghost use Rattle.sh_shard.specs.Pages.{page_at};
+ghost use Rattle.sh_queue.specs.Queues.{one_more_segment};
+ghost use Rattle.sh_shard.specs.Pages.{page_at, NoneWhollyMine};
 ghost use Rattle.sh_shard.specs.Shards.{IsSpare, NoneSpare, NoneOpenedBlank, IsLowest, PreparesPage, PrepareServes};
-ghost use Rattle.sh_shard.specs.Shards.{NoneWhole};
 ghost use Rattle.sh_shard.specs.Shards.{StaysOwner};
 ghost use Rattle.sh_shard.specs.Bounds.{PrepareIsBounded};
 
@@ -93,64 +92,27 @@ impl<'a, L: KeyLayout> Shard<'a, L> {
         Some(page)
     }
 
-    // Whether the front of its queue tells that no page of the class is wholly the owner's: there is no page, or one
-    // alone, of which a slot is not.
-    fn has_no_whole(&self, class: u32) -> bool
-        requires { class < 8 }
-        ensures { MatchBool result (NoneWhole (class_queue self.now.queues class) self.now.pages) (Unit {0}) }
+    // The lowest opened page of another class all of whose slots are the owner's.
+    fn spare(&mut self, class: u32) -> Option<u32>
+        ensures same { self.new ≡ self.old }
+        ensures lowest { MatchOption result (NoneSpare class self.old.pages)
+            (λ page. (page < self.old.queues.opened) × IsLowest (IsSpare class) page self.old.pages) }
     {
-        let _opened = self.queues.opened();
-        let Some(page) = self.queues.front(class) else {
-            return true;
-        };
-        if self.queues.last(class) != Some(page) {
-            return false;
-        }
-        !self.pages.is_wholly_mine(page as u64)
-    }
-
-    // Whether this other class is the same, or the front of its queue tells that none of its pages is spare.
-    fn has_none(&self, class: u32, other: u32) -> bool
-        requires { other < 8 }
-        ensures { MatchBool result (other ≢ class → NoneWhole (class_queue self.now.queues other) self.now.pages)
-            (Unit {0}) }
-    {
-        other == class || self.has_no_whole(other)
-    }
-
-    // Whether the fronts of the other classes' queues tell that no page is spare. So it is where a shard has values of
-    // one class, and where it is being filled with values of several: each class then has one page with room.
-    fn fronts_have_none(&self, class: u32) -> bool
-        ensures { result ≡ true → NoneSpare class self.now.pages }
-    {
-        let _opened = self.queues.opened();
-        for other in 0..8u32 {
-            if !self.has_none(class, other) {
-                return false;
-            }
-        }
-        true
-    }
-
-    // The lowest opened page of another class all of whose slots are the owner's. Such a page stands in the queue of its
-    // class.
-    fn spare(&self, class: u32) -> Option<u32>
-        ensures { MatchOption result (NoneSpare class self.now.pages)
-            (λ page. (page < self.now.queues.opened) × IsLowest (IsSpare class) page self.now.pages) }
-    {
-        if self.fronts_have_none(class) {
+        let opened = self.queues.opened();
+        let Some(first) = self.pages.first_whole(opened as u64) else {
             return None;
-        }
-        self.lowest_spare(class)
+        };
+        self.spare_from(first as u32, class)
     }
 
-    // The same, by a look at each opened page.
-    fn lowest_spare(&self, class: u32) -> Option<u32>
+    // The same, from the first opened page on all of whose slots are the owner's.
+    fn spare_from(&self, first: u32, class: u32) -> Option<u32>
+        requires { NoneWhollyMine first self.now.pages }
         ensures { MatchOption result (NoneSpare class self.now.pages)
             (λ page. (page < self.now.queues.opened) × IsLowest (IsSpare class) page self.now.pages) }
     {
         let opened = self.queues.opened();
-        for page in 0..opened {
+        for page in first..opened {
             if self.is_spare(class, page) {
                 return Some(page);
             }

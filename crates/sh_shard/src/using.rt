@@ -7,8 +7,6 @@ ghost use Rattle.sh_shard.specs.Steps.{StepsAtMost};
 
 use crate::pages::Pages;
 use sh_key::KeyLayout;
-use sh_lists::PageLists;
-use sh_shape::classes;
 use sh_step::PageName;
 use sh_value::Value;
 
@@ -27,9 +25,8 @@ impl<'a, L: KeyLayout> Pages<'a, L> {
             shard: self.shard,
             page,
         };
-        let state = &mut self.states[page as usize];
-        let slot = state.lists.next_slot()?;
-        let class_word = state.class_word;
+        let class_word = self.states.class_word(page);
+        let slot = self.states.next_slot(page)?;
         Some(self.owner.insert_at(name, slot as u64, value, class_word))
     }
 
@@ -69,11 +66,6 @@ impl<'a, L: KeyLayout> Pages<'a, L> {
             page,
         };
         self.owner.set_class(name, class);
-        let state = &mut self.states[page as usize];
-        let cursor = state.lists.cursor();
-        let mut lists = PageLists::full(classes::slots(class));
-        lists.set_cursor(cursor);
-        state.lists = lists;
-        state.class_word = class as u64 + 1;
+        self.states.give_class(page, class);
     }
 }

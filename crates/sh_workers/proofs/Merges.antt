@@ -1,7 +1,7 @@
 -- A line more whose answer is put among the replies.
-use Rattle.std.proofs.Common.{◌≡◌, ◌≢◌, ℕ, zero, suc, ◌+◌, ◌<◌, ◌≤◌, eq-eqb, ne_eqb, Bool, cond, List, [], ◌∷◌, ◌++◌}
+use Rattle.std.proofs.Common.{◌≡◌, ◌≢◌, ℕ, zero, suc, ◌+◌, ◌<◌, ◌≤◌, eq-eqb, ne_eqb, Bool, false, cond, List, [], ◌∷◌, ◌++◌}
 use Rattle.std.proofs.Common.{length, take, drop, set, slice_get, Option, Some, sym, refl, ap, ◌∙◌, subst, arith}
-use Rattle.std.proofs.Common.{length-set}
+use Rattle.std.proofs.Common.{length-set, inl}
 use Rattle.std.proofs.lemmas.Option.{none-some, same_Some}
 use mathlib.Core.Logic.{dite}
 use native.Mathlib.Decide.{ℕ_discrete}
@@ -107,17 +107,19 @@ module _ (heap : Option Heap) (terms : RunTerms) (tag : Option ℕ) (lines : Lis
   abbrev then : CallsRun
   then = next_run was.run l m.answer one.part
 
-  steps : LineAnswered terms tag was.run l m.answer then
+  steps : LineAnswered false terms tag was.run l m.answer then
   steps =
       let D : Option ℕ → Type 0 = λ b. CallAnswers terms tag l.pass (was.run.parts l.pass) l.call b m.answer one.part in
       record {
+        begins = was.run.parts l.pass;
+        heeds = inl refl;
         part = one.part;
         does = subst D (bound ∙ ap (λ (z : List (Option ℕ)). number_meant z l.call) was.numbers_are) one.does;
         next_is = refl;
       }
 
-  more : OneMore terms tag (opening_calls heap) (take i lines) was.answers l m.answer then
-  more = one_more terms tag (opening_calls heap) was.run then (take i lines) was.answers l m.answer was.ran steps
+  more : OneMore false terms tag (opening_calls heap) (take i lines) was.answers l m.answer then
+  more = one_more false terms tag (opening_calls heap) was.run then (take i lines) was.answers l m.answer was.ran steps
 
   here : (p : ℕ) (side : SeenPass) (qs : List Made) → p ≡ l.pass → slice_get sides p ≡ Some side
       → slice_get (set rests l.pass ms) p ≡ Some qs
@@ -144,7 +146,7 @@ module _ (heap : Option Heap) (terms : RunTerms) (tag : Option ℕ) (lines : Lis
       → after ≡ with_number numbers l.call m.answer → new ≡ set rests l.pass ms
       → longer ≡ output ++ reply_line l m.answer → MergedSoFar heap terms tag lines (i + 1) after sides new longer
   merged_more after new longer named popped printed =
-      let R : List CallLine → Type 0 = λ ls. LinesAnswered terms tag (opening_calls heap) ls (was.answers ++ m.answer ∷ [])
+      let R : List CallLine → Type 0 = λ ls. LinesAnswered false terms tag (opening_calls heap) ls (was.answers ++ m.answer ∷ [])
       then in
       record {
         answers = was.answers ++ m.answer ∷ [];
@@ -204,7 +206,7 @@ pub merging_ends : (heap : Option Heap) (terms : RunTerms) (tag : Option ℕ) (l
 merging_ends heap terms tag lines i numbers sides rests output past h =
     let whole : take i lines ≡ take (length lines) lines =
     take_past lines i past ∙ sym (take_past lines (length lines) (omega arith)) in
-    let R : List CallLine → Type 0 = λ ls. LinesAnswered terms tag (opening_calls heap) ls h.answers h.run in (
+    let R : List CallLine → Type 0 = λ ls. LinesAnswered false terms tag (opening_calls heap) ls h.answers h.run in (
       numbers,
       record {
         answers = h.answers;
@@ -217,7 +219,8 @@ merging_ends heap terms tag lines i numbers sides rests output past h =
             let few = within sides p s e in
             let made = get_some rests p (omega (arith, few, h.sides_all, h.rests_all)) in
             let Q : List CallLine → Type 0 = λ ls. IsWork heap terms tag ls p (h.run.parts p) s made.0 in
-            none_left heap terms tag p h.run.parts s made.0
-            (subst Q (drop_past lines i past) (h.each p s made.0 e made.1));
+            let is = none_left heap terms tag p h.run.parts s made.0
+            (subst Q (drop_past lines i past) (h.each p s made.0 e made.1)) in
+            is ∙ ap (λ (z : SeenPass). record (seen_with_part heap terms h.run.parts p) { orders = z.orders }) (sym is);
       },
     )

@@ -1,5 +1,5 @@
 -- Answers of all passes, put in the order of the script's lines.
-use Rattle.std.specs.Prelude.{◌≡◌, ℕ, List, Option, Some, slice_get, length, take, drop}
+use Rattle.std.specs.Prelude.{◌≡◌, ℕ, false, List, Option, Some, slice_get, length, take, drop}
 use Rattle.sh_script.specs.declared.calls.CallLine.{CallLine}
 use Rattle.sh_output.specs.declared.answer.Answer.{Answer}
 use Rattle.sh_calls.specs.Parts.{RunTerms, SeenPass}
@@ -15,7 +15,7 @@ pub record MergedSoFar (heap : Option Heap) (terms : RunTerms) (tag : Option ℕ
     (numbers : List (Option ℕ)) (sides : List SeenPass) (rests : List (List Made)) (output : List ℕ) : Type 0 where
   pub answers : List Answer
   pub run : CallsRun
-  pub ran : LinesAnswered terms tag (opening_calls heap) (take i lines) answers run
+  pub ran : LinesAnswered false terms tag (opening_calls heap) (take i lines) answers run
   pub numbers_are : numbers ≡ run.numbers
   pub text : output ≡ replies_text (take i lines) answers
   pub sides_all : length sides ≡ terms.shape.passes
@@ -26,4 +26,4 @@ pub record MergedSoFar (heap : Option Heap) (terms : RunTerms) (tag : Option ℕ
 -- all lines are answered so, and these are the passes then
 abbrev pub AllAnswered : Option Heap → RunTerms → Option ℕ → List CallLine → List SeenPass → List ℕ → Type 0
 AllAnswered heap terms tag lines sides output =
-    (numbers : List (Option ℕ)) × AnsweredSoFar heap terms tag lines (length lines) numbers sides output
+    (numbers : List (Option ℕ)) × AnsweredSoFar false heap terms tag lines (length lines) numbers sides output

@@ -1,5 +1,5 @@
 //! A script of calls in threads: one for each pass that has lines.
-ghost use Rattle.std.specs.Prelude.{◌≡◌, ◌<◌, IfOk, IfErr, map, length, option_map};
+ghost use Rattle.std.specs.Prelude.{false, ◌≡◌, ◌<◌, IfOk, IfErr, map, length, option_map};
 ghost use Rattle.std.specs.List.{All};
 ghost use Rattle.sh_script.specs.declared.calls.CallLine.{CallLine};
 ghost use Rattle.sh_output.specs.Keys.{HasTagRoom};
@@ -78,7 +78,8 @@ fn played<S: Side + Send, B: Room + Send + Sync, R: Threads + Wait + Sync, G: Ga
     requires room { HasTagRoom B.terms.layout tag }
     requires sides { map S.seen sides.items ≡ new_passes B.heap B.terms B.terms.shape.passes }
     requires passes { All (λ (l : CallLine). l.pass < B.terms.shape.passes) lines.now }
-    ensures ran { IfOk result (λ ran. LinesRan B.heap B.terms tag lines.now ran.0.items (option_map S.seen ran.1)) }
+    ensures ran { IfOk result (λ ran. LinesRan false B.heap B.terms tag lines.now ran.0.items
+        (option_map S.seen ran.1)) }
     ensures fault { IfErr result IsEndFault }
 {
     let Ok(empty) = Ended::with_capacity(alloc, sides.len()) else {
@@ -116,7 +117,7 @@ pub fn threads_lines<S: Side + Send, R: Threads + Wait + Sync, G: Gate + Sync>(
     requires room { HasTagRoom (terms_seen (map S.seen sides.items)).layout tag }
     requires sides { AreAllNew (map S.seen sides.items) }
     requires passes { All (λ (l : CallLine). l.pass < (terms_seen (map S.seen sides.items)).shape.passes) lines.now }
-    ensures ran { IfOk result (λ ran. LinesRan (heap_seen (map S.seen sides.items))
+    ensures ran { IfOk result (λ ran. LinesRan false (heap_seen (map S.seen sides.items))
         (terms_seen (map S.seen sides.items)) tag lines.now ran.0.items (option_map S.seen ran.1)) }
     ensures fault { IfErr result IsEndFault }
 {

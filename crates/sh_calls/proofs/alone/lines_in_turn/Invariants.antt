@@ -1,10 +1,10 @@
 use Rattle.std.proofs.Common.{map}
-use Rattle.sh_calls.specs.Alone.{AnsweredSoFar}
+use Rattle.sh_calls.specs.Alone.{OrderedSoFar}
 use Rattle.sh_calls.proofs.alone.lines_in_turn.Given as goal
 
 abbrev pub ghost-met : goal.ghost-met
 ghost-met g a = g.at
 
 abbrev pub invariant-loop-line : goal.invariant-loop-line
-invariant-loop-line g l = AnsweredSoFar g.at.0 g.at.1 l.tag l.lines l.line-index l.numbers.items
-    (map g.S.Side.seen l.sides.items) l.output.items
+invariant-loop-line g l = OrderedSoFar g.at.0 g.at.1 l.tag l.lines l.line-index l.numbers.items
+    (map g.S.Side.seen l.sides.items) l.output.items l.last

@@ -10,24 +10,24 @@ pub push_whole-requires-clause-whole : goal.push_whole-requires-clause-whole
 push_whole-requires-clause-whole g c =
     let layout = g.L.KeyLayout.layout in
     let p = c.into_pass-pass in
-    carrier_whole layout g.at.0 g.at.1 g.at.2 c.args.output.items p.result
-    (subst (CarrierRan (Some g.at.0) (heap_terms layout g.at.0.shape) g.at.1 g.at.2 c.args.output.items)
+    carrier_whole g.at.3 layout g.at.0 g.at.1 g.at.2 c.args.output.items p.result
+    (subst (CarrierRan g.at.3 (Some g.at.0) (heap_terms layout g.at.0.shape) g.at.1 g.at.2 c.args.output.items)
     (sym p.ensures) c.requires.1.1)
 
 pub returns : goal.returns
 returns g c =
     let layout = g.L.KeyLayout.layout in
     let p = c.into_pass-pass in
-    let ran : CarrierRan (Some g.at.0) (heap_terms layout g.at.0.shape) g.at.1 g.at.2 c.args.output.items
+    let ran : CarrierRan g.at.3 (Some g.at.0) (heap_terms layout g.at.0.shape) g.at.1 g.at.2 c.args.output.items
     (seen_of_caller layout p.result) =
-    subst (CarrierRan (Some g.at.0) (heap_terms layout g.at.0.shape) g.at.1 g.at.2 c.args.output.items)
+    subst (CarrierRan g.at.3 (Some g.at.0) (heap_terms layout g.at.0.shape) g.at.1 g.at.2 c.args.output.items)
     (sym p.ensures) c.requires.1.1 in
     elim c.if-asked.branch [
       | then-asked+in_ok-push_whole w ↦
-          let done = with_accounts layout g.at.0 g.at.1 g.at.2 c.args.output.items p.result ran w.push_whole.new.output.items
+          let done = with_accounts g.at.3 layout g.at.0 g.at.1 g.at.2 c.args.output.items p.result ran w.push_whole.new.output.items
           w.in_ok-push_whole.ensures in
           rw (w.output-is, w.if-asked.true) done
       | else-asked w ↦
-          let done = without_accounts layout g.at.0 g.at.1 g.at.2 c.args.output.items p.result ran in
+          let done = without_accounts g.at.3 layout g.at.0 g.at.1 g.at.2 c.args.output.items p.result ran in
           rw (w.output-is, w.if-asked.false) done
     ]

@@ -1,4 +1,4 @@
-use Rattle.std.proofs.Common.{rules, ◌≡◌, ◌<◌, map}
+use Rattle.std.proofs.Common.{rules, ◌≡◌, ◌<◌, false, map}
 use Rattle.std.specs.List.{All}
 use Rattle.sh_shape.specs.Shape.{IsShape}
 use Rattle.sh_script.specs.declared.calls.CallLine.{CallLine}
@@ -41,7 +41,7 @@ gathered-requires g c κs within =
       (
         shape,
         opened_ran g.L.KeyLayout.layout g.at.0 shape c.args.heap.now heap (map (λ h. h) c.in_ok-sides.sides.items)
-            c.in_ok-sides.ensures.all c.args.tag g.at.1 c.args.lines.now g.at.2
+            c.in_ok-sides.ensures.all false c.args.tag g.at.1 c.args.lines.now g.at.2
             c.in_ok-output.output.items c.in_ok-output.carrier tag lines c.in_ok-output.ensures.ran,
       ),
     )

@@ -1,4 +1,4 @@
-use Rattle.std.proofs.Common.{◌≡◌, ◌≤◌, ◌∙◌, sym, ap, subst, ℕ, map, length, Option, arith}
+use Rattle.std.proofs.Common.{◌≡◌, ◌≤◌, ◌∙◌, sym, ap, subst, ℕ, false, map, length, Option, arith}
 use Rattle.std.specs.Option.{option_map}
 use Rattle.sh_calls.specs.Finished.{LinesRan}
 use Rattle.sh_calls.proofs.InTurn.{all_are, all_speak, lines_ran}
@@ -31,8 +31,8 @@ met-requires g c κs within =
     let answered = c.in_ok-output.ensures.answered in (
       within,
       (
-        all_are room.heap room.terms room.tag lines (length lines) answered.0 sides output answered.1,
-        all_speak room.heap room.terms room.tag lines (length lines) answered.0 sides output answered.1,
+        all_are false room.heap room.terms room.tag lines (length lines) answered.0 sides output answered.1,
+        all_speak false room.heap room.terms room.tag lines (length lines) answered.0 sides output answered.1,
       ),
     )
 
@@ -44,7 +44,7 @@ returns-clause-ran g c =
     let output = c.in_ok-output.output.items in
     let answered = c.in_ok-output.ensures.answered in
     let past : length lines ≤ length lines = omega arith in
-    let R : Option ℕ → Type 0 = λ tag. LinesRan room.heap room.terms tag lines output (option_map seen c.met.result) in
+    let R : Option ℕ → Type 0 = λ tag. LinesRan false room.heap room.terms tag lines output (option_map seen c.met.result) in
     subst R (sym c.requires.tag) (lines_ran seen room.heap room.terms room.tag lines (length lines) answered.0
     (map seen c.in_ok-output.sides.items) output c.met.result past answered.1 c.met.ensures.met
     c.met.ensures.stays)

@@ -13,14 +13,14 @@ keep-page-requires-clause-may g c = may_come c.get_guard-answer.result.1 c.get_g
 
 pub invariant_of-self : goal.invariant_of-self
 invariant_of-self g c = (kept_after c.get_guard-answer.result.1 c.keep-page.result c.get_guard-answer.new.self
-    c.keep-page.new.states.items c.self.invariant c.get_guard-answer.ensures.leaves c.get_guard-answer.ensures.stands
+    c.keep-page.new.states c.self.invariant c.get_guard-answer.ensures.leaves c.get_guard-answer.ensures.stands
     c.keep-page.ensures).keeps
 
 pub returns-clause-came : goal.returns-clause-came
 returns-clause-came g c =
     let P : Paged → Type 0 = λ z. SlotComes c.keep-page.result z
-    (paged_of g.L.KeyLayout.layout c.get_guard-answer.new.self c.self.inside.shard (length c.keep-page.new.states.items))
+    (paged_of g.L.KeyLayout.layout c.get_guard-answer.new.self c.self.inside.shard (length c.keep-page.new.states))
     in
     subst P c.self.view_is (kept_after c.get_guard-answer.result.1 c.keep-page.result c.get_guard-answer.new.self
-    c.keep-page.new.states.items c.self.invariant c.get_guard-answer.ensures.leaves c.get_guard-answer.ensures.stands
+    c.keep-page.new.states c.self.invariant c.get_guard-answer.ensures.leaves c.get_guard-answer.ensures.stands
     c.keep-page.ensures).comes

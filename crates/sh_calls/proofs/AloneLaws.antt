@@ -1,0 +1,462 @@
+-- Lines one after the other, each pass with a receipt of the line before: the history has their entries in that order.
+use Rattle.std.proofs.Common.{◌≡◌, ◌≢◌, ℕ, zero, suc, ◌+◌, ◌<◌, ◌≤◌, Bool, true, false, cond, List, [], ◌∷◌, ◌++◌}
+use Rattle.std.proofs.Common.{length, take, set, map, slice_get, Option, Some, None, sym, refl, ap, ◌∙◌, subst, arith}
+use Rattle.std.proofs.Common.{append_assoc, append-nil, length-append, ne_eqb, ◌⊎◌, inl, inr, ⊎_elim}
+use Rattle.std.specs.Prelude.{nat_lt, not, IfNone}
+use Rattle.std.specs.Option.{option_map}
+use Rattle.std.specs.List.{Contains}
+use Rattle.std.proofs.lemmas.Bool.Decides.{nat_tests}
+use Rattle.std.proofs.lemmas.List.{map-append}
+use Rattle.std.proofs.lemmas.List.Elements.{Contains-append_left, Contains-append_right, Contains-push}
+use Rattle.std.proofs.lemmas.Option.{none-some, same_Some}
+use mathlib.Core.Logic.{dite}
+use native.Mathlib.Decide.{ℕ_discrete}
+use Rattle.sh_history.specs.declared.entry.Entry.{Entry}
+use Rattle.sh_history.specs.declared.log.LogEntry.{LogEntry}
+use Rattle.sh_history.specs.History.{Legal}
+use Rattle.sh_history.specs.Log.{Agrees, pass_of, entries_of}
+use Rattle.sh_history.proofs.Standing.{splits_at}
+use Rattle.sh_script.specs.declared.calls.CallLine.{CallLine}
+use Rattle.sh_output.specs.declared.answer.Answer.{Answer}
+use Rattle.sh_output.specs.Replies.{reply_line}
+use Rattle.sh_pass.specs.Passes.{Caller}
+use Rattle.sh_calls.specs.Parts.{RunTerms, PassPart, SeenPass, SamePass, HasAllLogs, HasLogOf, new_passes}
+use Rattle.sh_calls.specs.Parts.{tale_told, told_pass, passes_below}
+use Rattle.sh_calls.specs.Calls.{CallAnswers}
+use Rattle.sh_calls.specs.Runs.{CallsRun, LinesAnswered, with_part, with_number, number_meant}
+use Rattle.sh_calls.specs.Told.{part_told}
+use Rattle.sh_calls.specs.Receipts.{SeenReceipt, seen_of_receipt, receipt_seen, order_seen, told_heard, MayHeed}
+use Rattle.sh_calls.specs.Receipts.{HasOrderedTale}
+use Rattle.sh_calls.specs.InOrder.{adds_entry, adding_passes, times, Cut, AllHeard, LastHeard}
+use Rattle.sh_calls.specs.Alone.{seen_with_part, OrderedSoFar, HeedsLast, IsLastOf}
+use Rattle.sh_calls.specs.Finished.{IsOrderedBy, AreWaiting, LinesRan}
+use Rattle.sh_calls.specs.Meeting.{HasMet, SomeWaits, tales_told}
+use Rattle.sh_calls.proofs.ListLemmas.{take_at, take_past, next}
+use Rattle.sh_calls.proofs.LineLemmas.{part_here, part_there}
+use Rattle.sh_calls.proofs.OrderLemmas.{times_append, times_length, times_here, times_else, in_order}
+use Rattle.sh_calls.proofs.GrowLemmas.{grows}
+use Rattle.sh_calls.proofs.InTurn.{begins_alone, answered_more, up_get, within, ends_alone, tale_of_parts, lines_wait}
+use Rattle.sh_calls.proofs.InTurn.{all_speak}
+use Rattle.sh_table.specs.declared.view.Heard.{Heard}
+use Rattle.sh_table.specs.declared.view.Order.{Order}
+use Rattle.sh_table.specs.Seats.{Heap}
+use Rattle.sh_table.specs.Tales.{by, HasFirst, Before}
+use Rattle.sh_table.specs.Views.{Each, heard_in}
+use Rattle.sh_table.proofs.Zips.{zip_length}
+
+-- ---- elements of lists
+
+contains_map : {A B : Type 0} (f : A → B) (xs : List A) (x : A) → Contains xs x → Contains (map f xs) (f x)
+contains_map f xs x c =
+    let s = splits_at xs x c in
+    let is : map f xs ≡ map f s.0 ++ f x ∷ map f s.1 = ap (map f) s.2 ∙ map-append f s.0 (x ∷ s.1) in
+    subst (λ (l : List _). Contains l (f x)) (sym is) (Contains-append_right (map f s.0) (f x ∷ map f s.1) (f x)
+    (Contains-append_left (f x ∷ []) (map f s.1) (f x) (Contains-push [] (f x))))
+
+each_at : {A : Type 0} (P : A → Type 0) (front : List A) (x : A) (rest : List A) → Each P (front ++ x ∷ rest) → P x
+each_at P [] x rest h = h.0
+each_at P (y ∷ ys) x rest h = each_at P ys x rest h.1
+
+each_in : {A : Type 0} (P : A → Type 0) (xs : List A) (x : A) → Contains xs x → Each P xs → P x
+each_in P xs x c h = let s = splits_at xs x c in each_at P s.0 x s.1 (subst (Each P) s.2 h)
+
+each_left : {A : Type 0} (P : A → Type 0) (xs ys : List A) → Each P (xs ++ ys) → Each P xs
+each_left P [] ys h = tt
+each_left P (x ∷ xs) ys h = (h.0, each_left P xs ys h.1)
+
+each_right : {A : Type 0} (P : A → Type 0) (xs ys : List A) → Each P (xs ++ ys) → Each P ys
+each_right P [] ys h = h
+each_right P (x ∷ xs) ys h = each_right P xs ys h.1
+
+nothing_in : {A : Type 0} (before : List A) (x : A) (after : List A) → [] ≡ before ++ x ∷ after → ⊥
+nothing_in [] x after e = let z : [] ≡ x ∷ after = e in cc
+nothing_in (y ∷ ys) x after e = let z : [] ≡ y ∷ (ys ++ x ∷ after) = e in cc
+
+snoc_split : (who before after : List ℕ) (x a : ℕ) → who ++ x ∷ [] ≡ before ++ a ∷ after
+    → ((before ≡ who) × (a ≡ x)) ⊎ ((rest : List ℕ) × (who ≡ before ++ a ∷ rest))
+snoc_split [] [] after x a e = let z : x ≡ a = cc in inl (refl, sym z)
+snoc_split [] (y ∷ ys) after x a e = let z : [] ≡ ys ++ a ∷ after = cc in absurd (nothing_in ys a after z)
+snoc_split (w ∷ ws) [] after x a e = let z : w ≡ a = cc in inr (ws, ap (λ (q : ℕ). q ∷ ws) z)
+snoc_split (w ∷ ws) (y ∷ ys) after x a e =
+    let z : w ≡ y = cc in
+    let t : ws ++ x ∷ [] ≡ ys ++ a ∷ after = cc in
+    ⊎_elim (λ (s : (ys ≡ ws) × (a ≡ x)). inl ((λ i. sym z i ∷ s.0 i), s.1))
+    (λ (s : (rest : List ℕ) × (ws ≡ ys ++ a ∷ rest)). inr (s.0, λ i. z i ∷ s.1 i)) (snoc_split ws ys after x a t)
+
+adding_more : (terms : RunTerms) (tag : Option ℕ) (before after : CallsRun) (ls : List CallLine) (bs : List Answer)
+    (l : CallLine) (a : Answer) → LinesAnswered true terms tag before ls bs after
+    → adding_passes (ls ++ l ∷ []) (bs ++ a ∷ []) ≡ adding_passes ls bs ++ cond (adds_entry l.call a) (l.pass ∷ []) []
+adding_more terms tag before after [] [] l a h = append-nil (cond (adds_entry l.call a) (l.pass ∷ []) [])
+adding_more terms tag before after [] (b ∷ bs) l a h = absurd h
+adding_more terms tag before after (k ∷ ks) [] l a h = absurd h
+adding_more terms tag before after (k ∷ ks) (b ∷ bs) l a h =
+    ap (λ (t : List ℕ). cond (adds_entry k.call b) (k.pass ∷ []) [] ++ t) (adding_more terms tag h.0 after ks bs l a h.2)
+    ∙ sym (append_assoc (cond (adds_entry k.call b) (k.pass ∷ []) []) (adding_passes ks bs)
+    (cond (adds_entry l.call a) (l.pass ∷ []) []))
+
+-- ---- points of the history
+
+none_cut : (history : List Entry) (who : List ℕ) (p a : ℕ) → length (times p who) ≡ 0 → Cut history who p a
+none_cut history who p a e = record {
+  early = [];
+  late = history;
+  is = refl;
+  heard = omega (arith, e);
+  own = omega arith;
+}
+
+order_cut : (history : List Entry) (who : List ℕ) (p : ℕ) (s : SeenPass) (h : Heard) → Before history (order_seen s h)
+    → h.pass ≡ p → length (times p who) ≤ length h.log → length (times s.pass who) ≡ length s.part.log
+    → Cut history who p s.pass
+order_cut history who p s h b pass few own =
+    let f : HasFirst b.0 h = b.4 in
+    let same : length h.log ≡ length f.0 = zip_length Agrees h.log f.0 f.3 in
+    let long : length (by p b.0) ≡ length f.0 + length f.1 = ap (λ (q : ℕ). length (by q b.0)) (sym pass)
+    ∙ (ap (λ (l : List Entry). length l) f.2 ∙ length-append f.0 f.1) in
+    let mine : length (by s.pass b.0) ≡ length s.part.log = b.3 in
+    record {
+      early = b.0;
+      late = b.1;
+      is = b.2;
+      heard = omega (arith, same, long, few);
+      own = omega (arith, mine, own);
+    }
+
+-- ---- a line more
+
+pub orders_only : (last : Option Caller) (side mid : SeenPass) → HeedsLast last side mid
+    → mid ≡ record side { part = mid.part; orders = mid.orders }
+orders_only None side mid e = e ∙ ap (λ (z : SeenPass). record side { part = z.part; orders = z.orders }) (sym e)
+orders_only (Some r) side mid e = e.is ∙ ap (λ (z : SeenPass). record side { part = mid.part; orders = z.orders })
+    (sym e.is)
+
+may_heed : (last : Option Caller) (side mid : SeenPass) → HeedsLast last side mid → MayHeed true side.part mid.part
+may_heed None side mid e = inl (ap (λ (z : SeenPass). z.part) e)
+may_heed (Some r) side mid e = inr (refl, (r, e.part))
+
+same_log : (last : Option Caller) (side mid : SeenPass) → HeedsLast last side mid → mid.part.log ≡ side.part.log
+same_log None side mid e = ap (λ (z : SeenPass). z.part.log) e
+same_log (Some r) side mid e = ap (λ (u : PassPart). u.log) e.part.is
+
+all_heard : (heap : Option Heap) (who : List ℕ) (last : Option Caller) (side mid : SeenPass)
+    → LastHeard heap who last → HeedsLast last side mid → (history : List Entry) → Each (Before history) mid.orders
+    → AllHeard history who
+all_heard heap who None side mid h e history each = λ before after a is p. absurd
+    (nothing_in before a after (sym h ∙ is))
+all_heard heap who (Some r) side mid h e history each =
+    let es : Each (Before history) (side.orders ++ (r.view.orders ++ map (order_seen side) (heard_in r.view))) = subst
+    (λ (z : SeenPass). Each (Before history) z.orders) e.is each in
+    h.orders history (each_left (Before history) r.view.orders _ (each_right (Before history) side.orders _ es))
+
+now_cut : (heap : Option Heap) (who : List ℕ) (last : Option Caller) (side mid : SeenPass)
+    → LastHeard heap who last → HeedsLast last side mid → length (times side.pass who) ≡ length side.part.log
+    → (history : List Entry) → Each (Before history) mid.orders → (p : ℕ) → Cut history who p side.pass
+now_cut heap who None side mid h e own history each p = none_cut history who p side.pass
+    (ap (λ (l : List ℕ). length (times p l)) h)
+now_cut heap who (Some r) side mid h e own history each p =
+    let es : Each (Before history) (side.orders ++ (r.view.orders ++ map (order_seen side) (heard_in r.view))) = subst
+    (λ (z : SeenPass). Each (Before history) z.orders) e.is each in
+    let ours : Each (Before history) (map (order_seen side) (heard_in r.view)) = each_right (Before history)
+    r.view.orders _ (each_right (Before history) side.orders _ es) in
+    go (length (times p who)) refl ours
+  where
+    go : (n : ℕ) → length (times p who) ≡ n → Each (Before history) (map (order_seen side) (heard_in r.view))
+        → Cut history who p side.pass
+    go zero is ours = none_cut history who p side.pass is
+    go (suc n) is ours =
+        let k = h.heard p (omega (arith, is)) in
+        order_cut history who p side k.0 (each_in (Before history) (map (order_seen side) (heard_in r.view))
+        (order_seen side k.0) (contains_map (order_seen side) (heard_in r.view) k.0 k.1) ours) k.2 k.3 own
+
+module _ (heap : Option Heap) (terms : RunTerms) (tag : Option ℕ) (lines : List CallLine) (i : ℕ)
+    (numbers : List (Option ℕ)) (sides : List SeenPass) (output : List ℕ) (last : Option Caller)
+    (was : OrderedSoFar heap terms tag lines i numbers sides output last) (l : CallLine)
+    (at : slice_get lines i ≡ Some l) (side mid now : SeenPass) (own : slice_get sides l.pass ≡ Some side)
+    (heeds : HeedsLast last side mid) (same : SamePass mid now) (a : Answer)
+    (does : CallAnswers mid.terms tag mid.pass mid.part l.call (number_meant numbers l.call) a now.part) where
+  abbrev who : List ℕ
+  who = adding_passes (take i lines) was.so_far.answers
+
+  abbrev new : List ℕ
+  new = cond (adds_entry l.call a) (l.pass ∷ []) []
+
+  abbrev who' : List ℕ
+  who' = adding_passes (take (i + 1) lines) (was.so_far.answers ++ a ∷ [])
+
+  only : mid ≡ record side { part = mid.part; orders = mid.orders }
+  only = orders_only last side mid heeds
+
+  side_is : side ≡ record (seen_with_part heap terms was.so_far.run.parts l.pass) { orders = side.orders }
+  side_is = was.so_far.each l.pass side own
+
+  who_is : who' ≡ who ++ new
+  who_is = ap (λ (ls : List CallLine). adding_passes ls (was.so_far.answers ++ a ∷ []))
+      (ap (λ (k : ℕ). take k lines) (sym (next i)) ∙ take_at lines i l at)
+      ∙ adding_more terms tag _ was.so_far.run (take i lines) was.so_far.answers l a was.so_far.ran
+
+  side_pass : side.pass ≡ l.pass
+  side_pass = ap (λ (z : SeenPass). z.pass) side_is
+
+  now_pass : now.pass ≡ l.pass
+  now_pass = ap (λ (z : SeenPass). z.pass) same ∙ (ap (λ (z : SeenPass). z.pass) only ∙ side_pass)
+
+  now_heap : now.heap ≡ heap
+  now_heap = ap (λ (z : SeenPass). z.heap) same ∙ (ap (λ (z : SeenPass). z.heap) only
+      ∙ ap (λ (z : SeenPass). z.heap) side_is)
+
+  now_orders : now.orders ≡ mid.orders
+  now_orders = ap (λ (z : SeenPass). z.orders) same
+
+  side_log : length (times side.pass who) ≡ length side.part.log
+  side_log = ap (λ (q : ℕ). length (times q who)) side_pass ∙ (was.counts l.pass
+      ∙ sym (ap (λ (z : SeenPass). length z.part.log) side_is))
+
+  grown : length now.part.log ≡ length side.part.log + cond (adds_entry l.call a) 1 0
+  grown = grows mid.terms tag mid.pass mid.part l.call (number_meant numbers l.call) a now.part does
+      ∙ ap (λ (z : List LogEntry). length z + cond (adds_entry l.call a) 1 0) (same_log last side mid heeds)
+
+  new_here : length (times l.pass new) ≡ cond (adds_entry l.call a) 1 0
+  new_here = go (adds_entry l.call a) where
+    go : (b : Bool) → length (times l.pass (cond b (l.pass ∷ []) [])) ≡ cond b 1 0
+    go true = ap (λ (q : List ℕ). length q) (times_here l.pass [])
+    go false = refl
+
+  new_else : (p : ℕ) → p ≢ l.pass → times p new ≡ []
+  new_else p ne = go (adds_entry l.call a) where
+    go : (b : Bool) → times p (cond b (l.pass ∷ []) []) ≡ []
+    go true = times_else p l.pass [] (λ e. ne (sym e))
+    go false = refl
+
+  told_now : (p : ℕ) → length (times p who') ≡ length (times p who) + length (times p new)
+  told_now p = ap (λ (q : List ℕ). length (times p q)) who_is ∙ times_length p who new
+
+  told_mine : length (times l.pass who') ≡ length now.part.log
+  told_mine =
+      let x = told_now l.pass in
+      let y = new_here in
+      let z = grown in
+      let w : length (times l.pass who) ≡ length side.part.log = was.counts l.pass
+      ∙ sym (ap (λ (z : SeenPass). length z.part.log) side_is) in
+      omega (arith, x, y, z, w)
+
+  told_other : (p : ℕ) → p ≢ l.pass → times p who' ≡ times p who
+  told_other p ne = ap (times p) who_is ∙ (times_append p who new ∙ (ap (λ (q : List ℕ). times p who ++ q)
+      (new_else p ne) ∙ append-nil (times p who)))
+
+  counts_more : (p : ℕ) → length (times p who') ≡ length (with_part was.so_far.run.parts l.pass now.part p).log
+  counts_more p = dite (ℕ_discrete p l.pass)
+      (λ (e : p ≡ l.pass). ap (λ (q : ℕ). length (times q who')) e ∙ (told_mine
+      ∙ sym (ap (λ (u : PassPart). length u.log) (part_here was.so_far.run.parts l.pass p now.part e))))
+      (λ (ne : p ≢ l.pass). ap (λ (q : List ℕ). length q) (told_other p ne) ∙ (was.counts p
+      ∙ sym (ap (λ (u : PassPart). length u.log) (part_there was.so_far.run.parts l.pass p now.part ne))))
+
+  few_more : (p : ℕ) → terms.shape.passes ≤ p → times p who' ≡ []
+  few_more p le = let w = within sides l.pass side own in let n = was.so_far.all in
+      told_other p (λ e. omega (arith, w, n, le, e)) ∙ was.few p le
+
+  mid_has : (o : Order) → Contains mid.orders o → Contains (receipt_seen now).heard o.heard
+  mid_has o h = Contains-append_right (record { pass = now.pass; log = now.part.log } ∷ map told_heard now.told)
+      (map (λ (o : Order). o.heard) now.orders) o.heard (contains_map (λ (o : Order). o.heard) now.orders o
+      (subst (λ (os : List Order). Contains os o) (sym now_orders) h))
+
+  heard_else : (last : Option Caller) → LastHeard heap who last → HeedsLast last side mid → (p : ℕ)
+      → 0 < length (times p who) → (h : Heard) × Contains (receipt_seen now).heard h × (h.pass ≡ p)
+      × (length (times p who) ≤ length h.log)
+  heard_else None h e p some = absurd (let z : length (times p who) ≡ 0 = ap (λ (q : List ℕ). length (times p q)) h
+      in omega (arith, z, some))
+  heard_else (Some r) h e p some =
+      let k = h.heard p some in
+      let in_mid : Contains mid.orders (order_seen side k.0) = subst
+      (λ (z : SeenPass). Contains z.orders (order_seen side k.0)) (sym e.is)
+      (Contains-append_right side.orders (r.view.orders ++ map (order_seen side) (heard_in r.view)) (order_seen side k.0)
+      (Contains-append_right r.view.orders (map (order_seen side) (heard_in r.view)) (order_seen side k.0)
+      (contains_map (order_seen side) (heard_in r.view) k.0 k.1))) in
+      (k.0, mid_has (order_seen side k.0) in_mid, k.2, k.3)
+
+  heard_more : (p : ℕ) → 0 < length (times p who') → (h : Heard) × Contains (receipt_seen now).heard h × (h.pass ≡ p)
+      × (length (times p who') ≤ length h.log)
+  heard_more p some = dite (ℕ_discrete p l.pass)
+      (λ (e : p ≡ l.pass).
+      let c : length (times p who') ≡ length now.part.log = ap (λ (q : ℕ). length (times q who')) e ∙ told_mine in (
+        record { pass = now.pass; log = now.part.log },
+        Contains-append_left (record { pass = now.pass; log = now.part.log } ∷ [])
+            (map told_heard now.told ++ map (λ (o : Order). o.heard) now.orders)
+            (record { pass = now.pass; log = now.part.log }) (Contains-push [] _),
+        now_pass ∙ sym e,
+        omega (arith, c),
+      ))
+      (λ (ne : p ≢ l.pass).
+      let c : length (times p who') ≡ length (times p who) = ap (λ (q : List ℕ). length q) (told_other p ne) in
+      let k = heard_else last was.last_heard heeds p (omega (arith, c, some)) in
+      let m = k.3 in
+      (k.0, k.1, k.2, omega (arith, c, m)))
+
+  orders_more : (history : List Entry) → Each (Before history) now.orders → AllHeard history who'
+  orders_more history each =
+      let es : Each (Before history) mid.orders = subst (Each (Before history)) now_orders each in
+      let old : AllHeard history who = all_heard heap who last side mid was.last_heard heeds history es in
+      let cut : (p : ℕ) → Cut history who p l.pass = λ p. subst (λ (q : ℕ). Cut history who p q) side_pass
+      (now_cut heap who last side mid was.last_heard heeds side_log history es p) in
+      subst (AllHeard history) (sym who_is) (go (adds_entry l.call a) old cut)
+    where
+      go : (b : Bool) → AllHeard history who → ((p : ℕ) → Cut history who p l.pass)
+          → AllHeard history (who ++ cond b (l.pass ∷ []) [])
+      go false old cut = subst (AllHeard history) (sym (append-nil who)) old
+      go true old cut = λ before after b is p. ⊎_elim
+          (λ (s : (before ≡ who) × (b ≡ l.pass)). let P : List ℕ × ℕ → Type 0 = λ z. Cut history z.0 p z.1
+          in subst P (λ j. (sym s.0 j, sym s.1 j)) (cut p))
+          (λ (s : (rest : List ℕ) × (who ≡ before ++ b ∷ rest)). old before s.0 b s.1 p)
+          (snoc_split who before after l.pass b is)
+
+  pub ordered_more : (after : List (Option ℕ)) (sides' : List SeenPass) (longer : List ℕ) (r : Caller)
+      → after ≡ with_number numbers l.call a → sides' ≡ set sides l.pass now
+      → longer ≡ output ++ reply_line l a → seen_of_receipt r ≡ receipt_seen now
+      → OrderedSoFar heap terms tag lines (i + 1) after sides' longer (Some r)
+  ordered_more after sides' longer r named put printed tells = record {
+    so_far = answered_more heap terms tag lines i numbers sides output was.so_far l at side mid now own only
+        (may_heed last side mid heeds) same a does after sides' longer named put printed;
+    counts = counts_more;
+    few = few_more;
+    last_heard = record {
+      heap_is = ap (λ (z : SeenReceipt). z.heap) tells ∙ now_heap;
+      heard = λ p some. let m = heard_more p some in
+          (m.0, subst (λ (z : SeenReceipt). Contains z.heard m.0) (sym tells) m.1, m.2, m.3);
+      orders = λ history each. orders_more history
+          (subst (λ (z : SeenReceipt). Each (Before history) z.orders) tells each);
+    };
+  }
+
+pub begins_ordered : (heap : Option Heap) (terms : RunTerms) (tag : Option ℕ) (lines : List CallLine)
+    (sides : List SeenPass) → sides ≡ new_passes heap terms terms.shape.passes
+    → OrderedSoFar heap terms tag lines 0 [] sides [] None
+begins_ordered heap terms tag lines sides e = record {
+  so_far = begins_alone heap terms tag lines sides e;
+  counts = λ p. refl;
+  few = λ p le. refl;
+  last_heard = refl;
+}
+
+-- the last receipt is of the heap
+pub last_of : (heap heap' : Option Heap) (ps : List ℕ) (last : Option Caller) → heap' ≡ heap
+    → LastHeard heap ps last → IsLastOf heap' last
+last_of heap heap' ps None e h = tt
+last_of heap heap' ps (Some r) e h = h.heap_is ∙ sym e
+
+-- ---- the end
+
+log_at : (history : List Entry) (parts : ℕ → PassPart) (ns : List ℕ) → HasAllLogs history (map (part_told parts) ns)
+    → (k p : ℕ) → slice_get ns k ≡ Some p → HasLogOf history (part_told parts p)
+log_at history parts [] h k p e = absurd (none-some p e)
+log_at history parts (n ∷ ns) h zero p e = subst (λ (q : ℕ). HasLogOf history (part_told parts q)) (same_Some n p e) h.0
+log_at history parts (n ∷ ns) h (suc k) p e = log_at history parts ns h.1 k p e
+
+none_by : (passes p : ℕ) → passes ≤ p → (es : List Entry) → entries_of (λ q. not (nat_lt q passes)) es ≡ []
+    → by p es ≡ []
+none_by passes p le [] h = refl
+none_by passes p le (e ∷ es) h = go (nat_lt (pass_of e) passes) refl (none_by passes p le es) h
+  where
+    skip : pass_of e ≢ p → by p es ≡ [] → by p (e ∷ es) ≡ []
+    skip ne rest = ap (λ b. cond b (e ∷ by p es) (by p es)) (ne_eqb (pass_of e) p ne) ∙ rest
+
+    go : (b : Bool) → nat_lt (pass_of e) passes ≡ b → (entries_of (λ q. not (nat_lt q passes)) es ≡ [] → by p es ≡ [])
+        → cond (not b) (e ∷ entries_of (λ q. not (nat_lt q passes)) es) (entries_of (λ q. not (nat_lt q passes)) es)
+        ≡ [] → by p (e ∷ es) ≡ []
+    go true is rest h = let l : pass_of e < passes = grind (arith, nat_tests) in
+        skip (λ q. omega (arith, l, le, q)) (rest h)
+    go false is rest h = absurd (let z : e ∷ entries_of (λ q. not (nat_lt q passes)) es ≡ [] = h in cc)
+
+shard_heeds : (last : Option Caller) (s c : SeenPass) → HeedsLast last s c → c.part.shard ≡ s.part.shard
+shard_heeds None s c e = ap (λ (z : SeenPass). z.part.shard) e
+shard_heeds (Some r) s c e = ap (λ (u : PassPart). u.shard) e.part.is
+
+tale_heeds : (last : Option Caller) (s c : SeenPass) → HeedsLast last s c → tale_told c ≡ tale_told s
+tale_heeds None s c e = ap tale_told e
+tale_heeds (Some r) s c e = ap tale_told e.is
+    ∙ ap (λ (u : PassPart). record { pass = s.pass; log = u.log } ∷ s.told) e.part.is
+
+ordered_by : (heap : Option Heap) (terms : RunTerms) (tag : Option ℕ) (lines : List CallLine) (i : ℕ)
+    (numbers : List (Option ℕ)) (sides : List SeenPass) (output : List ℕ) (last : Option Caller)
+    (was : OrderedSoFar heap terms tag lines i numbers sides output last) → length lines ≤ i → (s c : SeenPass)
+    → HeedsLast last s c
+    → tale_told s ≡ map (part_told was.so_far.run.parts) (passes_below terms.shape.passes)
+    → IsOrderedBy terms lines was.so_far.answers c
+ordered_by heap terms tag lines i numbers sides output last was past s c heeds tale history has only each =
+    let who : List ℕ = adding_passes (take i lines) was.so_far.answers in
+    let n : ℕ = terms.shape.passes in
+    let logs : HasAllLogs history (map (part_told was.so_far.run.parts) (passes_below n)) = subst (HasAllLogs history)
+    (tale_heeds last s c heeds ∙ tale) has in
+    let many : (p : ℕ) → length (times p who) ≡ length (by p history) = λ p. ⊎_elim
+    (λ (less : p < n). was.counts p ∙ zip_length Agrees (was.so_far.run.parts p).log (by p history)
+    (log_at history was.so_far.run.parts (passes_below n) logs p p (up_get n p less)))
+    (λ (le : n ≤ p). ap (λ (q : List ℕ). length q) (was.few p le)
+    ∙ sym (ap (λ (q : List Entry). length q) (none_by n p le history only))) (below p n) in
+    let heard : AllHeard history who = all_heard heap who last s c was.last_heard heeds history each in
+    in_order history who many heard ∙ ap (λ (ls : List CallLine). adding_passes ls was.so_far.answers) (take_past lines i past)
+  where
+    below : (p n : ℕ) → (p < n) ⊎ (n ≤ p)
+    below p zero = inr (omega arith)
+    below zero (suc n) = inl (omega arith)
+    below (suc p) (suc n) = ⊎_elim (λ (h : p < n). inl (omega (arith, h))) (λ (h : n ≤ p). inr (omega (arith, h))) (below p n)
+
+module _ (heap : Option Heap) (terms : RunTerms) (tag : Option ℕ) (lines : List CallLine) (i : ℕ)
+    (numbers : List (Option ℕ)) (sides : List SeenPass) (output : List ℕ) (last : Option Caller)
+    (was : OrderedSoFar heap terms tag lines i numbers sides output last) (s c : SeenPass)
+    (heeds : HeedsLast last s c) (m : HasMet heap terms s (tales_told sides)) where
+  only_orders : c ≡ record s { part = c.part; orders = c.orders }
+  only_orders = orders_only last s c heeds
+
+  same_terms : c.terms ≡ terms
+  same_terms = ap (λ (z : SeenPass). z.terms) only_orders ∙ m.carries.1
+
+  same_tale : tale_told c ≡ tales_told sides
+  same_tale = tale_heeds last s c heeds ∙ m.carries.2
+
+  -- the carrier, which heeded the last receipt, speaks for all passes
+  pub carrier_speaks : map told_pass (tale_told c) ≡ passes_below c.terms.shape.passes
+  carrier_speaks = ap (map told_pass) same_tale
+      ∙ (all_speak true heap terms tag lines i numbers sides output was.so_far
+      ∙ ap (λ (t : RunTerms). passes_below t.shape.passes) (sym same_terms))
+
+  -- all could meet
+  pub ran_on : length lines ≤ i → HasOrderedTale c → LinesRan true heap terms tag lines output (Some c)
+  ran_on past stands =
+      let tale = tale_of_parts true heap terms tag lines i numbers sides output was.so_far in
+      let history : List Entry = stands.whole.history in
+      let only : entries_of (λ p. not (nat_lt p terms.shape.passes)) history ≡ [] = subst
+      (λ (t : RunTerms). entries_of (λ p. not (nat_lt p t.shape.passes)) history ≡ []) same_terms stands.whole.only in
+      let ordered : IsOrderedBy terms lines was.so_far.answers c = ordered_by heap terms tag lines i numbers sides output
+      last was past s c heeds (m.carries.2 ∙ tale) in
+      record {
+        met = record {
+          told = record {
+            replies = ends_alone true heap terms tag lines i numbers sides output past was.so_far;
+            tale_is = same_tale ∙ tale;
+            whole = record {
+              history = history;
+              legal = subst (λ (t : RunTerms). Legal t.shape.passes t.layout.guard_max history) same_terms
+                  stands.whole.legal;
+              has = stands.whole.has;
+              only = only;
+            };
+            in_order = λ e. ordered history stands.whole.has only stands.orders;
+          };
+          carries = (ap (λ (z : SeenPass). z.heap) only_orders ∙ m.carries.0, same_terms, refl);
+          none = shard_heeds last s c heeds ∙ m.none;
+          ordered = λ e. ordered;
+        };
+        stays = tt;
+      }
+
+-- nobody carries the tale
+pub ran_to_none : {S : Type 0} (seen : S → SeenPass) (heap : Option Heap) (terms : RunTerms) (tag : Option ℕ)
+    (lines : List CallLine) (i : ℕ) (numbers : List (Option ℕ)) (sides : List SeenPass) (output : List ℕ)
+    (last : Option Caller) (o : Option S) → OrderedSoFar heap terms tag lines i numbers sides output last
+    → length lines ≤ i → o ≡ None → IfNone o (SomeWaits sides ⊎ (sides ≡ []))
+    → LinesRan true heap terms tag lines output None
+ran_to_none seen heap terms tag lines i numbers sides output last o was past is stays =
+    let waits = lines_wait seen true heap terms tag lines i numbers sides output o past was.so_far stays in
+    record {
+      met = tt;
+      stays = subst (λ q. IfNone (option_map seen q) (AreWaiting true heap terms tag lines output
+          ⊎ (terms.shape.passes ≡ 0))) is waits;
+    }

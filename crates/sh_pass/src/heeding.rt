@@ -1,0 +1,26 @@
+//! What it is worth to heed a receipt.
+ghost use Rattle.std.specs.Prelude.{◌≡◌, ◌⊎◌};
+ghost use Rattle.sh_pass.specs.Receipts.{RemovalRefused, GetsAfterRemoval};
+
+use crate::pass::Pass;
+use sh_key::KeyLayout;
+use sh_table::heard_comes_first;
+use sh_value::{Hold, Refusal};
+
+/// Removes a key by one pass, and then gets it by another, which heeds a receipt of the removal. A removal that is
+/// refused, as `BadKey` or `Gone`, ends it. Else that get does not find the key: it is refused, and not as `Crowded`.
+pub fn remove_then_get<L: KeyLayout>(
+    one: &mut Pass<'_, L>,
+    other: &mut Pass<'_, L>,
+    key: u64,
+) -> Result<Hold, Refusal>
+    requires { other.old.heap ≡ one.old.heap }
+    ensures { RemovalRefused L.layout key one.old other.old result one.new other.new
+        ⊎ GetsAfterRemoval L.layout key one.old other.old result one.new other.new }
+{
+    one.remove(key)?;
+    let told = one.receipt();
+    other.heed(told);
+    heard_comes_first();
+    other.get(key)
+}

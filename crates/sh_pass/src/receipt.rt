@@ -1,0 +1,119 @@
+//! Receipts: what one pass gives and another heeds, so that all that the first was answered stands before what the
+//! other is answered from then on.
+ghost use Rattle.std.specs.Prelude.{◌≡◌};
+ghost use Rattle.sh_table.specs.Tales.{ViewStands};
+ghost use Rattle.sh_pass.specs.Receipts.{receipt_by, heeded};
+
+use crate::heap::Heap;
+use crate::owner::Owner;
+use crate::pass::Pass;
+use crate::state::PassState;
+use sh_key::KeyLayout;
+use sh_table::Token;
+use std::marker::Model;
+
+/// A witness of what happened before: it tells all that a pass was answered until it gave the receipt, and all that the
+/// pass had heard of others.
+///
+/// It has no bytes, and may go to another thread in any way. It stays true whatever anybody does, and one that is
+/// dropped is no loss. A contract sees which heap it is of and what it tells.
+///
+/// ```text
+/// let key = owner.insert(value)?;  let receipt = owner.receipt();  // both are sent to another thread
+/// pass.heed(receipt);  pass.get(key)                               // there: Gone only where the key was removed
+/// ```
+#[derive(Drop)]
+pub struct Receipt {
+    pub(crate) seat: Token,
+}
+
+impl Model for Receipt {
+    ghost use Rattle.sh_pass.specs.Passes.{Caller, caller_of, heap_of};
+    ghost use Rattle.sh_table.specs.Seats.{IsReceipt};
+
+    ghost Value = { Caller };
+
+    ghost view = { λ r. caller_of r.seat };
+
+    ghost invariant = { λ r. IsReceipt (heap_of r.seat) r.seat };
+}
+
+impl Receipt {
+    /// A second receipt that tells the same, for one more pass to heed: one load.
+    pub fn copy<L: KeyLayout>(&mut self, heap: &Heap<L>) -> Receipt
+        requires { self.old.heap ≡ heap.now }
+        ensures same { self.new ≡ self.old }
+        ensures copied { result ≡ self.old }
+    {
+        Receipt {
+            seat: heap.table.copy_receipt(&mut self.seat),
+        }
+    }
+}
+
+impl<L: KeyLayout> PassState<L> {
+    /// A receipt of all that the pass was answered, and of all that it heard of others: one load.
+    pub fn receipt(&mut self, heap: &Heap<L>) -> Receipt
+        requires { self.old.heap ≡ heap.now }
+        ensures same { self.new ≡ self.old }
+        ensures tells { result ≡ receipt_by self.old }
+    {
+        Receipt {
+            seat: heap.table.receipt(&mut self.seat),
+        }
+    }
+
+    /// All that the receipt tells stands before what the pass is answered from now on: two loads.
+    pub fn heed(&mut self, heap: &Heap<L>, receipt: Receipt)
+        requires own { self.old.heap ≡ heap.now }
+        requires receipt { receipt.heap ≡ heap.now }
+        ensures heeds { self.new ≡ heeded self.old receipt }
+        ensures stands { ViewStands L.layout self.new.view }
+    {
+        let Receipt { seat } = receipt;
+        heap.table.heed(&mut self.seat, seat);
+    }
+}
+
+impl<L: KeyLayout> Pass<'_, L> {
+    /// A receipt of all that the pass was answered, and of all that it heard of others: one load.
+    pub fn receipt(&mut self) -> Receipt
+        ensures same { self.new ≡ self.old }
+        ensures tells { result ≡ receipt_by self.old }
+    {
+        self.state.receipt(self.heap)
+    }
+
+    /// All that the receipt tells stands before what the pass is answered from now on: two loads.
+    pub fn heed(&mut self, receipt: Receipt)
+        requires { receipt.heap ≡ self.old.heap }
+        ensures heeds { self.new ≡ heeded self.old receipt }
+        ensures stands { ViewStands L.layout self.new.view }
+    {
+        self.state.heed(self.heap, receipt);
+    }
+}
+
+impl<L: KeyLayout> Owner<'_, L> {
+    /// A receipt of all that the owner was answered, and of all that it heard of others: one load.
+    pub fn receipt(&mut self) -> Receipt
+        ensures same { self.new ≡ self.old }
+        ensures tells { result ≡ receipt_by self.old }
+    {
+        let heap = self.heap;
+        Receipt {
+            seat: heap.table.receipt(&mut self.seat),
+        }
+    }
+
+    /// All that the receipt tells stands before what the owner is answered from now on: two loads.
+    pub fn heed(&mut self, receipt: Receipt)
+        requires { receipt.heap ≡ self.old.heap }
+        ensures heeds { self.new ≡ heeded self.old receipt }
+        ensures stands { ViewStands L.layout self.new.view }
+    {
+        let Receipt { seat: told } = receipt;
+        let heap = self.heap;
+        heap.table.heed(&mut self.seat, told);
+    }
+}

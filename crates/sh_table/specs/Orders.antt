@@ -1,0 +1,68 @@
+-- What it gives to heed a receipt: all that was heard stands before what its carrier is answered from then on.
+use Rattle.std.specs.Prelude.{◌≡◌, ℕ, ◌≤◌, List, [], ◌∷◌, ◌++◌, length}
+use Rattle.std.specs.List.{Contains}
+use Rattle.sh_history.specs.declared.entry.Entry.{Entry}
+use Rattle.sh_history.specs.declared.entry.Entry.TheVariants.{Insert, Got, Gone, Crowded, Removed}
+use Rattle.sh_history.specs.declared.log.LogEntry.{LogEntry}
+use Rattle.sh_history.specs.declared.log.LogEntry.TheVariants.{Known, Unread}
+use Rattle.sh_history.specs.Laws.{HasRemoval}
+use Rattle.sh_history.specs.Log.{Agrees}
+use Rattle.sh_key.specs.Layout.{Layout}
+use Rattle.sh_table.specs.declared.view.Heard.{Heard}
+use Rattle.sh_table.specs.declared.view.Order.{Order}
+use Rattle.sh_table.specs.declared.view.Told.{Told}
+use Rattle.sh_table.specs.declared.view.View.{View}
+use Rattle.sh_table.specs.Tales.{by, HasFirst, IsTale}
+
+-- the pass of the view was answered x after it had heard this of another pass
+pub record AnsweredAfter (v : View) (h : Heard) (x : LogEntry) : Type 0 where
+  pub order : Order
+  pub stands : Contains v.orders order
+  pub heard : order.heard ≡ h
+  pub carrier : order.carrier ≡ v.pass
+  pub before : List LogEntry
+  pub after : List LogEntry
+  pub log : v.own.log ≡ before ++ x ∷ after
+  pub later : order.length ≤ length before
+
+-- in this history the entry of x has these before it
+pub record StandsAfter (history early : List Entry) (x : LogEntry) : Type 0 where
+  pub entry : Entry
+  pub late : List Entry
+  pub is : history ≡ early ++ entry ∷ late
+  pub agrees : Agrees x entry
+
+-- in each history of the tale it has all that was heard before it
+abbrev pub HeardComesFirst : Type 0
+HeardComesFirst = (layout : Layout) (v : View) (history : List Entry) → IsTale layout v history
+    → (h : Heard) (x : LogEntry) → AnsweredAfter v h x
+    → (early : List Entry) × StandsAfter history early x × HasFirst early h
+
+-- who is told Gone of a key whose insert it heard of is told so after a removal
+abbrev pub GoneIsRemoved : Type 0
+GoneIsRemoved = (layout : Layout) (v : View) (history : List Entry) → IsTale layout v history
+    → (h : Heard) (a p k : ℕ) (value : List ℕ) → Contains h.log (Known (Insert p k value))
+    → AnsweredAfter v h (Known (Gone a k))
+    → (early : List Entry) × StandsAfter history early (Known (Gone a k)) × HasRemoval early k
+
+-- the entry says that the key was still there
+abbrev pub SaysThere : ℕ → LogEntry → Type 0
+SaysThere k (Known (Got p j value)) = j ≡ k
+SaysThere k (Known (Crowded p j)) = j ≡ k
+SaysThere k (Known (Removed p j)) = j ≡ k
+SaysThere k (Known _) = ⊥
+SaysThere k (Unread p j) = j ≡ k
+
+-- who heard of the removal of a key is not told any more that it is there
+abbrev pub RemovedIsGone : Type 0
+RemovedIsGone = (layout : Layout) (v : View) (history : List Entry) → IsTale layout v history
+    → (h : Heard) (p k : ℕ) → Contains h.log (Known (Removed p k))
+    → (x : LogEntry) → AnsweredAfter v h x → ¬ SaysThere k x
+
+-- a pass that was taken in is heard whole: nothing of it comes after the carrier's first entries
+abbrev pub NothingComesLater : Type 0
+NothingComesLater = (layout : Layout) (v : View) (history : List Entry) → IsTale layout v history
+    → (t : Told) → Contains v.told t → (o : Order) → Contains v.orders o
+    → o.heard ≡ record { pass = t.pass; log = t.own.log }
+    → (early : List Entry) × (late : List Entry) × (history ≡ early ++ late)
+    × (length (by o.carrier early) ≡ o.length) × (by t.pass late ≡ [])
