@@ -84,7 +84,7 @@ snoc_split (w ∷ ws) (y ∷ ys) after x a e =
     (λ (s : (rest : List ℕ) × (ws ≡ ys ++ a ∷ rest)). inr (s.0, λ i. z i ∷ s.1 i)) (snoc_split ws ys after x a t)
 
 adding_more : (terms : RunTerms) (tag : Option ℕ) (before after : CallsRun) (ls : List CallLine) (bs : List Answer)
-    (l : CallLine) (a : Answer) → LinesAnswered true terms tag before ls bs after
+    (l : CallLine) (a : Answer) → LinesAnswered terms tag before ls bs after
     → adding_passes (ls ++ l ∷ []) (bs ++ a ∷ []) ≡ adding_passes ls bs ++ cond (adds_entry l.call a) (l.pass ∷ []) []
 adding_more terms tag before after [] [] l a h = append-nil (cond (adds_entry l.call a) (l.pass ∷ []) [])
 adding_more terms tag before after [] (b ∷ bs) l a h = absurd h
@@ -130,9 +130,9 @@ orders_only None side mid e = e ∙ ap (λ (z : SeenPass). record side { part = 
 orders_only (Some r) side mid e = e.is ∙ ap (λ (z : SeenPass). record side { part = mid.part; orders = z.orders })
     (sym e.is)
 
-may_heed : (last : Option Caller) (side mid : SeenPass) → HeedsLast last side mid → MayHeed true side.part mid.part
+may_heed : (last : Option Caller) (side mid : SeenPass) → HeedsLast last side mid → MayHeed side.part mid.part
 may_heed None side mid e = inl (ap (λ (z : SeenPass). z.part) e)
-may_heed (Some r) side mid e = inr (refl, (r, e.part))
+may_heed (Some r) side mid e = inr (r, e.part)
 
 same_log : (last : Option Caller) (side mid : SeenPass) → HeedsLast last side mid → mid.part.log ≡ side.part.log
 same_log None side mid e = ap (λ (z : SeenPass). z.part.log) e
@@ -457,6 +457,6 @@ ran_to_none seen heap terms tag lines i numbers sides output last o was past is 
     let waits = lines_wait seen true heap terms tag lines i numbers sides output o past was.so_far stays in
     record {
       met = tt;
-      stays = subst (λ q. IfNone (option_map seen q) (AreWaiting true heap terms tag lines output
+      stays = subst (λ q. IfNone (option_map seen q) (AreWaiting heap terms tag lines output
           ⊎ (terms.shape.passes ≡ 0))) is waits;
     }

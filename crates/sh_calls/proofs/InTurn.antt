@@ -98,7 +98,7 @@ all_met {S} seen heap terms all ys its n c o e l z h is stands =
 
 abbrev pub begins_alone : (heap : Option Heap) (terms : RunTerms) (tag : Option ℕ) (lines : List CallLine)
     (sides : List SeenPass) → sides ≡ new_passes heap terms terms.shape.passes
-    → AnsweredSoFar true heap terms tag lines 0 [] sides []
+    → AnsweredSoFar heap terms tag lines 0 [] sides []
 begins_alone heap terms tag lines sides e = record {
   answers = [];
   run = opening_calls heap;
@@ -113,9 +113,9 @@ begins_alone heap terms tag lines sides e = record {
 
 module _ (heap : Option Heap) (terms : RunTerms) (tag : Option ℕ) (lines : List CallLine) (i : ℕ)
     (numbers : List (Option ℕ)) (sides : List SeenPass) (output : List ℕ)
-    (was : AnsweredSoFar true heap terms tag lines i numbers sides output) (l : CallLine) (at : slice_get lines i ≡ Some l)
+    (was : AnsweredSoFar heap terms tag lines i numbers sides output) (l : CallLine) (at : slice_get lines i ≡ Some l)
     (side mid now : SeenPass) (own : slice_get sides l.pass ≡ Some side)
-    (only : mid ≡ record side { part = mid.part; orders = mid.orders }) (may : MayHeed true side.part mid.part)
+    (only : mid ≡ record side { part = mid.part; orders = mid.orders }) (may : MayHeed side.part mid.part)
     (same : SamePass mid now) (a : Answer)
     (does : CallAnswers mid.terms tag mid.pass mid.part l.call (number_meant numbers l.call) a now.part) where
   is : mid ≡ record (seen_with_part heap terms was.run.parts l.pass) { part = mid.part; orders = mid.orders }
@@ -127,13 +127,13 @@ module _ (heap : Option Heap) (terms : RunTerms) (tag : Option ℕ) (lines : Lis
   abbrev then : CallsRun
   then = next_run was.run l a now.part
 
-  pub steps : LineAnswered true terms tag was.run l a then
+  pub steps : LineAnswered terms tag was.run l a then
   steps =
       let D : SeenPass × List (Option ℕ) → Type 0 = λ z. CallAnswers z.0.terms tag z.0.pass z.0.part l.call
       (number_meant z.1 l.call) a now.part in
       record {
         begins = mid.part;
-        heeds = subst (λ (u : PassPart). MayHeed true u mid.part)
+        heeds = subst (λ (u : PassPart). MayHeed u mid.part)
             (ap (λ (z : SeenPass). z.part) (was.each l.pass side own)) may;
         part = now.part;
         does = subst D (λ j. (is j, was.numbers_are j)) does;
@@ -162,10 +162,10 @@ module _ (heap : Option Heap) (terms : RunTerms) (tag : Option ℕ) (lines : Lis
 
   abbrev pub answered_more : (after : List (Option ℕ)) (new : List SeenPass) (longer : List ℕ) → after
       ≡ with_number numbers l.call a → new ≡ set sides l.pass now → longer ≡ output ++ reply_line l a
-      → AnsweredSoFar true heap terms tag lines (i + 1) after new longer
+      → AnsweredSoFar heap terms tag lines (i + 1) after new longer
   answered_more after new longer named put printed =
       let more = one_more true terms tag (opening_calls heap) was.run then (take i lines) was.answers l a was.ran steps in
-      let R : List CallLine → Type 0 = λ ls. LinesAnswered true terms tag (opening_calls heap) ls (was.answers ++ a ∷ []) then in
+      let R : List CallLine → Type 0 = λ ls. LinesAnswered terms tag (opening_calls heap) ls (was.answers ++ a ∷ []) then in
       record {
         answers = was.answers ++ a ∷ [];
         run = then;
@@ -251,17 +251,17 @@ tales_are heap terms parts (n ∷ ns) = ap (λ (z : List PassTold). part_told pa
 
 pub all_are : (alone : Bool) (heap : Option Heap) (terms : RunTerms) (tag : Option ℕ) (lines : List CallLine) (i : ℕ)
     (numbers : List (Option ℕ)) (sides : List SeenPass) (output : List ℕ)
-    → AnsweredSoFar alone heap terms tag lines i numbers sides output → AllOfHeap heap terms sides
+    → AnsweredSoFar heap terms tag lines i numbers sides output → AllOfHeap heap terms sides
 all_are alone heap terms tag lines i numbers sides output h = bare_heap heap terms sides (subst (AllOfHeap heap terms)
     (sym (sides_are heap terms h.run.parts sides h.all h.each))
     (all_of heap terms h.run.parts (passes_below terms.shape.passes)))
 
 abbrev pub ends_alone : (alone : Bool) (heap : Option Heap) (terms : RunTerms) (tag : Option ℕ) (lines : List CallLine) (i : ℕ)
     (numbers : List (Option ℕ)) (sides : List SeenPass) (output : List ℕ) → length lines ≤ i
-    → AnsweredSoFar alone heap terms tag lines i numbers sides output → AreReplies alone heap terms tag lines output
+    → AnsweredSoFar heap terms tag lines i numbers sides output → AreReplies heap terms tag lines output
 ends_alone alone heap terms tag lines i numbers sides output past h =
     let whole : take i lines ≡ lines = take_past lines i past in
-    let R : List CallLine → Type 0 = λ ls. LinesAnswered alone terms tag (opening_calls heap) ls h.answers h.run in
+    let R : List CallLine → Type 0 = λ ls. LinesAnswered terms tag (opening_calls heap) ls h.answers h.run in
     record {
       answers = h.answers;
       after = h.run;
@@ -272,7 +272,7 @@ ends_alone alone heap terms tag lines i numbers sides output past h =
 -- they speak for the parts of all passes
 pub tale_of_parts : (alone : Bool) (heap : Option Heap) (terms : RunTerms) (tag : Option ℕ) (lines : List CallLine) (i : ℕ)
     (numbers : List (Option ℕ)) (sides : List SeenPass) (output : List ℕ)
-    (h : AnsweredSoFar alone heap terms tag lines i numbers sides output) → tales_told sides
+    (h : AnsweredSoFar heap terms tag lines i numbers sides output) → tales_told sides
     ≡ map (part_told h.run.parts) (passes_below terms.shape.passes)
 tale_of_parts alone heap terms tag lines i numbers sides output h = sym (bare_tales sides)
     ∙ (ap tales_told (sides_are heap terms h.run.parts sides h.all h.each) ∙ tales_are heap terms h.run.parts
@@ -283,7 +283,7 @@ apart e = absurd (let z : false ≡ true = e in cc)
 
 ran_apart : (heap : Option Heap) (terms : RunTerms) (tag : Option ℕ) (lines : List CallLine) (i : ℕ)
     (numbers : List (Option ℕ)) (sides : List SeenPass) (output : List ℕ) (s : SeenPass) → length lines ≤ i
-    → AnsweredSoFar false heap terms tag lines i numbers sides output
+    → AnsweredSoFar heap terms tag lines i numbers sides output
     → HasMet heap terms s (tales_told sides) → CarrierRan false heap terms tag lines output s
 ran_apart heap terms tag lines i numbers sides output s past h m = record {
   told = record {
@@ -335,9 +335,9 @@ none_met seen f (Some s) h = h
 pub lines_wait : {S : Type 0} (seen : S → SeenPass) (alone : Bool) (heap : Option Heap) (terms : RunTerms)
     (tag : Option ℕ) (lines : List CallLine) (i : ℕ) (numbers : List (Option ℕ)) (sides : List SeenPass)
     (output : List ℕ) (carrier : Option S) → length lines ≤ i
-    → AnsweredSoFar alone heap terms tag lines i numbers sides output
+    → AnsweredSoFar heap terms tag lines i numbers sides output
     → IfNone carrier (SomeWaits sides ⊎ (sides ≡ []))
-    → IfNone (option_map seen carrier) (AreWaiting alone heap terms tag lines output ⊎ (terms.shape.passes ≡ 0))
+    → IfNone (option_map seen carrier) (AreWaiting heap terms tag lines output ⊎ (terms.shape.passes ≡ 0))
 lines_wait seen alone heap terms tag lines i numbers sides output carrier past h stays =
     none_met seen (⊎_elim (λ (o : SomeWaits sides). inl (record {
       replies = ends_alone alone heap terms tag lines i numbers sides output past h;
@@ -349,7 +349,7 @@ lines_wait seen alone heap terms tag lines i numbers sides output carrier past h
 -- what the carrier has, if all could meet, and else whose leave was refused, where no receipt went round
 pub lines_ran : {S : Type 0} (seen : S → SeenPass) (heap : Option Heap) (terms : RunTerms) (tag : Option ℕ)
     (lines : List CallLine) (i : ℕ) (numbers : List (Option ℕ)) (sides : List SeenPass) (output : List ℕ)
-    (carrier : Option S) → length lines ≤ i → AnsweredSoFar false heap terms tag lines i numbers sides output
+    (carrier : Option S) → length lines ≤ i → AnsweredSoFar heap terms tag lines i numbers sides output
     → IfSome carrier (λ s. HasMet heap terms (seen s) (tales_told sides))
     → IfNone carrier (SomeWaits sides ⊎ (sides ≡ []))
     → LinesRan false heap terms tag lines output (option_map seen carrier)
@@ -366,13 +366,13 @@ map_set f (x ∷ xs) (suc k) y = ap (λ z. f x ∷ z) (map_set f xs k y)
 
 pub heap_at : (alone : Bool) (heap : Option Heap) (terms : RunTerms) (tag : Option ℕ) (lines : List CallLine) (i : ℕ)
     (numbers : List (Option ℕ)) (sides : List SeenPass) (output : List ℕ)
-    → AnsweredSoFar alone heap terms tag lines i numbers sides output → (p : ℕ) (s : SeenPass) → slice_get sides p ≡ Some s
+    → AnsweredSoFar heap terms tag lines i numbers sides output → (p : ℕ) (s : SeenPass) → slice_get sides p ≡ Some s
     → s.heap ≡ heap
 heap_at alone heap terms tag lines i numbers sides output h p s e = ap (λ (z : SeenPass). z.heap) (h.each p s e)
 
 pub terms_at : (alone : Bool) (heap : Option Heap) (terms : RunTerms) (tag : Option ℕ) (lines : List CallLine) (i : ℕ)
     (numbers : List (Option ℕ)) (sides : List SeenPass) (output : List ℕ)
-    → AnsweredSoFar alone heap terms tag lines i numbers sides output → (p : ℕ) (s : SeenPass) → slice_get sides p ≡ Some s
+    → AnsweredSoFar heap terms tag lines i numbers sides output → (p : ℕ) (s : SeenPass) → slice_get sides p ≡ Some s
     → s.terms ≡ terms
 terms_at alone heap terms tag lines i numbers sides output h p s e = ap (λ (z : SeenPass). z.terms) (h.each p s e)
 
@@ -383,7 +383,7 @@ passes_are parts (n ∷ ns) = ap (λ (z : List ℕ). n ∷ z) (passes_are parts 
 -- they speak for all passes
 pub all_speak : (alone : Bool) (heap : Option Heap) (terms : RunTerms) (tag : Option ℕ) (lines : List CallLine) (i : ℕ)
     (numbers : List (Option ℕ)) (sides : List SeenPass) (output : List ℕ)
-    → AnsweredSoFar alone heap terms tag lines i numbers sides output → map told_pass (tales_told sides)
+    → AnsweredSoFar heap terms tag lines i numbers sides output → map told_pass (tales_told sides)
     ≡ passes_below terms.shape.passes
 all_speak alone heap terms tag lines i numbers sides output h =
     ap (map told_pass) (sym (bare_tales sides) ∙ ap tales_told (sides_are heap terms h.run.parts sides h.all h.each))

@@ -25,11 +25,11 @@ abbrev pub seen_with_part : Option Heap → RunTerms → (ℕ → PassPart) → 
 seen_with_part heap terms parts p = record (new_pass heap terms p) { part = parts p }
 
 -- the first i lines are answered, and these are the passes
-pub record AnsweredSoFar (alone : Bool) (heap : Option Heap) (terms : RunTerms) (tag : Option ℕ)
+pub record AnsweredSoFar (heap : Option Heap) (terms : RunTerms) (tag : Option ℕ)
     (lines : List CallLine) (i : ℕ) (numbers : List (Option ℕ)) (sides : List SeenPass) (output : List ℕ) : Type 0 where
   pub answers : List Answer
   pub run : CallsRun
-  pub ran : LinesAnswered alone terms tag (opening_calls heap) (take i lines) answers run
+  pub ran : LinesAnswered terms tag (opening_calls heap) (take i lines) answers run
   pub numbers_are : numbers ≡ run.numbers
   pub text : output ≡ replies_text (take i lines) answers
   pub all : length sides ≡ terms.shape.passes
@@ -39,7 +39,7 @@ pub record AnsweredSoFar (alone : Bool) (heap : Option Heap) (terms : RunTerms) 
 -- the same, and the last receipt tells of all entries
 pub record OrderedSoFar (heap : Option Heap) (terms : RunTerms) (tag : Option ℕ) (lines : List CallLine) (i : ℕ)
     (numbers : List (Option ℕ)) (sides : List SeenPass) (output : List ℕ) (last : Option Caller) : Type 0 where
-  pub so_far : AnsweredSoFar true heap terms tag lines i numbers sides output
+  pub so_far : AnsweredSoFar heap terms tag lines i numbers sides output
   pub counts : (p : ℕ) → length (times p (adding_passes (take i lines) so_far.answers))
       ≡ length (so_far.run.parts p).log
   pub few : (p : ℕ) → terms.shape.passes ≤ p → times p (adding_passes (take i lines) so_far.answers) ≡ []

@@ -44,9 +44,9 @@ pub record CarrierRan (alone : Bool) (heap : Option Heap) (terms : RunTerms) (ta
   pub ordered : alone ≡ true → IsOrderedBy terms lines told.replies.answers c
 
 -- the replies were told, and this pass was refused when it left its shard after them, as the contract of leaving says
-pub record AreWaiting (alone : Bool) (heap : Option Heap) (terms : RunTerms) (tag : Option ℕ) (lines : List CallLine)
+pub record AreWaiting (heap : Option Heap) (terms : RunTerms) (tag : Option ℕ) (lines : List CallLine)
     (output : List ℕ) : Type 0 where
-  pub replies : AreReplies alone heap terms tag lines output
+  pub replies : AreReplies heap terms tag lines output
   pub pass : ℕ
   pub stays : Standing
   pub waits : ShardLeaves (replies.after.parts pass).stands (Err refusal.Waiting) stays
@@ -56,4 +56,4 @@ pub record AreWaiting (alone : Bool) (heap : Option Heap) (terms : RunTerms) (ta
 pub record LinesRan (alone : Bool) (heap : Option Heap) (terms : RunTerms) (tag : Option ℕ) (lines : List CallLine)
     (output : List ℕ) (carrier : Option SeenPass) : Type 0 where
   pub met : IfSome carrier (CarrierRan alone heap terms tag lines output)
-  pub stays : IfNone carrier (AreWaiting alone heap terms tag lines output ⊎ (terms.shape.passes ≡ 0))
+  pub stays : IfNone carrier (AreWaiting heap terms tag lines output ⊎ (terms.shape.passes ≡ 0))

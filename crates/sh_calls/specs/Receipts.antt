@@ -42,8 +42,8 @@ pub record PartHeeds (r : Caller) (v w : PassPart) : Type 0 where
   pub stands : StandingHeeds r v.stands w.stands
 
 -- it is as it was, or, where the lines run one after the other, its pass heeded a receipt
-abbrev pub MayHeed : (alone : Bool) → PassPart → PassPart → Type 0
-MayHeed alone v w = (w ≡ v) ⊎ ((alone ≡ true) × ((r : Caller) × PartHeeds r v w))
+abbrev pub MayHeed : PassPart → PassPart → Type 0
+MayHeed v w = (w ≡ v) ⊎ ((r : Caller) × PartHeeds r v w)
 
 -- the pass, once it heeded the receipt
 pub record Heeds (r : Caller) (s t : SeenPass) : Type 0 where

@@ -48,19 +48,19 @@ EndsAt room name_room output numbers line a =
 
 -- The line is answered so. It sees the part of its own pass alone, and the numbers of the names bound before. Where the
 -- lines run one after the other, the pass may have heeded a receipt of the line before.
-pub record LineAnswered (alone : Bool) (terms : RunTerms) (tag : Option ℕ) (run : CallsRun) (line : CallLine)
+pub record LineAnswered (terms : RunTerms) (tag : Option ℕ) (run : CallsRun) (line : CallLine)
     (a : Answer) (next : CallsRun) : Type 0 where
   pub begins : PassPart
-  pub heeds : MayHeed alone (run.parts line.pass) begins
+  pub heeds : MayHeed (run.parts line.pass) begins
   pub part : PassPart
   pub does : CallAnswers terms tag line.pass begins line.call (number_meant run.numbers line.call) a part
   pub next_is : next ≡ next_run run line a part
 
 -- these lines are answered so
-abbrev pub LinesAnswered : (alone : Bool) → RunTerms → Option ℕ → CallsRun → List CallLine → List Answer → CallsRun
+abbrev pub LinesAnswered : RunTerms → Option ℕ → CallsRun → List CallLine → List Answer → CallsRun
     → Type 0
-LinesAnswered alone terms tag run [] [] after = after ≡ run
-LinesAnswered alone terms tag run [] (a ∷ answers) after = ⊥
-LinesAnswered alone terms tag run (l ∷ lines) [] after = ⊥
-LinesAnswered alone terms tag run (l ∷ lines) (a ∷ answers) after = (next : CallsRun)
-    × LineAnswered alone terms tag run l a next × LinesAnswered alone terms tag next lines answers after
+LinesAnswered terms tag run [] [] after = after ≡ run
+LinesAnswered terms tag run [] (a ∷ answers) after = ⊥
+LinesAnswered terms tag run (l ∷ lines) [] after = ⊥
+LinesAnswered terms tag run (l ∷ lines) (a ∷ answers) after = (next : CallsRun)
+    × LineAnswered terms tag run l a next × LinesAnswered terms tag next lines answers after

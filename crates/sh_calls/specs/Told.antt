@@ -14,11 +14,11 @@ part_told parts pass = record { pass = pass; log = (parts pass).log }
 
 -- The output is the reply lines of answers to these lines, in their order. Each answer is one that the line's call may
 -- have, by what its own pass of the heap did on the lines before and by the numbers that names were answered.
-pub record AreReplies (alone : Bool) (heap : Option Heap) (terms : RunTerms) (tag : Option ℕ) (lines : List CallLine)
+pub record AreReplies (heap : Option Heap) (terms : RunTerms) (tag : Option ℕ) (lines : List CallLine)
     (output : List ℕ) : Type 0 where
   pub answers : List Answer
   pub after : CallsRun
-  pub ran : LinesAnswered alone terms tag (opening_calls heap) lines answers after
+  pub ran : LinesAnswered terms tag (opening_calls heap) lines answers after
   pub is : output ≡ replies_text lines answers
 
 -- The same, where all passes met at the end: this is their tale. There is one legal history in which the entries of
@@ -26,7 +26,7 @@ pub record AreReplies (alone : Bool) (heap : Option Heap) (terms : RunTerms) (ta
 -- other, the entries of all passes stand in the order of the lines.
 pub record IsTold (alone : Bool) (heap : Option Heap) (terms : RunTerms) (tag : Option ℕ) (lines : List CallLine)
     (output : List ℕ) (tale : List PassTold) : Type 0 where
-  pub replies : AreReplies alone heap terms tag lines output
+  pub replies : AreReplies heap terms tag lines output
   pub tale_is : tale ≡ map (part_told replies.after.parts) (passes_below terms.shape.passes)
   pub whole : HasWholeTale terms tale
   pub in_order : alone ≡ true → IsInOrder lines replies.answers whole.history

@@ -51,29 +51,29 @@ pub record IsHeap (alone asked : Bool) (text output : List ℕ) : Type 0 where
   pub is_output : IsHeapOutput alone (layout_of header.layout) header.shape header.tag lines asked output
 
 -- These are the replies of a run on a heap of this shape, after which a pass was refused when it left its shard.
-pub record IsStopped (alone : Bool) (layout : Layout) (shape : Numbers) (tag : Option ℕ) (lines : List CallLine)
+pub record IsStopped (layout : Layout) (shape : Numbers) (tag : Option ℕ) (lines : List CallLine)
     (output : List ℕ) : Type 0 where
   pub heap : Heap
   pub of_shape : heap.shape ≡ shape
-  pub waiting : AreWaiting alone (Some heap) (heap_terms layout shape) tag lines output
+  pub waiting : AreWaiting (Some heap) (heap_terms layout shape) tag lines output
 
 -- The text is a script of calls, and these are the replies of a run of it at whose end a pass was refused when it left
 -- its shard: there is no account line then.
-pub record IsHeapWaiting (alone : Bool) (text output : List ℕ) : Type 0 where
+pub record IsHeapWaiting (text output : List ℕ) : Type 0 where
   pub header : Header
   pub lines : List CallLine
   pub is_calls : IsCalls text header lines
-  pub stopped : IsStopped alone (layout_of header.layout) header.shape header.tag lines output
+  pub stopped : IsStopped (layout_of header.layout) header.shape header.tag lines output
 
 -- ---- how it is made
 
 -- what came of the lines, and whether an owner could not leave
 abbrev pub IsRan : (alone : Bool) → Layout → Numbers → Option ℕ → List CallLine → (asked : Bool) → List ℕ
     → (is_waiting : Bool) → Type 0
-IsRan alone layout shape tag lines asked output true = IsStopped alone layout shape tag lines output
+IsRan alone layout shape tag lines asked output true = IsStopped layout shape tag lines output
 IsRan alone layout shape tag lines asked output false = IsHeapOutput alone layout shape tag lines asked output
 
 -- what came of a script on the running heap, and whether an owner could not leave
 abbrev pub IsHeapRun : (alone asked : Bool) → (text output : List ℕ) → (is_waiting : Bool) → Type 0
-IsHeapRun alone asked text output true = IsHeapWaiting alone text output
+IsHeapRun alone asked text output true = IsHeapWaiting text output
 IsHeapRun alone asked text output false = IsHeap alone asked text output

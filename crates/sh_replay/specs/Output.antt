@@ -21,8 +21,8 @@ IsOutput mode.Threads accounts text output = IsHeap false accounts text output
 abbrev pub IsWaiting : Mode → (text output : List ℕ) → Type 0
 IsWaiting mode.Plain text output = ⊥
 IsWaiting mode.Steps text output = ⊥
-IsWaiting mode.Heap text output = IsHeapWaiting true text output
-IsWaiting mode.Threads text output = IsHeapWaiting false text output
+IsWaiting mode.Heap text output = IsHeapWaiting text output
+IsWaiting mode.Threads text output = IsHeapWaiting text output
 
 -- what came of a script, and whether an owner could not leave
 abbrev pub IsRunOf : Mode → (accounts : Bool) → (text output : List ℕ) → (is_waiting : Bool) → Type 0

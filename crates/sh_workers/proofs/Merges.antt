@@ -107,7 +107,7 @@ module _ (heap : Option Heap) (terms : RunTerms) (tag : Option ℕ) (lines : Lis
   abbrev then : CallsRun
   then = next_run was.run l m.answer one.part
 
-  steps : LineAnswered false terms tag was.run l m.answer then
+  steps : LineAnswered terms tag was.run l m.answer then
   steps =
       let D : Option ℕ → Type 0 = λ b. CallAnswers terms tag l.pass (was.run.parts l.pass) l.call b m.answer one.part in
       record {
@@ -146,7 +146,7 @@ module _ (heap : Option Heap) (terms : RunTerms) (tag : Option ℕ) (lines : Lis
       → after ≡ with_number numbers l.call m.answer → new ≡ set rests l.pass ms
       → longer ≡ output ++ reply_line l m.answer → MergedSoFar heap terms tag lines (i + 1) after sides new longer
   merged_more after new longer named popped printed =
-      let R : List CallLine → Type 0 = λ ls. LinesAnswered false terms tag (opening_calls heap) ls (was.answers ++ m.answer ∷ [])
+      let R : List CallLine → Type 0 = λ ls. LinesAnswered terms tag (opening_calls heap) ls (was.answers ++ m.answer ∷ [])
       then in
       record {
         answers = was.answers ++ m.answer ∷ [];
@@ -206,7 +206,7 @@ pub merging_ends : (heap : Option Heap) (terms : RunTerms) (tag : Option ℕ) (l
 merging_ends heap terms tag lines i numbers sides rests output past h =
     let whole : take i lines ≡ take (length lines) lines =
     take_past lines i past ∙ sym (take_past lines (length lines) (omega arith)) in
-    let R : List CallLine → Type 0 = λ ls. LinesAnswered false terms tag (opening_calls heap) ls h.answers h.run in (
+    let R : List CallLine → Type 0 = λ ls. LinesAnswered terms tag (opening_calls heap) ls h.answers h.run in (
       numbers,
       record {
         answers = h.answers;

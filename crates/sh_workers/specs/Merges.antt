@@ -15,7 +15,7 @@ pub record MergedSoFar (heap : Option Heap) (terms : RunTerms) (tag : Option ℕ
     (numbers : List (Option ℕ)) (sides : List SeenPass) (rests : List (List Made)) (output : List ℕ) : Type 0 where
   pub answers : List Answer
   pub run : CallsRun
-  pub ran : LinesAnswered false terms tag (opening_calls heap) (take i lines) answers run
+  pub ran : LinesAnswered terms tag (opening_calls heap) (take i lines) answers run
   pub numbers_are : numbers ≡ run.numbers
   pub text : output ≡ replies_text (take i lines) answers
   pub sides_all : length sides ≡ terms.shape.passes
@@ -26,4 +26,4 @@ pub record MergedSoFar (heap : Option Heap) (terms : RunTerms) (tag : Option ℕ
 -- all lines are answered so, and these are the passes then
 abbrev pub AllAnswered : Option Heap → RunTerms → Option ℕ → List CallLine → List SeenPass → List ℕ → Type 0
 AllAnswered heap terms tag lines sides output =
-    (numbers : List (Option ℕ)) × AnsweredSoFar false heap terms tag lines (length lines) numbers sides output
+    (numbers : List (Option ℕ)) × AnsweredSoFar heap terms tag lines (length lines) numbers sides output
