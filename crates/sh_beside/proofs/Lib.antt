@@ -1,0 +1,4 @@
+pub mod Holds
+pub mod Logs
+pub mod Names
+pub mod Steps
