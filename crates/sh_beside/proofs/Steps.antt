@@ -22,7 +22,8 @@ use Rattle.sh_calls.specs.InOrder.{adds_entry}
 use Rattle.sh_calls.specs.Runs.{with_number}
 use Rattle.sh_beside.specs.Beside.{CallBeside}
 use Rattle.sh_beside.proofs.Logs.{Grown, LogIs}
-use Rattle.sh_beside.proofs.Names.{AreNames}
+use Rattle.sh_beside.proofs.Names.{AreNames, one_more_name}
+use Rattle.sh_beside.proofs.Issued.{AreIssued, issued_same}
 
 -- mode plain's run with these entries, owners and keys of names, at a line of this pass
 abbrev pub state : RunTerms → Option ℕ → List Entry → ℕ → List Bool → List (Option ℕ) → Run
@@ -39,6 +40,7 @@ pub record Ready (terms : RunTerms) (tag : Option ℕ) (c : Call) (a : Answer) (
   pub owner : slice_index_or owners pass false ≡ is_some v.shard
   pub inside : pass < length owners
   pub names : AreNames tag keys numbers
+  pub issued : AreIssued terms.layout before
 
 -- the call was answered beside mode plain, and what is known of owners and names after it
 pub record Stepped (terms : RunTerms) (tag : Option ℕ) (c : Call) (a : Answer) (pass : ℕ) (w : PassPart)
@@ -51,6 +53,7 @@ pub record Stepped (terms : RunTerms) (tag : Option ℕ) (c : Call) (a : Answer)
   pub own : slice_index_or owners_after pass false ≡ is_some w.shard
   pub others : (q : ℕ) → q ≢ pass → slice_index_or owners_after q false ≡ slice_index_or owners q false
   pub names : AreNames tag keys_after (with_number numbers c a)
+  pub issued : AreIssued terms.layout after
 
 -- the entry that the call added was allowed
 pub allowed_last : (passes guard_max : ℕ) (before after : List Entry) (e : Entry) → after ≡ before ++ e ∷ []
@@ -65,11 +68,11 @@ module _ (terms : RunTerms) (tag : Option ℕ) (pass : ℕ) (v w : PassPart) (be
     (owners : List Bool) (keys numbers : List (Option ℕ)) where
   -- a call that changes neither owners nor names
   pub stays : (c : Call) (a : Answer) → Ready terms tag c a pass v w before after owners keys numbers
-      → w.shard ≡ v.shard → AreNames tag keys (with_number numbers c a)
+      → w.shard ≡ v.shard → AreNames tag keys (with_number numbers c a) → AreIssued terms.layout after
       → CallBeside terms.layout terms.shape (state terms tag before pass owners keys) c a
       (state terms tag after pass owners keys)
       → Stepped terms tag c a pass w before after owners keys numbers
-  stays c a ready same names beside = record {
+  stays c a ready same names issued beside = record {
     owners_after = owners;
     keys_after = keys;
     beside = beside;
@@ -77,6 +80,7 @@ module _ (terms : RunTerms) (tag : Option ℕ) (pass : ℕ) (v w : PassPart) (be
     own = ready.owner ∙ sym (ap is_some same);
     others = λ q ne. refl;
     names = names;
+    issued = issued;
   }
 
   abbrev run : Run
@@ -99,12 +103,15 @@ module _ (terms : RunTerms) (tag : Option ℕ) (pass : ℕ) (v w : PassPart) (be
 
   module _ (shard : ℕ) (a : Answer)
       (ready : Ready terms tag (call.Adopt shard) a pass v w before after owners keys numbers) where
+    here : AreIssued terms.layout after
+    here = issued_same terms.layout before after ready.grown ready.issued
+
     adopt_refused : (r : Refusal) (b c : Bool) → slice_index_or owners pass false ≡ b
         → nat_le terms.shape.shards shard ≡ c
         → cond b (answer.Refused refusal.Taken) (cond c (answer.Refused refusal.NoShard) answer.Done) ≡ answer.Refused r
         → cond b run (cond c run (record run { owners = slice_set owners pass true })) ≡ run
         → a ≡ answer.Refused r → Becomes v w → Stepped terms tag (call.Adopt shard) a pass w before after owners keys numbers
-    adopt_refused r b c e f said done is same = stays (call.Adopt shard) a ready (shard_kept v w same) ready.names
+    adopt_refused r b c e f said done is same = stays (call.Adopt shard) a ready (shard_kept v w same) ready.names here
         (inl (is ∙ sym (adopt_said b c shard e f ∙ said),
         same_run ready.grown owners ∙ sym (adopt_done b c shard e f ∙ done)))
 
@@ -120,10 +127,11 @@ module _ (terms : RunTerms) (tag : Option ℕ) (pass : ℕ) (v w : PassPart) (be
       own = get_or-set_same owners pass true false ready.inside ∙ sym (ap (λ (p : PassPart). is_some p.shard) h);
       others = λ q ne. get_or-set_other owners pass q true false ne;
       names = ready.names;
+      issued = issued_same terms.layout before after ready.grown ready.issued;
     }
-    adopt_tried e f (Err refusal.Taken) is h = stays (call.Adopt shard) a ready (shard_kept v w h) ready.names
+    adopt_tried e f (Err refusal.Taken) is h = stays (call.Adopt shard) a ready (shard_kept v w h) ready.names here
         (inr (adopt_said false false shard e f, inl is, same_run ready.grown owners))
-    adopt_tried e f (Err refusal.Memory) is h = stays (call.Adopt shard) a ready (shard_kept v w h) ready.names
+    adopt_tried e f (Err refusal.Memory) is h = stays (call.Adopt shard) a ready (shard_kept v w h) ready.names here
         (inr (adopt_said false false shard e f, inr is, same_run ready.grown owners))
     adopt_tried e f (Err _) is h = absurd h
 
@@ -160,6 +168,9 @@ module _ (terms : RunTerms) (tag : Option ℕ) (pass : ℕ) (v w : PassPart) (be
   leave_done b e = rw e refl
 
   module _ (a : Answer) (ready : Ready terms tag call.Leave a pass v w before after owners keys numbers) where
+    still : AreIssued terms.layout after
+    still = issued_same terms.layout before after ready.grown ready.issued
+
     leave_tried : slice_index_or owners pass false ≡ true → (r : Result (Unit {0}) Refusal) → a ≡ done_answer r
         → PartLeft v r w → Stepped terms tag call.Leave a pass w before after owners keys numbers
     leave_tried e (Ok x) is h = record {
@@ -171,8 +182,9 @@ module _ (terms : RunTerms) (tag : Option ℕ) (pass : ℕ) (v w : PassPart) (be
       own = get_or-set_same owners pass false false ready.inside ∙ sym (ap (λ (p : PassPart). is_some p.shard) h);
       others = λ q ne. get_or-set_other owners pass q false false ne;
       names = ready.names;
+      issued = issued_same terms.layout before after ready.grown ready.issued;
     }
-    leave_tried e (Err refusal.Waiting) is h = stays call.Leave a ready (shard_kept v w h) ready.names
+    leave_tried e (Err refusal.Waiting) is h = stays call.Leave a ready (shard_kept v w h) ready.names still
         (inr (leave_said true e, is, same_run ready.grown owners))
     leave_tried e (Err _) is h = absurd h
 
@@ -188,7 +200,7 @@ module _ (terms : RunTerms) (tag : Option ℕ) (pass : ℕ) (v w : PassPart) (be
         go None e =
             let d = subst (λ (z : Option ℕ). UnlessRefused (needs_shard z) h.result (Becomes v w)
             (PartLeft v h.result w)) e h.does.0 in
-            stays call.Leave a ready (shard_kept v w d.1) ready.names
+            stays call.Leave a ready (shard_kept v w d.1) ready.names still
             (inl (h.is ∙ (ap done_answer d.0 ∙ sym (leave_said false (ready.owner ∙ ap is_some e))),
             same_run ready.grown owners ∙ sym (leave_done false (ready.owner ∙ ap is_some e))))
 
@@ -197,11 +209,22 @@ module _ (terms : RunTerms) (tag : Option ℕ) (pass : ℕ) (v w : PassPart) (be
   pub post_step : (a : Answer) (bound : Option ℕ) → Ready terms tag call.Post a pass v w before after owners keys numbers
       → CallAnswers terms tag pass v call.Post bound a w
       → Stepped terms tag call.Post a pass w before after owners keys numbers
-  post_step a bound ready h = ?
+  post_step a bound ready h = record {
+    owners_after = owners;
+    keys_after = keys ++ None ∷ [];
+    beside = inl (h.0, ap (λ (es : List Entry). state terms tag es pass owners (keys ++ None ∷ [])) ready.grown);
+    few = refl;
+    own = ready.owner ∙ sym (ap (λ (p : PassPart). is_some p.shard) h.1);
+    others = λ q ne. refl;
+    names = subst (λ (x : Answer). AreNames tag (keys ++ None ∷ []) (with_number numbers call.Post x)) (sym h.0)
+        (one_more_name tag keys numbers None None ready.names tt);
+    issued = issued_same terms.layout before after ready.grown ready.issued;
+  }
 
   pub wait_step : (name : ℕ) (a : Answer) (bound : Option ℕ)
       → Ready terms tag (call.Wait name) a pass v w before after owners keys numbers
       → CallAnswers terms tag pass v (call.Wait name) bound a w
       → Stepped terms tag (call.Wait name) a pass w before after owners keys numbers
   wait_step name a bound ready h = stays (call.Wait name) a ready (ap (λ (p : PassPart). p.shard) h.1) ready.names
+      (issued_same terms.layout before after ready.grown ready.issued)
       (inl (h.0, same_run ready.grown owners))
