@@ -4,3 +4,4 @@ pub mod Names
 pub mod Issued
 pub mod Steps
 pub mod Inserts
+pub mod Keyed
