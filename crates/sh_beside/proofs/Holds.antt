@@ -50,7 +50,7 @@ left_of : (a b : Bool) → (a && b) ≡ true → a ≡ true
 left_of true b e = refl
 left_of false b e = e
 
-got_own : (a k : ℕ) (e : Entry) → is_got_by a k e ≡ true → (pass_of e == a) ≡ true
+pub got_own : (a k : ℕ) (e : Entry) → is_got_by a k e ≡ true → (pass_of e == a) ≡ true
 got_own a k (Got p j v) e = left_of (p == a) (j == k) e
 got_own a k (Insert p j v) e = cc
 got_own a k (Gone p j) e = cc
@@ -82,7 +82,7 @@ release_from_own a (Gone p j) e = cc
 release_from_own a (Crowded p j) e = cc
 release_from_own a (Removed p j) e = cc
 
-own_count : (g h : Entry → Bool) → ((e : Entry) → g e ≡ true → h e ≡ true) → (es : List Entry)
+pub own_count : (g h : Entry → Bool) → ((e : Entry) → g e ≡ true → h e ≡ true) → (es : List Entry)
     → count_by g (filter h es) ≡ count_by g es
 own_count g h only [] = refl
 own_count g h only (e ∷ es) = go (own_count g h only es) (h e) refl

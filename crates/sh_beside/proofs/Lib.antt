@@ -3,5 +3,10 @@ pub mod Logs
 pub mod Names
 pub mod Issued
 pub mod Steps
-pub mod Inserts
-pub mod Keyed
+pub mod Inserting
+pub mod Getting
+pub mod Removing
+pub mod Releasing
+pub mod Reading
+pub mod Walk
+pub mod Beside

@@ -38,7 +38,7 @@ use Rattle.sh_beside.proofs.Steps.{state, Ready, Stepped, stays, allowed_last, s
 
 -- ---- what the history says of a key
 
-present_here : (es : List Entry) (key : ℕ) (value : List ℕ) → value_of es key ≡ Some value → is_removed es key ≡ false
+pub present_here : (es : List Entry) (key : ℕ) (value : List ℕ) → value_of es key ≡ Some value → is_removed es key ≡ false
     → present_value es key ≡ Some value
 present_here es key value e f = rw (f, e) refl
 

@@ -1,0 +1,49 @@
+-- What mode heap answers is beside mode plain.
+use Rattle.std.proofs.Common.{◌≡◌, ◌≢◌, ℕ, zero, suc, ◌<◌, ◌≤◌, ◌==◌, Bool, true, false, List, [], ◌∷◌, ◌++◌, map, refl, ap}
+use Rattle.std.proofs.Common.{sym, ◌∙◌, subst, arith, eqb-true, Option, None}
+use Rattle.std.specs.Prelude.{replicate}
+use Rattle.std.proofs.lemmas.Bool.Decides.{nat_tests}
+use Rattle.std.proofs.lemmas.List.{get_or-replicate, length-replicate}
+use Rattle.sh_history.specs.declared.entry.Entry.{Entry}
+use Rattle.sh_table.specs.Seats.{Heap}
+use Rattle.sh_calls.specs.Parts.{RunTerms, PassPart, PassTold, HasAllLogs, HasLogOf, new_part, passes_below}
+use Rattle.sh_calls.specs.Told.{part_told}
+use Rattle.sh_beside.specs.Law.{HeapIsBesidePlain}
+use Rattle.sh_beside.proofs.Logs.{LogIs}
+use Rattle.sh_beside.proofs.Issued.{none_issued}
+use Rattle.sh_beside.proofs.Walk.{LogsAre, OwnersAre, walk}
+
+-- ---- each log of the tale
+
+last_told : (history : List Entry) (parts : ℕ → PassPart) (qs : List ℕ) (n : ℕ)
+    → HasAllLogs history (map (part_told parts) (qs ++ n ∷ []))
+    → HasAllLogs history (map (part_told parts) qs) × HasLogOf history (part_told parts n)
+last_told history parts [] n h = (tt, h.0)
+last_told history parts (q ∷ qs) n h = let r = last_told history parts qs n h.1 in ((h.0, r.0), r.1)
+
+told_below : (history : List Entry) (parts : ℕ → PassPart) (n : ℕ)
+    → HasAllLogs history (map (part_told parts) (passes_below n)) → (q : ℕ) → q < n → LogIs q (parts q).log history
+told_below history parts zero h q below = absurd (omega (arith, below))
+told_below history parts (suc n) h q below =
+    go (q == n) refl (last_told history parts (passes_below n) n h).1
+    (told_below history parts n (last_told history parts (passes_below n) n h).0 q)
+  where
+    go : (b : Bool) → (q == n) ≡ b → HasLogOf history (part_told parts n) → (q < n → LogIs q (parts q).log history)
+        → LogIs q (parts q).log history
+    go true e here before = subst (λ (p : ℕ). LogIs p (parts p).log history) (sym (eqb-true q n e)) here
+    go false e here before = before (grind (arith, nat_tests))
+
+-- ---- the start
+
+nobody_owns : (terms : RunTerms) (tag : Option ℕ) (heap : Option Heap)
+    → OwnersAre terms tag (replicate 64 false) (new_part heap)
+nobody_owns terms tag heap = record { few = length-replicate 64 false; each = λ q below. get_or-replicate 64 q false false below }
+
+pub heap_is_beside_plain : HeapIsBesidePlain
+heap_is_beside_plain heap terms tag lines output tale told few room below =
+    let history = told.whole.history in
+    let logs : LogsAre terms told.replies.after.parts history =
+    told_below history told.replies.after.parts terms.shape.passes
+    (subst (HasAllLogs history) told.tale_is told.whole.has) in
+    walk terms tag room few lines told.replies.answers _ told.replies.after [] history 0 (replicate 64 false) []
+    told.replies.ran told.whole.legal logs (told.in_order refl) below (nobody_owns terms tag heap) tt (none_issued terms.layout)

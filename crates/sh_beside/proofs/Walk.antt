@@ -1,0 +1,219 @@
+-- Lines of the running heap beside mode plain, one after the other.
+use Rattle.std.proofs.Common.{◌≡◌, ◌≢◌, ℕ, zero, suc, ◌+◌, ◌<◌, ◌≤◌, ◌==◌, Bool, true, false, cond, List, [], ◌∷◌, ◌++◌}
+use Rattle.std.proofs.Common.{length, map, refl, ap, sym, ◌∙◌, subst, arith, append-nil, append_assoc, eqb-true, eq-eqb}
+use Rattle.std.proofs.Common.{ne_eqb, Option, Some, None, slice_index_or, inl, inr}
+use Rattle.std.specs.Prelude.{is_some}
+use Rattle.std.specs.List.{All}
+use Rattle.sh_history.specs.declared.entry.Entry.{Entry}
+use Rattle.sh_history.specs.History.{Legal}
+use Rattle.sh_history.specs.Log.{pass_of}
+use Rattle.sh_history.proofs.Laws.{legal_after_parts}
+use Rattle.sh_script.specs.declared.calls.Call.{Call}
+use Rattle.sh_script.specs.declared.calls.Call.TheVariants as call
+use Rattle.sh_script.specs.declared.calls.CallLine.{CallLine}
+use Rattle.sh_output.specs.declared.answer.Answer.{Answer}
+use Rattle.sh_output.specs.Keys.{HasTagRoom}
+use Rattle.sh_models.specs.PlainRun.{Run}
+use Rattle.sh_calls.specs.Parts.{RunTerms, PassPart}
+use Rattle.sh_calls.specs.Receipts.{MayHeed}
+use Rattle.sh_calls.specs.Calls.{CallAnswers}
+use Rattle.sh_calls.specs.InOrder.{adds_entry, adding_passes}
+use Rattle.sh_calls.specs.Runs.{CallsRun, LineAnswered, LinesAnswered, number_meant, with_part, next_run}
+use Rattle.sh_beside.specs.Beside.{RanBeside}
+use Rattle.sh_beside.proofs.Logs.{Grown, LogIs, gains, own_before, other_before}
+use Rattle.sh_beside.proofs.Names.{AreNames}
+use Rattle.sh_beside.proofs.Issued.{AreIssued}
+use Rattle.sh_beside.proofs.Steps.{state, Ready, Stepped, adopt_step, leave_step, post_step, wait_step}
+use Rattle.sh_beside.proofs.Inserting.{insert_step}
+use Rattle.sh_beside.proofs.Getting.{get_step}
+use Rattle.sh_beside.proofs.Removing.{remove_step}
+use Rattle.sh_beside.proofs.Releasing.{release_step}
+use Rattle.sh_beside.proofs.Reading.{read_step}
+
+-- ---- the entry of a line, if it adds one, is the next of the history
+
+nothing_more : (todo : List Entry) → map pass_of todo ≡ [] → todo ≡ []
+nothing_more [] e = refl
+nothing_more (x ∷ xs) e = absurd (let z : pass_of x ∷ map pass_of xs ≡ [] = e in cc)
+
+-- the history that there is after the line, and what is left of it
+record Goes (b : Bool) (pass : ℕ) (before todo : List Entry) (rest : List ℕ) : Type 0 where
+  after : List Entry
+  later : List Entry
+  grown : Grown b pass before after
+  same : before ++ todo ≡ after ++ later
+  passes : map pass_of later ≡ rest
+
+goes : (b : Bool) (pass : ℕ) (before todo : List Entry) (rest : List ℕ)
+    → map pass_of todo ≡ cond b (pass ∷ []) [] ++ rest → Goes b pass before todo rest
+goes false pass before todo rest e = record { after = before; later = todo; grown = refl; same = refl; passes = e }
+goes true pass before [] rest e = absurd (let z : [] ≡ pass ∷ rest = e in cc)
+goes true pass before (x ∷ xs) rest e =
+    let z : pass_of x ∷ map pass_of xs ≡ pass ∷ rest = e in
+    let here : pass_of x ≡ pass = cc in
+    let there : map pass_of xs ≡ rest = cc in
+    record {
+      after = before ++ x ∷ [];
+      later = xs;
+      grown = (x, refl, here);
+      same = sym (append_assoc before (x ∷ []) xs);
+      passes = there;
+    }
+
+-- ---- the logs of all passes
+
+abbrev pub LogsAre : RunTerms → (ℕ → PassPart) → List Entry → Type 0
+LogsAre terms parts es = (q : ℕ) → q < terms.shape.passes → LogIs q (parts q).log es
+
+part_here : (parts : ℕ → PassPart) (pass q : ℕ) (u : PassPart) → q ≡ pass → with_part parts pass u q ≡ u
+part_here parts pass q u e = ap (λ (b : Bool). cond b u (parts q)) (eq-eqb q pass e)
+
+part_there : (parts : ℕ → PassPart) (pass q : ℕ) (u : PassPart) → q ≢ pass → with_part parts pass u q ≡ parts q
+part_there parts pass q u ne = ap (λ (b : Bool). cond b u (parts q)) (ne_eqb q pass ne)
+
+same_log : (v w : PassPart) → MayHeed v w → w.log ≡ v.log
+same_log v w (inl e) = ap (λ (p : PassPart). p.log) e
+same_log v w (inr h) = ap (λ (p : PassPart). p.log) h.1.is
+
+same_shard : (v w : PassPart) → MayHeed v w → w.shard ≡ v.shard
+same_shard v w (inl e) = ap (λ (p : PassPart). p.shard) e
+same_shard v w (inr h) = ap (λ (p : PassPart). p.shard) h.1.is
+
+true_false : (b : Bool) → b ≡ true → b ≡ false → ⊥
+true_false b p q = cc
+
+module _ (terms : RunTerms) (tag : Option ℕ) where
+  module _ (r next : CallsRun) (l : CallLine) (a : Answer) (h : LineAnswered terms tag r l a next) where
+    here : (q : ℕ) → q ≡ l.pass → next.parts q ≡ h.part
+    here q e = ap (λ (n : CallsRun). n.parts q) h.next_is ∙ part_here r.parts l.pass q h.part e
+
+    there : (q : ℕ) → q ≢ l.pass → next.parts q ≡ r.parts q
+    there q ne = ap (λ (n : CallsRun). n.parts q) h.next_is ∙ part_there r.parts l.pass q h.part ne
+
+    logs_before_line : (before after : List Entry) → Grown (adds_entry l.call a) l.pass before after
+        → LogsAre terms next.parts after → LogsAre terms r.parts before
+    logs_before_line before after grown logs q below = go (q == l.pass) refl
+      where
+        go : (b : Bool) → (q == l.pass) ≡ b → LogIs q (r.parts q).log before
+        go true e =
+            let is : q ≡ l.pass = eqb-true q l.pass e in
+            let at : LogIs l.pass h.part.log after =
+            subst (λ (p : ℕ). LogIs p h.part.log after) is
+            (subst (λ (p : PassPart). LogIs q p.log after) (here q is) (logs q below)) in
+            let begun : LogIs l.pass h.begins.log before =
+            own_before (adds_entry l.call a) l.pass h.begins.log h.part.log before after
+            (gains terms tag l.pass h.begins l.call (number_meant r.numbers l.call) a h.part h.does) grown at in
+            subst (λ (p : ℕ). LogIs p (r.parts p).log before) (sym is)
+            (subst (λ (x : List _). LogIs l.pass x before) (same_log (r.parts l.pass) h.begins h.heeds) begun)
+        go false e =
+            let ne : q ≢ l.pass = λ same. true_false (q == l.pass) (eq-eqb q l.pass same) e in
+            other_before (adds_entry l.call a) l.pass q (r.parts q).log before after ne grown
+            (subst (λ (p : PassPart). LogIs q p.log after) (there q ne) (logs q below))
+
+  -- the logs that there were before lines, by those after them
+  logs_before : (lines : List CallLine) (answers : List Answer) (r end : CallsRun) (before todo : List Entry)
+      → LinesAnswered terms tag r lines answers end → LogsAre terms end.parts (before ++ todo)
+      → map pass_of todo ≡ adding_passes lines answers → LogsAre terms r.parts before
+  logs_before [] [] r end before todo ran logs passes =
+      let none = nothing_more todo passes in
+      let same : before ++ todo ≡ before = ap (λ (x : List Entry). before ++ x) none ∙ append-nil before in
+      subst (λ (n : CallsRun). LogsAre terms n.parts before) ran (subst (LogsAre terms end.parts) same logs)
+  logs_before [] (a ∷ answers) r end before todo ran logs passes = absurd ran
+  logs_before (l ∷ lines) [] r end before todo ran logs passes = absurd ran
+  logs_before (l ∷ lines) (a ∷ answers) r end before todo ran logs passes =
+      let g = goes (adds_entry l.call a) l.pass before todo (adding_passes lines answers) passes in
+      logs_before_line r ran.0 l a ran.1 before g.after g.grown
+      (logs_before lines answers ran.0 end g.after g.later ran.2 (subst (LogsAre terms end.parts) g.same logs) g.passes)
+
+  -- ---- a call
+
+  call_step : HasTagRoom terms.layout tag → (c : Call) (a : Answer) (pass : ℕ) (v w : PassPart)
+      (before after : List Entry) (owners : List Bool) (keys numbers : List (Option ℕ))
+      → Ready terms tag c a pass v w before after owners keys numbers
+      → CallAnswers terms tag pass v c (number_meant numbers c) a w
+      → Stepped terms tag c a pass w before after owners keys numbers
+  call_step room (call.Adopt shard) a pass v w before after owners keys numbers ready h =
+      adopt_step terms tag pass v w before after owners keys numbers shard a ready None h
+  call_step room call.Leave a pass v w before after owners keys numbers ready h =
+      leave_step terms tag pass v w before after owners keys numbers a ready None h
+  call_step room (call.Insert words) a pass v w before after owners keys numbers ready h =
+      insert_step terms tag pass v w before after owners keys numbers words a room ready None h
+  call_step room (call.Get r) a pass v w before after owners keys numbers ready h =
+      get_step terms tag pass v w before after owners keys numbers r a ready h
+  call_step room (call.Read r) a pass v w before after owners keys numbers ready h =
+      read_step terms tag pass v w before after owners keys numbers r a ready h
+  call_step room (call.Remove r) a pass v w before after owners keys numbers ready h =
+      remove_step terms tag pass v w before after owners keys numbers r a ready h
+  call_step room (call.Release r) a pass v w before after owners keys numbers ready h =
+      release_step terms tag pass v w before after owners keys numbers r a ready h
+  call_step room call.Post a pass v w before after owners keys numbers ready h =
+      post_step terms tag pass v w before after owners keys numbers a None ready h
+  call_step room (call.Wait name) a pass v w before after owners keys numbers ready h =
+      wait_step terms tag pass v w before after owners keys numbers name a None ready h
+
+  -- ---- lines
+
+  -- mode plain knows of each pass whether it owns a shard
+  pub record OwnersAre (owners : List Bool) (parts : ℕ → PassPart) : Type 0 where
+    pub few : length owners ≡ 64
+    pub each : (q : ℕ) → q < 64 → slice_index_or owners q false ≡ is_some (parts q).shard
+
+  owners_next : (r next : CallsRun) (l : CallLine) (a : Answer) (h : LineAnswered terms tag r l a next)
+      (owners now : List Bool) → OwnersAre owners r.parts → length now ≡ length owners
+      → slice_index_or now l.pass false ≡ is_some h.part.shard
+      → ((q : ℕ) → q ≢ l.pass → slice_index_or now q false ≡ slice_index_or owners q false) → OwnersAre now next.parts
+  owners_next r next l a h owners now owns few own others = record { few = few ∙ owns.few; each = each }
+    where
+      each : (q : ℕ) → q < 64 → slice_index_or now q false ≡ is_some (next.parts q).shard
+      each q below = go (q == l.pass) refl
+        where
+          go : (b : Bool) → (q == l.pass) ≡ b → slice_index_or now q false ≡ is_some (next.parts q).shard
+          go true e =
+              let is : q ≡ l.pass = eqb-true q l.pass e in
+              ap (λ (p : ℕ). slice_index_or now p false) is
+              ∙ (own ∙ sym (ap (λ (p : PassPart). is_some p.shard) (here r next l a h q is)))
+          go false e =
+              let ne : q ≢ l.pass = λ same. true_false (q == l.pass) (eq-eqb q l.pass same) e in
+              others q ne ∙ (owns.each q below ∙ sym (ap (λ (p : PassPart). is_some p.shard) (there r next l a h q ne)))
+
+  module _ (room : HasTagRoom terms.layout tag) (some : terms.shape.passes ≤ 64) where
+    pub walk : (lines : List CallLine) (answers : List Answer) (r end : CallsRun) (before todo : List Entry) (last : ℕ)
+        (owners : List Bool) (keys : List (Option ℕ)) → LinesAnswered terms tag r lines answers end
+        → Legal terms.shape.passes terms.layout.guard_max (before ++ todo) → LogsAre terms end.parts (before ++ todo)
+        → map pass_of todo ≡ adding_passes lines answers
+        → All (λ (l : CallLine). l.pass < terms.shape.passes) lines → OwnersAre owners r.parts
+        → AreNames tag keys r.numbers → AreIssued terms.layout before
+        → (after : Run) × RanBeside terms.layout terms.shape (state terms tag before last owners keys) lines answers after
+    walk [] [] r end before todo last owners keys ran legal logs passes below owns names issued =
+        (state terms tag before last owners keys, refl)
+    walk [] (a ∷ answers) r end before todo last owners keys ran legal logs passes below owns names issued = absurd ran
+    walk (l ∷ lines) [] r end before todo last owners keys ran legal logs passes below owns names issued = absurd ran
+    walk (l ∷ lines) (a ∷ answers) r end before todo last owners keys ran legal logs passes below owns names issued =
+        let g = goes (adds_entry l.call a) l.pass before todo (adding_passes lines answers) passes in
+        let h = ran.1 in
+        let logs_end : LogsAre terms end.parts (g.after ++ g.later) = subst (LogsAre terms end.parts) g.same logs in
+        let legal_end : Legal terms.shape.passes terms.layout.guard_max (g.after ++ g.later) =
+        subst (Legal terms.shape.passes terms.layout.guard_max) g.same legal in
+        let logs_next : LogsAre terms ran.0.parts g.after =
+        logs_before lines answers ran.0 end g.after g.later ran.2 logs_end g.passes in
+        let logs_now : LogsAre terms r.parts before = logs_before_line r ran.0 l a h before g.after g.grown logs_next in
+        let inside : l.pass < terms.shape.passes = below 0 l (omega arith) in
+        let small : l.pass < 64 = omega (arith, inside, some) in
+        let ready : Ready terms tag l.call a l.pass h.begins h.part before g.after owners keys r.numbers = record {
+          grown = g.grown;
+          log = subst (λ (x : List _). LogIs l.pass x before) (sym (same_log (r.parts l.pass) h.begins h.heeds))
+              (logs_now l.pass inside);
+          log_after = subst (λ (p : PassPart). LogIs l.pass p.log g.after) (here r ran.0 l a h l.pass refl)
+              (logs_next l.pass inside);
+          legal = (legal_after_parts terms.shape.passes terms.layout.guard_max [] g.after g.later legal_end).0;
+          owner = owns.each l.pass small ∙ sym (ap is_some (same_shard (r.parts l.pass) h.begins h.heeds));
+          inside = let f = owns.few in omega (arith, small, f);
+          names = names;
+          issued = issued;
+        } in
+        let s = call_step room l.call a l.pass h.begins h.part before g.after owners keys r.numbers ready h.does in
+        let rest = walk lines answers ran.0 end g.after g.later l.pass s.owners_after s.keys_after ran.2 legal_end
+        logs_end g.passes (λ k d inside. below (suc k) d (omega (arith, inside)))
+        (owners_next r ran.0 l a h owners s.owners_after owns s.few s.own s.others)
+        (subst (λ (n : CallsRun). AreNames tag s.keys_after n.numbers) (sym h.next_is) s.names) s.issued in
+        (rest.0, (state terms tag g.after l.pass s.owners_after s.keys_after, s.beside, rest.1))
