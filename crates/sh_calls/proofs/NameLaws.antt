@@ -71,12 +71,13 @@ first_has log e es h c =
 
 by_has : (p : ℕ) (es : List Entry) (e : Entry) → Contains (by p es) e → Contains es e
 by_has p [] e c = c
-by_has p (y ∷ ys) e c = go (pass_of y == p) c where
-  go : (b : Bool) → Contains (cond b (y ∷ by p ys) (by p ys)) e → Contains (y ∷ ys) e
-  go true c = ⊎_elim (λ (h : Contains (y ∷ []) e). Contains-append_left (y ∷ []) ys e h)
-      (λ (h : Contains (by p ys) e). Contains-append_right (y ∷ []) ys e (by_has p ys e h))
+by_has p (y ∷ ys) e c = go (pass_of y == p) c (by_has p ys e) where
+  go : (b : Bool) → Contains (cond b (y ∷ by p ys) (by p ys)) e → (Contains (by p ys) e → Contains ys e)
+      → Contains (y ∷ ys) e
+  go true c later = ⊎_elim (λ (h : Contains (y ∷ []) e). Contains-append_left (y ∷ []) ys e h)
+      (λ (h : Contains (by p ys) e). Contains-append_right (y ∷ []) ys e (later h))
       (Contains-append_cases (y ∷ []) (by p ys) e c)
-  go false c = Contains-append_right (y ∷ []) ys e (by_has p ys e c)
+  go false c later = Contains-append_right (y ∷ []) ys e (later c)
 
 -- the first entry of the pass
 record FirstOf (p : ℕ) (es : List Entry) : Type 0 where

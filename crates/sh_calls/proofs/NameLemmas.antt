@@ -52,10 +52,10 @@ take_few [] (suc i) = omega arith
 take_few (x ∷ xs) zero = omega arith
 take_few (x ∷ xs) (suc i) = let h = take_few xs i in omega (arith, h)
 
-first_in : {A : Type 0} (x : A) (xs : List A) → Contains (x ∷ xs) x
+pub first_in : {A : Type 0} (x : A) (xs : List A) → Contains (x ∷ xs) x
 first_in x xs = Contains-append_left (x ∷ []) xs x (Contains-push [] x)
 
-some_passes : {A : Type 0} (p : A → Bool) (xs : List A) → list_any p xs ≡ true → (x : A) × Contains xs x × (p x ≡ true)
+pub some_passes : {A : Type 0} (p : A → Bool) (xs : List A) → list_any p xs ≡ true → (x : A) × Contains xs x × (p x ≡ true)
 some_passes p xs e = let a = Any-from_list_any p xs e in (a.1, (a.0, a.2, a.3), a.4)
 
 passes_there : {A : Type 0} (p : A → Bool) (xs : List A) (x : A) → Contains xs x → p x ≡ true → list_any p xs ≡ true
@@ -195,6 +195,10 @@ pub heard_kept : (tag : Option ℕ) (orders more : List Order) (pass first : ℕ
 heard_kept tag orders more pass first None keeps h = tt
 heard_kept tag orders more pass first (Some n) keeps h = (h.0, keeps _ h.1, h.2)
 
+-- what is to be heard of the name of a line, where these passes added entries before, and names stand for these numbers
+abbrev HeardAt : (tag : Option ℕ) → List Order → CallLine × List ℕ × List (Option ℕ) → Type 0
+HeardAt tag orders z = HeardOfNumber tag orders z.0.pass (length (times z.0.pass z.1)) (number_meant z.2 z.0.call)
+
 -- a line more
 pub heard_more : (terms : RunTerms) (tag : Option ℕ) (before run : CallsRun) (ls : List CallLine) (bs : List Answer)
     (orders more : List Order) (l : CallLine) (a : Answer) → LinesAnswered terms tag before ls bs run
@@ -204,30 +208,25 @@ pub heard_more : (terms : RunTerms) (tag : Option ℕ) (before run : CallsRun) (
 heard_more terms tag before run ls bs orders more l a ran was keeps new i m at =
     ⊎_elim old last (get_snoc ls l m i at)
   where
-    abbrev Heard' : CallLine × List ℕ × List (Option ℕ) → Type 0
-    Heard' z = HeardOfNumber tag more z.0.pass (length (times z.0.pass z.1)) (number_meant z.2 z.0.call)
-
-    abbrev Now : Type 0
-    Now = Heard' (
-      m,
-      adding_passes (take i (ls ++ l ∷ [])) (bs ++ a ∷ []),
-      numbers_told (take i (ls ++ l ∷ [])) (bs ++ a ∷ []),
-    )
+    lines : List CallLine
+    lines = take i (ls ++ l ∷ [])
 
     long : length bs ≡ length ls
     long = answers_all terms tag before run ls bs ran
 
     -- the same lines are answered the same
-    as_was : (ks : List CallLine) → take i (ls ++ l ∷ []) ≡ ks → length ks ≤ length bs → (k : CallLine) → k ≡ m
-        → Heard' (k, adding_passes ks bs, numbers_told ks bs) → Now
+    as_was : (ks : List CallLine) → lines ≡ ks → length ks ≤ length bs → (k : CallLine) → k ≡ m
+        → HeardAt tag more (k, adding_passes ks bs, numbers_told ks bs)
+        → HeardAt tag more (m, adding_passes lines (bs ++ a ∷ []), numbers_told lines (bs ++ a ∷ []))
     as_was ks took few k is h =
-        let passes : adding_passes (take i (ls ++ l ∷ [])) (bs ++ a ∷ []) ≡ adding_passes ks bs =
+        let passes : adding_passes lines (bs ++ a ∷ []) ≡ adding_passes ks bs =
         ap (λ (z : List CallLine). adding_passes z (bs ++ a ∷ [])) took ∙ adding_left ks bs (a ∷ []) few in
-        let numbers : numbers_told (take i (ls ++ l ∷ [])) (bs ++ a ∷ []) ≡ numbers_told ks bs =
+        let numbers : numbers_told lines (bs ++ a ∷ []) ≡ numbers_told ks bs =
         ap (λ (z : List CallLine). numbers_told z (bs ++ a ∷ [])) took ∙ numbers_left ks bs (a ∷ []) few in
-        subst Heard' (λ j. (is j, sym passes j, sym numbers j)) h
+        subst (HeardAt tag more) (λ j. (is j, sym passes j, sym numbers j)) h
 
-    old : slice_get ls i ≡ Some m → Now
+    old : slice_get ls i ≡ Some m
+        → HeardAt tag more (m, adding_passes lines (bs ++ a ∷ []), numbers_told lines (bs ++ a ∷ []))
     old e =
         let few = within ls i m e in
         let short = take_few ls i in
@@ -235,7 +234,8 @@ heard_more terms tag before run ls bs orders more l a ran was keeps new i m at =
         (heard_kept tag orders more m.pass (length (times m.pass (adding_passes (take i ls) bs)))
         (number_meant (numbers_told (take i ls) bs) m.call) keeps (was i m e))
 
-    last : (i ≡ length ls) × (l ≡ m) → Now
+    last : (i ≡ length ls) × (l ≡ m)
+        → HeardAt tag more (m, adding_passes lines (bs ++ a ∷ []), numbers_told lines (bs ++ a ∷ []))
     last e = as_was ls (ap (λ (k : ℕ). take k (ls ++ l ∷ [])) e.0
         ∙ (take_left ls (l ∷ []) (length ls) (omega arith) ∙ take_past ls (length ls) (omega arith)))
         (omega (arith, long)) l e.1 new
