@@ -52,3 +52,12 @@ returns-in_err-carrier-clause-stays g c =
     in_any_case c.from_residual.result
     (inr (none_there seen c.args.sides.items y (into_iter_len c.loop-side.side-iterator) c.loop-side.invariant.counted
     c.in-None.ensures.steps.0 tale))
+
+pub returns-clause-met : goal.returns-clause-met
+returns-clause-met g c =
+    let seen = g.S.Side.seen in
+    let was = c.loop-side.invariant in
+    let some : c.loop-side.carrier ≡ Some c.in_ok-carrier.carrier = search rules in
+    has_met seen g.at.0 g.at.1 c.args.sides.items c.loop-side.yielded _ (into_iter_len c.loop-side.side-iterator)
+    (seen c.in_ok-carrier.carrier) (option_map seen c.loop-side.carrier) was.rest was.counted c.in-None.ensures.steps.0
+    was.carries was.heard was.none (ap (option_map seen) some) c.whole.ensures
