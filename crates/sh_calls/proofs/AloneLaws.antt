@@ -4,9 +4,8 @@ use Rattle.std.proofs.Common.{length, take, set, map, slice_get, Option, Some, N
 use Rattle.std.proofs.Common.{append_assoc, append-nil, length-append, ne_eqb, ◌⊎◌, inl, inr, ⊎_elim}
 use Rattle.std.specs.Prelude.{nat_lt, not, IfNone}
 use Rattle.std.specs.Option.{option_map}
-use Rattle.std.specs.List.{Contains}
+use Rattle.std.specs.List.{All, Contains}
 use Rattle.std.proofs.lemmas.Bool.Decides.{nat_tests}
-use Rattle.std.proofs.lemmas.List.{map-append}
 use Rattle.std.proofs.lemmas.List.Elements.{Contains-append_left, Contains-append_right, Contains-push}
 use Rattle.std.proofs.lemmas.Option.{none-some, same_Some}
 use mathlib.Core.Logic.{dite}
@@ -15,27 +14,31 @@ use Rattle.sh_history.specs.declared.entry.Entry.{Entry}
 use Rattle.sh_history.specs.declared.log.LogEntry.{LogEntry}
 use Rattle.sh_history.specs.History.{Legal}
 use Rattle.sh_history.specs.Log.{Agrees, pass_of, entries_of}
-use Rattle.sh_history.proofs.Standing.{splits_at}
 use Rattle.sh_script.specs.declared.calls.CallLine.{CallLine}
 use Rattle.sh_output.specs.declared.answer.Answer.{Answer}
+use Rattle.sh_output.specs.Keys.{HasTagRoom}
 use Rattle.sh_output.specs.Replies.{reply_line}
 use Rattle.sh_pass.specs.Passes.{Caller}
 use Rattle.sh_calls.specs.Parts.{RunTerms, PassPart, SeenPass, SamePass, HasAllLogs, HasLogOf, new_passes}
 use Rattle.sh_calls.specs.Parts.{tale_told, told_pass, passes_below}
-use Rattle.sh_calls.specs.Calls.{CallAnswers}
-use Rattle.sh_calls.specs.Runs.{CallsRun, LinesAnswered, with_part, with_number, number_meant}
+use Rattle.sh_calls.specs.Calls.{CallAnswers, binds, number_told}
+use Rattle.sh_calls.specs.Named.{numbers_told, tells_number, HeardOfNumber, NamesWereHeard}
+use Rattle.sh_calls.specs.Runs.{CallsRun, LinesAnswered, opening_calls, with_part, with_number, number_meant}
 use Rattle.sh_calls.specs.Told.{part_told}
 use Rattle.sh_calls.specs.Receipts.{SeenReceipt, seen_of_receipt, receipt_seen, order_seen, told_heard, MayHeed}
 use Rattle.sh_calls.specs.Receipts.{HasOrderedTale}
 use Rattle.sh_calls.specs.InOrder.{adds_entry, adding_passes, times, Cut, AllHeard, LastHeard}
-use Rattle.sh_calls.specs.Alone.{seen_with_part, OrderedSoFar, HeedsLast, IsLastOf}
-use Rattle.sh_calls.specs.Finished.{IsOrderedBy, AreWaiting, LinesRan}
-use Rattle.sh_calls.specs.Meeting.{HasMet, SomeWaits, tales_told}
-use Rattle.sh_calls.proofs.ListLemmas.{take_at, take_past, next}
+use Rattle.sh_calls.specs.Alone.{seen_with_part, OrderedSoFar, HeedsLast, IsLastOf, LastTells}
+use Rattle.sh_calls.specs.Finished.{IsOrderedBy, IsNamedBy, AreWaiting, LinesRan}
+use Rattle.sh_calls.specs.Meeting.{HasMet, SomeWaits, KeepsOrders, tales_told, orders_of}
+use Rattle.sh_calls.proofs.ListLemmas.{get_set_same, take_at, take_past, next, up_get, within, get_snoc, contains_map, each_in, each_left, each_right}
+use Rattle.sh_calls.proofs.NameLemmas.{numbers_after, meant_at, heard_more as names_heard_more, heard_kept, orders_at, orders_set, heeds_keeps, heard_by_heeding}
+use Rattle.sh_calls.proofs.NameLemmas.{tells_on, tells_own}
+use Rattle.sh_calls.proofs.NameLaws.{log_at, named_by}
 use Rattle.sh_calls.proofs.LineLemmas.{part_here, part_there}
 use Rattle.sh_calls.proofs.OrderLemmas.{times_append, times_length, times_here, times_else, in_order}
 use Rattle.sh_calls.proofs.GrowLemmas.{grows}
-use Rattle.sh_calls.proofs.InTurn.{begins_alone, answered_more, up_get, within, ends_alone, tale_of_parts, lines_wait}
+use Rattle.sh_calls.proofs.InTurn.{begins_alone, answered_more, ends_alone, tale_of_parts, lines_wait}
 use Rattle.sh_calls.proofs.InTurn.{all_speak}
 use Rattle.sh_table.specs.declared.view.Heard.{Heard}
 use Rattle.sh_table.specs.declared.view.Order.{Order}
@@ -45,28 +48,6 @@ use Rattle.sh_table.specs.Views.{Each, heard_in}
 use Rattle.sh_table.proofs.Zips.{zip_length}
 
 -- ---- elements of lists
-
-contains_map : {A B : Type 0} (f : A → B) (xs : List A) (x : A) → Contains xs x → Contains (map f xs) (f x)
-contains_map f xs x c =
-    let s = splits_at xs x c in
-    let is : map f xs ≡ map f s.0 ++ f x ∷ map f s.1 = ap (map f) s.2 ∙ map-append f s.0 (x ∷ s.1) in
-    subst (λ (l : List _). Contains l (f x)) (sym is) (Contains-append_right (map f s.0) (f x ∷ map f s.1) (f x)
-    (Contains-append_left (f x ∷ []) (map f s.1) (f x) (Contains-push [] (f x))))
-
-each_at : {A : Type 0} (P : A → Type 0) (front : List A) (x : A) (rest : List A) → Each P (front ++ x ∷ rest) → P x
-each_at P [] x rest h = h.0
-each_at P (y ∷ ys) x rest h = each_at P ys x rest h.1
-
-each_in : {A : Type 0} (P : A → Type 0) (xs : List A) (x : A) → Contains xs x → Each P xs → P x
-each_in P xs x c h = let s = splits_at xs x c in each_at P s.0 x s.1 (subst (Each P) s.2 h)
-
-each_left : {A : Type 0} (P : A → Type 0) (xs ys : List A) → Each P (xs ++ ys) → Each P xs
-each_left P [] ys h = tt
-each_left P (x ∷ xs) ys h = (h.0, each_left P xs ys h.1)
-
-each_right : {A : Type 0} (P : A → Type 0) (xs ys : List A) → Each P (xs ++ ys) → Each P ys
-each_right P [] ys h = h
-each_right P (x ∷ xs) ys h = each_right P xs ys h.1
 
 nothing_in : {A : Type 0} (before : List A) (x : A) (after : List A) → [] ≡ before ++ x ∷ after → ⊥
 nothing_in [] x after e = let z : [] ≡ x ∷ after = e in cc
@@ -138,6 +119,10 @@ same_log : (last : Option Caller) (side mid : SeenPass) → HeedsLast last side 
 same_log None side mid e = ap (λ (z : SeenPass). z.part.log) e
 same_log (Some r) side mid e = ap (λ (u : PassPart). u.log) e.part.is
 
+orders_heed : (last : Option Caller) (s c : SeenPass) → HeedsLast last s c → KeepsOrders s.orders c.orders
+orders_heed None s c e o h = subst (λ (z : SeenPass). Contains z.orders o) (sym e) h
+orders_heed (Some r) s c e o h = heeds_keeps r s c e o h
+
 all_heard : (heap : Option Heap) (who : List ℕ) (last : Option Caller) (side mid : SeenPass)
     → LastHeard heap who last → HeedsLast last side mid → (history : List Entry) → Each (Before history) mid.orders
     → AllHeard history who
@@ -173,6 +158,7 @@ module _ (heap : Option Heap) (terms : RunTerms) (tag : Option ℕ) (lines : Lis
     (was : OrderedSoFar heap terms tag lines i numbers sides output last) (l : CallLine)
     (at : slice_get lines i ≡ Some l) (side mid now : SeenPass) (own : slice_get sides l.pass ≡ Some side)
     (heeds : HeedsLast last side mid) (same : SamePass mid now) (a : Answer)
+    (room : HasTagRoom terms.layout tag)
     (does : CallAnswers mid.terms tag mid.pass mid.part l.call (number_meant numbers l.call) a now.part) where
   abbrev who : List ℕ
   who = adding_passes (take i lines) was.so_far.answers
@@ -308,13 +294,77 @@ module _ (heap : Option Heap) (terms : RunTerms) (tag : Option ℕ) (lines : Lis
           (λ (s : (rest : List ℕ) × (who ≡ before ++ b ∷ rest)). old before s.0 b s.1 p)
           (snoc_split who before after l.pass b is)
 
+  -- ---- names
+
+  mid_terms : mid.terms ≡ terms
+  mid_terms = ap (λ (z : SeenPass). z.terms) only ∙ ap (λ (z : SeenPass). z.terms) side_is
+
+  numbers_are : numbers ≡ numbers_told (take i lines) was.so_far.answers
+  numbers_are = was.so_far.numbers_are ∙ numbers_after terms tag (opening_calls heap) was.so_far.run (take i lines)
+      was.so_far.answers was.so_far.ran
+
+  name_heard : (last : Option Caller) → LastTells tag numbers last → HeedsLast last side mid → (n : Option ℕ)
+      → number_meant numbers l.call ≡ n → HeardOfNumber tag mid.orders side.pass (length side.part.log) n
+  name_heard last t e None is = tt
+  name_heard None t e (Some n) is =
+      let m = meant_at numbers l.call n is in
+      absurd (none-some (Some n) (subst (λ (ns : List (Option ℕ)). slice_get ns m.0 ≡ Some (Some n)) t m.1))
+  name_heard (Some r) t e (Some n) is =
+      let m = meant_at numbers l.call n is in
+      heard_by_heeding tag r side mid e (Some n) (t m.0 n m.1)
+
+  keeps_side : (last : Option Caller) → HeedsLast last side mid → KeepsOrders side.orders now.orders
+  keeps_side last e o c = subst (λ (os : List Order). Contains os o) (sym now_orders) (orders_heed last side mid e o c)
+
+  names_heard : NamesWereHeard tag (take i lines ++ l ∷ []) (was.so_far.answers ++ a ∷ [])
+      (orders_of (set sides l.pass now))
+  names_heard =
+      let keeps = orders_set sides l.pass side now own (keeps_side last heeds) in
+      let n : Option ℕ = number_meant (numbers_told (take i lines) was.so_far.answers) l.call in
+      let it = name_heard last was.last_tells heeds n (ap (λ (ns : List (Option ℕ)). number_meant ns l.call) numbers_are)
+      in
+      let H : List Order × ℕ × ℕ → Type 0 = λ z. HeardOfNumber tag z.0 z.1 z.2 n in
+      let here : HeardOfNumber tag now.orders l.pass (length (times l.pass who)) n = subst H
+      (λ j. (sym now_orders j, side_pass j, (sym side_log ∙ ap (λ (q : ℕ). length (times q who)) side_pass) j)) it in
+      names_heard_more terms tag (opening_calls heap) was.so_far.run (take i lines) was.so_far.answers
+      (orders_of sides) (orders_of (set sides l.pass now)) l a was.so_far.ran was.so_far.heard keeps
+      (heard_kept tag now.orders (orders_of (set sides l.pass now)) l.pass (length (times l.pass who)) n
+      (orders_at (set sides l.pass now) l.pass now (get_set_same sides l.pass side now own)) here)
+
+  tells_old : (last : Option Caller) → LastTells tag numbers last → HeedsLast last side mid → (k n : ℕ)
+      → slice_get numbers k ≡ Some (Some n) → tells_number tag (receipt_seen now).heard (Some n) ≡ true
+  tells_old None t e k n is = absurd (none-some (Some n)
+      (subst (λ (ns : List (Option ℕ)). slice_get ns k ≡ Some (Some n)) t is))
+  tells_old (Some r) t e k n is = tells_on tag r side mid now e same (Some n) (t k n is)
+
+  tells_new : binds l.call ≡ true → tells_number tag (receipt_seen now).heard (number_told a) ≡ true
+  tells_new b =
+      let rest : List Heard = map told_heard now.told ++ map (λ (o : Order). o.heard) now.orders in
+      let roomy : HasTagRoom mid.terms.layout tag = subst (λ (t : RunTerms). HasTagRoom t.layout tag) (sym mid_terms) room
+      in
+      let told = tells_own mid.terms tag mid.pass mid.part now.part l.call (number_meant numbers l.call) a roomy b does
+      rest in
+      subst (λ (q : ℕ). tells_number tag (record { pass = q; log = now.part.log } ∷ rest) (number_told a) ≡ true)
+      (ap (λ (z : SeenPass). z.pass) (sym same)) told
+
+  tells_then : (k n : ℕ) → slice_get (with_number numbers l.call a) k ≡ Some (Some n)
+      → tells_number tag (receipt_seen now).heard (Some n) ≡ true
+  tells_then k n at = go (binds l.call) refl at where
+    go : (b : Bool) → binds l.call ≡ b → slice_get (cond b (numbers ++ number_told a ∷ []) numbers) k ≡ Some (Some n)
+        → tells_number tag (receipt_seen now).heard (Some n) ≡ true
+    go false is at = tells_old last was.last_tells heeds k n at
+    go true is at = ⊎_elim (tells_old last was.last_tells heeds k n)
+        (λ (e : (k ≡ length numbers) × (number_told a ≡ Some n)). subst
+        (λ (q : Option ℕ). tells_number tag (receipt_seen now).heard q ≡ true) e.1 (tells_new is))
+        (get_snoc numbers (number_told a) (Some n) k at)
+
   pub ordered_more : (after : List (Option ℕ)) (sides' : List SeenPass) (longer : List ℕ) (r : Caller)
       → after ≡ with_number numbers l.call a → sides' ≡ set sides l.pass now
       → longer ≡ output ++ reply_line l a → seen_of_receipt r ≡ receipt_seen now
       → OrderedSoFar heap terms tag lines (i + 1) after sides' longer (Some r)
   ordered_more after sides' longer r named put printed tells = record {
     so_far = answered_more heap terms tag lines i numbers sides output was.so_far l at side mid now own only
-        (may_heed last side mid heeds) same a does after sides' longer named put printed;
+        (may_heed last side mid heeds) same a does after sides' longer named put printed names_heard;
     counts = counts_more;
     few = few_more;
     last_heard = record {
@@ -324,6 +374,8 @@ module _ (heap : Option Heap) (terms : RunTerms) (tag : Option ℕ) (lines : Lis
       orders = λ history each. orders_more history
           (subst (λ (z : SeenReceipt). Each (Before history) z.orders) tells each);
     };
+    last_tells = λ k n at. subst (λ (z : SeenReceipt). tells_number tag z.heard (Some n) ≡ true) (sym tells)
+        (tells_then k n (subst (λ (ns : List (Option ℕ)). slice_get ns k ≡ Some (Some n)) named at));
   }
 
 pub begins_ordered : (heap : Option Heap) (terms : RunTerms) (tag : Option ℕ) (lines : List CallLine)
@@ -334,6 +386,7 @@ begins_ordered heap terms tag lines sides e = record {
   counts = λ p. refl;
   few = λ p le. refl;
   last_heard = refl;
+  last_tells = refl;
 }
 
 -- the last receipt is of the heap
@@ -343,12 +396,6 @@ last_of heap heap' ps None e h = tt
 last_of heap heap' ps (Some r) e h = h.heap_is ∙ sym e
 
 -- ---- the end
-
-log_at : (history : List Entry) (parts : ℕ → PassPart) (ns : List ℕ) → HasAllLogs history (map (part_told parts) ns)
-    → (k p : ℕ) → slice_get ns k ≡ Some p → HasLogOf history (part_told parts p)
-log_at history parts [] h k p e = absurd (none-some p e)
-log_at history parts (n ∷ ns) h zero p e = subst (λ (q : ℕ). HasLogOf history (part_told parts q)) (same_Some n p e) h.0
-log_at history parts (n ∷ ns) h (suc k) p e = log_at history parts ns h.1 k p e
 
 none_by : (passes p : ℕ) → passes ≤ p → (es : List Entry) → entries_of (λ q. not (nat_lt q passes)) es ≡ []
     → by p es ≡ []
@@ -401,7 +448,7 @@ ordered_by heap terms tag lines i numbers sides output last was past s c heeds t
 module _ (heap : Option Heap) (terms : RunTerms) (tag : Option ℕ) (lines : List CallLine) (i : ℕ)
     (numbers : List (Option ℕ)) (sides : List SeenPass) (output : List ℕ) (last : Option Caller)
     (was : OrderedSoFar heap terms tag lines i numbers sides output last) (s c : SeenPass)
-    (heeds : HeedsLast last s c) (m : HasMet heap terms s (tales_told sides)) where
+    (heeds : HeedsLast last s c) (m : HasMet heap terms s (tales_told sides) (orders_of sides)) where
   only_orders : c ≡ record s { part = c.part; orders = c.orders }
   only_orders = orders_only last s c heeds
 
@@ -414,22 +461,25 @@ module _ (heap : Option Heap) (terms : RunTerms) (tag : Option ℕ) (lines : Lis
   -- the carrier, which heeded the last receipt, speaks for all passes
   pub carrier_speaks : map told_pass (tale_told c) ≡ passes_below c.terms.shape.passes
   carrier_speaks = ap (map told_pass) same_tale
-      ∙ (all_speak true heap terms tag lines i numbers sides output was.so_far
+      ∙ (all_speak heap terms tag lines i numbers sides output was.so_far
       ∙ ap (λ (t : RunTerms). passes_below t.shape.passes) (sym same_terms))
 
   -- all could meet
-  pub ran_on : length lines ≤ i → HasOrderedTale c → LinesRan true heap terms tag lines output (Some c)
-  ran_on past stands =
-      let tale = tale_of_parts true heap terms tag lines i numbers sides output was.so_far in
+  pub ran_on : length lines ≤ i → All (λ (l : CallLine). l.pass < terms.shape.passes) lines → HasOrderedTale c
+      → LinesRan true heap terms tag lines output (Some c)
+  ran_on past fits stands =
+      let tale = tale_of_parts heap terms tag lines i numbers sides output was.so_far in
       let history : List Entry = stands.whole.history in
       let only : entries_of (λ p. not (nat_lt p terms.shape.passes)) history ≡ [] = subst
       (λ (t : RunTerms). entries_of (λ p. not (nat_lt p t.shape.passes)) history ≡ []) same_terms stands.whole.only in
       let ordered : IsOrderedBy terms lines was.so_far.answers c = ordered_by heap terms tag lines i numbers sides output
       last was past s c heeds (m.carries.2 ∙ tale) in
+      let named : IsNamedBy terms tag lines was.so_far.answers c = named_by heap terms tag lines i numbers sides output
+      was.so_far past fits c (same_tale ∙ tale) (λ o h. orders_heed last s c heeds o (m.heard o h)) in
       record {
         met = record {
           told = record {
-            replies = ends_alone true heap terms tag lines i numbers sides output past was.so_far;
+            replies = ends_alone heap terms tag lines i numbers sides output past was.so_far;
             tale_is = same_tale ∙ tale;
             whole = record {
               history = history;
@@ -438,10 +488,12 @@ module _ (heap : Option Heap) (terms : RunTerms) (tag : Option ℕ) (lines : Lis
               has = stands.whole.has;
               only = only;
             };
+            named = named history stands.whole.has only stands.orders;
             in_order = λ e. ordered history stands.whole.has only stands.orders;
           };
           carries = (ap (λ (z : SeenPass). z.heap) only_orders ∙ m.carries.0, same_terms, refl);
           none = shard_heeds last s c heeds ∙ m.none;
+          named = named;
           ordered = λ e. ordered;
         };
         stays = tt;
@@ -454,7 +506,7 @@ pub ran_to_none : {S : Type 0} (seen : S → SeenPass) (heap : Option Heap) (ter
     → length lines ≤ i → o ≡ None → IfNone o (SomeWaits sides ⊎ (sides ≡ []))
     → LinesRan true heap terms tag lines output None
 ran_to_none seen heap terms tag lines i numbers sides output last o was past is stays =
-    let waits = lines_wait seen true heap terms tag lines i numbers sides output o past was.so_far stays in
+    let waits = lines_wait seen heap terms tag lines i numbers sides output o past was.so_far stays in
     record {
       met = tt;
       stays = subst (λ q. IfNone (option_map seen q) (AreWaiting heap terms tag lines output

@@ -2,7 +2,12 @@
 use Rattle.std.proofs.Common.{◌≡◌, ◌≢◌, ℕ, zero, suc, ◌+◌, ◌<◌, ◌≤◌, Bool, true, false, List, [], ◌∷◌, ◌++◌, length, take, set, map}
 use Rattle.std.proofs.Common.{slice_get, Option, Some, None, sym, refl, ap, ◌∙◌, subst, arith, append_assoc, append-nil}
 use Rattle.std.proofs.Common.{IfSome, length-append, length-set, ◌⊎◌, inl, inr, ⊎_elim}
-use Rattle.std.specs.Prelude.{IfNone, Err}
+use Rattle.std.specs.Prelude.{IfNone, Err, nat_lt, not}
+use Rattle.std.specs.List.{All, Contains}
+use Rattle.std.proofs.lemmas.List.Elements.{Contains-append_left, Contains-append_right, Contains-append_cases}
+use Rattle.sh_history.specs.History.{Legal}
+use Rattle.sh_history.specs.Log.{entries_of}
+use Rattle.sh_table.specs.declared.view.Order.{Order}
 use Rattle.sh_value.specs.declared.refusal.Refusal.TheVariants as refusal
 use Rattle.sh_calls.specs.Standing.{Standing, ShardLeaves}
 use Rattle.std.specs.Option.{option_map}
@@ -11,18 +16,22 @@ use mathlib.Core.Logic.{dite}
 use native.Mathlib.Decide.{ℕ_discrete}
 use Rattle.sh_script.specs.declared.calls.CallLine.{CallLine}
 use Rattle.sh_output.specs.declared.answer.Answer.{Answer}
-use Rattle.sh_calls.specs.Parts.{RunTerms, PassPart, SeenPass, PassTold, SamePass, HasWholeTale, new_pass, new_passes}
-use Rattle.sh_calls.specs.Parts.{tale_told, told_pass, passes_below}
+use Rattle.sh_calls.specs.Parts.{RunTerms, PassPart, SeenPass, PassTold, SamePass, new_pass, new_passes}
+use Rattle.sh_calls.specs.Parts.{HasAllLogs, tale_told, told_pass, passes_below}
 use Rattle.sh_calls.specs.Calls.{CallAnswers}
 use Rattle.sh_output.specs.Replies.{reply_line, replies_text}
 use Rattle.sh_calls.specs.Runs.{CallsRun, LineAnswered, LinesAnswered, opening_calls, next_run, with_part, with_number}
 use Rattle.sh_calls.specs.Runs.{number_meant}
-use Rattle.sh_calls.specs.Receipts.{MayHeed}
+use Rattle.sh_calls.specs.Receipts.{MayHeed, HasOrderedTale}
 use Rattle.sh_calls.specs.Told.{AreReplies, part_told}
 use Rattle.sh_calls.specs.Meeting.{CarriesTale, MeetsCarrier, HasMet, SomeWaits, tales_told, AllOfHeap}
+use Rattle.sh_calls.specs.Meeting.{KeepsOrders, CarriesOrders, OwnsNone, orders_of}
+use Rattle.sh_calls.specs.Named.{NamesWereHeard}
 use Rattle.sh_calls.specs.Alone.{seen_with_part, AnsweredSoFar}
-use Rattle.sh_calls.specs.Finished.{CarrierRan, AreWaiting, LinesRan}
+use Rattle.sh_calls.specs.Finished.{CarrierRan, AreWaiting, LinesRan, IsNamedBy}
 use Rattle.sh_calls.proofs.ListLemmas.{get_set_same, get_set_other, take_at, take_past, next, map_more, up_length}
+use Rattle.sh_calls.proofs.ListLemmas.{within, up_get}
+use Rattle.sh_calls.proofs.NameLaws.{named_by}
 use Rattle.sh_calls.proofs.LineLemmas.{one_more, part_here, part_there}
 use Rattle.sh_calls.proofs.Newcomers.{newcomers_length, newcomers_get, length_map, get_middle}
 use Rattle.sh_table.specs.Seats.{Heap}
@@ -39,6 +48,7 @@ record Retired (heap : Option Heap) (terms : RunTerms) (was s : SeenPass) : Type
   pub heap_is : s.heap ≡ heap
   pub terms_is : s.terms ≡ terms
   pub tale_is : tale_told s ≡ tale_told was
+  pub orders_are : s.orders ≡ was.orders
 
 retired : (heap : Option Heap) (terms : RunTerms) (was s : SeenPass) → was.heap ≡ heap → was.terms ≡ terms
     → SamePass was s → s.part.log ≡ was.part.log → Retired heap terms was s
@@ -47,6 +57,7 @@ retired heap terms was s h t same log = record {
   terms_is = ap (λ (z : SeenPass). z.terms) same ∙ t;
   tale_is = (let P : ℕ → Type 0 = λ z. tale_told s ≡ record { pass = z; log = s.part.log } ∷ s.told
       in ap tale_told same) ∙ (λ i. record { pass = was.pass; log = log i } ∷ was.told);
+  orders_are = ap (λ (z : SeenPass). z.orders) same;
 }
 
 pub carries_more : {S : Type 0} (seen : S → SeenPass) (heap : Option Heap) (terms : RunTerms) (ys : List S) (x : S)
@@ -80,19 +91,63 @@ pub rest_of : {S : Type 0} (seen : S → SeenPass) (heap : Option Heap) (terms :
 rest_of seen heap terms x rest its all k = let of : AllOfHeap heap terms (seen x ∷ map seen rest) = subst
     (λ (z : List _). AllOfHeap heap terms (map seen z)) k all in of.2
 
-pub all_met : {S : Type 0} (seen : S → SeenPass) (heap : Option Heap) (terms : RunTerms) (all ys its : List S) (n : ℕ)
+orders_snoc : (ss : List SeenPass) (s : SeenPass) → orders_of (ss ++ s ∷ []) ≡ orders_of ss ++ s.orders
+orders_snoc [] s = append-nil s.orders
+orders_snoc (x ∷ xs) s = ap (λ (z : List Order). x.orders ++ z) (orders_snoc xs s)
+    ∙ sym (append_assoc x.orders (orders_of xs) s.orders)
+
+-- the carrier has heard of what the passes heard of that met it
+pub orders_more : {S : Type 0} (seen : S → SeenPass) (ys : List S) (x : S) (side r : SeenPass) (o : Option SeenPass)
+    → CarriesOrders o (orders_of (map seen ys)) → SamePass (seen x) side → MeetsCarrier o side r
+    → CarriesOrders (Some r) (orders_of (map seen (ys ++ x ∷ [])))
+orders_more seen ys x side r o h same meets = go o h meets
+  where
+    its : side.orders ≡ (seen x).orders
+    its = ap (λ (z : SeenPass). z.orders) same
+
+    more : orders_of (map seen (ys ++ x ∷ [])) ≡ orders_of (map seen ys) ++ (seen x).orders
+    more = ap orders_of (map_more seen ys x) ∙ orders_snoc (map seen ys) (seen x)
+
+    go : (o : Option SeenPass) → CarriesOrders o (orders_of (map seen ys)) → MeetsCarrier o side r
+        → CarriesOrders (Some r) (orders_of (map seen (ys ++ x ∷ [])))
+    go None h meets =
+        let is : orders_of (map seen (ys ++ x ∷ [])) ≡ r.orders = more
+        ∙ (ap (λ (z : List Order). z ++ (seen x).orders) h ∙ (sym its ∙ ap (λ (z : SeenPass). z.orders) (sym meets))) in
+        λ p c. subst (λ (z : List Order). Contains z p) is c
+    go (Some c) h meets = λ p has. ⊎_elim
+        (λ (k : Contains (orders_of (map seen ys)) p). meets.3 p (Contains-append_left c.orders side.orders p (h p k)))
+        (λ (k : Contains (seen x).orders p). meets.3 p (Contains-append_right c.orders side.orders p
+        (subst (λ (z : List Order). Contains z p) (sym its) k)))
+        (Contains-append_cases (orders_of (map seen ys)) (seen x).orders p (subst (λ (z : List Order). Contains z p) more has))
+
+all_yielded : {S : Type 0} (all ys its : List S) (n : ℕ) → all ≡ ys ++ its → length ys + n ≡ length all → n ≡ 0
+    → ys ≡ all
+all_yielded all ys [] n e l z = sym (e ∙ append-nil ys)
+all_yielded all ys (x ∷ xs) n e l z = let k : length all ≡ length ys + suc (length xs) = ap length e
+    ∙ length-append ys (x ∷ xs) in absurd (omega (arith, k, l, z))
+
+pub has_met : {S : Type 0} (seen : S → SeenPass) (heap : Option Heap) (terms : RunTerms) (all ys its : List S) (n : ℕ)
     (c : SeenPass) (o : Option SeenPass) → all ≡ ys ++ its → length ys + n ≡ length all → n ≡ 0
-    → CarriesTale heap terms o (tales_told (map seen ys)) → o ≡ Some c → HasWholeTale c.terms (tale_told c)
-    → HasWholeTale terms (tales_told (map seen all))
-all_met {S} seen heap terms all ys its n c o e l z h is stands =
-    let yielded : (qs : List S) → all ≡ ys ++ qs → ys ≡ all = elim [
-      | [] ↦ λ f. sym (f ∙ append-nil ys)
-      | x ∷ xs ↦ λ f. let k : length all
-          ≡ length ys + suc (length xs) = ap length f ∙ length-append ys (x ∷ xs) in absurd (omega (arith, k, l, z))
-    ] in
-    let h' = subst (λ (q : Option SeenPass). CarriesTale heap terms q (tales_told (map seen ys))) is h in
-    let Q : RunTerms × List PassTold → Type 0 = λ q. HasWholeTale q.0 q.1 in
-    subst Q (λ i. (h'.1 i, (h'.2 ∙ ap (λ q. tales_told (map seen q)) (yielded its e)) i)) stands
+    → CarriesTale heap terms o (tales_told (map seen ys)) → CarriesOrders o (orders_of (map seen ys)) → OwnsNone o
+    → o ≡ Some c → HasOrderedTale c → HasMet heap terms c (tales_told (map seen all)) (orders_of (map seen all))
+has_met {S} seen heap terms all ys its n c o e l z carries heard none is stands =
+    let yielded : ys ≡ all = all_yielded all ys its n e l z in
+    let h = subst (λ (q : Option SeenPass). CarriesTale heap terms q (tales_told (map seen ys))) is carries in
+    let tale : tale_told c ≡ tales_told (map seen all) = h.2 ∙ ap (λ (q : List S). tales_told (map seen q)) yielded in
+    let w = stands.whole in
+    record {
+      carries = (h.0, h.1, tale);
+      heard = subst (λ (q : List S). KeepsOrders (orders_of (map seen q)) c.orders) yielded
+          (subst (λ (q : Option SeenPass). CarriesOrders q (orders_of (map seen ys))) is heard);
+      none = subst OwnsNone is none;
+      whole = record {
+        history = w.history;
+        legal = subst (λ (t : RunTerms). Legal t.shape.passes t.layout.guard_max w.history) h.1 w.legal;
+        has = subst (HasAllLogs w.history) tale w.has;
+        only = subst (λ (t : RunTerms). entries_of (λ p. not (nat_lt p t.shape.passes)) w.history ≡ []) h.1 w.only;
+      };
+      kept = stands.orders;
+    }
 
 -- ---- a line more
 
@@ -109,6 +164,7 @@ begins_alone heap terms tag lines sides e = record {
   each = λ p s at. let is : s ≡ new_pass heap terms p = newcomers_get heap terms terms.shape.passes p s
       (subst (λ (z : List SeenPass). slice_get z p ≡ Some s) e at)
       in is ∙ ap (λ (z : SeenPass). record (new_pass heap terms p) { orders = z.orders }) (sym is);
+  heard = λ i l at. absurd (none-some l at);
 }
 
 module _ (heap : Option Heap) (terms : RunTerms) (tag : Option ℕ) (lines : List CallLine) (i : ℕ)
@@ -162,9 +218,10 @@ module _ (heap : Option Heap) (terms : RunTerms) (tag : Option ℕ) (lines : Lis
 
   abbrev pub answered_more : (after : List (Option ℕ)) (new : List SeenPass) (longer : List ℕ) → after
       ≡ with_number numbers l.call a → new ≡ set sides l.pass now → longer ≡ output ++ reply_line l a
+      → NamesWereHeard tag (take i lines ++ l ∷ []) (was.answers ++ a ∷ []) (orders_of (set sides l.pass now))
       → AnsweredSoFar heap terms tag lines (i + 1) after new longer
-  answered_more after new longer named put printed =
-      let more = one_more true terms tag (opening_calls heap) was.run then (take i lines) was.answers l a was.ran steps in
+  answered_more after new longer named put printed heard =
+      let more = one_more terms tag (opening_calls heap) was.run then (take i lines) was.answers l a was.ran steps in
       let R : List CallLine → Type 0 = λ ls. LinesAnswered terms tag (opening_calls heap) ls (was.answers ++ a ∷ []) then in
       record {
         answers = was.answers ++ a ∷ [];
@@ -177,6 +234,8 @@ module _ (heap : Option Heap) (terms : RunTerms) (tag : Option ℕ) (lines : Lis
         each = λ p s e. let f : slice_get (set sides l.pass now) p
             ≡ Some s = ap (λ (z : List SeenPass). slice_get z p) (sym put) ∙ e
             in dite (ℕ_discrete p l.pass) (λ h. here p s h f) (λ ne. there p s ne f);
+        heard = subst (λ (z : List CallLine × List SeenPass). NamesWereHeard tag z.0 (was.answers ++ a ∷ [])
+            (orders_of z.1)) (λ j. (sym took j, sym put j)) heard;
       }
 
 -- ---- the end
@@ -204,27 +263,6 @@ unfolding bare
 bare_heap heap terms [] h = tt
 bare_heap heap terms (s ∷ ss) h = (h.0, h.1, bare_heap heap terms ss h.2)
 
-get_left : {A : Type 0} (xs ys : List A) (k : ℕ) (x : A) → slice_get xs k ≡ Some x → slice_get (xs ++ ys) k ≡ Some x
-get_left [] ys k x e = absurd (none-some x e)
-get_left (z ∷ zs) ys zero x e = e
-get_left (z ∷ zs) ys (suc k) x e = get_left zs ys k x e
-
-get_last : {A : Type 0} (xs : List A) (x : A) → slice_get (xs ++ x ∷ []) (length xs) ≡ Some x
-get_last [] x = refl
-get_last (z ∷ zs) x = get_last zs x
-
-pub up_get : (n p : ℕ) → p < n → slice_get (passes_below n) p ≡ Some p
-up_get zero p l = absurd (omega arith)
-up_get (suc n) p l = dite (ℕ_discrete p n)
-    (λ e. ap (slice_get (passes_below n ++ n ∷ [])) (e ∙ sym (up_length n))
-    ∙ (get_last (passes_below n) n ∙ ap (λ (z : ℕ). Some z) (sym e)))
-    (λ ne. get_left (passes_below n) (n ∷ []) p p (up_get n p (omega arith)))
-
-pub within : {A : Type 0} (xs : List A) (k : ℕ) (x : A) → slice_get xs k ≡ Some x → k < length xs
-within [] k x e = absurd (none-some x e)
-within (y ∷ ys) zero x e = omega arith
-within (y ∷ ys) (suc k) x e = let h = within ys k x e in omega (arith, h)
-
 sides_are : (heap : Option Heap) (terms : RunTerms) (parts : ℕ → PassPart) (sides : List SeenPass) → length sides
     ≡ terms.shape.passes → ((p : ℕ) (s : SeenPass) → slice_get sides p ≡ Some s
     → s ≡ record (seen_with_part heap terms parts p) { orders = s.orders })
@@ -249,17 +287,17 @@ tales_are : (heap : Option Heap) (terms : RunTerms) (parts : ℕ → PassPart) (
 tales_are heap terms parts [] = refl
 tales_are heap terms parts (n ∷ ns) = ap (λ (z : List PassTold). part_told parts n ∷ z) (tales_are heap terms parts ns)
 
-pub all_are : (alone : Bool) (heap : Option Heap) (terms : RunTerms) (tag : Option ℕ) (lines : List CallLine) (i : ℕ)
+pub all_are : (heap : Option Heap) (terms : RunTerms) (tag : Option ℕ) (lines : List CallLine) (i : ℕ)
     (numbers : List (Option ℕ)) (sides : List SeenPass) (output : List ℕ)
     → AnsweredSoFar heap terms tag lines i numbers sides output → AllOfHeap heap terms sides
-all_are alone heap terms tag lines i numbers sides output h = bare_heap heap terms sides (subst (AllOfHeap heap terms)
+all_are heap terms tag lines i numbers sides output h = bare_heap heap terms sides (subst (AllOfHeap heap terms)
     (sym (sides_are heap terms h.run.parts sides h.all h.each))
     (all_of heap terms h.run.parts (passes_below terms.shape.passes)))
 
-abbrev pub ends_alone : (alone : Bool) (heap : Option Heap) (terms : RunTerms) (tag : Option ℕ) (lines : List CallLine) (i : ℕ)
+abbrev pub ends_alone : (heap : Option Heap) (terms : RunTerms) (tag : Option ℕ) (lines : List CallLine) (i : ℕ)
     (numbers : List (Option ℕ)) (sides : List SeenPass) (output : List ℕ) → length lines ≤ i
     → AnsweredSoFar heap terms tag lines i numbers sides output → AreReplies heap terms tag lines output
-ends_alone alone heap terms tag lines i numbers sides output past h =
+ends_alone heap terms tag lines i numbers sides output past h =
     let whole : take i lines ≡ lines = take_past lines i past in
     let R : List CallLine → Type 0 = λ ls. LinesAnswered terms tag (opening_calls heap) ls h.answers h.run in
     record {
@@ -270,11 +308,11 @@ ends_alone alone heap terms tag lines i numbers sides output past h =
     }
 
 -- they speak for the parts of all passes
-pub tale_of_parts : (alone : Bool) (heap : Option Heap) (terms : RunTerms) (tag : Option ℕ) (lines : List CallLine) (i : ℕ)
+pub tale_of_parts : (heap : Option Heap) (terms : RunTerms) (tag : Option ℕ) (lines : List CallLine) (i : ℕ)
     (numbers : List (Option ℕ)) (sides : List SeenPass) (output : List ℕ)
     (h : AnsweredSoFar heap terms tag lines i numbers sides output) → tales_told sides
     ≡ map (part_told h.run.parts) (passes_below terms.shape.passes)
-tale_of_parts alone heap terms tag lines i numbers sides output h = sym (bare_tales sides)
+tale_of_parts heap terms tag lines i numbers sides output h = sym (bare_tales sides)
     ∙ (ap tales_told (sides_are heap terms h.run.parts sides h.all h.each) ∙ tales_are heap terms h.run.parts
     (passes_below terms.shape.passes))
 
@@ -283,19 +321,28 @@ apart e = absurd (let z : false ≡ true = e in cc)
 
 ran_apart : (heap : Option Heap) (terms : RunTerms) (tag : Option ℕ) (lines : List CallLine) (i : ℕ)
     (numbers : List (Option ℕ)) (sides : List SeenPass) (output : List ℕ) (s : SeenPass) → length lines ≤ i
+    → All (λ (l : CallLine). l.pass < terms.shape.passes) lines
     → AnsweredSoFar heap terms tag lines i numbers sides output
-    → HasMet heap terms s (tales_told sides) → CarrierRan false heap terms tag lines output s
-ran_apart heap terms tag lines i numbers sides output s past h m = record {
-  told = record {
-    replies = ends_alone false heap terms tag lines i numbers sides output past h;
-    tale_is = m.carries.2 ∙ tale_of_parts false heap terms tag lines i numbers sides output h;
-    whole = subst (HasWholeTale terms) (sym m.carries.2) m.whole;
-    in_order = apart;
-  };
-  carries = (m.carries.0, m.carries.1, refl);
-  none = m.none;
-  ordered = apart;
-}
+    → HasMet heap terms s (tales_told sides) (orders_of sides) → CarrierRan false heap terms tag lines output s
+ran_apart heap terms tag lines i numbers sides output s past fits h m =
+    let tale = m.carries.2 ∙ tale_of_parts heap terms tag lines i numbers sides output h in
+    let w = m.whole in
+    let has : HasAllLogs w.history (tale_told s) = subst (HasAllLogs w.history) (sym m.carries.2) w.has in
+    let named : IsNamedBy terms tag lines h.answers s = named_by heap terms tag lines i numbers sides output h past fits
+    s tale m.heard in
+    record {
+      told = record {
+        replies = ends_alone heap terms tag lines i numbers sides output past h;
+        tale_is = tale;
+        whole = record { history = w.history; legal = w.legal; has = has; only = w.only };
+        named = named w.history has w.only m.kept;
+        in_order = apart;
+      };
+      carries = (m.carries.0, m.carries.1, refl);
+      none = m.none;
+      named = named;
+      ordered = apart;
+    }
 
 -- what holds of what is seen of the carrier, where there is one
 some_met : {S : Type 0} {P : S → Type 0} (seen : S → SeenPass) (Q : SeenPass → Type 0) → ((s : S) → P s → Q (seen s))
@@ -332,31 +379,32 @@ none_met seen f None h = f h
 none_met seen f (Some s) h = h
 
 -- whose leave was refused, if nobody carries the tale
-pub lines_wait : {S : Type 0} (seen : S → SeenPass) (alone : Bool) (heap : Option Heap) (terms : RunTerms)
+pub lines_wait : {S : Type 0} (seen : S → SeenPass) (heap : Option Heap) (terms : RunTerms)
     (tag : Option ℕ) (lines : List CallLine) (i : ℕ) (numbers : List (Option ℕ)) (sides : List SeenPass)
     (output : List ℕ) (carrier : Option S) → length lines ≤ i
     → AnsweredSoFar heap terms tag lines i numbers sides output
     → IfNone carrier (SomeWaits sides ⊎ (sides ≡ []))
     → IfNone (option_map seen carrier) (AreWaiting heap terms tag lines output ⊎ (terms.shape.passes ≡ 0))
-lines_wait seen alone heap terms tag lines i numbers sides output carrier past h stays =
+lines_wait seen heap terms tag lines i numbers sides output carrier past h stays =
     none_met seen (⊎_elim (λ (o : SomeWaits sides). inl (record {
-      replies = ends_alone alone heap terms tag lines i numbers sides output past h;
+      replies = ends_alone heap terms tag lines i numbers sides output past h;
       pass = o.0;
       stays = o.3.0;
       waits = subst (λ (s : SeenPass). ShardLeaves s.part.stands (Err refusal.Waiting) o.3.0) (h.each o.0 o.1 o.2) o.3.1;
     })) (λ (e : sides ≡ []). inr (sym h.all ∙ ap length e))) carrier stays
 
--- what the carrier has, if all could meet, and else whose leave was refused, where no receipt went round
+-- what the carrier has, if all could meet, and else whose leave was refused, where each pass ran its lines
 pub lines_ran : {S : Type 0} (seen : S → SeenPass) (heap : Option Heap) (terms : RunTerms) (tag : Option ℕ)
     (lines : List CallLine) (i : ℕ) (numbers : List (Option ℕ)) (sides : List SeenPass) (output : List ℕ)
-    (carrier : Option S) → length lines ≤ i → AnsweredSoFar heap terms tag lines i numbers sides output
-    → IfSome carrier (λ s. HasMet heap terms (seen s) (tales_told sides))
+    (carrier : Option S) → length lines ≤ i → All (λ (l : CallLine). l.pass < terms.shape.passes) lines
+    → AnsweredSoFar heap terms tag lines i numbers sides output
+    → IfSome carrier (λ s. HasMet heap terms (seen s) (tales_told sides) (orders_of sides))
     → IfNone carrier (SomeWaits sides ⊎ (sides ≡ []))
     → LinesRan false heap terms tag lines output (option_map seen carrier)
-lines_ran seen heap terms tag lines i numbers sides output carrier past h met stays = record {
+lines_ran seen heap terms tag lines i numbers sides output carrier past fits h met stays = record {
   met = some_met seen (CarrierRan false heap terms tag lines output) (λ s m.
-      ran_apart heap terms tag lines i numbers sides output (seen s) past h m) carrier met;
-  stays = lines_wait seen false heap terms tag lines i numbers sides output carrier past h stays;
+      ran_apart heap terms tag lines i numbers sides output (seen s) past fits h m) carrier met;
+  stays = lines_wait seen heap terms tag lines i numbers sides output carrier past h stays;
 }
 
 pub map_set : {A B : Type 0} (f : A → B) (xs : List A) (k : ℕ) (y : A) → map f (set xs k y) ≡ set (map f xs) k (f y)
@@ -364,28 +412,28 @@ map_set f [] k y = refl
 map_set f (x ∷ xs) zero y = refl
 map_set f (x ∷ xs) (suc k) y = ap (λ z. f x ∷ z) (map_set f xs k y)
 
-pub heap_at : (alone : Bool) (heap : Option Heap) (terms : RunTerms) (tag : Option ℕ) (lines : List CallLine) (i : ℕ)
+pub heap_at : (heap : Option Heap) (terms : RunTerms) (tag : Option ℕ) (lines : List CallLine) (i : ℕ)
     (numbers : List (Option ℕ)) (sides : List SeenPass) (output : List ℕ)
     → AnsweredSoFar heap terms tag lines i numbers sides output → (p : ℕ) (s : SeenPass) → slice_get sides p ≡ Some s
     → s.heap ≡ heap
-heap_at alone heap terms tag lines i numbers sides output h p s e = ap (λ (z : SeenPass). z.heap) (h.each p s e)
+heap_at heap terms tag lines i numbers sides output h p s e = ap (λ (z : SeenPass). z.heap) (h.each p s e)
 
-pub terms_at : (alone : Bool) (heap : Option Heap) (terms : RunTerms) (tag : Option ℕ) (lines : List CallLine) (i : ℕ)
+pub terms_at : (heap : Option Heap) (terms : RunTerms) (tag : Option ℕ) (lines : List CallLine) (i : ℕ)
     (numbers : List (Option ℕ)) (sides : List SeenPass) (output : List ℕ)
     → AnsweredSoFar heap terms tag lines i numbers sides output → (p : ℕ) (s : SeenPass) → slice_get sides p ≡ Some s
     → s.terms ≡ terms
-terms_at alone heap terms tag lines i numbers sides output h p s e = ap (λ (z : SeenPass). z.terms) (h.each p s e)
+terms_at heap terms tag lines i numbers sides output h p s e = ap (λ (z : SeenPass). z.terms) (h.each p s e)
 
 passes_are : (parts : ℕ → PassPart) (ns : List ℕ) → map told_pass (map (part_told parts) ns) ≡ ns
 passes_are parts [] = refl
 passes_are parts (n ∷ ns) = ap (λ (z : List ℕ). n ∷ z) (passes_are parts ns)
 
 -- they speak for all passes
-pub all_speak : (alone : Bool) (heap : Option Heap) (terms : RunTerms) (tag : Option ℕ) (lines : List CallLine) (i : ℕ)
+pub all_speak : (heap : Option Heap) (terms : RunTerms) (tag : Option ℕ) (lines : List CallLine) (i : ℕ)
     (numbers : List (Option ℕ)) (sides : List SeenPass) (output : List ℕ)
     → AnsweredSoFar heap terms tag lines i numbers sides output → map told_pass (tales_told sides)
     ≡ passes_below terms.shape.passes
-all_speak alone heap terms tag lines i numbers sides output h =
+all_speak heap terms tag lines i numbers sides output h =
     ap (map told_pass) (sym (bare_tales sides) ∙ ap tales_told (sides_are heap terms h.run.parts sides h.all h.each))
     ∙ (ap (map told_pass) (tales_are heap terms h.run.parts (passes_below terms.shape.passes))
     ∙ passes_are h.run.parts (passes_below terms.shape.passes))
@@ -395,11 +443,7 @@ pub met_all : {S : Type 0} (seen : S → SeenPass) (heap : Option Heap) (terms :
     → CarriesTale heap terms o (tales_told (map seen ys)) → o ≡ Some c → map told_pass (tales_told (map seen all))
     ≡ passes_below terms.shape.passes → map told_pass (tale_told c) ≡ passes_below c.terms.shape.passes
 met_all seen heap terms all ys its n c o e l z h is up =
-    let yielded : (qs : List _) → all ≡ ys ++ qs → ys ≡ all = elim [
-      | [] ↦ λ f. sym (f ∙ append-nil ys)
-      | x ∷ xs ↦ λ f. let k : length all
-          ≡ length ys + suc (length xs) = ap length f ∙ length-append ys (x ∷ xs) in absurd (omega (arith, k, l, z))
-    ] in
+    let yielded = all_yielded all ys its n e l z in
     let h' = subst (λ (q : Option SeenPass). CarriesTale heap terms q (tales_told (map seen ys))) is h in
-    ap (map told_pass) (h'.2 ∙ ap (λ q. tales_told (map seen q)) (yielded its e))
+    ap (map told_pass) (h'.2 ∙ ap (λ q. tales_told (map seen q)) yielded)
     ∙ (up ∙ ap (λ (t : RunTerms). passes_below t.shape.passes) (sym h'.1))

@@ -4,6 +4,8 @@ pub mod CallLemmas
 pub mod Newcomers
 pub mod OrderLemmas
 pub mod GrowLemmas
+pub mod NameLemmas
+pub mod NameLaws
 pub mod InTurn
 pub mod AloneLaws
 pub mod RunningLaws

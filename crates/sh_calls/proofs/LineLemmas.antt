@@ -7,22 +7,22 @@ use Rattle.sh_calls.specs.Parts.{RunTerms, PassPart}
 use Rattle.sh_output.specs.Replies.{reply_line, replies_text}
 use Rattle.sh_calls.specs.Runs.{CallsRun, LineAnswered, LinesAnswered, with_part}
 
-pub record OneMore (alone : Bool) (terms : RunTerms) (tag : Option ℕ) (before : CallsRun) (lines : List CallLine)
+pub record OneMore (terms : RunTerms) (tag : Option ℕ) (before : CallsRun) (lines : List CallLine)
     (answers : List Answer) (l : CallLine) (a : Answer) (after : CallsRun) : Type 0 where
   pub ran : LinesAnswered terms tag before (lines ++ l ∷ []) (answers ++ a ∷ []) after
   pub text : replies_text (lines ++ l ∷ []) (answers ++ a ∷ []) ≡ replies_text lines answers ++ reply_line l a
 
-pub one_more : (alone : Bool) (terms : RunTerms) (tag : Option ℕ) (before mid after : CallsRun) (lines : List CallLine)
+pub one_more : (terms : RunTerms) (tag : Option ℕ) (before mid after : CallsRun) (lines : List CallLine)
     (answers : List Answer) (l : CallLine) (a : Answer)
     → LinesAnswered terms tag before lines answers mid → LineAnswered terms tag mid l a after
-    → OneMore alone terms tag before lines answers l a after
-one_more alone terms tag before mid after [] [] l a h s =
+    → OneMore terms tag before lines answers l a after
+one_more terms tag before mid after [] [] l a h s =
     let P : CallsRun → Type 0 = λ r. LineAnswered terms tag r l a after in
     record { ran = (after, subst P h s, refl); text = append-nil (reply_line l a) }
-one_more alone terms tag before mid after [] (b ∷ bs) l a h s = absurd h
-one_more alone terms tag before mid after (k ∷ ks) [] l a h s = absurd h
-one_more alone terms tag before mid after (k ∷ ks) (b ∷ bs) l a h s =
-    let rest = one_more alone terms tag h.0 mid after ks bs l a h.2 s in
+one_more terms tag before mid after [] (b ∷ bs) l a h s = absurd h
+one_more terms tag before mid after (k ∷ ks) [] l a h s = absurd h
+one_more terms tag before mid after (k ∷ ks) (b ∷ bs) l a h s =
+    let rest = one_more terms tag h.0 mid after ks bs l a h.2 s in
     record {
       ran = (h.0, h.1, rest.ran);
       text = ap (λ t. reply_line k b ++ t) rest.text ∙ sym (append_assoc (reply_line k b) (replies_text ks bs)

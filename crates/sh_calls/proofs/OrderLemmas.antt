@@ -25,7 +25,7 @@ times_else a t ts ne = ap (λ b. cond b (t ∷ times a ts) (times a ts)) (ne_eqb
 by_here : (e : Entry) (es : List Entry) → by (pass_of e) (e ∷ es) ≡ e ∷ by (pass_of e) es
 by_here e es = ap (λ b. cond b (e ∷ by (pass_of e) es) (by (pass_of e) es)) (eq-eqb (pass_of e) (pass_of e) refl)
 
-by_else : (a : ℕ) (e : Entry) (es : List Entry) → pass_of e ≢ a → by a (e ∷ es) ≡ by a es
+pub by_else : (a : ℕ) (e : Entry) (es : List Entry) → pass_of e ≢ a → by a (e ∷ es) ≡ by a es
 by_else a e es ne = ap (λ b. cond b (e ∷ by a es) (by a es)) (ne_eqb (pass_of e) a ne)
 
 -- ---- where the pass comes next
@@ -66,7 +66,7 @@ cuts (x ∷ xs) ys (z ∷ zs) us b e =
     ⊎_elim (λ (r : (rest : List Entry) × (zs ≡ xs ++ rest)). inl (r.0, λ i. sym h i ∷ r.1 i))
     (λ (r : (rest : List Entry) × (xs ≡ zs ++ b ∷ rest)). inr (r.0, λ i. h i ∷ r.1 i)) (cuts xs ys zs us b t)
 
-by_length : (a : ℕ) (es fs : List Entry) → length (by a (es ++ fs)) ≡ length (by a es) + length (by a fs)
+pub by_length : (a : ℕ) (es fs : List Entry) → length (by a (es ++ fs)) ≡ length (by a es) + length (by a fs)
 by_length a es fs = ap (λ (l : List Entry). length l) (by_append a es fs) ∙ length-append (by a es) (by a fs)
 
 pub times_length : (a : ℕ) (ts us : List ℕ) → length (times a (ts ++ us))

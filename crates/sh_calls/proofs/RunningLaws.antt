@@ -1,7 +1,9 @@
 -- What calls of a pass of the running heap are in a run of calls.
 use Rattle.std.proofs.Common.{◌≡◌, ℕ, ◌+◌, ◌<◌, ◌≤◌, ◌==◌, ◌&&◌, Bool, true, false, List, [], ◌∷◌, ◌++◌, map}
 use Rattle.std.proofs.Common.{length, refl, sym, ap, subst, ◌∙◌, arith, Option, Some, None, Result, Ok, Err, ltb-true}
-use Rattle.std.proofs.Common.{eq-eqb}
+use Rattle.std.proofs.Common.{eq-eqb, ⊎_elim}
+use Rattle.std.specs.List.{Contains}
+use Rattle.std.proofs.lemmas.List.Elements.{Contains-append_left, Contains-append_right, Contains-append_cases}
 use Rattle.std.specs.Prelude.{nat_lt, nat_le, IsSome, IfOk, MatchResult}
 use Rattle.std.proofs.lemmas.Bool.Decides.{nat_tests}
 use Rattle.std.proofs.lemmas.Option.{same_Some}
@@ -28,7 +30,7 @@ use Rattle.sh_core.proofs.ListCounts.{has_some}
 use Rattle.sh_table.specs.declared.view.View.{View}
 use Rattle.sh_table.specs.declared.view.Told.{Told}
 use Rattle.sh_table.specs.Tales.{ViewStands}
-use Rattle.sh_table.specs.Views.{told_of, joined_view}
+use Rattle.sh_table.specs.Views.{told_of, joined_view, order_of, heard_in}
 use Rattle.sh_table.specs.declared.view.Heard.{Heard}
 use Rattle.sh_table.specs.declared.view.Order.{Order}
 use Rattle.sh_pass.specs.Receipts.{receipt_by, heeded}
@@ -46,6 +48,7 @@ use Rattle.sh_calls.specs.Calls.{UnlessRefused, GetAnswers, HoldGot, get_refusal
 use Rattle.sh_calls.specs.Calls.{RemoveAnswers, KeyRemoved, remove_refusal, ReleaseAnswers, HoldReleased, AdoptAnswers}
 use Rattle.sh_calls.specs.Calls.{PartAdopted, adopt_refusal, LeaveAnswers, PartLeft, needs_shard, ValueInserted}
 use Rattle.sh_calls.specs.Calls.{IsOwnKey}
+use Rattle.sh_calls.specs.Meeting.{KeepsOrders}
 use Rattle.sh_calls.specs.Running.{part_of_caller, seen_standing, seen_of_caller, seen_of_shard, log_told}
 
 -- ---- which numbers are keys
@@ -530,6 +533,16 @@ joined_tale layout v w r e =
     let T : View → List PassTold = λ z. record { pass = z.pass; log = z.own.log } ∷ map log_told z.told in
     ap T e ∙ ap (λ z. record { pass = v.view.pass; log = v.view.own.log } ∷ z)
     (map_append v.view.told (told_of w.view ∷ w.view.told))
+
+pub joined_orders : (layout : Layout) (v w r : Caller) → r.view ≡ joined_view v.view w.view → KeepsOrders
+    ((seen_of_caller layout v).orders ++ (seen_of_caller layout w).orders) (seen_of_caller layout r).orders
+joined_orders layout v w r e o h =
+    let new : List Order = map (order_of v.view) (heard_in w.view) in
+    subst (λ (z : View). Contains z.orders o) (sym e) (⊎_elim
+    (λ (k : Contains v.view.orders o). Contains-append_left v.view.orders (w.view.orders ++ new) o k)
+    (λ (k : Contains w.view.orders o). Contains-append_right v.view.orders (w.view.orders ++ new) o
+    (Contains-append_left w.view.orders new o k))
+    (Contains-append_cases v.view.orders w.view.orders o h))
 
 -- ---- receipts
 

@@ -8,6 +8,8 @@ use Rattle.sh_calls.specs.Runs.{CallsRun, LinesAnswered, opening_calls}
 use Rattle.sh_pass.specs.Passes.{Caller}
 use Rattle.sh_calls.specs.Receipts.{Heeds, seen_of_receipt}
 use Rattle.sh_calls.specs.InOrder.{times, adding_passes, LastHeard}
+use Rattle.sh_calls.specs.Meeting.{orders_of}
+use Rattle.sh_calls.specs.Named.{NamesWereHeard, tells_number}
 use Rattle.sh_table.specs.Seats.{Heap}
 
 -- the last receipt, if there is one, is of this heap
@@ -24,6 +26,12 @@ HeedsLast (Some r) s t = Heeds r s t
 abbrev pub seen_with_part : Option Heap → RunTerms → (ℕ → PassPart) → ℕ → SeenPass
 seen_with_part heap terms parts p = record (new_pass heap terms p) { part = parts p }
 
+-- the last receipt tells of the insert of each name
+abbrev pub LastTells : (tag : Option ℕ) → List (Option ℕ) → Option Caller → Type 0
+LastTells tag numbers None = numbers ≡ []
+LastTells tag numbers (Some r) = (i number : ℕ) → slice_get numbers i ≡ Some (Some number)
+    → tells_number tag (seen_of_receipt r).heard (Some number) ≡ true
+
 -- the first i lines are answered, and these are the passes
 pub record AnsweredSoFar (heap : Option Heap) (terms : RunTerms) (tag : Option ℕ)
     (lines : List CallLine) (i : ℕ) (numbers : List (Option ℕ)) (sides : List SeenPass) (output : List ℕ) : Type 0 where
@@ -35,6 +43,7 @@ pub record AnsweredSoFar (heap : Option Heap) (terms : RunTerms) (tag : Option �
   pub all : length sides ≡ terms.shape.passes
   pub each : (p : ℕ) (s : SeenPass) → slice_get sides p ≡ Some s
       → s ≡ record (seen_with_part heap terms run.parts p) { orders = s.orders }
+  pub heard : NamesWereHeard tag (take i lines) answers (orders_of sides)
 
 -- the same, and the last receipt tells of all entries
 pub record OrderedSoFar (heap : Option Heap) (terms : RunTerms) (tag : Option ℕ) (lines : List CallLine) (i : ℕ)
@@ -44,3 +53,4 @@ pub record OrderedSoFar (heap : Option Heap) (terms : RunTerms) (tag : Option �
       ≡ length (so_far.run.parts p).log
   pub few : (p : ℕ) → terms.shape.passes ≤ p → times p (adding_passes (take i lines) so_far.answers) ≡ []
   pub last_heard : LastHeard heap (adding_passes (take i lines) so_far.answers) last
+  pub last_tells : LastTells tag numbers last

@@ -12,6 +12,7 @@ use Rattle.sh_table.specs.Views.{Each}
 use Rattle.sh_calls.specs.Standing.{Standing, ShardLeaves}
 use Rattle.sh_calls.specs.Parts.{SeenPass, RunTerms, HasAllLogs, no_terms, new_passes, tale_told}
 use Rattle.sh_calls.specs.InOrder.{IsInOrder}
+use Rattle.sh_calls.specs.Named.{NamesComeFirst}
 use Rattle.sh_calls.specs.Told.{AreReplies, IsTold}
 use Rattle.sh_calls.specs.Meeting.{CarriesTale, OwnsNone}
 
@@ -34,13 +35,20 @@ IsOrderedBy terms lines answers c = (history : List Entry) → HasAllLogs histor
     → entries_of (λ p. not (nat_lt p terms.shape.passes)) history ≡ [] → Each (Before history) c.orders
     → IsInOrder lines answers history
 
--- The replies were told, and this pass owns no shard and carries the tale of all. Where the lines ran one after the
--- other, it has heard of their order.
+-- in every history of the tale that keeps the orders the insert that bound a name stands before what is answered of it
+abbrev pub IsNamedBy : RunTerms → (tag : Option ℕ) → List CallLine → List Answer → SeenPass → Type 0
+IsNamedBy terms tag lines answers c = (history : List Entry) → HasAllLogs history (tale_told c)
+    → entries_of (λ p. not (nat_lt p terms.shape.passes)) history ≡ [] → Each (Before history) c.orders
+    → NamesComeFirst tag lines answers history
+
+-- The replies were told, and this pass owns no shard, carries the tale of all, and has heard of what they heard of
+-- names. Where the lines ran one after the other, it has heard of their order.
 pub record CarrierRan (alone : Bool) (heap : Option Heap) (terms : RunTerms) (tag : Option ℕ) (lines : List CallLine)
     (output : List ℕ) (c : SeenPass) : Type 0 where
   pub told : IsTold alone heap terms tag lines output (tale_told c)
   pub carries : CarriesTale heap terms (Some c) (tale_told c)
   pub none : OwnsNone (Some c)
+  pub named : IsNamedBy terms tag lines told.replies.answers c
   pub ordered : alone ≡ true → IsOrderedBy terms lines told.replies.answers c
 
 -- the replies were told, and this pass was refused when it left its shard after them, as the contract of leaving says

@@ -4,6 +4,7 @@ pub mod Receipts
 pub mod InOrder
 pub mod Calls
 pub mod Runs
+pub mod Named
 pub mod Told
 pub mod Meeting
 pub mod Alone

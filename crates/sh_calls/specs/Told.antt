@@ -6,6 +6,7 @@ use Rattle.sh_output.specs.Replies.{replies_text}
 use Rattle.sh_table.specs.Seats.{Heap}
 use Rattle.sh_calls.specs.Parts.{RunTerms, PassPart, PassTold, HasWholeTale, passes_below}
 use Rattle.sh_calls.specs.InOrder.{IsInOrder}
+use Rattle.sh_calls.specs.Named.{NamesComeFirst}
 use Rattle.sh_calls.specs.Runs.{CallsRun, LinesAnswered, opening_calls}
 
 -- each pass with the entries of its part
@@ -22,11 +23,13 @@ pub record AreReplies (heap : Option Heap) (terms : RunTerms) (tag : Option ℕ)
   pub is : output ≡ replies_text lines answers
 
 -- The same, where all passes met at the end: this is their tale. There is one legal history in which the entries of
--- each pass are just those that its answers say, in order, and there are no others. Where the lines ran one after the
--- other, the entries of all passes stand in the order of the lines.
+-- each pass are just those that its answers say, in order, and there are no others. What is answered of a name stands
+-- behind the insert that bound it. Where the lines ran one after the other, the entries of all passes stand in the order
+-- of the lines.
 pub record IsTold (alone : Bool) (heap : Option Heap) (terms : RunTerms) (tag : Option ℕ) (lines : List CallLine)
     (output : List ℕ) (tale : List PassTold) : Type 0 where
   pub replies : AreReplies heap terms tag lines output
   pub tale_is : tale ≡ map (part_told replies.after.parts) (passes_below terms.shape.passes)
   pub whole : HasWholeTale terms tale
+  pub named : NamesComeFirst tag lines replies.answers whole.history
   pub in_order : alone ≡ true → IsInOrder lines replies.answers whole.history

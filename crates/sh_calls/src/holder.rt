@@ -5,6 +5,7 @@ ghost use Rattle.sh_calls.specs.Standing.{ShardInserts};
 ghost use Rattle.sh_calls.specs.Parts.{SeenPass, SamePass, tale_told, told_pass, passes_below};
 ghost use Rattle.sh_calls.specs.Calls.{AdoptAnswers, LeaveAnswers, ValueInserted, GetAnswers, ReadAnswers};
 ghost use Rattle.sh_calls.specs.Calls.{RemoveAnswers, ReleaseAnswers};
+ghost use Rattle.sh_calls.specs.Meeting.{KeepsOrders};
 ghost use Rattle.sh_calls.specs.Receipts.{seen_of_receipt, receipt_seen, Heeds, HasOrderedTale};
 
 use crate::side::Side;
@@ -82,13 +83,14 @@ pub trait Adopts<S: Calls>: Calls + Sized {
             (λ e. LeaveAnswers (S.seen shard).part (Err e.1) (S.seen e.0).part
             × SamePass (S.seen shard) (S.seen e.0)) };
 
-    /// The first pass, which now speaks for both.
+    /// The first pass, which now speaks for both, and has heard of what either heard of.
     fn join(self, other: Self) -> Self
         requires heap { (Self.seen self).heap ≡ (Self.seen other).heap }
         ensures heap { (Self.seen result).heap ≡ (Self.seen self).heap }
         ensures terms { (Self.seen result).terms ≡ (Self.seen self).terms }
         ensures none { (Self.seen result).part.shard ≡ (Self.seen self).part.shard }
-        ensures tale { tale_told (Self.seen result) ≡ tale_told (Self.seen self) ++ tale_told (Self.seen other) };
+        ensures tale { tale_told (Self.seen result) ≡ tale_told (Self.seen self) ++ tale_told (Self.seen other) }
+        ensures orders { KeepsOrders ((Self.seen self).orders ++ (Self.seen other).orders) (Self.seen result).orders };
 
     /// Stores the value in the shard, and answers its key.
     fn insert(shard: &mut S, value: &Value) -> Result<u64, Refusal>

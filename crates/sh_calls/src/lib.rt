@@ -3,6 +3,7 @@
 
 pub mod alone;
 pub mod holder;
+pub mod laws;
 pub mod line;
 pub mod meeting;
 pub mod running;

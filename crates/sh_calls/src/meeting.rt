@@ -4,7 +4,7 @@ ghost use Rattle.sh_table.specs.Seats.{Heap};
 ghost use Rattle.sh_calls.specs.Standing.{ShardLeaves};
 ghost use Rattle.sh_calls.specs.Parts.{RunTerms, SamePass, told_pass, passes_below};
 ghost use Rattle.sh_calls.specs.Meeting.{MeetsCarrier, OwnsNone, IsOfHeap, HasMet, SomeWaits, tales_told};
-ghost use Rattle.sh_calls.specs.Meeting.{AllOfHeap};
+ghost use Rattle.sh_calls.specs.Meeting.{AllOfHeap, orders_of};
 
 use crate::side::Side;
 use sh_value::Refusal;
@@ -42,7 +42,8 @@ pub fn met<S: Side>(sides: Vec<S>) -> Option<S>
     ghost at: { Option Heap × RunTerms }
     requires of { AllOfHeap at.0 at.1 (map S.seen sides.items) }
     requires all { map told_pass (tales_told (map S.seen sides.items)) ≡ passes_below at.1.shape.passes }
-    ensures met { IfSome result (λ carrier. HasMet at.0 at.1 (S.seen carrier) (tales_told (map S.seen sides.items))) }
+    ensures met { IfSome result (λ carrier. HasMet at.0 at.1 (S.seen carrier) (tales_told (map S.seen sides.items))
+        (orders_of (map S.seen sides.items))) }
     ensures stays { IfNone result (SomeWaits (map S.seen sides.items) ⊎ (map S.seen sides.items ≡ [])) }
 {
     let mut carrier: Option<S> = None;

@@ -4,6 +4,7 @@ ghost use Rattle.sh_key.specs.Layout.{first_key, key_count};
 ghost use Rattle.sh_calls.specs.Parts.{SeenPass, SamePass, tale_told, told_pass, passes_below};
 ghost use Rattle.sh_calls.specs.Calls.{AdoptAnswers, LeaveAnswers, InsertAnswers, GetAnswers, ReadAnswers};
 ghost use Rattle.sh_calls.specs.Calls.{RemoveAnswers, ReleaseAnswers};
+ghost use Rattle.sh_calls.specs.Meeting.{KeepsOrders};
 ghost use Rattle.sh_calls.specs.Receipts.{seen_of_receipt, receipt_seen, Heeds, HasOrderedTale};
 
 use sh_pass::Receipt;
@@ -70,7 +71,7 @@ pub trait Side: Drop {
         requires { (seen_of_receipt receipt).heap ≡ (seen self.old).heap }
         ensures { Heeds receipt (seen self.old) (seen self.new) };
 
-    /// The first side, which now speaks for both. Neither owns a shard.
+    /// The first side, which now speaks for both, and has heard of what either heard of. Neither owns a shard.
     fn join(self, other: Self) -> Self
     where
         Self: Sized,
@@ -79,7 +80,8 @@ pub trait Side: Drop {
         ensures none { (seen result).part.shard ≡ None }
         ensures heap { (seen result).heap ≡ (seen self).heap }
         ensures terms { (seen result).terms ≡ (seen self).terms }
-        ensures tale { tale_told (seen result) ≡ tale_told (seen self) ++ tale_told (seen other) };
+        ensures tale { tale_told (seen result) ≡ tale_told (seen self) ++ tale_told (seen other) }
+        ensures orders { KeepsOrders ((seen self).orders ++ (seen other).orders) (seen result).orders };
 
     /// One legal history has all that it speaks for, and nothing else, and keeps the orders that it heard of, where it
     /// speaks for all passes.

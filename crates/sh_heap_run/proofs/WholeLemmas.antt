@@ -175,6 +175,7 @@ module _ (alone : Bool) (layout : Layout) (heap : Heap) (tag : Option ℕ) (line
           replies = ran.told.replies;
           tale_is = ran.told.tale_is;
           whole = tells.whole;
+          named = ran.named tells.whole.history tells.whole.has tells.whole.only tells.kept;
           in_order = λ e. ran.ordered e tells.whole.history tells.whole.has tells.whole.only tells.kept;
         };
         accounts = t.0;

@@ -1,3 +1,4 @@
+pub mod Boards
 pub mod Works
 pub mod Gathers
 pub mod Merges

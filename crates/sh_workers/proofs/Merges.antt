@@ -1,7 +1,7 @@
 -- A line more whose answer is put among the replies.
-use Rattle.std.proofs.Common.{◌≡◌, ◌≢◌, ℕ, zero, suc, ◌+◌, ◌<◌, ◌≤◌, eq-eqb, ne_eqb, Bool, false, cond, List, [], ◌∷◌, ◌++◌}
+use Rattle.std.proofs.Common.{◌≡◌, ◌≢◌, ℕ, zero, suc, ◌+◌, ◌<◌, ◌≤◌, eq-eqb, ne_eqb, Bool, cond, List, [], ◌∷◌, ◌++◌}
 use Rattle.std.proofs.Common.{length, take, drop, set, slice_get, Option, Some, sym, refl, ap, ◌∙◌, subst, arith}
-use Rattle.std.proofs.Common.{length-set, inl}
+use Rattle.std.proofs.Common.{length-set}
 use Rattle.std.proofs.lemmas.Option.{none-some, same_Some}
 use mathlib.Core.Logic.{dite}
 use native.Mathlib.Decide.{ℕ_discrete}
@@ -13,10 +13,14 @@ use Rattle.sh_output.specs.Replies.{reply_line, replies_text}
 use Rattle.sh_calls.specs.Runs.{CallsRun, LineAnswered, LinesAnswered, opening_calls, next_run, with_part, with_number}
 use Rattle.sh_calls.specs.Runs.{number_meant}
 use Rattle.sh_calls.specs.Alone.{seen_with_part}
+use Rattle.sh_calls.specs.InOrder.{adding_passes, times}
+use Rattle.sh_calls.specs.Meeting.{orders_of}
+use Rattle.sh_calls.specs.Named.{numbers_told, HeardOfNumber, NamesWereHeard}
+use Rattle.sh_calls.proofs.NameLemmas.{numbers_after, counts_after, heard_more, heard_kept, orders_at}
 use Rattle.sh_calls.proofs.ListLemmas.{get_set_same, get_set_other, take_at, take_past, next}
 use Rattle.sh_calls.proofs.LineLemmas.{OneMore, one_more, part_here, part_there}
 use Rattle.sh_workers.specs.declared.worker.Made.{Made}
-use Rattle.sh_workers.specs.Works.{own_calls, CallsAnswered, IsWork}
+use Rattle.sh_workers.specs.Works.{own_calls, CallMade, CallsMade, IsWork}
 use Rattle.sh_workers.specs.Gathers.{HaveEnded}
 use Rattle.sh_workers.specs.Merges.{MergedSoFar, AllAnswered}
 use Rattle.sh_table.specs.Seats.{Heap}
@@ -56,23 +60,23 @@ own_there p l ls ne = ap (λ (b : Bool). cond b (l.call ∷ own_calls p ls) (own
 record FirstLeft (heap : Option Heap) (terms : RunTerms) (tag : Option ℕ) (rest : List CallLine) (l : CallLine)
     (v : PassPart) (side : SeenPass) (m : Made) (ms : List Made) : Type 0 where
   part : PassPart
-  does : CallAnswers terms tag l.pass v l.call m.bound m.answer part
+  made : CallMade terms tag l.pass side.orders v l.call m part
   work : IsWork heap terms tag rest l.pass part side ms
 
 first_left : (heap : Option Heap) (terms : RunTerms) (tag : Option ℕ) (rest : List CallLine) (l : CallLine)
     (v : PassPart) (side : SeenPass) (m : Made) (ms : List Made)
     → IsWork heap terms tag (l ∷ rest) l.pass v side (m ∷ ms) → FirstLeft heap terms tag rest l v side m ms
 first_left heap terms tag rest l v side m ms h =
-    let Q : List Call → Type 0 = λ cs. CallsAnswered terms tag l.pass v cs (m ∷ ms) side.part in
-    let f = subst Q (own_here l.pass l rest refl) h.answered in
-    record { part = f.0; does = f.1; work = record { is = h.is; answered = f.2 } }
+    let Q : List Call → Type 0 = λ cs. CallsMade terms tag l.pass side.orders v cs (m ∷ ms) side.part in
+    let f = subst Q (own_here l.pass l rest refl) h.calls in
+    record { part = f.0; made = f.1; work = record { is = h.is; calls = f.2 } }
 
 passed : (heap : Option Heap) (terms : RunTerms) (tag : Option ℕ) (rest : List CallLine) (l : CallLine) (p : ℕ)
     (v : PassPart) (side : SeenPass) (ms : List Made) → l.pass ≢ p → IsWork heap terms tag (l ∷ rest) p v side ms
     → IsWork heap terms tag rest p v side ms
 passed heap terms tag rest l p v side ms ne h =
-    let Q : List Call → Type 0 = λ cs. CallsAnswered terms tag p v cs ms side.part in
-    record { is = h.is; answered = subst Q (own_there p l rest ne) h.answered }
+    let Q : List Call → Type 0 = λ cs. CallsMade terms tag p side.orders v cs ms side.part in
+    record { is = h.is; calls = subst Q (own_there p l rest ne) h.calls }
 
 -- ---- a line more
 
@@ -109,17 +113,17 @@ module _ (heap : Option Heap) (terms : RunTerms) (tag : Option ℕ) (lines : Lis
 
   steps : LineAnswered terms tag was.run l m.answer then
   steps =
-      let D : Option ℕ → Type 0 = λ b. CallAnswers terms tag l.pass (was.run.parts l.pass) l.call b m.answer one.part in
+      let D : Option ℕ → Type 0 = λ b. CallAnswers terms tag l.pass one.made.begins l.call b m.answer one.part in
       record {
-        begins = was.run.parts l.pass;
-        heeds = inl refl;
+        begins = one.made.begins;
+        heeds = one.made.heeds;
         part = one.part;
-        does = subst D (bound ∙ ap (λ (z : List (Option ℕ)). number_meant z l.call) was.numbers_are) one.does;
+        does = subst D (bound ∙ ap (λ (z : List (Option ℕ)). number_meant z l.call) was.numbers_are) one.made.does;
         next_is = refl;
       }
 
-  more : OneMore false terms tag (opening_calls heap) (take i lines) was.answers l m.answer then
-  more = one_more false terms tag (opening_calls heap) was.run then (take i lines) was.answers l m.answer was.ran steps
+  more : OneMore terms tag (opening_calls heap) (take i lines) was.answers l m.answer then
+  more = one_more terms tag (opening_calls heap) was.run then (take i lines) was.answers l m.answer was.ran steps
 
   here : (p : ℕ) (side : SeenPass) (qs : List Made) → p ≡ l.pass → slice_get sides p ≡ Some side
       → slice_get (set rests l.pass ms) p ≡ Some qs
@@ -142,6 +146,22 @@ module _ (heap : Option Heap) (terms : RunTerms) (tag : Option ℕ) (lines : Lis
       subst (λ (z : PassPart). IsWork heap terms tag rest p z side qs)
       (sym (part_there was.run.parts l.pass p one.part ne)) left
 
+  -- its pass had heard of the insert of the name that the line is on
+  heard : NamesWereHeard tag (take i lines ++ l ∷ []) (was.answers ++ m.answer ∷ []) (orders_of sides)
+  heard =
+      let counted = counts_after terms tag (opening_calls heap) was.run (take i lines) was.answers was.ran l.pass in
+      let none : length ((opening_calls heap).parts l.pass).log ≡ 0 = refl in
+      let first : length (was.run.parts l.pass).log ≡ length (times l.pass (adding_passes (take i lines) was.answers)) =
+      omega (arith, counted, none) in
+      let told : m.bound ≡ number_meant (numbers_told (take i lines) was.answers) l.call = bound
+      ∙ ap (λ (z : List (Option ℕ)). number_meant z l.call) (was.numbers_are ∙ numbers_after terms tag
+      (opening_calls heap) was.run (take i lines) was.answers was.ran) in
+      let H : ℕ × Option ℕ → Type 0 = λ z. HeardOfNumber tag (orders_of sides) l.pass z.0 z.1 in
+      heard_more terms tag (opening_calls heap) was.run (take i lines) was.answers (orders_of sides) (orders_of sides) l
+      m.answer was.ran was.heard (λ o c. c) (subst H (λ j. (first j, told j)) (heard_kept tag owner.0.orders
+      (orders_of sides) l.pass (length (was.run.parts l.pass).log) m.bound (orders_at sides l.pass owner.0 owner.1)
+      one.made.heard))
+
   pub merged_more : (after : List (Option ℕ)) (new : List (List Made)) (longer : List ℕ)
       → after ≡ with_number numbers l.call m.answer → new ≡ set rests l.pass ms
       → longer ≡ output ++ reply_line l m.answer → MergedSoFar heap terms tag lines (i + 1) after sides new longer
@@ -161,6 +181,8 @@ module _ (heap : Option Heap) (terms : RunTerms) (tag : Option ℕ) (lines : Lis
             let g : slice_get (set rests l.pass ms) p ≡ Some qs =
             ap (λ (z : List (List Made)). slice_get z p) (sym popped) ∙ f in
             dite (ℕ_discrete p l.pass) (λ is. here p side qs is e g) (λ ne. there p side qs ne e g);
+        heard = subst (λ (ls : List CallLine). NamesWereHeard tag ls (was.answers ++ m.answer ∷ []) (orders_of sides))
+            (sym took) heard;
       }
 
 -- a call is left for each line
@@ -173,8 +195,9 @@ never_empty heap terms tag lines i numbers sides rests output was l at own =
     let owner = get_some sides l.pass (omega (arith, few, was.sides_all, was.rests_all)) in
     let h = was.each l.pass owner.0 [] owner.1 own in
     let dropped : drop i lines ≡ l ∷ drop (suc i) lines = drop_at lines i l at in
-    let Q : List Call → Type 0 = λ cs. CallsAnswered terms tag l.pass (was.run.parts l.pass) cs [] owner.0.part in
-    subst Q (ap (own_calls l.pass) dropped ∙ own_here l.pass l (drop (suc i) lines) refl) h.answered
+    let Q : List Call → Type 0 = λ cs. CallsMade terms tag l.pass owner.0.orders (was.run.parts l.pass) cs []
+    owner.0.part in
+    subst Q (ap (own_calls l.pass) dropped ∙ own_here l.pass l (drop (suc i) lines) refl) h.calls
 
 -- ---- the beginning and the end
 
@@ -191,13 +214,15 @@ merging_begins heap terms tag lines sides rests h = record {
   sides_all = h.sides_all;
   rests_all = h.rests_all;
   each = h.each;
+  heard = λ i l at. absurd (none-some l at);
 }
 
 none_left : (heap : Option Heap) (terms : RunTerms) (tag : Option ℕ) (p : ℕ) (parts : ℕ → PassPart) (side : SeenPass)
-    (ms : List Made) → IsWork heap terms tag [] p (parts p) side ms → side ≡ seen_with_part heap terms parts p
+    (ms : List Made) → IsWork heap terms tag [] p (parts p) side ms
+    → side ≡ record (seen_with_part heap terms parts p) { orders = side.orders }
 none_left heap terms tag p parts side [] h =
-    h.is ∙ ap (λ (z : PassPart). record (new_pass heap terms p) { part = z }) h.answered
-none_left heap terms tag p parts side (m ∷ ms) h = absurd h.answered
+    h.is ∙ ap (λ (z : PassPart). record (new_pass heap terms p) { part = z; orders = side.orders }) h.calls
+none_left heap terms tag p parts side (m ∷ ms) h = absurd h.calls
 
 pub merging_ends : (heap : Option Heap) (terms : RunTerms) (tag : Option ℕ) (lines : List CallLine) (i : ℕ)
     (numbers : List (Option ℕ)) (sides : List SeenPass) (rests : List (List Made)) (output : List ℕ)
@@ -219,8 +244,8 @@ merging_ends heap terms tag lines i numbers sides rests output past h =
             let few = within sides p s e in
             let made = get_some rests p (omega (arith, few, h.sides_all, h.rests_all)) in
             let Q : List CallLine → Type 0 = λ ls. IsWork heap terms tag ls p (h.run.parts p) s made.0 in
-            let is = none_left heap terms tag p h.run.parts s made.0
-            (subst Q (drop_past lines i past) (h.each p s made.0 e made.1)) in
-            is ∙ ap (λ (z : SeenPass). record (seen_with_part heap terms h.run.parts p) { orders = z.orders }) (sym is);
+            none_left heap terms tag p h.run.parts s made.0
+                (subst Q (drop_past lines i past) (h.each p s made.0 e made.1));
+        heard = subst (λ (ls : List CallLine). NamesWereHeard tag ls h.answers (orders_of sides)) whole h.heard;
       },
     )

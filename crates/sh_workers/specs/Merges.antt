@@ -1,11 +1,13 @@
 -- Answers of all passes, put in the order of the script's lines.
-use Rattle.std.specs.Prelude.{◌≡◌, ℕ, false, List, Option, Some, slice_get, length, take, drop}
+use Rattle.std.specs.Prelude.{◌≡◌, ℕ, List, Option, Some, slice_get, length, take, drop}
 use Rattle.sh_script.specs.declared.calls.CallLine.{CallLine}
 use Rattle.sh_output.specs.declared.answer.Answer.{Answer}
 use Rattle.sh_calls.specs.Parts.{RunTerms, SeenPass}
 use Rattle.sh_output.specs.Replies.{replies_text}
 use Rattle.sh_calls.specs.Runs.{CallsRun, LinesAnswered, opening_calls}
 use Rattle.sh_calls.specs.Alone.{AnsweredSoFar}
+use Rattle.sh_calls.specs.Meeting.{orders_of}
+use Rattle.sh_calls.specs.Named.{NamesWereHeard}
 use Rattle.sh_workers.specs.declared.worker.Made.{Made}
 use Rattle.sh_workers.specs.Works.{IsWork}
 use Rattle.sh_table.specs.Seats.{Heap}
@@ -22,6 +24,7 @@ pub record MergedSoFar (heap : Option Heap) (terms : RunTerms) (tag : Option ℕ
   pub rests_all : length rests ≡ terms.shape.passes
   pub each : (p : ℕ) (side : SeenPass) (made : List Made) → slice_get sides p ≡ Some side
       → slice_get rests p ≡ Some made → IsWork heap terms tag (drop i lines) p (run.parts p) side made
+  pub heard : NamesWereHeard tag (take i lines) answers (orders_of sides)
 
 -- all lines are answered so, and these are the passes then
 abbrev pub AllAnswered : Option Heap → RunTerms → Option ℕ → List CallLine → List SeenPass → List ℕ → Type 0

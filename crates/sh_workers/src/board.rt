@@ -1,56 +1,141 @@
 //! The board of names, on which workers wait for one another.
+ghost use Rattle.std.specs.Prelude.{◌≡◌, MatchOption, true};
+ghost use Rattle.sh_calls.specs.Named.{tells_number};
+ghost use Rattle.sh_calls.specs.Receipts.{seen_of_receipt};
+ghost use Rattle.sh_workers.specs.Boards.{IsNote, HeardName};
+
+use crate::room::Room;
+use sh_calls::side::Side;
+use sh_pass::Receipt;
 use std::alloc::{AllocError, Global};
+use std::marker::{Model, PhantomData};
+use std::mem;
 use std::sync::{Condvar, Mutex, Wait};
 
+/// What a name stands for: a number, if its insert was answered one, and then a receipt that tells of the insert of its
+/// key. A contract sees the number.
+#[derive(Drop)]
+pub struct Note<B: Room> {
+    number: Option<u64>,
+    receipt: Receipt,
+    room: PhantomData<B>,
+}
+
+impl<B: Room> Model for Note<B> {
+    ghost use Rattle.std.specs.Prelude.{ℕ, Option};
+    ghost use Rattle.sh_workers.specs.Boards.{IsNote};
+
+    ghost Value = { Option ℕ };
+
+    ghost view = { λ n. n.number };
+
+    ghost invariant = { λ n. IsNote B.heap B.tag n.number n.receipt };
+}
+
+impl<B: Room> Note<B> {
+    /// The number, with a receipt of the pass that bound the name.
+    pub fn new(number: Option<u64>, receipt: Receipt) -> Self
+        requires heap { (seen_of_receipt receipt).heap ≡ B.heap }
+        requires tells { tells_number B.tag (seen_of_receipt receipt).heard number ≡ true }
+        ensures { result ≡ number }
+    {
+        Note {
+            number,
+            receipt,
+            room: PhantomData,
+        }
+    }
+
+    // The pass heeds the receipt, and a receipt of its own, which tells all that this one told, takes its place.
+    fn heeded<S: Side>(self, side: &mut S) -> Self
+        requires heap { (S.seen side.old).heap ≡ B.heap }
+        ensures number { result ≡ self }
+        ensures heard { HeardName B.tag self (S.seen side.old) (S.seen side.new) }
+    {
+        let Note {
+            number,
+            receipt,
+            room,
+        } = self;
+        side.heed(receipt);
+        Note {
+            number,
+            receipt: side.receipt(),
+            room,
+        }
+    }
+
+    fn number(&self) -> Option<u64>
+        ensures { result ≡ self.now }
+    {
+        self.number
+    }
+}
+
 // What is known of a name.
-#[derive(Clone, Copy, Drop, PartialEq, Eq)]
-enum Name {
+#[derive(Drop)]
+enum Name<B: Room> {
     // Nothing yet.
     Open,
-    // It is bound, and stands for this number, if its insert was answered one.
-    Bound(Option<u64>),
+    // It is bound.
+    Bound(Note<B>),
 }
 
 #[derive(Drop)]
-struct Names {
-    names: Vec<Name>,
+struct Names<B: Room> {
+    names: Vec<Name<B>>,
     is_closed: bool,
 }
 
-impl Names {
+impl<B: Room> Names<B> {
     fn is_awaited(&self, name: usize) -> bool {
-        !self.is_closed && self.names.get(name) == Some(&Name::Open)
+        !self.is_closed && matches!(self.names.get(name), Some(Name::Open))
     }
 
-    fn bind(&mut self, name: usize, number: Option<u64>) {
+    fn bind(&mut self, name: usize, note: Note<B>) {
         if let Some(place) = self.names.get_mut(name) {
-            *place = Name::Bound(number);
+            *place = Name::Bound(note);
         }
     }
 
-    // A name that was bound before the board was closed is still answered.
-    fn number(&self, name: usize) -> Option<Option<u64>> {
-        match self.names.get(name) {
-            Some(Name::Bound(number)) => Some(*number),
-            _ => None,
-        }
+    // The number that the name stands for, once the pass heeded what the note of it tells. A name that was bound before
+    // the board was closed is still answered.
+    fn told<S: Side>(&mut self, name: usize, side: &mut S) -> Option<Option<u64>>
+        requires heap { (S.seen side.old).heap ≡ B.heap }
+        ensures heard { MatchOption result (S.seen side.new ≡ S.seen side.old)
+            (λ number. HeardName B.tag number (S.seen side.old) (S.seen side.new)) }
+    {
+        let Some(place) = self.names.get_mut(name) else {
+            return None;
+        };
+        let Name::Bound(note) = mem::replace(place, Name::Open) else {
+            return None;
+        };
+        let note = note.heeded(side);
+        let number = note.number();
+        *place = Name::Bound(note);
+        Some(number)
     }
 }
 
-/// Names that threads bind and wait for. What a name was bound to is compared with the answers afterwards, so no
-/// contract rests on what the board tells.
+/// Names that threads bind and wait for. With a name goes a receipt, so who waited for it is answered after the insert
+/// that bound it. Which number it told is compared with the answers afterwards: no contract rests on that.
 #[derive(Drop)]
-pub struct Board {
-    names: Mutex<Names>,
+pub struct Board<B: Room> {
+    names: Mutex<Names<B>>,
     changed: Condvar,
 }
 
-impl Board {
+impl<B: Room> Board<B> {
     /// A board of this many names, of which none is bound.
-    pub fn new(alloc: Global, count: usize) -> Result<Board, AllocError> {
+    pub fn new(alloc: Global, count: usize) -> Result<Board<B>, AllocError> {
+        let mut names = Vec::with_capacity(alloc, count)?;
+        for _ in 0..count {
+            names.push(Name::Open)?;
+        }
         Ok(Board {
             names: Mutex::new(Names {
-                names: vec![in alloc; Name::Open; count]?,
+                names,
                 is_closed: false,
             }),
             changed: Condvar::new(),
@@ -58,20 +143,24 @@ impl Board {
     }
 
     /// Binds a name, and wakes who waits for it.
-    pub fn bind<R: Wait>(&self, rt: &R, name: usize, number: Option<u64>) {
+    pub fn bind<R: Wait>(&self, rt: &R, name: usize, note: Note<B>) {
         let mut names = self.names.lock(rt);
-        names.bind(name, number);
+        names.bind(name, note);
         drop(names);
         self.changed.notify_all();
     }
 
-    /// Waits for a name, and tells the number that it stands for. `None` where the board is closed and the name is not
-    /// bound, or there is no such name.
-    pub fn wait<R: Wait>(&self, rt: &R, name: usize) -> Option<Option<u64>> {
-        let names = self
+    /// Waits for a name, heeds what is known with it, and tells the number that it stands for. `None` where the board is
+    /// closed and the name is not bound, or there is no such name.
+    pub fn wait<S: Side, R: Wait>(&self, rt: &R, name: usize, side: &mut S) -> Option<Option<u64>>
+        requires heap { (S.seen side.old).heap ≡ B.heap }
+        ensures heard { MatchOption result (S.seen side.new ≡ S.seen side.old)
+            (λ number. HeardName B.tag number (S.seen side.old) (S.seen side.new)) }
+    {
+        let mut names = self
             .changed
             .wait_while(rt, self.names.lock(rt), |names| names.is_awaited(name));
-        names.number(name)
+        names.told(name, side)
     }
 
     /// Ends all waiting, for good.

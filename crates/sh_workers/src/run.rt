@@ -53,7 +53,7 @@ fn joined<S: Side, B: Room, R: Threads>(
 // One worker, in its thread.
 fn ran<S: Side, B: Room, R: Wait, G: Gate>(
     rt: &R,
-    shared: &Shared<'_, G>,
+    shared: &Shared<'_, G, B>,
     worker: Worker<S, B>,
 ) -> Worker<S, B>
     requires lines { shared.now.lines.now ≡ B.lines }
@@ -78,7 +78,7 @@ fn start<
 >(
     scope: &Scope<'s, &'e ()>,
     rt: &'s R,
-    shared: &'s Shared<'s, G>,
+    shared: &'s Shared<'s, G, B>,
     worker: Worker<S, B>,
 ) -> Result<Started<S, B>, Fault>
     requires lines { shared.now.lines.now ≡ B.lines }
@@ -112,7 +112,7 @@ fn start<
 /// and those that run end.
 pub fn run_all<S: Side + Send, B: Room + Send + Sync, R: Threads + Wait + Sync, G: Gate + Sync>(
     rt: &R,
-    shared: &Shared<'_, G>,
+    shared: &Shared<'_, G, B>,
     workers: Vec<Worker<S, B>>,
 ) -> Result<Vec<Worker<S, B>>, Fault>
     requires lines { shared.now.lines.now ≡ B.lines }

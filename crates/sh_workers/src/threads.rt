@@ -85,7 +85,7 @@ fn played<S: Side + Send, B: Room + Send + Sync, R: Threads + Wait + Sync, G: Ga
     let Ok(empty) = Ended::with_capacity(alloc, sides.len()) else {
         return Err(Fault::Memory);
     };
-    let Ok(board) = Board::new(alloc, names_in(lines)) else {
+    let Ok(board) = Board::<B>::new(alloc, names_in(lines)) else {
         return Err(Fault::Memory);
     };
     let workers: Vec<Worker<S, B>> = workers(alloc, lines, sides)?;

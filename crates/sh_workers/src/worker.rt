@@ -1,11 +1,15 @@
 //! Workers: each makes the calls of one pass, in the order of the script.
-ghost use Rattle.std.specs.Prelude.{◌≡◌, ◌≤◌, length, [], IfSome};
+ghost use Rattle.std.specs.Prelude.{◌≡◌, ◌≤◌, length, [], IfSome, MatchOption, true};
 ghost use Rattle.std.specs.Vec.{vec_capacity};
 ghost use Rattle.sh_output.specs.Keys.{HasTagRoom};
 ghost use Rattle.sh_calls.specs.Parts.{new_part, new_pass};
+ghost use Rattle.sh_calls.specs.Calls.{binds, number_told};
+ghost use Rattle.sh_calls.specs.Named.{tells_number};
+ghost use Rattle.sh_calls.specs.Receipts.{receipt_seen};
+ghost use Rattle.sh_workers.specs.Boards.{MayHearName};
 ghost use Rattle.sh_workers.specs.Works.{own_calls, IsWork};
 
-use crate::board::Board;
+use crate::board::{Board, Note};
 use crate::gate::Gate;
 use crate::room::Room;
 use sh_calls::line::{answered, binds, name_used, number_told};
@@ -18,11 +22,11 @@ use std::sync::Wait;
 
 /// What all workers share: the script, the board of its names, and the gate that they pass.
 #[derive(Drop)]
-pub struct Shared<'a, G: Gate> {
+pub struct Shared<'a, G: Gate, B: Room> {
     pub alloc: Global,
     pub lines: &'a [CallLine],
     pub tag: Option<u8>,
-    pub board: &'a Board,
+    pub board: &'a Board<B>,
     pub gate: &'a G,
 }
 
@@ -60,15 +64,48 @@ impl<S: Side, B: Room> Model for Worker<S, B> {
         × (length (own_calls w.number B.lines) ≤ vec_capacity w.made) };
 }
 
-// The number that the name of the call stands for: waited for, if the call is on a name. `None` where the board is
-// closed.
-fn awaited<R: Wait>(rt: &R, board: &Board, call: &Call) -> Option<Option<u64>> {
+// The number that the name of the call stands for: waited for, if the call is on a name, and the pass heeds what is known
+// with it. `None` where the board is closed.
+fn awaited<S: Side, B: Room, R: Wait>(
+    rt: &R,
+    board: &Board<B>,
+    side: &mut S,
+    call: &Call,
+) -> Option<Option<u64>>
+    requires heap { (S.seen side.old).heap ≡ B.heap }
+    ensures heard { MatchOption result (S.seen side.new ≡ S.seen side.old)
+        (λ number. MayHearName B.tag number (S.seen side.old) (S.seen side.new)) }
+{
     if let Call::Wait(name) = call {
-        board.wait(rt, *name)?;
+        return match board.wait(rt, *name, side) {
+            Some(_) => Some(None),
+            None => None,
+        };
     }
     match name_used(call) {
-        Some(name) => board.wait(rt, name),
+        Some(name) => board.wait(rt, name, side),
         None => Some(None),
+    }
+}
+
+// Binds the name, if the call binds one: to the number that the call was answered, if it was answered one, with a receipt
+// of the pass.
+fn bind<S: Side, B: Room, R: Wait>(
+    rt: &R,
+    board: &Board<B>,
+    name: usize,
+    side: &mut S,
+    call: &Call,
+    answer: &Answer,
+)
+    requires heap { (S.seen side.old).heap ≡ B.heap }
+    requires tells { binds call.now ≡ true
+        → tells_number B.tag (receipt_seen (S.seen side.old)).heard (number_told answer.now) ≡ true }
+    ensures { S.seen side.new ≡ S.seen side.old }
+{
+    if binds(call) {
+        let note = Note::new(number_told(answer), side.receipt());
+        board.bind(rt, name, note);
     }
 }
 
@@ -82,7 +119,7 @@ fn names_bound(call: &Call) -> usize
 impl<S: Side, B: Room> Worker<S, B> {
     // Passes the next line, and makes its call if it is its own. False where there is no line left, or the board is
     // closed. It takes no memory but what the call takes: the room for what it was answered was taken before.
-    fn step<R: Wait, G: Gate>(&mut self, rt: &R, shared: &Shared<'_, G>) -> bool
+    fn step<R: Wait, G: Gate>(&mut self, rt: &R, shared: &Shared<'_, G, B>) -> bool
         requires lines { shared.now.lines.now ≡ B.lines }
         requires tag { shared.now.tag ≡ B.tag }
         requires room { HasTagRoom B.terms.layout shared.now.tag }
@@ -94,13 +131,11 @@ impl<S: Side, B: Room> Worker<S, B> {
         if line.pass as usize == self.number {
             let call = self.made.len();
             shared.gate.before(self.number, call);
-            let Some(bound) = awaited(rt, shared.board, &line.call) else {
+            let Some(bound) = awaited(rt, shared.board, &mut self.side, &line.call) else {
                 return false;
             };
             let answer = answered(shared.alloc, &mut self.side, shared.tag, &line.call, bound);
-            if binds(&line.call) {
-                shared.board.bind(rt, self.names, number_told(&answer));
-            }
+            bind(rt, shared.board, self.names, &mut self.side, &line.call, &answer);
             self.made.push_reserved(Made { bound, answer });
             shared.gate.after(self.number, call);
         }
@@ -110,7 +145,7 @@ impl<S: Side, B: Room> Worker<S, B> {
     }
 
     /// Makes the calls that are left, in order. Where it stops before the last, it closes the board.
-    pub fn run<R: Wait, G: Gate>(&mut self, rt: &R, shared: &Shared<'_, G>)
+    pub fn run<R: Wait, G: Gate>(&mut self, rt: &R, shared: &Shared<'_, G, B>)
         requires lines { shared.now.lines.now ≡ B.lines }
         requires tag { shared.now.tag ≡ B.tag }
         requires room { HasTagRoom B.terms.layout shared.now.tag }

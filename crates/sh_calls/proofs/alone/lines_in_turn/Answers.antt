@@ -1,4 +1,5 @@
-use Rattle.std.proofs.Common.{rules, arith, ◌≡◌, ◌≤◌, ◌∙◌, ℕ, sym, ap, subst, map, ◌++◌, length, set}
+use Rattle.std.specs.List.{All}
+use Rattle.std.proofs.Common.{rules, arith, ◌≡◌, ◌<◌, ◌≤◌, ◌∙◌, ℕ, sym, ap, subst, map, ◌++◌, length, set}
 use Rattle.std.proofs.Common.{true, Some, None, Option, slice_get}
 use Rattle.std.specs.Option.{option_map}
 use Rattle.std.proofs.lemmas.Grind.{common_steps}
@@ -27,7 +28,7 @@ heed_last-requires g c =
     ≡ Some c.in-Some.side.now = grind (arith, common_steps, gets) in
     slice_get-map g.S.Side.seen c.loop-line.sides.items c.line-item.result.pass ∙ ap (option_map g.S.Side.seen) found) in
     last_of g.at.0 (g.S.Side.seen c.in-Some.side.now).heap _ c.loop-line.last
-    (heap_at true g.at.0 g.at.1 c.args.tag c.args.lines.now c.loop-line.line-index c.loop-line.numbers.items _
+    (heap_at g.at.0 g.at.1 c.args.tag c.args.lines.now c.loop-line.line-index c.loop-line.numbers.items _
     c.loop-line.output.items c.loop-line.invariant.so_far c.line-item.result.pass (g.S.Side.seen c.in-Some.side.now) own)
     c.loop-line.invariant.last_heard
 
@@ -39,7 +40,7 @@ answered-answer-requires g c =
     let own : slice_get (map g.S.Side.seen c.loop-line.sides.items) l.pass
     ≡ Some (g.S.Side.seen c.in-Some.side.now) = slice_get-map g.S.Side.seen c.loop-line.sides.items l.pass
     ∙ ap (option_map g.S.Side.seen) found in
-    let terms : (g.S.Side.seen c.in-Some.side.now).terms ≡ g.at.1 = terms_at true g.at.0 g.at.1 c.args.tag
+    let terms : (g.S.Side.seen c.in-Some.side.now).terms ≡ g.at.1 = terms_at g.at.0 g.at.1 c.args.tag
     c.args.lines.now c.loop-line.line-index c.loop-line.numbers.items _ c.loop-line.output.items
     c.loop-line.invariant.so_far l.pass (g.S.Side.seen c.in-Some.side.now) own in
     let only = orders_only c.loop-line.last (g.S.Side.seen c.in-Some.side.now) (g.S.Side.seen c.heed_last.new.side)
@@ -69,10 +70,11 @@ loop-line-preserved g c =
     let put : map seen (set c.loop-line.sides.items l.pass c.receipt.new.self) ≡ set (map seen c.loop-line.sides.items)
     l.pass now = map_set seen c.loop-line.sides.items l.pass c.receipt.new.self
     ∙ ap (set (map seen c.loop-line.sides.items) l.pass) c.receipt.ensures.same in
+    let room : HasTagRoom g.at.1.layout c.args.tag = search rules in
     ordered_more g.at.0 g.at.1 c.args.tag c.args.lines.now c.loop-line.line-index c.loop-line.numbers.items
     (map seen c.loop-line.sides.items) c.loop-line.output.items c.loop-line.last
     c.loop-line.invariant l at side mid now own c.heed_last.ensures
-    c.answered-answer.ensures.same a (subst D bound c.answered-answer.ensures.does)
+    c.answered-answer.ensures.same a room (subst D bound c.answered-answer.ensures.does)
     c.tell.new.numbers.items _ c.tell.new.output.items c.receipt.result named put printed c.receipt.ensures.tells
 
 pub met-requires : goal.met-requires
@@ -80,9 +82,9 @@ met-requires g c κs within =
     let sides = map g.S.Side.seen c.loop-line.sides.items in (
       within,
       (
-        all_are true g.at.0 g.at.1 c.args.tag c.args.lines.now c.loop-line.line-index c.loop-line.numbers.items sides
+        all_are g.at.0 g.at.1 c.args.tag c.args.lines.now c.loop-line.line-index c.loop-line.numbers.items sides
             c.loop-line.output.items c.loop-line.invariant.so_far,
-        all_speak true g.at.0 g.at.1 c.args.tag c.args.lines.now c.loop-line.line-index c.loop-line.numbers.items sides
+        all_speak g.at.0 g.at.1 c.args.tag c.args.lines.now c.loop-line.line-index c.loop-line.numbers.items sides
             c.loop-line.output.items c.loop-line.invariant.so_far,
       ),
     )
@@ -107,9 +109,10 @@ returns-in_default-met g c =
 pub returns : goal.returns
 returns g c =
     let past : length c.args.lines.now ≤ c.loop-line.line-index = search rules in
+    let fits : All (λ (l : CallLine). l.pass < g.at.1.shape.passes) c.args.lines.now = search rules in
     record {
       ran = ran_on g.at.0 g.at.1 c.args.tag c.args.lines.now c.loop-line.line-index c.loop-line.numbers.items
           (map g.S.Side.seen c.loop-line.sides.items) c.loop-line.output.items c.loop-line.last
           c.loop-line.invariant (g.S.Side.seen c.in-Some-met.carrier) (g.S.Side.seen c.heed_last-2.new.side)
-          c.heed_last-2.ensures c.in-Some-met.ensures.met past c.whole.ensures;
+          c.heed_last-2.ensures c.in-Some-met.ensures.met past fits c.whole.ensures;
     }

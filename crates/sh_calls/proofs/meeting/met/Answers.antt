@@ -6,7 +6,7 @@ use Rattle.sh_calls.specs.Standing.{ShardLeaves}
 use Rattle.std.specs.Vec.Iter.{into_iter_len}
 use Rattle.sh_calls.specs.Meeting.{CarriesTale, tales_told}
 use Rattle.std.specs.Option.{option_map}
-use Rattle.sh_calls.proofs.InTurn.{carries_more, rest_of, next_waits, none_there}
+use Rattle.sh_calls.proofs.InTurn.{carries_more, orders_more, has_met, rest_of, next_waits, none_there}
 use Rattle.sh_calls.proofs.meeting.met.Goals as goal
 
 pub loop-side-preserved : goal.loop-side-preserved
@@ -19,6 +19,8 @@ loop-side-preserved g c =
       carries = carries_more seen g.at.0 g.at.1 y c.in-Some.side _ _ (seen c.retire.new.side) (seen c.meet.result)
           (option_map seen c.loop-side.carrier) was.carries was.of step c.retire.ensures.same c.retire.ensures.log
           c.meet.ensures.meets;
+      heard = orders_more seen y c.in-Some.side (seen c.retire.new.side) (seen c.meet.result)
+          (option_map seen c.loop-side.carrier) was.heard c.retire.ensures.same c.meet.ensures.meets;
       none = c.meet.ensures.none;
       of = rest_of seen g.at.0 g.at.1 c.in-Some.side _ _ was.of step;
       rest = was.rest ∙ (ap (λ z. y ++ z) step ∙ sym (append_assoc y (c.in-Some.side ∷ []) _));
@@ -50,3 +52,12 @@ returns-in_err-carrier-clause-stays g c =
     in_any_case c.from_residual.result
     (inr (none_there seen c.args.sides.items y (into_iter_len c.loop-side.side-iterator) c.loop-side.invariant.counted
     c.in-None.ensures.steps.0 tale))
+
+pub returns-clause-met : goal.returns-clause-met
+returns-clause-met g c =
+    let seen = g.S.Side.seen in
+    let was = c.loop-side.invariant in
+    let some : c.loop-side.carrier ≡ Some c.in_ok-carrier.carrier = search rules in
+    has_met seen g.at.0 g.at.1 c.args.sides.items c.loop-side.yielded _ (into_iter_len c.loop-side.side-iterator)
+    (seen c.in_ok-carrier.carrier) (option_map seen c.loop-side.carrier) was.rest was.counted c.in-None.ensures.steps.0
+    was.carries was.heard was.none (ap (option_map seen) some) c.whole.ensures

@@ -31,8 +31,8 @@ met-requires g c κs within =
     let answered = c.in_ok-output.ensures.answered in (
       within,
       (
-        all_are false room.heap room.terms room.tag lines (length lines) answered.0 sides output answered.1,
-        all_speak false room.heap room.terms room.tag lines (length lines) answered.0 sides output answered.1,
+        all_are room.heap room.terms room.tag lines (length lines) answered.0 sides output answered.1,
+        all_speak room.heap room.terms room.tag lines (length lines) answered.0 sides output answered.1,
       ),
     )
 
@@ -46,5 +46,5 @@ returns-clause-ran g c =
     let past : length lines ≤ length lines = omega arith in
     let R : Option ℕ → Type 0 = λ tag. LinesRan false room.heap room.terms tag lines output (option_map seen c.met.result) in
     subst R (sym c.requires.tag) (lines_ran seen room.heap room.terms room.tag lines (length lines) answered.0
-    (map seen c.in_ok-output.sides.items) output c.met.result past answered.1 c.met.ensures.met
+    (map seen c.in_ok-output.sides.items) output c.met.result past c.requires.passes answered.1 c.met.ensures.met
     c.met.ensures.stays)

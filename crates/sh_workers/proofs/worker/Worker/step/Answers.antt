@@ -22,11 +22,11 @@ invariant_of-self g c =
       | then-line-self+in-Some-awaited w ↦
           let m : Made = record { bound = w.in-Some-awaited.bound; answer = w.answered-answer.result } in
           let own : l.pass ≡ was.number = search rules in
+          let mid = g.S.Side.seen w.awaited.new.side in
           let now = g.S.Side.seen w.answered-answer.new.side in
-          let D : Option ℕ → Type 0 = λ t. CallAnswers side.terms t side.pass side.part l.call m.bound m.answer now.part
-          in
-          rw (w.self-inside-is, w.push_reserved.ensures.items) (
-            work now m own w.answered-answer.ensures.same
+          let D : Option ℕ → Type 0 = λ t. CallAnswers mid.terms t mid.pass mid.part l.call m.bound m.answer now.part in
+          rw (w.self-inside-is, w.push_reserved.ensures.items, w.bind.ensures) (
+            work mid now m own w.in-Some-awaited.ensures w.answered-answer.ensures.same
                 (subst D c.requires.tag w.answered-answer.ensures.does),
             omega (arith, h.1, c.names_bound.ensures),
             rw w.push_reserved.ensures.capacity h.2,

@@ -1,0 +1,5 @@
+use Rattle.sh_calls.proofs.NameLaws.{named_is_removed}
+use Rattle.sh_calls.proofs.laws.names_come_first.Goals as goal
+
+pub returns : goal.returns
+returns c = named_is_removed
