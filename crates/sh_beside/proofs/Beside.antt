@@ -1,7 +1,7 @@
 -- What mode heap answers is beside mode plain.
 use Rattle.std.proofs.Common.{◌≡◌, ◌≢◌, ℕ, zero, suc, ◌<◌, ◌≤◌, ◌==◌, Bool, true, false, List, [], ◌∷◌, ◌++◌, map, refl, ap}
-use Rattle.std.proofs.Common.{sym, ◌∙◌, subst, arith, eqb-true, Option, None}
-use Rattle.std.specs.Prelude.{replicate}
+use Rattle.std.proofs.Common.{sym, ◌∙◌, subst, arith, eqb-true, Option, Some, None}
+use Rattle.std.specs.Prelude.{replicate, IfSome}
 use Rattle.std.proofs.lemmas.Bool.Decides.{nat_tests}
 use Rattle.std.proofs.lemmas.List.{get_or-replicate, length-replicate}
 use Rattle.sh_history.specs.declared.entry.Entry.{Entry}
@@ -11,7 +11,7 @@ use Rattle.sh_calls.specs.Told.{part_told}
 use Rattle.sh_beside.specs.Law.{HeapIsBesidePlain}
 use Rattle.sh_beside.proofs.Logs.{LogIs}
 use Rattle.sh_beside.proofs.Issued.{none_issued}
-use Rattle.sh_beside.proofs.Walk.{LogsAre, OwnersAre, walk}
+use Rattle.sh_beside.proofs.Walk.{LogsAre, OwnersAre, KnowsEach, walk}
 
 -- ---- each log of the tale
 
@@ -39,11 +39,17 @@ nobody_owns : (terms : RunTerms) (tag : Option ℕ) (heap : Option Heap)
     → OwnersAre terms tag (replicate 64 false) (new_part heap)
 nobody_owns terms tag heap = record { few = length-replicate 64 false; each = λ q below. get_or-replicate 64 q false false below }
 
+new_pass_knows : (terms : RunTerms) (tag : Option ℕ) (heap : Option Heap) → IfSome heap (λ h. h.shape ≡ terms.shape)
+    → KnowsEach terms tag (new_part heap)
+new_pass_knows terms tag None is = record { each = λ q. tt }
+new_pass_knows terms tag (Some h) is = record { each = λ q. is }
+
 pub heap_is_beside_plain : HeapIsBesidePlain
-heap_is_beside_plain heap terms tag lines output tale told few room below =
+heap_is_beside_plain heap terms tag lines output tale told shape few room below =
     let history = told.whole.history in
     let logs : LogsAre terms told.replies.after.parts history =
     told_below history told.replies.after.parts terms.shape.passes
     (subst (HasAllLogs history) told.tale_is told.whole.has) in
     walk terms tag room few lines told.replies.answers _ told.replies.after [] history 0 (replicate 64 false) []
     told.replies.ran told.whole.legal logs (told.in_order refl) below (nobody_owns terms tag heap) tt (none_issued terms.layout)
+    (new_pass_knows terms tag heap shape)

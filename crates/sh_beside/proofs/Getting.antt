@@ -62,8 +62,11 @@ placed_is_key layout shape key e = go (unpacked layout key) refl
   where
     go : (o : Option Parts) → unpacked layout key ≡ o → is_some (unpacked layout key) ≡ true
     go (Some p) f = ap is_some f
-    go None f = absurd (let z : false ≡ true = subst (λ (x : Option Parts). elim x as (λ _. Bool) [ Some p ↦ has_place
-        shape p | None ↦ false ] ≡ true) f e in cc)
+    go None f = absurd (let z : false ≡ true = subst (λ (x : Option Parts). elim x as (λ _. Bool) [
+      | Some p ↦ has_place
+          shape p
+      | None ↦ false
+    ] ≡ true) f e in cc)
 
 got_is : (pass key : ℕ) (x : LogEntry) (e : Entry) → IsGotBy pass key x → Agrees x e → (value : List ℕ)
     × (e ≡ Got pass key value)
@@ -163,8 +166,10 @@ module _ (terms : RunTerms) (tag : Option ℕ) (pass : ℕ) (v w : PassPart) (be
         -- what it answers where there is room for a hold
         abbrev Got_so : ℕ → Option (List ℕ) → Type 0
         Got_so limit o = (a ≡ done_answer (got_reply (record terms.layout { guard_max = limit }) run.store key o).answer)
-            × (next ≡ record run { store = with_added run.store
-            (got_reply (record terms.layout { guard_max = limit }) run.store key o).adds })
+            × (next ≡ record run {
+              store = with_added run.store
+                  (got_reply (record terms.layout { guard_max = limit }) run.store key o).adds;
+            })
 
         by_value : (limit : ℕ) (o : Option (List ℕ)) → present_value before key ≡ o → Got_so limit o → Tell limit
         by_value limit o here h = rw (is_key, roomy, here) h

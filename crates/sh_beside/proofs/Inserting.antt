@@ -26,6 +26,7 @@ use Rattle.sh_beside.specs.Beside.{CallBeside, InsertsBeside, GivesKey}
 use Rattle.sh_beside.proofs.Logs.{Grown, added_agrees}
 use Rattle.sh_beside.proofs.Names.{AreNames, one_more_name, shown_is}
 use Rattle.sh_beside.proofs.Issued.{AreIssued, issued_same, issued_more, one_left}
+use Rattle.sh_beside.proofs.Shapes.{placed_key}
 use Rattle.sh_beside.proofs.Steps.{state, Ready, Stepped, allowed_last, shard_kept}
 
 -- a key of a shard is one of the layout
@@ -35,8 +36,11 @@ of_layout layout None key e = absurd (let z : false ≡ true = e in cc)
 of_layout layout (Some n) key e = go (unpacked layout key) refl
   where
     go : (o : Option Parts) → unpacked layout key ≡ o → IsSome (unpacked layout key)
-    go None f = absurd (let z : false ≡ true = subst (λ (x : Option Parts). elim x as (λ _. Bool) [ Some p ↦ p.shard
-        == n | None ↦ false ] ≡ true) f e in cc)
+    go None f = absurd (let z : false ≡ true = subst (λ (x : Option Parts). elim x as (λ _. Bool) [
+      | Some p ↦ p.shard
+          == n
+      | None ↦ false
+    ] ≡ true) f e in cc)
     go (Some p) f = subst (λ (z : Option Parts). IsSome z) (sym f) refl
 
 module _ (terms : RunTerms) (tag : Option ℕ) (pass : ℕ) (v w : PassPart) (before after : List Entry)
@@ -75,7 +79,7 @@ module _ (terms : RunTerms) (tag : Option ℕ) (pass : ℕ) (v w : PassPart) (be
   both_refuse : (r : Refusal) → (insert_attempt terms.layout run words).answer ≡ Err r → a ≡ answer.Refused r
       → w.shard ≡ v.shard → Done
   both_refuse r plain is same = refused r is same (λ still. inl (subst (λ (x : Result ℕ Refusal).
-      InsertsBeside terms.layout run words x a (state terms tag after pass owners (keys ++ None ∷ []))) (sym plain)
+      InsertsBeside terms.layout terms.shape run words x a (state terms tag after pass owners (keys ++ None ∷ []))) (sym plain)
       (is, unnamed_is still)))
 
   attempt_long : nat_lt 16 (length words) ≡ true
@@ -92,8 +96,11 @@ module _ (terms : RunTerms) (tag : Option ℕ) (pass : ℕ) (v w : PassPart) (be
   attempt_done e f g = rw (e, f, g) refl
 
   inserted : nat_lt 16 (length words) ≡ false → (own : ℕ) → v.shard ≡ Some own → (r : Result ℕ Refusal)
-      → a ≡ key_answer tag r → ValueInserted terms pass v words r w → Done
-  inserted few own e (Ok key) is h =
+      → a ≡ key_answer tag r → ValueInserted terms pass v words r w
+      → InsertServed terms.layout v.shard words v.stands r w.stands → Done
+  inserted few own e (Ok key) is h served =
+      let has_place = placed_key terms.shape terms.layout own words v.stands key w.stands
+      (subst (λ (o : Option ℕ). InsertServed terms.layout o words v.stands (Ok key) w.stands) e served) ready.knows in
       let grown : Grown true pass before after = subst (λ (x : Answer). Grown (is_key x) pass before after) is ready.grown
       in
       let entry : grown.0 ≡ Insert pass key words = added_agrees pass v.log (Known (Insert pass key words)) w.log before
@@ -108,13 +115,14 @@ module _ (terms : RunTerms) (tag : Option ℕ) (pass : ℕ) (v w : PassPart) (be
       record {
         owners_after = owners;
         keys_after = keys ++ Some key ∷ [];
-        beside = inl (subst (λ (x : Result ℕ Refusal). InsertsBeside terms.layout run words x a
+        beside = inl (subst (λ (x : Result ℕ Refusal). InsertsBeside terms.layout terms.shape run words x a
             (state terms tag after pass owners (keys ++ Some key ∷ []))) (sym plain) (record {
-          key = key;
-          new = record { is_key = of_it; not_issued = new };
-          is = is;
-          next_is = ap (λ (es : List Entry). state terms tag es pass owners (keys ++ Some key ∷ [])) at;
-        }));
+              key = key;
+              placed = has_place;
+              new = record { is_key = of_it; not_issued = new };
+              is = is;
+              next_is = ap (λ (es : List Entry). state terms tag es pass owners (keys ++ Some key ∷ [])) at;
+            }));
         few = refl;
         own = ready.owner ∙ sym (ap (λ (p : PassPart). is_some p.shard) h.1);
         others = λ q ne. refl;
@@ -124,11 +132,11 @@ module _ (terms : RunTerms) (tag : Option ℕ) (pass : ℕ) (v w : PassPart) (be
         issued = subst (AreIssued terms.layout) (sym at) (issued_more terms.layout before ready.issued pass key words of_it
             new);
       }
-  inserted few own e (Err refusal.Full) is h = refused refusal.Full is (shard_kept v w h)
+  inserted few own e (Err refusal.Full) is h served = refused refusal.Full is (shard_kept v w h)
       (λ still. inr (let f = few in grind (arith, nat_tests), ready.owner ∙ ap is_some e, inl is, unnamed_is still))
-  inserted few own e (Err refusal.Memory) is h = refused refusal.Memory is (shard_kept v w h)
+  inserted few own e (Err refusal.Memory) is h served = refused refusal.Memory is (shard_kept v w h)
       (λ still. inr (let f = few in grind (arith, nat_tests), ready.owner ∙ ap is_some e, inr is, unnamed_is still))
-  inserted few own e (Err _) is h = absurd h
+  inserted few own e (Err _) is h served = absurd h
 
   abbrev Rest : Result ℕ Refusal → Option ℕ → Type 0
   Rest r z = UnlessRefused (needs_shard z) r (Becomes v w) (ValueInserted terms pass v words r w)
@@ -136,9 +144,10 @@ module _ (terms : RunTerms) (tag : Option ℕ) (pass : ℕ) (v w : PassPart) (be
   pub insert_step : (bound : Option ℕ) → CallAnswers terms tag pass v (call.Insert words) bound a w → Done
   insert_step bound h = go (nat_lt 16 (length words)) refl h.does
     where
-      owned : nat_lt 16 (length words) ≡ false → (o : Option ℕ) → v.shard ≡ o → Rest h.result o → Done
-      owned e (Some own) f d = inserted e own f h.result h.is d
-      owned e None f d = both_refuse refusal.NoShard (attempt_bare e (ready.owner ∙ ap is_some f))
+      owned : nat_lt 16 (length words) ≡ false → (o : Option ℕ) → v.shard ≡ o → Rest h.result o
+          → InsertServed terms.layout v.shard words v.stands h.result w.stands → Done
+      owned e (Some own) f d served = inserted e own f h.result h.is d served
+      owned e None f d served = both_refuse refusal.NoShard (attempt_bare e (ready.owner ∙ ap is_some f))
           (h.is ∙ ap (key_answer tag) d.0) (shard_kept v w d.1)
 
       go : (b : Bool) → nat_lt 16 (length words) ≡ b → UnlessRefused (cond b (Some refusal.TooLong) None) h.result
@@ -146,4 +155,4 @@ module _ (terms : RunTerms) (tag : Option ℕ) (pass : ℕ) (v w : PassPart) (be
           × InsertServed terms.layout v.shard words v.stands h.result w.stands) → Done
       go true e d = both_refuse refusal.TooLong (attempt_long e)
           (h.is ∙ ap (key_answer tag) d.0) (ap (λ (p : PassPart). p.shard) d.1)
-      go false e d = owned e v.shard refl d.0
+      go false e d = owned e v.shard refl d.0 d.1

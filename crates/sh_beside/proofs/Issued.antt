@@ -80,8 +80,10 @@ right_false false b e = e
 
 all_apart : (k : ℕ) (ks : List ℕ) → list_any (eqb k) ks ≡ false → AllByRecursion (λ y. eqb k y ≡ false) ks
 all_apart k [] h = tt
-all_apart k (x ∷ ks) h = (left_false (eqb k x) (list_any (eqb k) ks) h,
-    all_apart k ks (right_false (eqb k x) (list_any (eqb k) ks) h))
+all_apart k (x ∷ ks) h = (
+  left_false (eqb k x) (list_any (eqb k) ks) h,
+  all_apart k ks (right_false (eqb k x) (list_any (eqb k) ks) h),
+)
 
 -- a new key
 module _ (layout : Layout) (es : List Entry) (h : AreIssued layout es) (p key : ℕ) (value : List ℕ)

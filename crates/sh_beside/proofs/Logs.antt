@@ -170,8 +170,10 @@ unfilled key value [] [] h = tt
 unfilled key value [] (e ∷ es) h = absurd h
 unfilled key value (x ∷ log) [] h = absurd h
 unfilled key value (Known f ∷ log) (e ∷ es) h = (h.0, unfilled key value log es h.1)
-unfilled key value (Unread p k ∷ log) (e ∷ es) h = (unfilled_if (k == key) key value p k e h.0,
-    unfilled key value log es h.1)
+unfilled key value (Unread p k ∷ log) (e ∷ es) h = (
+  unfilled_if (k == key) key value p k e h.0,
+  unfilled key value log es h.1,
+)
 
 too_long : (log : List LogEntry) (x : LogEntry) → AllZip Agrees (log ++ x ∷ []) [] → ⊥
 too_long [] x h = h

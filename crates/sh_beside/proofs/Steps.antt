@@ -22,6 +22,7 @@ use Rattle.sh_calls.specs.InOrder.{adds_entry}
 use Rattle.sh_calls.specs.Runs.{with_number}
 use Rattle.sh_beside.specs.Beside.{CallBeside}
 use Rattle.sh_beside.proofs.Logs.{Grown, LogIs}
+use Rattle.sh_beside.proofs.Shapes.{KnowsShape}
 use Rattle.sh_beside.proofs.Names.{AreNames, one_more_name}
 use Rattle.sh_beside.proofs.Issued.{AreIssued, issued_same}
 
@@ -41,6 +42,7 @@ pub record Ready (terms : RunTerms) (tag : Option ℕ) (c : Call) (a : Answer) (
   pub inside : pass < length owners
   pub names : AreNames tag keys numbers
   pub issued : AreIssued terms.layout before
+  pub knows : KnowsShape terms.shape v.stands
 
 -- the call was answered beside mode plain, and what is known of owners and names after it
 pub record Stepped (terms : RunTerms) (tag : Option ℕ) (c : Call) (a : Answer) (pass : ℕ) (w : PassPart)
@@ -112,8 +114,10 @@ module _ (terms : RunTerms) (tag : Option ℕ) (pass : ℕ) (v w : PassPart) (be
         → cond b run (cond c run (record run { owners = slice_set owners pass true })) ≡ run
         → a ≡ answer.Refused r → Becomes v w → Stepped terms tag (call.Adopt shard) a pass w before after owners keys numbers
     adopt_refused r b c e f said done is same = stays (call.Adopt shard) a ready (shard_kept v w same) ready.names here
-        (inl (is ∙ sym (adopt_said b c shard e f ∙ said),
-        same_run ready.grown owners ∙ sym (adopt_done b c shard e f ∙ done)))
+        (inl (
+          is ∙ sym (adopt_said b c shard e f ∙ said),
+          same_run ready.grown owners ∙ sym (adopt_done b c shard e f ∙ done),
+        ))
 
     adopt_tried : slice_index_or owners pass false ≡ false → nat_le terms.shape.shards shard ≡ false
         → (r : Result (Unit {0}) Refusal) → a ≡ done_answer r → PartAdopted v shard r w
@@ -121,8 +125,10 @@ module _ (terms : RunTerms) (tag : Option ℕ) (pass : ℕ) (v w : PassPart) (be
     adopt_tried e f (Ok x) is h = record {
       owners_after = slice_set owners pass true;
       keys_after = keys;
-      beside = inl (is ∙ sym (adopt_said false false shard e f),
-          same_run ready.grown (slice_set owners pass true) ∙ sym (adopt_done false false shard e f));
+      beside = inl (
+        is ∙ sym (adopt_said false false shard e f),
+        same_run ready.grown (slice_set owners pass true) ∙ sym (adopt_done false false shard e f),
+      );
       few = length-set owners pass true;
       own = get_or-set_same owners pass true false ready.inside ∙ sym (ap (λ (p : PassPart). is_some p.shard) h);
       others = λ q ne. get_or-set_other owners pass q true false ne;
@@ -176,8 +182,10 @@ module _ (terms : RunTerms) (tag : Option ℕ) (pass : ℕ) (v w : PassPart) (be
     leave_tried e (Ok x) is h = record {
       owners_after = slice_set owners pass false;
       keys_after = keys;
-      beside = inl (is ∙ sym (leave_said true e),
-          same_run ready.grown (slice_set owners pass false) ∙ sym (leave_done true e));
+      beside = inl (
+        is ∙ sym (leave_said true e),
+        same_run ready.grown (slice_set owners pass false) ∙ sym (leave_done true e),
+      );
       few = length-set owners pass false;
       own = get_or-set_same owners pass false false ready.inside ∙ sym (ap (λ (p : PassPart). is_some p.shard) h);
       others = λ q ne. get_or-set_other owners pass q false false ne;
@@ -201,8 +209,10 @@ module _ (terms : RunTerms) (tag : Option ℕ) (pass : ℕ) (v w : PassPart) (be
             let d = subst (λ (z : Option ℕ). UnlessRefused (needs_shard z) h.result (Becomes v w)
             (PartLeft v h.result w)) e h.does.0 in
             stays call.Leave a ready (shard_kept v w d.1) ready.names still
-            (inl (h.is ∙ (ap done_answer d.0 ∙ sym (leave_said false (ready.owner ∙ ap is_some e))),
-            same_run ready.grown owners ∙ sym (leave_done false (ready.owner ∙ ap is_some e))))
+            (inl (
+              h.is ∙ (ap done_answer d.0 ∙ sym (leave_said false (ready.owner ∙ ap is_some e))),
+              same_run ready.grown owners ∙ sym (leave_done false (ready.owner ∙ ap is_some e)),
+            ))
 
   -- ---- post and wait
 

@@ -23,6 +23,7 @@ use Rattle.sh_beside.specs.Beside.{RanBeside}
 use Rattle.sh_beside.proofs.Logs.{Grown, LogIs, gains, own_before, other_before}
 use Rattle.sh_beside.proofs.Names.{AreNames}
 use Rattle.sh_beside.proofs.Issued.{AreIssued}
+use Rattle.sh_beside.proofs.Shapes.{KnowsShape, heeding, keeps_shape}
 use Rattle.sh_beside.proofs.Steps.{state, Ready, Stepped, adopt_step, leave_step, post_step, wait_step}
 use Rattle.sh_beside.proofs.Inserting.{insert_step}
 use Rattle.sh_beside.proofs.Getting.{get_step}
@@ -125,6 +126,24 @@ module _ (terms : RunTerms) (tag : Option ℕ) where
       logs_before_line r ran.0 l a ran.1 before g.after g.grown
       (logs_before lines answers ran.0 end g.after g.later ran.2 (subst (LogsAre terms end.parts) g.same logs) g.passes)
 
+  -- ---- the shape that passes know
+
+  pub record KnowsEach (parts : ℕ → PassPart) : Type 0 where
+    pub each : (q : ℕ) → KnowsShape terms.shape (parts q).stands
+
+  knows_next : (r next : CallsRun) (l : CallLine) (a : Answer) → LineAnswered terms tag r l a next → KnowsEach r.parts
+      → KnowsEach next.parts
+  knows_next r next l a h k = record { each = λ q. go q (q == l.pass) refl }
+    where
+      go : (q : ℕ) (b : Bool) → (q == l.pass) ≡ b → KnowsShape terms.shape (next.parts q).stands
+      go q true e =
+          subst (λ (p : PassPart). KnowsShape terms.shape p.stands) (sym (here r next l a h q (eqb-true q l.pass e)))
+          (keeps_shape terms.shape terms tag l.pass h.begins l.call (number_meant r.numbers l.call) a h.part h.does
+          (heeding terms.shape (r.parts l.pass) h.begins h.heeds (k.each l.pass)))
+      go q false e =
+          let ne : q ≢ l.pass = λ same. true_false (q == l.pass) (eq-eqb q l.pass same) e in
+          subst (λ (p : PassPart). KnowsShape terms.shape p.stands) (sym (there r next l a h q ne)) (k.each q)
+
   -- ---- a call
 
   call_step : HasTagRoom terms.layout tag → (c : Call) (a : Answer) (pass : ℕ) (v w : PassPart)
@@ -182,13 +201,13 @@ module _ (terms : RunTerms) (tag : Option ℕ) where
         → Legal terms.shape.passes terms.layout.guard_max (before ++ todo) → LogsAre terms end.parts (before ++ todo)
         → map pass_of todo ≡ adding_passes lines answers
         → All (λ (l : CallLine). l.pass < terms.shape.passes) lines → OwnersAre owners r.parts
-        → AreNames tag keys r.numbers → AreIssued terms.layout before
+        → AreNames tag keys r.numbers → AreIssued terms.layout before → KnowsEach r.parts
         → (after : Run) × RanBeside terms.layout terms.shape (state terms tag before last owners keys) lines answers after
-    walk [] [] r end before todo last owners keys ran legal logs passes below owns names issued =
+    walk [] [] r end before todo last owners keys ran legal logs passes below owns names issued knows =
         (state terms tag before last owners keys, refl)
-    walk [] (a ∷ answers) r end before todo last owners keys ran legal logs passes below owns names issued = absurd ran
-    walk (l ∷ lines) [] r end before todo last owners keys ran legal logs passes below owns names issued = absurd ran
-    walk (l ∷ lines) (a ∷ answers) r end before todo last owners keys ran legal logs passes below owns names issued =
+    walk [] (a ∷ answers) r end before todo last owners keys ran legal logs passes below owns names issued knows = absurd ran
+    walk (l ∷ lines) [] r end before todo last owners keys ran legal logs passes below owns names issued knows = absurd ran
+    walk (l ∷ lines) (a ∷ answers) r end before todo last owners keys ran legal logs passes below owns names issued knows =
         let g = goes (adds_entry l.call a) l.pass before todo (adding_passes lines answers) passes in
         let h = ran.1 in
         let logs_end : LogsAre terms end.parts (g.after ++ g.later) = subst (LogsAre terms end.parts) g.same logs in
@@ -210,10 +229,12 @@ module _ (terms : RunTerms) (tag : Option ℕ) where
           inside = let f = owns.few in omega (arith, small, f);
           names = names;
           issued = issued;
+          knows = heeding terms.shape (r.parts l.pass) h.begins h.heeds (knows.each l.pass);
         } in
         let s = call_step room l.call a l.pass h.begins h.part before g.after owners keys r.numbers ready h.does in
         let rest = walk lines answers ran.0 end g.after g.later l.pass s.owners_after s.keys_after ran.2 legal_end
         logs_end g.passes (λ k d inside. below (suc k) d (omega (arith, inside)))
         (owners_next r ran.0 l a h owners s.owners_after owns s.few s.own s.others)
-        (subst (λ (n : CallsRun). AreNames tag s.keys_after n.numbers) (sym h.next_is) s.names) s.issued in
+        (subst (λ (n : CallsRun). AreNames tag s.keys_after n.numbers) (sym h.next_is) s.names) s.issued
+        (knows_next r ran.0 l a h knows) in
         (rest.0, (state terms tag g.after l.pass s.owners_after s.keys_after, s.beside, rest.1))

@@ -26,20 +26,22 @@ use Rattle.sh_calls.specs.Parts.{is_placed_key}
 abbrev pub unnamed : Run → Run
 unnamed run = record run { keys = run.keys ++ None ∷ [] }
 
--- the value stands under a key of the heap's choice, which was not given before
-pub record GivesKey (layout : Layout) (run : Run) (words : List ℕ) (told : Answer) (next : Run) : Type 0 where
-  pub key : ℕ
-  pub new : IsNewKey layout run.store.entries key
-  pub is : told ≡ answer.Key (shown run.tag key)
-  pub next_is : next ≡ record run {
-    store = with_added run.store (Some (Insert run.store.pass key words));
-    keys = run.keys ++ Some key ∷ [];
-  }
+-- the value stands under a key of the heap's choice: one with a place in the shape, which was not given before
+pub record GivesKey (layout : Layout) (shape : Numbers) (run : Run) (words : List ℕ) (told : Answer) (next : Run) : Type 0
+  where
+    pub key : ℕ
+    pub placed : is_placed_key layout shape key ≡ true
+    pub new : IsNewKey layout run.store.entries key
+    pub is : told ≡ answer.Key (shown run.tag key)
+    pub next_is : next ≡ record run {
+      store = with_added run.store (Some (Insert run.store.pass key words));
+      keys = run.keys ++ Some key ∷ [];
+    }
 
 -- where mode plain gives its next key, the heap gives a key of its own; what mode plain refuses is refused
-abbrev pub InsertsBeside : Layout → Run → List ℕ → Result ℕ Refusal → Answer → Run → Type 0
-InsertsBeside layout run words (Ok next_key) told next = GivesKey layout run words told next
-InsertsBeside layout run words (Err r) told next = (told ≡ answer.Refused r) × (next ≡ unnamed run)
+abbrev pub InsertsBeside : Layout → Numbers → Run → List ℕ → Result ℕ Refusal → Answer → Run → Type 0
+InsertsBeside layout shape run words (Ok next_key) told next = GivesKey layout shape run words told next
+InsertsBeside layout shape run words (Err r) told next = (told ≡ answer.Refused r) × (next ≡ unnamed run)
 
 -- a number whose place the shape does not have is no key to the heap; where it is one, this is done
 abbrev pub IfPlaced : (is_placed : Bool) → (Does : Type 0) → Run → Answer → Run → Type 0
@@ -67,7 +69,7 @@ pub record GetsBeside (layout : Layout) (run : Run) (key : Result ℕ Answer) (t
 -- the call is answered as in mode plain
 abbrev pub AsPlain : Layout → Numbers → Run → Call → Answer → Run → Type 0
 AsPlain layout shape run (call.Insert words) told next =
-    InsertsBeside layout run words (insert_attempt layout run words).answer told next
+    InsertsBeside layout shape run words (insert_attempt layout run words).answer told next
 AsPlain layout shape run (call.Get r) told next =
     WherePlaced layout shape (key_of run r) (GetsBeside layout run (key_of run r) told next) run told next
 AsPlain layout shape run (call.Remove r) told next =
