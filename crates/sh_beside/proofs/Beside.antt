@@ -6,11 +6,17 @@ use Rattle.std.proofs.lemmas.Bool.Decides.{nat_tests}
 use Rattle.std.proofs.lemmas.List.{get_or-replicate, length-replicate}
 use Rattle.sh_history.specs.declared.entry.Entry.{Entry}
 use Rattle.sh_table.specs.Seats.{Heap}
-use Rattle.sh_calls.specs.Parts.{RunTerms, PassPart, PassTold, HasAllLogs, HasLogOf, new_part, passes_below}
-use Rattle.sh_calls.specs.Told.{part_told}
+use Rattle.sh_calls.specs.Parts.{RunTerms, PassPart, PassTold, HasAllLogs, HasLogOf, new_part, passes_below, heap_terms}
+use Rattle.sh_calls.specs.Told.{part_told, IsTold}
+use Rattle.sh_script.specs.HeaderMeaning.{layout_of}
+use Rattle.sh_script.specs.declared.calls.CallLine.{CallLine}
+use Rattle.sh_output.specs.Keys.{HasTagRoom}
+use Rattle.std.specs.List.{All}
+use Rattle.sh_beside.specs.Beside.{AreBesidePlain}
 use Rattle.sh_beside.specs.Law.{HeapIsBesidePlain}
 use Rattle.sh_beside.proofs.Logs.{LogIs}
 use Rattle.sh_beside.proofs.Issued.{none_issued}
+use Rattle.sh_beside.proofs.Scripts.{scripts_fit}
 use Rattle.sh_beside.proofs.Walk.{LogsAre, OwnersAre, KnowsEach, walk}
 
 -- ---- each log of the tale
@@ -44,12 +50,22 @@ new_pass_knows : (terms : RunTerms) (tag : Option ℕ) (heap : Option Heap) → 
 new_pass_knows terms tag None is = record { each = λ q. tt }
 new_pass_knows terms tag (Some h) is = record { each = λ q. is }
 
-pub heap_is_beside_plain : HeapIsBesidePlain
-heap_is_beside_plain heap terms tag lines output tale told shape few room below =
+lines_beside : (heap : Option Heap) (terms : RunTerms) (tag : Option ℕ) (lines : List CallLine) (output : List ℕ)
+    (tale : List PassTold) → (told : IsTold true heap terms tag lines output tale)
+    → IfSome heap (λ h. h.shape ≡ terms.shape) → terms.shape.passes ≤ 64 → HasTagRoom terms.layout tag
+    → All (λ (l : CallLine). l.pass < terms.shape.passes) lines
+    → AreBesidePlain terms.layout terms.shape tag lines told.replies.answers
+lines_beside heap terms tag lines output tale told shape few room below =
     let history = told.whole.history in
     let logs : LogsAre terms told.replies.after.parts history =
     told_below history told.replies.after.parts terms.shape.passes
     (subst (HasAllLogs history) told.tale_is told.whole.has) in
     walk terms tag room few lines told.replies.answers _ told.replies.after [] history 0 (replicate 64 false) []
-    told.replies.ran told.whole.legal logs (told.in_order refl) below (nobody_owns terms tag heap) tt (none_issued terms.layout)
-    (new_pass_knows terms tag heap shape)
+    told.replies.ran told.whole.legal logs (told.in_order refl) below (nobody_owns terms tag heap) tt
+    (none_issued terms.layout) (new_pass_knows terms tag heap shape)
+
+pub heap_is_beside_plain : HeapIsBesidePlain
+heap_is_beside_plain text header lines is heap shape output tale told =
+    let fit = scripts_fit text header lines is in
+    lines_beside (Some heap) (heap_terms (layout_of header.layout) header.shape) header.tag lines output tale told shape
+    fit.few fit.room fit.below

@@ -10,4 +10,5 @@ pub mod Removing
 pub mod Releasing
 pub mod Reading
 pub mod Walk
+pub mod Scripts
 pub mod Beside

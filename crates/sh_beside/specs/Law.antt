@@ -1,19 +1,19 @@
 -- The law: what mode heap answers is beside mode plain.
-use Rattle.std.specs.Prelude.{◌≡◌, ℕ, ◌<◌, ◌≤◌, true, List, Option, IfSome}
-use Rattle.std.specs.List.{All}
+use Rattle.std.specs.Prelude.{◌≡◌, ℕ, true, List, Some}
+use Rattle.sh_script.specs.HeaderMeaning.{layout_of}
+use Rattle.sh_script.specs.Scripts.{IsCalls}
 use Rattle.sh_script.specs.declared.calls.CallLine.{CallLine}
-use Rattle.sh_output.specs.Keys.{HasTagRoom}
+use Rattle.sh_script.specs.declared.header.Header.{Header}
 use Rattle.sh_table.specs.Seats.{Heap}
-use Rattle.sh_calls.specs.Parts.{RunTerms, PassTold}
+use Rattle.sh_calls.specs.Parts.{PassTold, heap_terms}
 use Rattle.sh_calls.specs.Told.{IsTold}
 use Rattle.sh_beside.specs.Beside.{AreBesidePlain}
 
--- where lines of the passes of a heap ran one after the other and were told by one tale, each answer is beside that of
--- mode plain
+-- where the lines of a script ran one after the other on a heap of its shape, and were told by one tale of all passes,
+-- their answers are beside those of mode plain
 abbrev pub HeapIsBesidePlain : Type 0
 HeapIsBesidePlain =
-    (heap : Option Heap) (terms : RunTerms) (tag : Option ℕ) (lines : List CallLine) (output : List ℕ)
-    (tale : List PassTold) → (told : IsTold true heap terms tag lines output tale)
-    → IfSome heap (λ h. h.shape ≡ terms.shape) → terms.shape.passes ≤ 64
-    → HasTagRoom terms.layout tag → All (λ (l : CallLine). l.pass < terms.shape.passes) lines
-    → AreBesidePlain terms.layout terms.shape tag lines told.replies.answers
+    (text : List ℕ) (header : Header) (lines : List CallLine) → IsCalls text header lines
+    → (heap : Heap) → heap.shape ≡ header.shape → (output : List ℕ) (tale : List PassTold)
+    → (told : IsTold true (Some heap) (heap_terms (layout_of header.layout) header.shape) header.tag lines output tale)
+    → AreBesidePlain (layout_of header.layout) header.shape header.tag lines told.replies.answers
