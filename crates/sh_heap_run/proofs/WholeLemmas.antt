@@ -19,10 +19,10 @@ use Rattle.sh_pass.specs.Passes.{Caller, newcomers}
 use Rattle.sh_gather.specs.Histories.{IsHistory}
 use Rattle.sh_gather.specs.Gathering.{NotedMore}
 use Rattle.sh_gather.proofs.Walking.{later_leads, later_shape}
-use Rattle.sh_calls.specs.Parts.{SeenPass, tale_told, new_pass, new_passes, heap_terms}
+use Rattle.sh_calls.specs.Parts.{SeenPass, HasWholeTale, tale_told, new_pass, new_passes, heap_terms}
 use Rattle.sh_calls.specs.Running.{seen_of_caller}
 use Rattle.sh_calls.specs.Parts.{PassPart, RunTerms, told_pass, passes_below}
-use Rattle.sh_calls.specs.Told.{part_told}
+use Rattle.sh_calls.specs.Told.{part_told, IsTold}
 use Rattle.sh_calls.proofs.TaleLaws.{whole_told, tale_is_whole}
 use Rattle.sh_output.specs.AccountLines.{Later, ShardsSaid, accounts_after, accounts_text}
 use Rattle.sh_heap_run.specs.WholeAccounts.{LeadsToWhole, PageSaid, HasNumbers}
@@ -157,6 +157,18 @@ module _ (alone : Bool) (layout : Layout) (heap : Heap) (tag : Option ℕ) (line
       ∙ parts_passes ran.told.replies.after.parts (passes_below heap.shape.passes) in
       tale_is_whole layout v (passes ∙ ap (λ (n : Numbers). passes_below n.passes) (sym shape))
 
+  -- the tale by one of its histories
+  abbrev told_by : (w : HasWholeTale (heap_terms layout heap.shape) (tale_told (seen_of_caller layout v)))
+      → Each (Before w.history) v.view.orders
+      → IsTold alone (Some heap) (heap_terms layout heap.shape) tag lines output (tale_told (seen_of_caller layout v))
+  told_by w kept = record {
+    replies = ran.told.replies;
+    tale_is = ran.told.tale_is;
+    whole = w;
+    named = ran.named w.history w.has w.only kept;
+    in_order = λ e. ran.ordered e w.history w.has w.only kept;
+  }
+
   -- with the accounts by the history of the tale
   pub with_accounts : (new : List ℕ)
       → ((text : List ℕ) × (new ≡ output ++ text)
@@ -171,26 +183,32 @@ module _ (alone : Bool) (layout : Layout) (heap : Heap) (tag : Option ℕ) (line
         of_shape = refl;
         replies = output;
         tale = tale_told (seen_of_caller layout v);
-        told = record {
-          replies = ran.told.replies;
-          tale_is = ran.told.tale_is;
-          whole = tells.whole;
-          named = ran.named tells.whole.history tells.whole.has tells.whole.only tells.kept;
-          in_order = λ e. ran.ordered e tells.whole.history tells.whole.has tells.whole.only tells.kept;
-        };
+        told = told_by tells.whole tells.kept;
+        events = tells.lines.events;
+        log = tells.lines.log;
         accounts = t.0;
         is = t.1;
         are = tells.lines;
       }
 
-  pub without_accounts : IsHeapOutput alone layout heap.shape tag lines false output
-  without_accounts = record {
-    heap = heap;
-    of_shape = refl;
-    replies = output;
-    tale = tale_told (seen_of_caller layout v);
-    told = ran.told;
-    accounts = [];
-    is = sym (append-nil output);
-    are = refl;
-  }
+  -- without them, by the log of events that lead to all that the pass knows
+  pub without_accounts : (events : List Event) → LeadsToWhole layout v events
+      → IsHeapOutput alone layout heap.shape tag lines false output
+  without_accounts events led =
+      let same : v.view.shape ≡ heap.shape = ap (λ (t : RunTerms). t.shape) ran.carries.1 in
+      let H : List Entry = (run (plan_of layout heap.shape) events).log in
+      let at : IsHistory layout v.view H =
+      subst (λ (s : Numbers). IsHistory layout v.view (run (plan_of layout s) events).log) same led.history in
+      let w = whole_told layout v heap.shape H same at.tale at.ours in
+      record {
+        heap = heap;
+        of_shape = refl;
+        replies = output;
+        tale = tale_told (seen_of_caller layout v);
+        told = told_by w.0 (subst (λ (l : List Entry). Each (Before l) v.view.orders) (sym w.1) at.tale.orders);
+        events = events;
+        log = sym w.1;
+        accounts = [];
+        is = sym (append-nil output);
+        are = refl;
+      }

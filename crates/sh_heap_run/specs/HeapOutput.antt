@@ -4,6 +4,9 @@ use Rattle.std.specs.Prelude.{◌≡◌, ℕ, Bool, true, false, List, [], ◌++
 use Rattle.sh_key.specs.Layout.{Layout}
 use Rattle.sh_shape.specs.Shape.{Numbers}
 use Rattle.sh_history.specs.declared.entry.Entry.{Entry}
+use Rattle.sh_step.specs.declared.action.Event.{Event}
+use Rattle.sh_step.specs.Plans.{plan_of}
+use Rattle.sh_core.specs.Worlds.{run}
 use Rattle.sh_script.specs.HeaderMeaning.{layout_of}
 use Rattle.sh_script.specs.Scripts.{IsCalls}
 use Rattle.sh_script.specs.declared.calls.CallLine.{CallLine}
@@ -30,8 +33,8 @@ AccountsAsked true layout shape history text = AreAccountLines layout shape hist
 AccountsAsked false layout shape history text = text ≡ []
 
 -- The replies are told by the tale of all passes of a heap of this shape, and after them come the account lines by its
--- history, where they are asked for. Where the lines ran one after the other, that history has the entries in the order
--- of the lines.
+-- history, where they are asked for. The history is the log of a run of the core. Where the lines ran one after the
+-- other, it has the entries in the order of the lines.
 pub record IsHeapOutput (alone : Bool) (layout : Layout) (shape : Numbers) (tag : Option ℕ) (lines : List CallLine)
     (asked : Bool) (output : List ℕ) : Type 0 where
   pub heap : Heap
@@ -39,6 +42,8 @@ pub record IsHeapOutput (alone : Bool) (layout : Layout) (shape : Numbers) (tag 
   pub replies : List ℕ
   pub tale : List PassTold
   pub told : IsTold alone (Some heap) (heap_terms layout shape) tag lines replies tale
+  pub events : List Event
+  pub log : (run (plan_of layout shape) events).log ≡ told.whole.history
   pub accounts : List ℕ
   pub is : output ≡ replies ++ accounts
   pub are : AccountsAsked asked layout shape told.whole.history accounts

@@ -1,12 +1,14 @@
 //! The calls of a script on a running heap: the heap is opened, the lines are run, and the passes tell what they know.
 ghost use Rattle.std.specs.Prelude.{◌≡◌, ◌++◌, ℕ, Bool, List, IfOk, IfErr, OnOk, Option, Some, map, option_map};
 ghost use Rattle.sh_shape.specs.Shape.{IsShape, Fits};
+ghost use Rattle.sh_step.specs.declared.action.Event.{Event};
 ghost use Rattle.sh_script.specs.declared.calls.CallLine.{CallLine};
 ghost use Rattle.sh_table.specs.Seats.{Heap as HeapSeen};
 ghost use Rattle.sh_table.specs.Whole.{IsWhole};
 ghost use Rattle.sh_calls.specs.Parts.{heap_terms, new_passes, tale_told};
 ghost use Rattle.sh_calls.specs.Finished.{LinesRan, CarrierRan};
 ghost use Rattle.sh_calls.specs.Running.{seen_of_caller};
+ghost use Rattle.sh_heap_run.specs.WholeAccounts.{LeadsToWhole};
 ghost use Rattle.sh_heap_run.specs.HeapOutput.{TellsTale, IsHeapOutput, IsRan};
 
 use crate::pages::WholeHeap;
@@ -14,6 +16,7 @@ use sh_calls::holder::Holder;
 use sh_gather::whole;
 use sh_key::KeyLayout;
 use sh_output::account_line::push_accounts;
+use sh_output::pages::Pages;
 use sh_pass::{Heap, Pass, Seats};
 use sh_script::{CallLine, Fault};
 use sh_shape::Shape;
@@ -95,6 +98,19 @@ fn push_whole<L: KeyLayout>(output: &mut Vec<u8>, pass: Pass<'_, L>) -> Result<(
     push_accounts(output, &mut WholeHeap::new(whole))
 }
 
+// One look at the heap of which this pass carries the whole tale: steps of the core led to all that it knows.
+fn look<L: KeyLayout>(pass: Pass<'_, L>)
+    requires shape { IsShape pass.heap.shape }
+    requires whole { IsWhole pass.view }
+    ensures { (events : List Event) × LeadsToWhole L.layout pass.entry events }
+{
+    let _ = pass.shape();
+    let Ok(whole) = whole(pass) else {
+        unreachable!()
+    };
+    let _ = WholeHeap::new(whole).accounts(0, 0);
+}
+
 // The replies, and after them the accounts where they are asked for, which the carrier tells.
 fn told<L: KeyLayout>(
     mut output: Vec<u8>,
@@ -109,6 +125,8 @@ fn told<L: KeyLayout>(
     let pass = carrier.into_pass();
     if asked {
         push_whole(&mut output, pass)?;
+    } else {
+        look(pass);
     }
     Ok(output)
 }
