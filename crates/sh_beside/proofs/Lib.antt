@@ -2,6 +2,7 @@ pub mod Holds
 pub mod Logs
 pub mod Names
 pub mod Issued
+pub mod Fewness
 pub mod Shapes
 pub mod Steps
 pub mod Inserting
