@@ -15,6 +15,12 @@ use Rattle.std.specs.List.{All}
 use Rattle.sh_beside.specs.Beside.{AreBesidePlain}
 use Rattle.sh_beside.specs.Law.{HeapIsBesidePlain}
 use Rattle.sh_beside.proofs.Logs.{LogIs}
+use Rattle.sh_script.specs.declared.header.Layout.{Layout as LayoutName}
+use Rattle.sh_script.specs.declared.header.Layout.TheVariants as layout
+use Rattle.sh_key.specs.Layout.{IsLayout}
+use Rattle.sh_key.specs.Layouts.{tiny_numbers, wide_numbers, tagged_numbers}
+use Rattle.sh_output.proofs.HeaderShapes.{shape_of_calls}
+use Rattle.sh_beside.proofs.Fewness.{FewAlong, few_along}
 use Rattle.sh_beside.proofs.Issued.{none_issued}
 use Rattle.sh_beside.proofs.Scripts.{scripts_fit}
 use Rattle.sh_beside.proofs.Walk.{LogsAre, OwnersAre, KnowsEach, walk}
@@ -52,20 +58,32 @@ new_pass_knows terms tag (Some h) is = record { each = λ q. is }
 
 lines_beside : (heap : Option Heap) (terms : RunTerms) (tag : Option ℕ) (lines : List CallLine) (output : List ℕ)
     (tale : List PassTold) → (told : IsTold true heap terms tag lines output tale)
-    → IfSome heap (λ h. h.shape ≡ terms.shape) → terms.shape.passes ≤ 64 → HasTagRoom terms.layout tag
-    → All (λ (l : CallLine). l.pass < terms.shape.passes) lines
+    → IfSome heap (λ h. h.shape ≡ terms.shape) → 1 ≤ terms.shape.passes → terms.shape.passes ≤ 64
+    → HasTagRoom terms.layout tag → All (λ (l : CallLine). l.pass < terms.shape.passes) lines
+    → FewAlong terms.layout.guard_max told.whole.history
     → AreBesidePlain terms.layout terms.shape tag lines told.replies.answers
-lines_beside heap terms tag lines output tale told shape few room below =
+lines_beside heap terms tag lines output tale told shape some few room below holds =
     let history = told.whole.history in
     let logs : LogsAre terms told.replies.after.parts history =
     told_below history told.replies.after.parts terms.shape.passes
     (subst (HasAllLogs history) told.tale_is told.whole.has) in
-    walk terms tag room few lines told.replies.answers _ told.replies.after [] history 0 (replicate 64 false) []
+    walk terms tag room some few lines told.replies.answers _ told.replies.after [] history 0 (replicate 64 false) []
     told.replies.ran told.whole.legal logs (told.in_order refl) below (nobody_owns terms tag heap) tt
-    (none_issued terms.layout) (new_pass_knows terms tag heap shape)
+    (none_issued terms.layout) (new_pass_knows terms tag heap shape) holds
+
+-- the layouts of scripts are layouts
+lawful : (l : LayoutName) → IsLayout (layout_of l)
+lawful layout.Tiny = tiny_numbers.lawful
+lawful layout.Wide = wide_numbers.lawful
+lawful layout.Tagged = tagged_numbers.lawful
 
 pub heap_is_beside_plain : HeapIsBesidePlain
-heap_is_beside_plain text header lines is heap shape output tale told =
-    let fit = scripts_fit text header lines is in
-    lines_beside (Some heap) (heap_terms (layout_of header.layout) header.shape) header.tag lines output tale told shape
-    fit.few fit.room fit.below
+heap_is_beside_plain asked text output heap =
+    let header = heap.header in
+    let out = heap.is_output in
+    let fit = scripts_fit text header heap.lines heap.is_calls in
+    let shape = shape_of_calls text header heap.lines heap.is_calls in
+    lines_beside (Some out.heap) (heap_terms (layout_of header.layout) header.shape) header.tag heap.lines out.replies
+    out.tale out.told out.of_shape shape.0.some_pass fit.few fit.room fit.below
+    (subst (FewAlong (layout_of header.layout).guard_max) out.log
+    (few_along (layout_of header.layout) header.shape (lawful header.layout) shape.0 shape.1 out.events))

@@ -10,7 +10,9 @@ use Rattle.sh_history.proofs.LogLaws.{count_by-push}
 use Rattle.sh_step.specs.declared.action.Event.{Event}
 use Rattle.sh_step.specs.declared.body.Body.{Body}
 use Rattle.sh_step.specs.Rows.{Row, row}
-use Rattle.sh_step.specs.Plans.{Plan, plan_of}
+use Rattle.sh_step.specs.Plans.{Plan, plan_of, keys_of}
+use Rattle.sh_step.specs.Collections.{total}
+use Rattle.sh_core.specs.Lists.{times}
 use Rattle.sh_core.specs.Words.{read}
 use Rattle.sh_core.specs.Worlds.{World, step, apply, run, run_from, open_world, joined, entry_of, value_at_place}
 use Rattle.sh_core.proofs.RunTheorem.{theorem}
@@ -67,15 +69,15 @@ cons_first x y xs ys e = cc
 cons_rest : (x y : Entry) (xs ys : List Entry) → x ∷ xs ≡ y ∷ ys → xs ≡ ys
 cons_rest x y xs ys e = cc
 
+one_alone : (x y : Entry) (ys rest : List Entry) → x ∷ [] ≡ y ∷ (ys ++ rest) → y ∷ ys ≡ x ∷ []
+one_alone x y [] rest e = ap (λ z. z ∷ []) (sym (cons_first x y [] rest e))
+one_alone x y (z ∷ zs) rest e = absurd (let h : [] ≡ z ∷ (zs ++ rest) = cons_rest x y [] (z ∷ (zs ++ rest)) e in cc)
+
 -- a beginning of a longer list is all of it, or one of the list without its last
 splits : (xs : List Entry) (x : Entry) (front rest : List Entry) → xs ++ x ∷ [] ≡ front ++ rest
     → (front ≡ xs ++ x ∷ []) ⊎ ((left : List Entry) × (xs ≡ front ++ left))
 splits xs x [] rest e = inr (xs, refl)
-splits [] x (y ∷ ys) rest e = inl (ends ys rest (cons_rest x y [] (ys ++ rest) e))
-  where
-    ends : (ys rest : List Entry) → [] ≡ ys ++ rest → y ∷ ys ≡ x ∷ []
-    ends [] rest f = ap (λ z. z ∷ []) (sym (cons_first x y [] (ys ++ rest) e))
-    ends (z ∷ zs) rest f = absurd (let h : [] ≡ z ∷ (zs ++ rest) = f in cc)
+splits [] x (y ∷ ys) rest e = inl (one_alone x y ys rest e)
 splits (z ∷ zs) x (y ∷ ys) rest e =
     more (splits zs x ys rest (cons_rest z y (zs ++ x ∷ []) (ys ++ rest) e))
     (cons_first z y (zs ++ x ∷ []) (ys ++ rest) e)
@@ -91,10 +93,12 @@ module _ (layout : Layout) (shape : Numbers) (lawful : IsLayout layout) (is_shap
   plan = plan_of layout shape
 
   whole_log : (es : List Event) → FewHolds layout.guard_max (run plan es).log
+  unfolding keys_of
   whole_log es key =
       let t = theorem layout shape lawful is_shape fits es in
       let all = t.holds.together key in
-      let few = t.few_holds key in (omega (arith, all), omega (arith, all, few))
+      let few : total (λ (p : Body). times key p.holds) (run plan es).parts ≤ layout.guard_max = t.few_holds key in
+      (omega (arith, all), omega (arith, all, few))
 
   begun : (es : List Event) → FewAlong layout.guard_max (run plan es).log → (e : Event)
       → FewAlong layout.guard_max (run plan (es ++ e ∷ [])).log
@@ -123,12 +127,12 @@ module _ (layout : Layout) (shape : Numbers) (lawful : IsLayout layout) (is_shap
   nothing_yet [] rest is key = (omega arith, omega arith)
   nothing_yet (x ∷ xs) rest is key = absurd (let h : [] ≡ x ∷ (xs ++ rest) = is in cc)
 
+  at_first : FewAlong layout.guard_max (run plan []).log
+  unfolding run_from
+  at_first = nothing_yet
+
   pub few_along : (es : List Event) → FewAlong layout.guard_max (run plan es).log
-  few_along es = along [] es first
-    where
-      first : FewAlong layout.guard_max (run plan []).log
-      unfolding run_from
-      first = nothing_yet
+  few_along es = along [] es at_first
 
 -- a hold that was given left room for it before
 pub room_before : (guard_max : ℕ) (before : List Entry) (pass key : ℕ) (value : List ℕ)

@@ -29,7 +29,8 @@ use Rattle.sh_calls.specs.Calls.{CallAnswers, AnswerSays, GetAnswers, UnlessRefu
 use Rattle.sh_calls.specs.InOrder.{is_done_gone_or_crowded}
 use Rattle.sh_calls.specs.Runs.{number_bound}
 use Rattle.sh_script.specs.BoundNames.{name_referred}
-use Rattle.sh_beside.specs.Beside.{CallBeside, WherePlaced, IfPlaced, GetsBeside}
+use Rattle.sh_beside.specs.Beside.{CallBeside, IsLimit, WherePlaced, IfPlaced, GetsBeside}
+use Rattle.sh_beside.proofs.Fewness.{FewHolds, room_before, few_before}
 use Rattle.sh_beside.proofs.Holds.{same_holds_by, same_hold_count}
 use Rattle.sh_beside.proofs.Logs.{Grown, added_agrees, no_key}
 use Rattle.sh_beside.proofs.Names.{AreNames, key_by, same_meant}
@@ -100,7 +101,7 @@ module _ (terms : RunTerms) (tag : Option ℕ) (pass : ℕ) (v w : PassPart) (be
   meant = key_by tag keys r
 
   abbrev many : ℕ
-  many = terms.layout.guard_max + 1
+  many = terms.layout.guard_max
 
   says : w.shard ≡ v.shard → AreIssued terms.layout after → Says meant → Done
   says same issued h = stays terms tag pass v w before after owners keys numbers (call.Get r) a ready same ready.names
@@ -116,8 +117,8 @@ module _ (terms : RunTerms) (tag : Option ℕ) (pass : ℕ) (v w : PassPart) (be
   grown : (x : Answer) → a ≡ x → is_done_gone_or_crowded x ≡ true → Grown true pass before after
   grown x is entry = subst (λ (b : Bool). Grown b pass before after) (ap is_done_gone_or_crowded is ∙ entry) ready.grown
 
-  within : terms.layout.guard_max < many + terms.shape.passes
-  within = omega arith
+  within : IsLimit terms.layout run many
+  within = let s = ready.some_pass in record { most = omega arith; least = omega (arith, s) }
 
   -- where there is no key
   no_key_said : (b : Answer) → meant ≡ Err b → key_meant tag (number_bound numbers (name_referred r)) r ≡ Err b
@@ -143,7 +144,7 @@ module _ (terms : RunTerms) (tag : Option ℕ) (pass : ℕ) (v w : PassPart) (be
       Tell limit = Tells (get_reply (record terms.layout { guard_max = limit })) run (Ok key) a next
 
       placed : w.shard ≡ v.shard → AreIssued terms.layout after → (limit : ℕ)
-          → terms.layout.guard_max < limit + terms.shape.passes → Tell limit → Done
+          → IsLimit terms.layout run limit → Tell limit → Done
       placed same issued limit is_limit tells = says same issued (subst Says (sym e)
           (subst (λ (b : Bool). IfPlaced b (GetsBeside terms.layout run (Ok key) a next) run a next) (sym f)
           (record { limit = limit; is_limit = is_limit; tells = tells })))
@@ -185,13 +186,14 @@ module _ (terms : RunTerms) (tag : Option ℕ) (pass : ℕ) (v w : PassPart) (be
             let at : after ≡ before ++ Got pass key it.0 ∷ [] = g.1 ∙ ap (λ (x : Entry). before ++ x ∷ []) it.1 in
             let ok = allowed_last terms.shape.passes terms.layout.guard_max before after (Got pass key it.0) at ready.legal
             in
-            let limit = terms.layout.guard_max + holds_on before key + 1 in
-            let few : nat_le limit (holds_on before key) ≡ false = grind (arith, nat_tests) in
+            let room = room_before terms.layout.guard_max before pass key it.0 ready.few
+            (subst (FewHolds terms.layout.guard_max) at ready.few_after) in
+            let few : nat_le many (holds_on before key) ≡ false = grind (arith, nat_tests) in
             placed (ap (λ (p : PassPart). p.shard) h.1.2)
             (subst (AreIssued terms.layout) (sym at)
             (issued_other terms.layout before (Got pass key it.0) refl ready.issued))
-            limit (omega arith)
-            (by_value limit (Some it.0) (present_here before key it.0 ok.0 ok.1) (rw few (is, one_more (Got pass key it.0) at)))
+            many within
+            (by_value many (Some it.0) (present_here before key it.0 ok.0 ok.1) (rw few (is, one_more (Got pass key it.0) at)))
         got (Err refusal.Gone) is h =
             let g = grown (answer.Refused refusal.Gone) is refl in
             let it : g.0 ≡ Gone pass key = added_agrees pass v.log (Known (Gone pass key)) w.log before after
@@ -213,7 +215,8 @@ module _ (terms : RunTerms) (tag : Option ℕ) (pass : ℕ) (v w : PassPart) (be
             let full : nat_le (holds_on before key) (holds_on before key) ≡ true = grind (arith, nat_tests) in
             placed (ap (λ (p : PassPart). p.shard) h)
             (subst (AreIssued terms.layout) (sym at)
-            (issued_other terms.layout before (Crowded pass key) refl ready.issued)) (holds_on before key) ok.2
+            (issued_other terms.layout before (Crowded pass key) refl ready.issued)) (holds_on before key)
+            (record { most = few_before terms.layout.guard_max before key ready.few; least = ok.2 })
             (by_value (holds_on before key) (Some has.0) (present_here before key has.0 has.1 ok.1)
             (rw full (is, one_more (Crowded pass key) at)))
         got (Err _) is h = absurd h

@@ -22,6 +22,7 @@ use Rattle.sh_calls.specs.InOrder.{adds_entry}
 use Rattle.sh_calls.specs.Runs.{with_number}
 use Rattle.sh_beside.specs.Beside.{CallBeside}
 use Rattle.sh_beside.proofs.Logs.{Grown, LogIs}
+use Rattle.sh_beside.proofs.Fewness.{FewHolds}
 use Rattle.sh_beside.proofs.Shapes.{KnowsShape}
 use Rattle.sh_beside.proofs.Names.{AreNames, one_more_name}
 use Rattle.sh_beside.proofs.Issued.{AreIssued, issued_same}
@@ -43,6 +44,9 @@ pub record Ready (terms : RunTerms) (tag : Option ℕ) (c : Call) (a : Answer) (
   pub names : AreNames tag keys numbers
   pub issued : AreIssued terms.layout before
   pub knows : KnowsShape terms.shape v.stands
+  pub some_pass : 1 ≤ terms.shape.passes
+  pub few : FewHolds terms.layout.guard_max before
+  pub few_after : FewHolds terms.layout.guard_max after
 
 -- the call was answered beside mode plain, and what is known of owners and names after it
 pub record Stepped (terms : RunTerms) (tag : Option ℕ) (c : Call) (a : Answer) (pass : ℕ) (w : PassPart)

@@ -23,6 +23,7 @@ use Rattle.sh_beside.specs.Beside.{RanBeside}
 use Rattle.sh_beside.proofs.Logs.{Grown, LogIs, gains, own_before, other_before}
 use Rattle.sh_beside.proofs.Names.{AreNames}
 use Rattle.sh_beside.proofs.Issued.{AreIssued}
+use Rattle.sh_beside.proofs.Fewness.{FewAlong}
 use Rattle.sh_beside.proofs.Shapes.{KnowsShape, heeding, keeps_shape}
 use Rattle.sh_beside.proofs.Steps.{state, Ready, Stepped, adopt_step, leave_step, post_step, wait_step}
 use Rattle.sh_beside.proofs.Inserting.{insert_step}
@@ -195,19 +196,20 @@ module _ (terms : RunTerms) (tag : Option ℕ) where
               let ne : q ≢ l.pass = λ same. true_false (q == l.pass) (eq-eqb q l.pass same) e in
               others q ne ∙ (owns.each q below ∙ sym (ap (λ (p : PassPart). is_some p.shard) (there r next l a h q ne)))
 
-  module _ (room : HasTagRoom terms.layout tag) (some : terms.shape.passes ≤ 64) where
+  module _ (room : HasTagRoom terms.layout tag) (some : 1 ≤ terms.shape.passes) (few : terms.shape.passes ≤ 64) where
     pub walk : (lines : List CallLine) (answers : List Answer) (r end : CallsRun) (before todo : List Entry) (last : ℕ)
         (owners : List Bool) (keys : List (Option ℕ)) → LinesAnswered terms tag r lines answers end
         → Legal terms.shape.passes terms.layout.guard_max (before ++ todo) → LogsAre terms end.parts (before ++ todo)
         → map pass_of todo ≡ adding_passes lines answers
         → All (λ (l : CallLine). l.pass < terms.shape.passes) lines → OwnersAre owners r.parts
         → AreNames tag keys r.numbers → AreIssued terms.layout before → KnowsEach r.parts
+        → FewAlong terms.layout.guard_max (before ++ todo)
         → (after : Run) × RanBeside terms.layout terms.shape (state terms tag before last owners keys) lines answers after
-    walk [] [] r end before todo last owners keys ran legal logs passes below owns names issued knows =
+    walk [] [] r end before todo last owners keys ran legal logs passes below owns names issued knows holds =
         (state terms tag before last owners keys, refl)
-    walk [] (a ∷ answers) r end before todo last owners keys ran legal logs passes below owns names issued knows = absurd ran
-    walk (l ∷ lines) [] r end before todo last owners keys ran legal logs passes below owns names issued knows = absurd ran
-    walk (l ∷ lines) (a ∷ answers) r end before todo last owners keys ran legal logs passes below owns names issued knows =
+    walk [] (a ∷ answers) r end before todo last owners keys ran legal logs passes below owns names issued knows holds = absurd ran
+    walk (l ∷ lines) [] r end before todo last owners keys ran legal logs passes below owns names issued knows holds = absurd ran
+    walk (l ∷ lines) (a ∷ answers) r end before todo last owners keys ran legal logs passes below owns names issued knows holds =
         let g = goes (adds_entry l.call a) l.pass before todo (adding_passes lines answers) passes in
         let h = ran.1 in
         let logs_end : LogsAre terms end.parts (g.after ++ g.later) = subst (LogsAre terms end.parts) g.same logs in
@@ -217,7 +219,7 @@ module _ (terms : RunTerms) (tag : Option ℕ) where
         logs_before lines answers ran.0 end g.after g.later ran.2 logs_end g.passes in
         let logs_now : LogsAre terms r.parts before = logs_before_line r ran.0 l a h before g.after g.grown logs_next in
         let inside : l.pass < terms.shape.passes = below 0 l (omega arith) in
-        let small : l.pass < 64 = omega (arith, inside, some) in
+        let small : l.pass < 64 = omega (arith, inside, few) in
         let ready : Ready terms tag l.call a l.pass h.begins h.part before g.after owners keys r.numbers = record {
           grown = g.grown;
           log = subst (λ (x : List _). LogIs l.pass x before) (sym (same_log (r.parts l.pass) h.begins h.heeds))
@@ -230,11 +232,14 @@ module _ (terms : RunTerms) (tag : Option ℕ) where
           names = names;
           issued = issued;
           knows = heeding terms.shape (r.parts l.pass) h.begins h.heeds (knows.each l.pass);
+          some_pass = some;
+          few = holds before todo refl;
+          few_after = holds g.after g.later g.same;
         } in
         let s = call_step room l.call a l.pass h.begins h.part before g.after owners keys r.numbers ready h.does in
         let rest = walk lines answers ran.0 end g.after g.later l.pass s.owners_after s.keys_after ran.2 legal_end
         logs_end g.passes (λ k d inside. below (suc k) d (omega (arith, inside)))
         (owners_next r ran.0 l a h owners s.owners_after owns s.few s.own s.others)
         (subst (λ (n : CallsRun). AreNames tag s.keys_after n.numbers) (sym h.next_is) s.names) s.issued
-        (knows_next r ran.0 l a h knows) in
+        (knows_next r ran.0 l a h knows) (subst (FewAlong terms.layout.guard_max) g.same holds) in
         (rest.0, (state terms tag g.after l.pass s.owners_after s.keys_after, s.beside, rest.1))

@@ -54,9 +54,11 @@ WherePlaced layout shape (Err a) Does run told next = Does
 
 -- ---- Crowded
 
--- so many holds on a key are its limit for this get: with all passes together they are above what the layout allows
-abbrev pub IsLimit : Layout → Run → ℕ → Type 0
-IsLimit layout run limit = layout.guard_max < limit + run.store.passes
+-- A key with so many holds is crowded for this get. For mode plain that are as many as the layout allows. The running
+-- heap counts the passes too that are on their way to the slot, and there may be one less than all of them.
+pub record IsLimit (layout : Layout) (run : Run) (limit : ℕ) : Type 0 where
+  pub most : limit ≤ layout.guard_max
+  pub least : layout.guard_max < limit + run.store.passes
 
 -- a get is answered as in mode plain, had the layout this limit
 pub record GetsBeside (layout : Layout) (run : Run) (key : Result ℕ Answer) (told : Answer) (next : Run) : Type 0 where

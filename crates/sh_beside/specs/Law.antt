@@ -1,19 +1,14 @@
 -- The law: what mode heap answers is beside mode plain.
-use Rattle.std.specs.Prelude.{◌≡◌, ℕ, true, List, Some}
+use Rattle.std.specs.Prelude.{ℕ, Bool, true, List}
 use Rattle.sh_script.specs.HeaderMeaning.{layout_of}
-use Rattle.sh_script.specs.Scripts.{IsCalls}
-use Rattle.sh_script.specs.declared.calls.CallLine.{CallLine}
-use Rattle.sh_script.specs.declared.header.Header.{Header}
-use Rattle.sh_table.specs.Seats.{Heap}
-use Rattle.sh_calls.specs.Parts.{PassTold, heap_terms}
-use Rattle.sh_calls.specs.Told.{IsTold}
+use Rattle.sh_heap_run.specs.HeapOutput.{IsHeap}
 use Rattle.sh_beside.specs.Beside.{AreBesidePlain}
 
--- where the lines of a script ran one after the other on a heap of its shape, and were told by one tale of all passes,
--- their answers are beside those of mode plain
+-- the answers of mode heap that this output tells are beside those of mode plain
+abbrev pub IsBesidePlain : {asked : Bool} {text output : List ℕ} → IsHeap true asked text output → Type 0
+IsBesidePlain heap = AreBesidePlain (layout_of heap.header.layout) heap.header.shape heap.header.tag heap.lines
+    heap.is_output.told.replies.answers
+
+-- so are those of each output of mode heap
 abbrev pub HeapIsBesidePlain : Type 0
-HeapIsBesidePlain =
-    (text : List ℕ) (header : Header) (lines : List CallLine) → IsCalls text header lines
-    → (heap : Heap) → heap.shape ≡ header.shape → (output : List ℕ) (tale : List PassTold)
-    → (told : IsTold true (Some heap) (heap_terms (layout_of header.layout) header.shape) header.tag lines output tale)
-    → AreBesidePlain (layout_of header.layout) header.shape header.tag lines told.replies.answers
+HeapIsBesidePlain = (asked : Bool) (text output : List ℕ) → (heap : IsHeap true asked text output) → IsBesidePlain heap
