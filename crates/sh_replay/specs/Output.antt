@@ -9,12 +9,17 @@ use Rattle.sh_output.specs.Ends.{WroteBeginning}
 use Rattle.sh_output.specs.Faults.{IsScriptOf, IsFaultOf, IsRunFault}
 use Rattle.sh_models.specs.Output.{IsPlain, IsSteps}
 use Rattle.sh_heap_run.specs.HeapOutput.{IsHeap, IsHeapWaiting}
+use Rattle.sh_beside.specs.Law.{IsBesidePlain}
+
+-- the text is a script of calls, and this is what mode heap may write for it: its answers are beside those of mode plain
+abbrev pub IsHeapAlone : (accounts : Bool) → (text output : List ℕ) → Type 0
+IsHeapAlone accounts text output = (heap : IsHeap true accounts text output) × IsBesidePlain heap
 
 -- the text is a script of the mode, and this is what its run may write
 abbrev pub IsOutput : Mode → (accounts : Bool) → (text output : List ℕ) → Type 0
 IsOutput mode.Plain accounts text output = IsPlain text output
 IsOutput mode.Steps accounts text output = IsSteps accounts text output
-IsOutput mode.Heap accounts text output = IsHeap true accounts text output
+IsOutput mode.Heap accounts text output = IsHeapAlone accounts text output
 IsOutput mode.Threads accounts text output = IsHeap false accounts text output
 
 -- the same, of a run at whose end an owner could not leave
