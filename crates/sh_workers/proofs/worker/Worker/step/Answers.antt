@@ -2,14 +2,15 @@ use Rattle.std.proofs.Common.{◌≡◌, ◌≢◌, subst, rules, arith, slice_g
 use Rattle.std.proofs.lemmas.Grind.{common_steps}
 use Rattle.std.proofs.lemmas.Option.{gets}
 use Rattle.sh_script.specs.declared.calls.CallLine.{CallLine}
+use Rattle.sh_output.specs.Keys.{HasTagRoom}
 use Rattle.sh_calls.specs.Calls.{CallAnswers}
 use Rattle.sh_workers.specs.declared.worker.Made.{Made}
-use Rattle.sh_workers.proofs.Works.{work_then, work_else, work_room}
+use Rattle.sh_workers.proofs.Works.{work_then, work_else, work_room, work_tells}
 use Rattle.sh_workers.proofs.worker.Worker.step.Goals.{then-line-self+in-Some-awaited, else-line-self}
 use Rattle.sh_workers.proofs.worker.Worker.step.Goals as goal
 
-pub invariant_of-self : goal.invariant_of-self
-invariant_of-self g c =
+pub invariant_of-self-2 : goal.invariant_of-self-2
+invariant_of-self-2 g c =
     let room = g.B.Room in
     let was = c.self.inside in
     let side = g.S.Side.seen was.side in
@@ -26,7 +27,7 @@ invariant_of-self g c =
           let now = g.S.Side.seen w.answered-answer.new.side in
           let D : Option ℕ → Type 0 = λ t. CallAnswers mid.terms t mid.pass mid.part l.call m.bound m.answer now.part in
           rw (w.self-inside-is, w.push_reserved.ensures.items, w.bind.ensures) (
-            work mid now m own w.in-Some-awaited.ensures w.answered-answer.ensures.same
+            work mid now m own w.in-Some-awaited.ensures.heard w.answered-answer.ensures.same
                 (subst D c.requires.tag w.answered-answer.ensures.does),
             omega (arith, h.1, c.names_bound.ensures),
             rw w.push_reserved.ensures.capacity h.2,
@@ -46,3 +47,21 @@ push_reserved-requires g c =
     let few = work_room room.heap room.terms room.tag room.lines was.number was.next (g.S.Side.seen was.side)
     was.made.items c.self.invariant.0 l at own in
     omega (arith, few, was.made.ok.0, c.self.invariant.2)
+
+-- the receipt that goes with the name tells of the insert
+pub bind-requires-clause-tells : goal.bind-requires-clause-tells
+bind-requires-clause-tells g c =
+    let room = g.B.Room in
+    let was = c.self.inside in
+    let side = g.S.Side.seen was.side in
+    let l : CallLine = c.in-Some.line.now in
+    let at : slice_get room.lines was.next ≡ Some l = grind (arith, common_steps, gets) in
+    let m : Made = record { bound = c.in-Some-awaited.bound; answer = c.answered-answer.result } in
+    let mid = g.S.Side.seen c.awaited.new.side in
+    let now = g.S.Side.seen c.answered-answer.new.side in
+    let D : Option ℕ → Type 0 = λ t. CallAnswers mid.terms t mid.pass mid.part l.call m.bound m.answer now.part in
+    let fits : HasTagRoom room.terms.layout room.tag = subst (HasTagRoom room.terms.layout) c.requires.tag
+    c.requires.room in
+    (work_tells room.heap room.terms room.tag room.lines was.number was.next side was.made.items c.self.invariant.0 l at
+    mid now m fits c.in-Some-awaited.ensures.heard c.answered-answer.ensures.same
+    (subst D c.requires.tag c.answered-answer.ensures.does)).1
