@@ -13,3 +13,5 @@ pub mod Reading
 pub mod Walk
 pub mod Scripts
 pub mod Beside
+pub mod Renaming
+pub mod Along
