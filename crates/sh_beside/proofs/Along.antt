@@ -68,7 +68,7 @@ module _ (layout : Layout) (shape : Numbers) (f : ℕ → ℕ) (one : (i j : ℕ
   key_at (j ∷ ks) zero key h e = subst KeyIs (let same : j ≡ Some key = cc in same) h.0
   key_at (j ∷ ks) (suc i) key h e = key_at ks i key h.1 e
 
-  plainly : (run next : Run) (c : Call) (a : Answer) → CallDoes layout run c a next → CallAlong layout run c a next
+  pub plainly : (run next : Run) (c : Call) (a : Answer) → CallDoes layout run c a next → CallAlong layout run c a next
   plainly run next c a h = inl (record { plain = a; does = h; same = same_but a })
 
   -- ---- calls on no key
@@ -90,11 +90,11 @@ module _ (layout : Layout) (shape : Numbers) (f : ℕ → ℕ) (one : (i j : ℕ
   map_last [] k = refl
   map_last (j ∷ ks) k = ap (λ (xs : List (Option ℕ)). option_map f j ∷ xs) (map_last ks k)
 
-  own_unnamed : (run : Run) → own (unnamed run) ≡ unnamed (own run)
+  pub own_unnamed : (run : Run) → own (unnamed run) ≡ unnamed (own run)
   own_unnamed run = ap (λ (ks : List (Option ℕ)). record (own run) { keys = ks }) (map_last run.keys None)
 
   -- what only the running heap refuses
-  refused_alone : (run next : Run) (c : Call) (a : Answer) → RefusedAlone layout run c a next
+  pub refused_alone : (run next : Run) (c : Call) (a : Answer) → RefusedAlone layout run c a next
       → RefusedAlone layout (own run) c a (own next)
   refused_alone run next (call.Adopt shard) a h = (h.0, h.1, ap own h.2)
   refused_alone run next call.Leave a h = (h.0, h.1, ap own h.2)
@@ -106,26 +106,26 @@ module _ (layout : Layout) (shape : Numbers) (f : ℕ → ℕ) (one : (i j : ℕ
   refused_alone run next call.Post a h = absurd h
   refused_alone run next (call.Wait i) a h = absurd h
 
-  adopt_along : (run next : Run) (shard : ℕ) (a : Answer) → CallDoes layout run (call.Adopt shard) a next
+  pub adopt_along : (run next : Run) (shard : ℕ) (a : Answer) → CallDoes layout run (call.Adopt shard) a next
       → CallAlong layout (own run) (call.Adopt shard) a (own next)
   adopt_along run next shard a h = plainly (own run) (own next) (call.Adopt shard) a
       (h.0, ap own h.1 ∙ own_adopts run shard (has_shard run) (nat_le run.shards shard))
 
-  leave_along : (run next : Run) (a : Answer) → CallDoes layout run call.Leave a next
+  pub leave_along : (run next : Run) (a : Answer) → CallDoes layout run call.Leave a next
       → CallAlong layout (own run) call.Leave a (own next)
   leave_along run next a h = plainly (own run) (own next) call.Leave a
       (h.0, ap own h.1 ∙ own_leaves run (has_shard run))
 
-  post_along : (run next : Run) (a : Answer) → CallDoes layout run call.Post a next
+  pub post_along : (run next : Run) (a : Answer) → CallDoes layout run call.Post a next
       → CallAlong layout (own run) call.Post a (own next)
   post_along run next a h = plainly (own run) (own next) call.Post a (h.0, ap own h.1 ∙ own_unnamed run)
 
-  wait_along : (run next : Run) (i : ℕ) (a : Answer) → CallDoes layout run (call.Wait i) a next
+  pub wait_along : (run next : Run) (i : ℕ) (a : Answer) → CallDoes layout run (call.Wait i) a next
       → CallAlong layout (own run) (call.Wait i) a (own next)
   wait_along run next i a h = plainly (own run) (own next) (call.Wait i) a (h.0, ap own h.1)
 
   -- the same where an entry was added
-  own_added : (run : Run) (e : Entry) → own (record run { store = with_added run.store (Some e) })
+  pub own_added : (run : Run) (e : Entry) → own (record run { store = with_added run.store (Some e) })
       ≡ record (own run) { store = with_added (own run).store (Some (renumbered f e)) }
   own_added run e = ap (λ (es : List Entry). record (own run) { store = record (own run).store { entries = es } })
       (one_more f one run.store.entries e)
@@ -135,7 +135,7 @@ module _ (layout : Layout) (shape : Numbers) (f : ℕ → ℕ) (one : (i j : ℕ
     pub along : CallAlong layout (own run) c a (own next)
     pub keys : KeysAre next.keys
 
-  same_keys : (run next : Run) → next.keys ≡ run.keys → KeysAre run.keys → KeysAre next.keys
+  pub same_keys : (run next : Run) → next.keys ≡ run.keys → KeysAre run.keys → KeysAre next.keys
   same_keys run next e h = subst KeysAre (sym e) h
 
   -- ---- insert
@@ -199,7 +199,7 @@ module _ (layout : Layout) (shape : Numbers) (f : ℕ → ℕ) (one : (i j : ℕ
           ));
         }
 
-    insert_along : InsertsBeside layout shape run words (insert_attempt layout run words).answer a next
+    pub insert_along : InsertsBeside layout shape run words (insert_attempt layout run words).answer a next
         → ((g : GivesKey layout shape run words a next)
         → f g.key ≡ first_key layout + insert_count run.store.entries) → Done
     insert_along h number = go (nat_lt 16 (length words)) (has_shard run) (nat_lt (insert_count run.store.entries)
@@ -234,7 +234,7 @@ module _ (layout : Layout) (shape : Numbers) (f : ℕ → ℕ) (one : (i j : ℕ
   -- ---- calls on a key
 
   -- the key, under its other number
-  abbrev own_key : Result ℕ Answer → Result ℕ Answer
+  abbrev pub own_key : Result ℕ Answer → Result ℕ Answer
   own_key (Ok key) = Ok (f key)
   own_key (Err a) = Err a
 
@@ -249,175 +249,20 @@ module _ (layout : Layout) (shape : Numbers) (f : ℕ → ℕ) (one : (i j : ℕ
   bound_is (Some (Some k)) key e = let same : k ≡ key = (let z : Ok k ≡ Ok key = e in cc) in ap (λ (x : ℕ). Some (Some x)) same
 
   module _ (run next : Run) (i : ℕ) (a : Answer) (keys : KeysAre run.keys) where
-    abbrev meant : Result ℕ Answer
+    abbrev pub meant : Result ℕ Answer
     meant = bound_key (slice_get run.keys i)
 
-    own_meant : (k : Result ℕ Answer) → meant ≡ k → key_of (own run) (reference.Name i) ≡ own_key k
+    pub own_meant : (k : Result ℕ Answer) → meant ≡ k → key_of (own run) (reference.Name i) ≡ own_key k
     own_meant k e = ap bound_key (slice_get-map (option_map f) run.keys i)
         ∙ (own_bound (slice_get run.keys i) ∙ ap own_key e)
 
-    known : (key : ℕ) → meant ≡ Ok key → KeyIs (Some key)
+    pub known : (key : ℕ) → meant ≡ Ok key → KeyIs (Some key)
     known key e = key_at run.keys i key keys (bound_is (slice_get run.keys i) key e)
 
     -- a reply on a key, and the same reply under its other number
-    abbrev Told : {A : Type 0} → PlainReply A → Run → Run → Type 0
+    abbrev pub Told : {A : Type 0} → PlainReply A → Run → Run → Type 0
     Told reply run next = (a ≡ done_answer reply.answer)
         × (next ≡ record run { store = with_added run.store reply.adds })
 
-    added_too : (r : Refusal) (e : Entry) → (a ≡ answer.Refused r)
-        × (next ≡ record run { store = with_added run.store (Some e) })
-        → (a ≡ answer.Refused r)
-        × (own next ≡ record (own run) { store = with_added (own run).store (Some (renumbered f e)) })
-    added_too r e h = (h.0, ap own h.1 ∙ own_added run e)
-
-    same_keys_told : {A : Type 0} (reply : PlainReply A) → Told reply run next → KeysAre next.keys
+    pub same_keys_told : {A : Type 0} (reply : PlainReply A) → Told reply run next → KeysAre next.keys
     same_keys_told reply h = same_keys run next (ap (λ (m : Run). m.keys) h.1) keys
-
-    -- ---- get
-
-    abbrev AlongGet : Type 0
-    AlongGet = CallAlong layout (own run) (call.Get (reference.Name i)) a (own next)
-
-    by_key : (k : Result ℕ Answer) → meant ≡ k → Tells (get_reply layout) (own run) (own_key k) a (own next) → AlongGet
-    by_key k e h = plainly (own run) (own next) (call.Get (reference.Name i)) a
-        (subst (λ (x : Result ℕ Answer). Tells (get_reply layout) (own run) x a (own next)) (sym (own_meant k e)) h)
-
-    module _ (key : ℕ) (e : meant ≡ Ok key) (limit : ℕ) (is_limit : IsLimit layout run limit) where
-      abbrev narrow : Layout
-      narrow = record layout { guard_max = limit }
-
-      abbrev es : List Entry
-      es = run.store.entries
-
-      abbrev crowded : PlainReply Hold
-      crowded = record { answer = Err refusal.Crowded; adds = Some (Crowded run.store.pass key) }
-
-      abbrev given_hold : List ℕ → PlainReply Hold
-      given_hold value = record { answer = Ok (record { key = key }); adds = Some (Got run.store.pass key value) }
-
-      is_key : is_some (unpacked layout key) ≡ true
-      is_key = placed_is_key layout shape key (known key e).0
-
-      own_is_key : is_some (unpacked layout (f key)) ≡ true
-      own_is_key = (known key e).1
-
-      own_count : hold_count (map (renumbered f) es) run.store.pass ≡ hold_count es run.store.pass
-      own_count = same_hold_count f one es run.store.pass
-
-      -- what mode plain answers where the pass has room for a hold
-      own_reply : nat_le 16 (hold_count es run.store.pass) ≡ false → (o : Option (List ℕ)) → present_value es key ≡ o
-          → get_reply layout (own run).store (f key) ≡ got_reply layout (own run).store (f key) o
-      own_reply g o p =
-          let h : nat_le 16 (hold_count (map (renumbered f) es) run.store.pass) ≡ false =
-          ap (nat_le 16) own_count ∙ g in
-          let q : present_value (map (renumbered f) es) (f key) ≡ o = same_present f one es key ∙ p in
-          rw (own_is_key, h, q) refl
-
-      reply : nat_le 16 (hold_count es run.store.pass) ≡ false → (o : Option (List ℕ)) → present_value es key ≡ o
-          → get_reply narrow run.store key ≡ got_reply narrow run.store key o
-      reply g o p = rw (is_key, g, p) refl
-
-      by_own_reply : (r : PlainReply Hold) → get_reply layout (own run).store (f key) ≡ r
-          → (a ≡ done_answer r.answer) × (own next ≡ record (own run) { store = with_added (own run).store r.adds })
-          → AlongGet
-      by_own_reply r q h = by_key (Ok key) e
-          (subst (λ (x : PlainReply Hold). (a ≡ done_answer x.answer)
-          × (own next ≡ record (own run) { store = with_added (own run).store x.adds })) (sym q) h)
-
-      full : nat_le 16 (hold_count es run.store.pass) ≡ true → Told (get_reply narrow run.store key) run next → AlongGet
-      full g h =
-          let q : get_reply narrow run.store key ≡ refused refusal.HoldsFull = rw (is_key, g) refl in
-          let t = subst (λ (x : PlainReply Hold). Told x run next) q h in
-          let own_g : nat_le 16 (hold_count (map (renumbered f) es) run.store.pass) ≡ true =
-          ap (nat_le 16) own_count ∙ g in
-          let own_q : get_reply layout (own run).store (f key) ≡ refused refusal.HoldsFull =
-          rw (own_is_key, own_g) refl in
-          by_own_reply (refused refusal.HoldsFull) own_q (t.0, ap own t.1)
-
-      gone : nat_le 16 (hold_count es run.store.pass) ≡ false → present_value es key ≡ None
-          → Told (get_reply narrow run.store key) run next → AlongGet
-      gone g p h =
-          let t = subst (λ (x : PlainReply Hold). Told x run next) (reply g None p) h in
-          by_own_reply (got_reply layout (own run).store (f key) None) (own_reply g None p)
-          (t.0, ap own t.1 ∙ own_added run (Gone run.store.pass key))
-
-      there : nat_le 16 (hold_count es run.store.pass) ≡ false → (value : List ℕ) → present_value es key ≡ Some value
-          → Told (get_reply narrow run.store key) run next → AlongGet
-      there g value p h =
-          go (nat_le limit (holds_on es key)) (nat_le layout.guard_max (holds_on es key)) refl refl
-          (subst (λ (x : PlainReply Hold). Told x run next) (reply g (Some value) p) h)
-        where
-          own_on : holds_on (map (renumbered f) es) (f key) ≡ holds_on es key
-          own_on = same_holds_on f one es key
-
-          abbrev_told : (c : Bool) → nat_le layout.guard_max (holds_on es key) ≡ c
-              → got_reply layout (own run).store (f key) (Some value)
-              ≡ cond c (record { answer = Err refusal.Crowded; adds = Some (Crowded run.store.pass (f key)) })
-              (record { answer = Ok (record { key = f key }); adds = Some (Got run.store.pass (f key) value) })
-          abbrev_told c k = (let z : nat_le layout.guard_max (holds_on (map (renumbered f) es) (f key)) ≡ c =
-              ap (nat_le layout.guard_max) own_on ∙ k in rw z refl)
-
-          go : (b c : Bool) → nat_le limit (holds_on es key) ≡ b → nat_le layout.guard_max (holds_on es key) ≡ c
-              → Told (got_reply narrow run.store key (Some value)) run next → AlongGet
-          go true true j k t =
-              let u : Told crowded run next =
-              rw j at t in
-              by_own_reply _ (own_reply g (Some value) p ∙ abbrev_told true k)
-              (u.0, ap own u.1 ∙ own_added run (Crowded run.store.pass key))
-          go false false j k t =
-              let u : Told (given_hold value) run next
-              = rw j at t in
-              by_own_reply _ (own_reply g (Some value) p ∙ abbrev_told false k)
-              (u.0, ap own u.1 ∙ own_added run (Got run.store.pass key value))
-          go false true j k t = absurd (let m = is_limit.most in let bad : ⊥ = grind (arith, nat_tests) in bad)
-          go true false j k t =
-              let u : Told crowded run next =
-              rw j at t in
-              let some : holds_on es key < layout.guard_max = grind (arith, nat_tests) in
-              let least = is_limit.least in
-              let over : layout.guard_max < holds_on es key + run.store.passes = grind (arith, nat_tests) in
-              inr (inl (record {
-                key = f key;
-                names = own_meant (Ok key) e;
-                there = subst (λ (o : Option (List ℕ)). IsSome o) (sym (same_present f one es key ∙ p)) refl;
-                early = subst (λ (n : ℕ). n < layout.guard_max) (sym own_on) some;
-                many = subst (λ (n : ℕ). layout.guard_max < n + run.store.passes) (sym own_on) over;
-                is = u.0;
-                next_is = ap own u.1 ∙ own_added run (Crowded run.store.pass key);
-              }))
-
-      get_told : Told (get_reply narrow run.store key) run next → AlongGet
-      get_told h = go (nat_le 16 (hold_count es run.store.pass)) refl
-        where
-          room : nat_le 16 (hold_count es run.store.pass) ≡ false → (o : Option (List ℕ)) → present_value es key ≡ o
-              → AlongGet
-          room g None p = gone g p h
-          room g (Some value) p = there g value p h
-
-          go : (b : Bool) → nat_le 16 (hold_count es run.store.pass) ≡ b → AlongGet
-          go true g = full g h
-          go false g = room g (present_value es key) refl
-
-    get_along : WherePlaced layout shape meant (GetsBeside layout run meant a next) run a next
-        → Found run next (call.Get (reference.Name i)) a
-    get_along h = go meant refl
-      where
-        at : (k : Result ℕ Answer) → meant ≡ k → WherePlaced layout shape k (GetsBeside layout run k a next) run a next
-        at k e = subst (λ (x : Result ℕ Answer). WherePlaced layout shape x (GetsBeside layout run x a next) run a next)
-            e h
-
-        go : (k : Result ℕ Answer) → meant ≡ k → Found run next (call.Get (reference.Name i)) a
-        go (Err b) e =
-            let t = (at (Err b) e).tells in
-            record {
-              along = by_key (Err b) e (t.0, ap own t.1);
-              keys = same_keys run next (ap (λ (m : Run). m.keys) t.1) keys;
-            }
-        go (Ok key) e =
-            let g : GetsBeside layout run (Ok key) a next =
-            subst (λ (b : Bool). IfPlaced b (GetsBeside layout run (Ok key) a next) run a next) (known key e).0
-            (at (Ok key) e) in
-            record {
-              along = get_told key e g.limit g.is_limit g.tells;
-              keys = same_keys_told (get_reply (record layout { guard_max = g.limit }) run.store key) g.tells;
-            }

@@ -15,3 +15,5 @@ pub mod Scripts
 pub mod Beside
 pub mod Renaming
 pub mod Along
+pub mod AlongGets
+pub mod AlongKeys
