@@ -17,3 +17,4 @@ pub mod Renaming
 pub mod Along
 pub mod AlongGets
 pub mod AlongKeys
+pub mod AlongLines
