@@ -174,8 +174,10 @@ module _ (layout : Layout) (shape : Numbers) (f : ℕ → ℕ) (one : (i j : ℕ
         } in
         let p : own next ≡ Y = ap own g.next_is
         ∙ (λ i. record (own run) {
-          store = record (own run).store { entries = one_more f one run.store.entries
-              (Insert run.store.pass g.key words) i };
+          store = record (own run).store {
+            entries = one_more f one run.store.entries
+                (Insert run.store.pass g.key words) i;
+          };
           keys = map_last run.keys (Some g.key) i;
         }) in
         let small : insert_count run.store.entries < key_count layout = grind (arith, nat_tests) in
@@ -228,7 +230,7 @@ module _ (layout : Layout) (shape : Numbers) (f : ℕ → ℕ) (one : (i j : ℕ
             let at : GivesKey layout shape run words a next =
             subst (λ (x : Result ℕ Refusal). InsertsBeside layout shape run words x a next)
             (let z : (insert_attempt layout run words).answer
-                ≡ Ok (first_key layout + insert_count run.store.entries) = rw (e, g, k) refl in z) h in
+            ≡ Ok (first_key layout + insert_count run.store.entries) = rw (e, g, k) refl in z) h in
             gives_too e g k at (number at)
 
   -- ---- calls on a key

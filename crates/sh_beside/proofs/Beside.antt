@@ -13,7 +13,9 @@ use Rattle.sh_script.specs.declared.calls.CallLine.{CallLine}
 use Rattle.sh_output.specs.Keys.{HasTagRoom}
 use Rattle.std.specs.List.{All}
 use Rattle.sh_beside.specs.Beside.{AreBesidePlain}
-use Rattle.sh_beside.specs.Law.{HeapIsBesidePlain}
+use Rattle.sh_heap_run.specs.HeapOutput.{IsHeap}
+use Rattle.sh_models.specs.PlainRun.{opening_run}
+use Rattle.sh_beside.specs.Law.{HeapIsBesidePlain, HeapIsAlongPlain}
 use Rattle.sh_beside.proofs.Logs.{LogIs}
 use Rattle.sh_script.specs.declared.header.Layout.{Layout as LayoutName}
 use Rattle.sh_script.specs.declared.header.Layout.TheVariants as layout
@@ -23,7 +25,7 @@ use Rattle.sh_output.proofs.HeaderShapes.{shape_of_calls}
 use Rattle.sh_beside.proofs.Fewness.{FewAlong, few_along}
 use Rattle.sh_beside.proofs.Issued.{none_issued}
 use Rattle.sh_beside.proofs.Scripts.{scripts_fit}
-use Rattle.sh_beside.proofs.Walk.{LogsAre, OwnersAre, KnowsEach, walk}
+use Rattle.sh_beside.proofs.Walk.{LogsAre, OwnersAre, KnowsEach, Walked, walk}
 
 -- ---- each log of the tale
 
@@ -56,20 +58,21 @@ new_pass_knows : (terms : RunTerms) (tag : Option ℕ) (heap : Option Heap) → 
 new_pass_knows terms tag None is = record { each = λ q. tt }
 new_pass_knows terms tag (Some h) is = record { each = λ q. is }
 
-lines_beside : (heap : Option Heap) (terms : RunTerms) (tag : Option ℕ) (lines : List CallLine) (output : List ℕ)
+lines_walked : (heap : Option Heap) (terms : RunTerms) (tag : Option ℕ) (lines : List CallLine) (output : List ℕ)
     (tale : List PassTold) → (told : IsTold true heap terms tag lines output tale)
     → IfSome heap (λ h. h.shape ≡ terms.shape) → 1 ≤ terms.shape.passes → terms.shape.passes ≤ 64
     → HasTagRoom terms.layout tag → All (λ (l : CallLine). l.pass < terms.shape.passes) lines
     → FewAlong terms.layout.guard_max told.whole.history
-    → AreBesidePlain terms.layout terms.shape tag lines told.replies.answers
-lines_beside heap terms tag lines output tale told shape some few room below holds =
+    → Walked terms tag told.whole.history (opening_run terms.shape.shards terms.shape.passes tag) lines
+    told.replies.answers
+lines_walked heap terms tag lines output tale told shape some few room below holds =
     let history = told.whole.history in
     let logs : LogsAre terms told.replies.after.parts history =
     told_below history told.replies.after.parts terms.shape.passes
     (subst (HasAllLogs history) told.tale_is told.whole.has) in
-    walk terms tag room some few lines told.replies.answers _ told.replies.after [] history 0 (replicate 64 false) []
-    told.replies.ran told.whole.legal logs (told.in_order refl) below (nobody_owns terms tag heap) tt
-    (none_issued terms.layout) (new_pass_knows terms tag heap shape) holds
+    walk terms tag room some few history lines told.replies.answers _ told.replies.after [] history 0 (replicate 64 false)
+    [] told.replies.ran told.whole.legal logs (told.in_order refl) below (nobody_owns terms tag heap) tt
+    (none_issued terms.layout) (new_pass_knows terms tag heap shape) holds refl
 
 -- the layouts of scripts are layouts
 lawful : (l : LayoutName) → IsLayout (layout_of l)
@@ -77,13 +80,24 @@ lawful layout.Tiny = tiny_numbers.lawful
 lawful layout.Wide = wide_numbers.lawful
 lawful layout.Tagged = tagged_numbers.lawful
 
-pub heap_is_beside_plain : HeapIsBesidePlain
-heap_is_beside_plain asked text output heap =
+heap_walked : (asked : Bool) (text output : List ℕ) → (heap : IsHeap true asked text output)
+    → Walked (heap_terms (layout_of heap.header.layout) heap.header.shape) heap.header.tag
+    heap.is_output.told.whole.history (opening_run heap.header.shape.shards heap.header.shape.passes heap.header.tag)
+    heap.lines heap.is_output.told.replies.answers
+heap_walked asked text output heap =
     let header = heap.header in
     let out = heap.is_output in
     let fit = scripts_fit text header heap.lines heap.is_calls in
     let shape = shape_of_calls text header heap.lines heap.is_calls in
-    lines_beside (Some out.heap) (heap_terms (layout_of header.layout) header.shape) header.tag heap.lines out.replies
+    lines_walked (Some out.heap) (heap_terms (layout_of header.layout) header.shape) header.tag heap.lines out.replies
     out.tale out.told out.of_shape shape.0.some_pass fit.few fit.room fit.below
     (subst (FewAlong (layout_of header.layout).guard_max) out.log
     (few_along (layout_of header.layout) header.shape (lawful header.layout) shape.0 shape.1 out.events))
+
+pub heap_is_beside_plain : HeapIsBesidePlain
+heap_is_beside_plain asked text output heap =
+    let w = heap_walked asked text output heap in (w.after, w.beside)
+
+pub heap_is_along_plain : HeapIsAlongPlain
+heap_is_along_plain asked text output heap named =
+    let w = heap_walked asked text output heap in (_, w.along named tt)

@@ -19,7 +19,10 @@ use Rattle.sh_calls.specs.Receipts.{MayHeed}
 use Rattle.sh_calls.specs.Calls.{CallAnswers}
 use Rattle.sh_calls.specs.InOrder.{adds_entry, adding_passes}
 use Rattle.sh_calls.specs.Runs.{CallsRun, LineAnswered, LinesAnswered, number_meant, with_part, next_run}
-use Rattle.sh_beside.specs.Beside.{RanBeside}
+use Rattle.sh_beside.specs.Beside.{CallBeside, RanBeside}
+use Rattle.sh_beside.specs.Along.{RanAlong, NamesKey}
+use Rattle.sh_beside.proofs.Along.{own, KeysAre}
+use Rattle.sh_beside.proofs.AlongLines.{number_of, one_number, number_now, call_along}
 use Rattle.sh_beside.proofs.Logs.{Grown, LogIs, gains, own_before, other_before}
 use Rattle.sh_beside.proofs.Names.{AreNames}
 use Rattle.sh_beside.proofs.Issued.{AreIssued}
@@ -196,20 +199,62 @@ module _ (terms : RunTerms) (tag : Option ℕ) where
               let ne : q ≢ l.pass = λ same. true_false (q == l.pass) (eq-eqb q l.pass same) e in
               others q ne ∙ (owns.each q below ∙ sym (ap (λ (p : PassPart). is_some p.shard) (there r next l a h q ne)))
 
-  module _ (room : HasTagRoom terms.layout tag) (some : 1 ≤ terms.shape.passes) (few : terms.shape.passes ≤ 64) where
+  -- mode plain's own run, where the keys of this history have the numbers in which they were given
+  abbrev pub own_of : List Entry → Run → Run
+  own_of history run = own terms.layout terms.shape (number_of terms.layout history) (one_number terms.layout history) run
+
+  abbrev pub KeysOf : List Entry → List (Option ℕ) → Type 0
+  KeysOf history keys = KeysAre terms.layout terms.shape (number_of terms.layout history)
+      (one_number terms.layout history) keys
+
+  -- the lines beside mode plain, and along with its own run
+  pub record Walked (history : List Entry) (run : Run) (lines : List CallLine) (answers : List Answer) : Type 0 where
+    pub after : Run
+    pub beside : RanBeside terms.layout terms.shape run lines answers after
+    pub along : All (λ (l : CallLine). NamesKey l.call) lines → KeysOf history run.keys
+        → RanAlong terms.layout (own_of history run) lines answers (own_of history after)
+
+  -- a line, and the lines after it
+  one_line : (history before after later : List Entry) (pass last : ℕ) (owners now : List Bool)
+      (keys more : List (Option ℕ)) (l : CallLine) (a : Answer) (lines : List CallLine) (answers : List Answer)
+      → l.pass ≡ pass → after ++ later ≡ history
+      → CallBeside terms.layout terms.shape (state terms tag before pass owners keys) l.call a
+      (state terms tag after pass now more)
+      → Walked history (state terms tag after pass now more) lines answers
+      → Walked history (state terms tag before last owners keys) (l ∷ lines) (a ∷ answers)
+  one_line history before after later pass last owners now keys more l a lines answers same whole beside rest =
+      let run = state terms tag before pass owners keys in
+      let next = state terms tag after pass now more in
+      let at : CallBeside terms.layout terms.shape (state terms tag before l.pass owners keys) l.call a next =
+      subst (λ (p : ℕ). CallBeside terms.layout terms.shape (state terms tag before p owners keys) l.call a next)
+      (sym same) beside in
+      record {
+        after = rest.after;
+        beside = (next, at, rest.beside);
+        along = λ named known.
+            let found = call_along terms.layout terms.shape (number_of terms.layout history)
+            (one_number terms.layout history) (state terms tag before l.pass owners keys) next a known l.call
+            (named 0 l (omega arith)) at
+            (λ words given. number_now terms.layout before after later history l.pass given.key words
+            (ap (λ (m : Run). m.store.entries) given.next_is) whole given.new.not_issued) in
+            (own_of history next, found.along, rest.along (λ k d inside. named (suc k) d (omega (arith, inside))) found.keys);
+      }
+
+  module _ (room : HasTagRoom terms.layout tag) (some : 1 ≤ terms.shape.passes) (few : terms.shape.passes ≤ 64)
+      (history : List Entry) where
     pub walk : (lines : List CallLine) (answers : List Answer) (r end : CallsRun) (before todo : List Entry) (last : ℕ)
         (owners : List Bool) (keys : List (Option ℕ)) → LinesAnswered terms tag r lines answers end
         → Legal terms.shape.passes terms.layout.guard_max (before ++ todo) → LogsAre terms end.parts (before ++ todo)
         → map pass_of todo ≡ adding_passes lines answers
         → All (λ (l : CallLine). l.pass < terms.shape.passes) lines → OwnersAre owners r.parts
         → AreNames tag keys r.numbers → AreIssued terms.layout before → KnowsEach r.parts
-        → FewAlong terms.layout.guard_max (before ++ todo)
-        → (after : Run) × RanBeside terms.layout terms.shape (state terms tag before last owners keys) lines answers after
-    walk [] [] r end before todo last owners keys ran legal logs passes below owns names issued knows holds =
-        (state terms tag before last owners keys, refl)
-    walk [] (a ∷ answers) r end before todo last owners keys ran legal logs passes below owns names issued knows holds = absurd ran
-    walk (l ∷ lines) [] r end before todo last owners keys ran legal logs passes below owns names issued knows holds = absurd ran
-    walk (l ∷ lines) (a ∷ answers) r end before todo last owners keys ran legal logs passes below owns names issued knows holds =
+        → FewAlong terms.layout.guard_max (before ++ todo) → before ++ todo ≡ history
+        → Walked history (state terms tag before last owners keys) lines answers
+    walk [] [] r end before todo last owners keys ran legal logs passes below owns names issued knows holds whole =
+        record { after = state terms tag before last owners keys; beside = refl; along = λ named known. refl }
+    walk [] (a ∷ answers) r end before todo last owners keys ran legal logs passes below owns names issued knows holds whole = absurd ran
+    walk (l ∷ lines) [] r end before todo last owners keys ran legal logs passes below owns names issued knows holds whole = absurd ran
+    walk (l ∷ lines) (a ∷ answers) r end before todo last owners keys ran legal logs passes below owns names issued knows holds whole =
         let g = goes (adds_entry l.call a) l.pass before todo (adding_passes lines answers) passes in
         let h = ran.1 in
         let logs_end : LogsAre terms end.parts (g.after ++ g.later) = subst (LogsAre terms end.parts) g.same logs in
@@ -241,5 +286,7 @@ module _ (terms : RunTerms) (tag : Option ℕ) where
         logs_end g.passes (λ k d inside. below (suc k) d (omega (arith, inside)))
         (owners_next r ran.0 l a h owners s.owners_after owns s.few s.own s.others)
         (subst (λ (n : CallsRun). AreNames tag s.keys_after n.numbers) (sym h.next_is) s.names) s.issued
-        (knows_next r ran.0 l a h knows) (subst (FewAlong terms.layout.guard_max) g.same holds) in
-        (rest.0, (state terms tag g.after l.pass s.owners_after s.keys_after, s.beside, rest.1))
+        (knows_next r ran.0 l a h knows) (subst (FewAlong terms.layout.guard_max) g.same holds)
+        (sym g.same ∙ whole) in
+        one_line history before g.after g.later l.pass last owners s.owners_after keys s.keys_after l a lines answers refl
+        (sym g.same ∙ whole) s.beside rest
