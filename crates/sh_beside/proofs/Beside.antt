@@ -15,7 +15,7 @@ use Rattle.std.specs.List.{All}
 use Rattle.sh_beside.specs.Beside.{AreBesidePlain}
 use Rattle.sh_heap_run.specs.HeapOutput.{IsHeap}
 use Rattle.sh_models.specs.PlainRun.{opening_run}
-use Rattle.sh_beside.specs.Law.{HeapIsBesidePlain, HeapIsAlongPlain}
+use Rattle.sh_beside.specs.Law.{HeapIsBesidePlain}
 use Rattle.sh_beside.proofs.Logs.{LogIs}
 use Rattle.sh_script.specs.declared.header.Layout.{Layout as LayoutName}
 use Rattle.sh_script.specs.declared.header.Layout.TheVariants as layout
@@ -96,8 +96,5 @@ heap_walked asked text output heap =
 
 pub heap_is_beside_plain : HeapIsBesidePlain
 heap_is_beside_plain asked text output heap =
-    let w = heap_walked asked text output heap in (w.after, w.beside)
-
-pub heap_is_along_plain : HeapIsAlongPlain
-heap_is_along_plain asked text output heap named =
-    let w = heap_walked asked text output heap in (_, w.along named tt)
+    let w = heap_walked asked text output heap in
+    record { beside = (w.after, w.beside); along = λ named. (_, w.along named tt) }

@@ -1,5 +1,5 @@
 //! What the replies of mode heap are beside those of mode plain.
-ghost use Rattle.sh_beside.specs.Law.{HeapIsBesidePlain, HeapIsAlongPlain};
+ghost use Rattle.sh_beside.specs.Law.{HeapIsBesidePlain};
 
 /// Lines that ran one after the other on a running heap, and were told by the tale of all its passes, were each
 /// answered as mode plain answers it, but for the number of a key, for the number of holds at which a key is crowded,
@@ -9,6 +9,5 @@ ghost use Rattle.sh_beside.specs.Law.{HeapIsBesidePlain, HeapIsAlongPlain};
 /// Where no line has a key as a number, mode plain's own run answers the same, but for the numbers of the keys that
 /// inserts are answered, for a get that is Crowded early, and for these refusals.
 pub fn heap_is_beside_plain()
-    ensures beside { HeapIsBesidePlain }
-    ensures along { HeapIsAlongPlain }
+    ensures { HeapIsBesidePlain }
 {}
