@@ -1,8 +1,8 @@
 -- A call beside mode plain is one along with mode plain's own run, in which the keys have other numbers.
-use Rattle.std.proofs.Common.{◌≡◌, ℕ, zero, suc, ◌+◌, ◌<◌, ◌≤◌, ◌⊎◌, inl, inr, Bool, true, false, cond, List, [], ◌∷◌, ◌++◌, map}
+use Rattle.std.proofs.Common.{◌≡◌, ℕ, zero, suc, ◌+◌, ◌<◌, inl, Bool, true, false, cond, List, [], ◌∷◌, ◌++◌, map}
 use Rattle.std.proofs.Common.{length, refl, ap, sym, ◌∙◌, subst, arith, Option, Some, None, Result, Ok, Err, slice_get}
 use Rattle.std.proofs.Common.{slice_set}
-use Rattle.std.specs.Prelude.{is_some, nat_le, nat_lt, IsSome}
+use Rattle.std.specs.Prelude.{is_some, nat_le, nat_lt}
 use Rattle.std.specs.Option.{option_map}
 use Rattle.std.proofs.lemmas.Bool.Decides.{nat_tests}
 use Rattle.std.proofs.lemmas.Option.{slice_get-map}
@@ -12,28 +12,24 @@ use Rattle.sh_key.specs.Layout.{Layout, unpacked, first_key, key_count}
 use Rattle.sh_key.proofs.Packing.{keys_are_consecutive}
 use Rattle.sh_shape.specs.Shape.{Numbers}
 use Rattle.sh_history.specs.declared.entry.Entry.{Entry}
-use Rattle.sh_history.specs.declared.entry.Entry.TheVariants.{Insert, Got, Gone, Crowded, Removed, Released}
-use Rattle.sh_history.specs.History.{value_of, present_value, hold_count, holds_on, holds_by, insert_count}
-use Rattle.sh_value.specs.declared.hold.Hold.{Hold}
-use Rattle.sh_plain.specs.Plain.{PlainReply, Replied, refused, with_added, get_reply, got_reply, remove_reply, removed_reply, release_reply}
-use Rattle.sh_plain.specs.Plain.{read_answer}
-use Rattle.sh_script.specs.declared.calls.Reference.{Reference}
+use Rattle.sh_history.specs.declared.entry.Entry.TheVariants.{Insert}
+use Rattle.sh_history.specs.History.{insert_count}
+use Rattle.sh_plain.specs.Plain.{PlainReply, Replied, with_added}
 use Rattle.sh_script.specs.declared.calls.Reference.TheVariants as reference
 use Rattle.sh_script.specs.declared.calls.Call.{Call}
 use Rattle.sh_script.specs.declared.calls.Call.TheVariants as call
 use Rattle.sh_output.specs.declared.answer.Answer.{Answer}
 use Rattle.sh_output.specs.declared.answer.Answer.TheVariants as answer
 use Rattle.sh_output.specs.Keys.{shown}
-use Rattle.sh_output.specs.Results.{done_answer, value_answer, key_answer}
-use Rattle.sh_models.specs.PlainRun.{Run, CallDoes, Tells, Reads, has_shard, adopt_answer, adopts, leave_answer, leaves}
+use Rattle.sh_output.specs.Results.{done_answer}
+use Rattle.sh_models.specs.PlainRun.{Run, CallDoes, has_shard}
 use Rattle.sh_models.specs.PlainRun.{bound_key, insert_attempt, key_of}
 use Rattle.sh_calls.specs.Parts.{is_placed_key}
-use Rattle.sh_beside.specs.Beside.{CallBeside, AsPlain, InsertsBeside, GivesKey, GetsBeside, WherePlaced, IfPlaced}
-use Rattle.sh_beside.specs.Beside.{RefusedAlone, IsLimit, unnamed}
-use Rattle.sh_beside.specs.Along.{CallAlong, IsPlainAnswer, IsCrowdedEarly, SameButKey, NamesKey}
-use Rattle.sh_beside.proofs.Getting.{placed_is_key}
-use Rattle.sh_beside.proofs.Renaming.{renumbered, same_value, same_present, same_inserts, same_holds_on}
-use Rattle.sh_beside.proofs.Renaming.{same_holds_by, same_hold_count, one_more}
+use Rattle.sh_beside.specs.Beside.{InsertsBeside, GivesKey}
+use Rattle.sh_beside.specs.Beside.{RefusedAlone, unnamed}
+use Rattle.sh_beside.specs.Along.{CallAlong, SameButKey}
+use Rattle.sh_beside.proofs.Renaming.{renumbered, same_inserts}
+use Rattle.sh_beside.proofs.Renaming.{one_more}
 
 same_but : (a : Answer) → SameButKey a a
 same_but answer.Done = refl

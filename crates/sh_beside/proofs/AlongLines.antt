@@ -1,19 +1,18 @@
 -- A line beside mode plain is one along with mode plain's own run, where the keys of a history have the numbers in which
 -- they were given.
 use Rattle.std.proofs.Common.{◌≡◌, ℕ, ◌+◌, Bool, true, false, cond, List, [], ◌∷◌, ◌++◌, refl, ap, sym, ◌∙◌, subst, arith}
-use Rattle.std.proofs.Common.{append_assoc, inl, inr, Option, Some, None, slice_set}
+use Rattle.std.proofs.Common.{append_assoc, inl, inr, Option, None, slice_set}
 use Rattle.std.specs.Prelude.{nat_le}
 use Rattle.sh_key.specs.Layout.{Layout, first_key}
 use Rattle.sh_shape.specs.Shape.{Numbers}
 use Rattle.sh_history.specs.declared.entry.Entry.{Entry}
 use Rattle.sh_history.specs.declared.entry.Entry.TheVariants.{Insert}
 use Rattle.sh_history.specs.History.{value_of, insert_count}
-use Rattle.sh_script.specs.declared.calls.Reference.{Reference}
 use Rattle.sh_script.specs.declared.calls.Reference.TheVariants as reference
 use Rattle.sh_script.specs.declared.calls.Call.{Call}
 use Rattle.sh_script.specs.declared.calls.Call.TheVariants as call
 use Rattle.sh_output.specs.declared.answer.Answer.{Answer}
-use Rattle.sh_models.specs.PlainRun.{Run, has_shard, adopts, leaves}
+use Rattle.sh_models.specs.PlainRun.{Run, has_shard}
 use Rattle.sh_beside.specs.Beside.{CallBeside, GivesKey, RefusedAlone}
 use Rattle.sh_beside.specs.Along.{NamesKey}
 use Rattle.sh_beside.proofs.Along.{KeysAre, Found, one_key_more, same_keys, refused_alone, adopt_along, leave_along}

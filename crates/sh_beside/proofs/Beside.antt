@@ -1,6 +1,6 @@
 -- What mode heap answers is beside mode plain.
-use Rattle.std.proofs.Common.{◌≡◌, ◌≢◌, ℕ, zero, suc, ◌<◌, ◌≤◌, ◌==◌, Bool, true, false, List, [], ◌∷◌, ◌++◌, map, refl, ap}
-use Rattle.std.proofs.Common.{sym, ◌∙◌, subst, arith, eqb-true, Option, Some, None}
+use Rattle.std.proofs.Common.{◌≡◌, ℕ, zero, suc, ◌<◌, ◌≤◌, ◌==◌, Bool, true, false, List, [], ◌∷◌, ◌++◌, map, refl}
+use Rattle.std.proofs.Common.{sym, subst, arith, eqb-true, Option, Some, None}
 use Rattle.std.specs.Prelude.{replicate, IfSome}
 use Rattle.std.proofs.lemmas.Bool.Decides.{nat_tests}
 use Rattle.std.proofs.lemmas.List.{get_or-replicate, length-replicate}
@@ -12,7 +12,6 @@ use Rattle.sh_script.specs.HeaderMeaning.{layout_of}
 use Rattle.sh_script.specs.declared.calls.CallLine.{CallLine}
 use Rattle.sh_output.specs.Keys.{HasTagRoom}
 use Rattle.std.specs.List.{All}
-use Rattle.sh_beside.specs.Beside.{AreBesidePlain}
 use Rattle.sh_heap_run.specs.HeapOutput.{IsHeap}
 use Rattle.sh_models.specs.PlainRun.{opening_run}
 use Rattle.sh_beside.specs.Law.{HeapIsBesidePlain}

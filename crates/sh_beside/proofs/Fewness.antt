@@ -1,6 +1,6 @@
 -- At each point of the log of a run of the core a key has at most as many holds as the layout allows.
-use Rattle.std.proofs.Common.{◌≡◌, ℕ, ◌+◌, ◌-◌, ◌<◌, ◌≤◌, ◌⊎◌, inl, inr, List, [], ◌∷◌, ◌++◌, refl, ap, sym, ◌∙◌, subst}
-use Rattle.std.proofs.Common.{arith, append-nil, append_assoc, Option, Some, None, slice_get, eq-eqb, cond, Bool, false}
+use Rattle.std.proofs.Common.{◌≡◌, ℕ, ◌+◌, ◌<◌, ◌≤◌, ◌⊎◌, inl, inr, List, [], ◌∷◌, ◌++◌, refl, ap, sym, ◌∙◌, subst}
+use Rattle.std.proofs.Common.{arith, append-nil, append_assoc, Option, Some, None, slice_get, eq-eqb, cond, Bool}
 use Rattle.sh_key.specs.Layout.{Layout, IsLayout}
 use Rattle.sh_shape.specs.Shape.{Numbers, IsShape, Fits}
 use Rattle.sh_history.specs.declared.entry.Entry.{Entry}
@@ -13,8 +13,7 @@ use Rattle.sh_step.specs.Rows.{Row, row}
 use Rattle.sh_step.specs.Plans.{Plan, plan_of, keys_of}
 use Rattle.sh_step.specs.Collections.{total}
 use Rattle.sh_core.specs.Lists.{times}
-use Rattle.sh_core.specs.Words.{read}
-use Rattle.sh_core.specs.Worlds.{World, step, apply, run, run_from, open_world, joined, entry_of, value_at_place}
+use Rattle.sh_core.specs.Worlds.{World, step, apply, run, run_from, open_world, joined}
 use Rattle.sh_core.proofs.RunTheorem.{theorem}
 
 -- no key has more holds, and none was released more often than it was got

@@ -1,7 +1,7 @@
 -- A get, a read, a remove or a release beside mode plain.
-use Rattle.std.proofs.Common.{◌≡◌, ◌≢◌, ℕ, ◌+◌, ◌<◌, ◌≤◌, ◌⊎◌, inl, inr, Bool, true, false, cond, List, [], ◌∷◌, ◌++◌}
-use Rattle.std.proofs.Common.{map, refl, ap, sym, ◌∙◌, subst, arith, Option, Some, None, Result, Ok, Err}
-use Rattle.std.specs.Prelude.{is_some, not, nat_le, nat_lt, IsSome, ok_or}
+use Rattle.std.proofs.Common.{◌≡◌, ℕ, ◌+◌, ◌⊎◌, inl, inr, Bool, true, false, cond, List, [], ◌∷◌, ◌++◌}
+use Rattle.std.proofs.Common.{refl, ap, sym, ◌∙◌, subst, arith, Option, Some, None, Result, Ok, Err}
+use Rattle.std.specs.Prelude.{is_some, not, nat_le, IsSome}
 use Rattle.std.proofs.lemmas.Bool.Decides.{nat_tests}
 use Rattle.sh_value.specs.declared.hold.Hold.{Hold}
 use Rattle.sh_value.specs.declared.refusal.Refusal.{Refusal}
@@ -14,26 +14,25 @@ use Rattle.sh_history.specs.declared.entry.Entry.{Entry}
 use Rattle.sh_history.specs.declared.entry.Entry.TheVariants.{Insert, Got, Gone, Crowded, Removed, Released}
 use Rattle.sh_history.specs.declared.log.LogEntry.{LogEntry}
 use Rattle.sh_history.specs.declared.log.LogEntry.TheVariants.{Known, Unread}
-use Rattle.sh_history.specs.History.{Allowed, value_of, is_removed, present_value, hold_count, holds_on, holds_by}
-use Rattle.sh_history.specs.Log.{Agrees, IsGotBy, logged_hold_count, logged_holds_by}
-use Rattle.sh_plain.specs.Plain.{Plain, PlainReply, with_added, get_reply, got_reply, remove_reply, release_reply}
-use Rattle.sh_plain.specs.Plain.{read_answer, held_value}
+use Rattle.sh_history.specs.History.{value_of, is_removed, present_value, hold_count, holds_on}
+use Rattle.sh_history.specs.Log.{Agrees, IsGotBy, logged_hold_count}
+use Rattle.sh_plain.specs.Plain.{with_added, get_reply, got_reply}
 use Rattle.sh_script.specs.declared.calls.Reference.{Reference}
 use Rattle.sh_script.specs.declared.calls.Call.TheVariants as call
 use Rattle.sh_output.specs.declared.answer.Answer.{Answer}
 use Rattle.sh_output.specs.declared.answer.Answer.TheVariants as answer
-use Rattle.sh_output.specs.Results.{done_answer, value_answer}
+use Rattle.sh_output.specs.Results.{done_answer}
 use Rattle.sh_models.specs.PlainRun.{Run, Tells}
-use Rattle.sh_calls.specs.Parts.{RunTerms, PassPart, Becomes, is_placed_key, with_entry}
-use Rattle.sh_calls.specs.Calls.{CallAnswers, AnswerSays, GetAnswers, UnlessRefused, OnKey, HoldGot, get_refusal, key_meant}
+use Rattle.sh_calls.specs.Parts.{RunTerms, PassPart, Becomes, is_placed_key}
+use Rattle.sh_calls.specs.Calls.{CallAnswers, AnswerSays, GetAnswers, UnlessRefused, OnKey, HoldGot, key_meant}
 use Rattle.sh_calls.specs.InOrder.{is_done_gone_or_crowded}
 use Rattle.sh_calls.specs.Runs.{number_bound}
 use Rattle.sh_script.specs.BoundNames.{name_referred}
-use Rattle.sh_beside.specs.Beside.{CallBeside, IsLimit, WherePlaced, IfPlaced, GetsBeside}
+use Rattle.sh_beside.specs.Beside.{IsLimit, WherePlaced, IfPlaced, GetsBeside}
 use Rattle.sh_beside.proofs.Fewness.{FewHolds, room_before, few_before}
-use Rattle.sh_beside.proofs.Holds.{same_holds_by, same_hold_count}
+use Rattle.sh_beside.proofs.Holds.{same_hold_count}
 use Rattle.sh_beside.proofs.Logs.{Grown, added_agrees, no_key}
-use Rattle.sh_beside.proofs.Names.{AreNames, key_by, same_meant}
+use Rattle.sh_beside.proofs.Names.{key_by, same_meant}
 use Rattle.sh_beside.proofs.Issued.{AreIssued, issued_same, issued_other}
 use Rattle.sh_beside.proofs.Steps.{state, Ready, Stepped, stays, allowed_last, shard_kept}
 

@@ -1,6 +1,6 @@
 -- An insert beside mode plain.
-use Rattle.std.proofs.Common.{◌≡◌, ◌≢◌, ℕ, ◌+◌, ◌<◌, ◌≤◌, inl, inr, Bool, true, false, cond, List, [], ◌∷◌, ◌++◌, length}
-use Rattle.std.proofs.Common.{refl, ap, sym, ◌∙◌, subst, arith, rules, Option, Some, None, Result, Ok, Err, slice_index_or}
+use Rattle.std.proofs.Common.{◌≡◌, ℕ, ◌+◌, inl, inr, Bool, true, false, cond, List, [], ◌∷◌, ◌++◌, length}
+use Rattle.std.proofs.Common.{refl, ap, sym, ◌∙◌, subst, arith, Option, Some, None, Result, Ok, Err, slice_index_or}
 use Rattle.std.specs.Prelude.{is_some, nat_lt, IsSome, ◌==◌}
 use Rattle.std.proofs.lemmas.Bool.Decides.{nat_tests}
 use Rattle.sh_value.specs.declared.refusal.Refusal.{Refusal}
@@ -17,12 +17,12 @@ use Rattle.sh_output.specs.declared.answer.Answer.TheVariants as answer
 use Rattle.sh_output.specs.Keys.{shown, HasTagRoom}
 use Rattle.sh_output.specs.Results.{key_answer}
 use Rattle.sh_models.specs.PlainRun.{Run, insert_attempt}
-use Rattle.sh_calls.specs.Parts.{RunTerms, PassPart, Becomes, is_key_of_shard, with_entry}
-use Rattle.sh_calls.specs.Calls.{CallAnswers, UnlessRefused, ValueInserted, IsOwnKey, needs_shard}
+use Rattle.sh_calls.specs.Parts.{RunTerms, PassPart, Becomes, is_key_of_shard}
+use Rattle.sh_calls.specs.Calls.{CallAnswers, UnlessRefused, ValueInserted, needs_shard}
 use Rattle.sh_calls.specs.InOrder.{is_key}
 use Rattle.sh_calls.specs.Standing.{InsertServed}
 use Rattle.sh_calls.specs.Runs.{with_number}
-use Rattle.sh_beside.specs.Beside.{CallBeside, InsertsBeside, GivesKey}
+use Rattle.sh_beside.specs.Beside.{CallBeside, InsertsBeside}
 use Rattle.sh_beside.proofs.Logs.{Grown, added_agrees}
 use Rattle.sh_beside.proofs.Names.{AreNames, one_more_name, shown_is}
 use Rattle.sh_beside.proofs.Issued.{AreIssued, issued_same, issued_more, one_left}

@@ -1,7 +1,7 @@
 -- The keys that were given: each once, each of the layout, so no more of them than it has.
-use Rattle.std.proofs.Common.{◌≡◌, ◌≢◌, ℕ, ◌+◌, ◌-◌, ◌<◌, ◌≤◌, ◌==◌, ◌||◌, Bool, true, false, cond, List, [], ◌∷◌, ◌++◌}
+use Rattle.std.proofs.Common.{◌≡◌, ◌≢◌, ℕ, ◌+◌, ◌-◌, ◌<◌, ◌≤◌, ◌||◌, Bool, true, false, cond, List, [], ◌∷◌, ◌++◌}
 use Rattle.std.proofs.Common.{length, refl, ap, sym, ◌∙◌, subst, arith, eq-eqb, ne_eqb, eqb-true, Option, Some, None}
-use Rattle.std.specs.Prelude.{IsSome, count_by, nat_lt}
+use Rattle.std.specs.Prelude.{IsSome, nat_lt}
 use Rattle.std.specs.List.{list_any, IsDistinct, AllByRecursion}
 use lib.Dec.{eqb}
 use Rattle.std.proofs.Common.{lt-ltb}
@@ -10,7 +10,7 @@ use Rattle.std.proofs.lemmas.Map.Steps.{length-le_from_distinct_below}
 use Rattle.sh_key.specs.Layout.{Layout, unpacked, first_key, key_count}
 use Rattle.sh_key.proofs.Packing.{keys_are_consecutive}
 use Rattle.sh_history.specs.declared.entry.Entry.{Entry}
-use Rattle.sh_history.specs.declared.entry.Entry.TheVariants.{Insert, Got, Gone, Crowded, Removed, Released}
+use Rattle.sh_history.specs.declared.entry.Entry.TheVariants.{Insert}
 use Rattle.sh_history.specs.History.{value_of, is_insert, insert_count}
 use Rattle.sh_history.proofs.LogLaws.{value_of-append_some, value_of-append_none, count_by-push}
 

@@ -1,13 +1,13 @@
 -- A history under other numbers of its keys says the same of them.
-use Rattle.std.proofs.Common.{◌≡◌, ◌≢◌, ℕ, zero, suc, ◌+◌, ◌-◌, ◌<◌, ◌≤◌, ◌==◌, ◌&&◌, ◌||◌, Bool, true, false, cond, List, []}
-use Rattle.std.proofs.Common.{◌∷◌, ◌++◌, length, map, refl, ap, sym, ◌∙◌, subst, arith, Option, Some, None, eq-eqb}
+use Rattle.std.proofs.Common.{◌≡◌, ℕ, suc, ◌+◌, ◌-◌, ◌==◌, ◌&&◌, ◌||◌, Bool, true, false, cond, List, []}
+use Rattle.std.proofs.Common.{◌∷◌, ◌++◌, map, refl, ap, sym, ◌∙◌, arith, Some, None, eq-eqb}
 use Rattle.std.proofs.Common.{ne_eqb, eqb-true}
 use Rattle.std.specs.Prelude.{count_by}
 use Rattle.sh_history.specs.declared.entry.Entry.{Entry}
 use Rattle.sh_history.specs.declared.entry.Entry.TheVariants.{Insert, Got, Gone, Crowded, Removed, Released}
 use Rattle.sh_history.specs.History.{value_of, is_removed, present_value, is_got_of, is_release_of, is_got_by}
 use Rattle.sh_history.specs.History.{is_release_by, is_got_from, is_release_from, is_insert, insert_count, hold_count}
-use Rattle.sh_history.specs.History.{holds_on, holds_by, got_count, released_count, got_count_by, released_count_by}
+use Rattle.sh_history.specs.History.{holds_on, holds_by}
 use Rattle.sh_history.proofs.LogLaws.{count_by-cons}
 
 -- ---- the place of a key in the order in which keys were given

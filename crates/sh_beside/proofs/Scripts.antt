@@ -1,10 +1,7 @@
 -- What a script of calls says of its passes and its tag.
-use Rattle.std.proofs.Common.{◌≡◌, ℕ, ◌+◌, ◌<◌, ◌≤◌, ◌^◌, List, [], Option, Some, None, refl, sym, subst, arith}
+use Rattle.std.proofs.Common.{ℕ, ◌<◌, ◌≤◌, List, Option, Some, None, sym, subst, arith}
 use Rattle.std.specs.List.{All}
 use Rattle.std.proofs.lemmas.List.Elements.{All-nil, All-push}
-use Rattle.sh_key.specs.Layouts.{tagged}
-use Rattle.sh_key.specs.Layout.{first_key, key_count}
-use Rattle.sh_shape.specs.Shape.{IsShape}
 use Rattle.sh_script.specs.Words.{Word}
 use Rattle.sh_script.specs.HeaderMeaning.{AreTag, layout_of}
 use Rattle.sh_script.specs.CallMeaning.{SaysCall}

@@ -1,6 +1,6 @@
 -- The shape of the heap, as each pass knows it: no call changes it, so the key that an insert gives has a place in it.
-use Rattle.std.proofs.Common.{◌≡◌, ℕ, Bool, true, false, cond, List, refl, ap, sym, ◌∙◌, subst, Option, Some, None}
-use Rattle.std.proofs.Common.{Result, Ok, Err, ◌⊎◌, inl, inr}
+use Rattle.std.proofs.Common.{◌≡◌, ℕ, true, List, refl, ap, sym, ◌∙◌, subst, Option, Some, None}
+use Rattle.std.proofs.Common.{Result, Ok, Err, inl, inr}
 use Rattle.std.specs.Prelude.{IsSome}
 use Rattle.sh_value.specs.declared.hold.Hold.{Hold}
 use Rattle.sh_value.specs.declared.refusal.Refusal.{Refusal}
@@ -8,21 +8,17 @@ use Rattle.sh_value.specs.declared.refusal.Refusal.TheVariants as refusal
 use Rattle.sh_key.specs.Layout.{Layout}
 use Rattle.sh_shape.specs.Shape.{Numbers}
 use Rattle.sh_slots.specs.declared.hand.Name.{Name}
-use Rattle.sh_step.specs.Moves.{place_named}
-use Rattle.sh_step.specs.Plans.{plan_of}
 use Rattle.sh_pass.specs.Passes.{Caller, GetDoes, ReadDoes, RemoveDoes, ReleaseDoes}
-use Rattle.sh_pass.specs.Owners.{IsKeyIn}
 use Rattle.sh_shard.specs.Pages.{AdoptRefused}
 use Rattle.sh_shard.specs.Shards.{Sharded, InsertServes, value_class}
-use Rattle.sh_script.specs.declared.calls.Reference.{Reference}
 use Rattle.sh_script.specs.declared.calls.Call.{Call}
 use Rattle.sh_script.specs.declared.calls.Call.TheVariants as call
 use Rattle.sh_output.specs.declared.answer.Answer.{Answer}
 use Rattle.sh_calls.specs.Standing.{Standing, Alone, Owning, Nowhere, StandingHeeds, Serves, AdoptServed, LeaveServed}
 use Rattle.sh_calls.specs.Standing.{InsertServed}
-use Rattle.sh_calls.specs.Parts.{RunTerms, PassPart, Becomes, is_placed_key}
+use Rattle.sh_calls.specs.Parts.{RunTerms, PassPart, is_placed_key}
 use Rattle.sh_calls.specs.Receipts.{MayHeed}
-use Rattle.sh_calls.specs.Calls.{CallAnswers, OnKey, UnlessRefused, InsertAnswers, key_meant, words_refusal}
+use Rattle.sh_calls.specs.Calls.{CallAnswers, OnKey, UnlessRefused, key_meant, words_refusal}
 use Rattle.sh_calls.proofs.RunningLaws.{placed}
 
 abbrev pub KnowsShape : Numbers → Standing → Type 0

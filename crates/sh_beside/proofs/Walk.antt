@@ -1,7 +1,7 @@
 -- Lines of the running heap beside mode plain, one after the other.
-use Rattle.std.proofs.Common.{◌≡◌, ◌≢◌, ℕ, zero, suc, ◌+◌, ◌<◌, ◌≤◌, ◌==◌, Bool, true, false, cond, List, [], ◌∷◌, ◌++◌}
+use Rattle.std.proofs.Common.{◌≡◌, ◌≢◌, ℕ, suc, ◌+◌, ◌<◌, ◌≤◌, ◌==◌, Bool, true, false, cond, List, [], ◌∷◌, ◌++◌}
 use Rattle.std.proofs.Common.{length, map, refl, ap, sym, ◌∙◌, subst, arith, append-nil, append_assoc, eqb-true, eq-eqb}
-use Rattle.std.proofs.Common.{ne_eqb, Option, Some, None, slice_index_or, inl, inr}
+use Rattle.std.proofs.Common.{ne_eqb, Option, None, slice_index_or, inl, inr}
 use Rattle.std.specs.Prelude.{is_some}
 use Rattle.std.specs.List.{All}
 use Rattle.sh_history.specs.declared.entry.Entry.{Entry}
@@ -18,7 +18,7 @@ use Rattle.sh_calls.specs.Parts.{RunTerms, PassPart}
 use Rattle.sh_calls.specs.Receipts.{MayHeed}
 use Rattle.sh_calls.specs.Calls.{CallAnswers}
 use Rattle.sh_calls.specs.InOrder.{adds_entry, adding_passes}
-use Rattle.sh_calls.specs.Runs.{CallsRun, LineAnswered, LinesAnswered, number_meant, with_part, next_run}
+use Rattle.sh_calls.specs.Runs.{CallsRun, LineAnswered, LinesAnswered, number_meant, with_part}
 use Rattle.sh_beside.specs.Beside.{CallBeside, RanBeside}
 use Rattle.sh_beside.specs.Along.{RanAlong, NamesKey}
 use Rattle.sh_beside.proofs.Along.{own, KeysAre}

@@ -9,7 +9,7 @@ use Rattle.sh_value.specs.declared.refusal.Refusal.TheVariants as refusal
 use Rattle.sh_key.specs.Layout.{Layout}
 use Rattle.sh_shape.specs.Shape.{Numbers}
 use Rattle.sh_history.specs.declared.entry.Entry.TheVariants.{Insert}
-use Rattle.sh_plain.specs.Plain.{IsNewKey, PlainReply, with_added, get_reply}
+use Rattle.sh_plain.specs.Plain.{IsNewKey, with_added, get_reply}
 use Rattle.sh_script.specs.declared.calls.Call.{Call}
 use Rattle.sh_script.specs.declared.calls.Call.TheVariants as call
 use Rattle.sh_script.specs.declared.calls.CallLine.{CallLine}
