@@ -1,45 +1,37 @@
 -- Lines one after the other, each pass with a receipt of the line before: the history has their entries in that order.
 use Rattle.std.proofs.Common.{◌≡◌, ◌≢◌, ℕ, zero, suc, ◌+◌, ◌<◌, ◌≤◌, Bool, true, false, cond, List, [], ◌∷◌, ◌++◌}
 use Rattle.std.proofs.Common.{length, take, set, map, slice_get, Option, Some, None, sym, refl, ap, ◌∙◌, subst, arith}
-use Rattle.std.proofs.Common.{append_assoc, append-nil, length-append, ne_eqb, ◌⊎◌, inl, inr, ⊎_elim}
-use Rattle.std.specs.Prelude.{nat_lt, not, IfNone}
-use Rattle.std.specs.Option.{option_map}
-use Rattle.std.specs.List.{All, Contains}
-use Rattle.std.proofs.lemmas.Bool.Decides.{nat_tests}
+use Rattle.std.proofs.Common.{append_assoc, append-nil, length-append, ◌⊎◌, inl, inr, ⊎_elim}
+use Rattle.std.specs.List.{Contains}
 use Rattle.std.proofs.lemmas.List.Elements.{Contains-append_left, Contains-append_right, Contains-push}
-use Rattle.std.proofs.lemmas.Option.{none-some, same_Some}
+use Rattle.std.proofs.lemmas.Option.{none-some}
 use mathlib.Core.Logic.{dite}
 use native.Mathlib.Decide.{ℕ_discrete}
 use Rattle.sh_history.specs.declared.entry.Entry.{Entry}
 use Rattle.sh_history.specs.declared.log.LogEntry.{LogEntry}
-use Rattle.sh_history.specs.History.{Legal}
-use Rattle.sh_history.specs.Log.{Agrees, pass_of, entries_of}
+use Rattle.sh_history.specs.Log.{Agrees}
 use Rattle.sh_script.specs.declared.calls.CallLine.{CallLine}
 use Rattle.sh_output.specs.declared.answer.Answer.{Answer}
 use Rattle.sh_output.specs.Keys.{HasTagRoom}
 use Rattle.sh_output.specs.Replies.{reply_line}
 use Rattle.sh_pass.specs.Passes.{Caller}
-use Rattle.sh_calls.specs.Parts.{RunTerms, PassPart, SeenPass, SamePass, HasAllLogs, HasLogOf, new_passes}
-use Rattle.sh_calls.specs.Parts.{tale_told, told_pass, passes_below}
+use Rattle.sh_calls.specs.Parts.{RunTerms, PassPart, SeenPass, SamePass, new_passes}
 use Rattle.sh_calls.specs.Calls.{CallAnswers, binds, number_told}
 use Rattle.sh_calls.specs.Named.{numbers_told, tells_number, HeardOfNumber, NamesWereHeard}
 use Rattle.sh_calls.specs.Runs.{CallsRun, LinesAnswered, opening_calls, with_part, with_number, number_meant}
-use Rattle.sh_calls.specs.Told.{part_told}
 use Rattle.sh_calls.specs.Receipts.{SeenReceipt, seen_of_receipt, receipt_seen, order_seen, told_heard, MayHeed}
-use Rattle.sh_calls.specs.Receipts.{HasOrderedTale}
 use Rattle.sh_calls.specs.InOrder.{adds_entry, adding_passes, times, Cut, AllHeard, LastHeard}
 use Rattle.sh_calls.specs.Alone.{seen_with_part, OrderedSoFar, HeedsLast, IsLastOf, LastTells}
-use Rattle.sh_calls.specs.Finished.{IsOrderedBy, IsNamedBy, AreWaiting, LinesRan}
-use Rattle.sh_calls.specs.Meeting.{HasMet, SomeWaits, KeepsOrders, tales_told, orders_of}
-use Rattle.sh_calls.proofs.ListLemmas.{get_set_same, take_at, take_past, next, up_get, within, get_snoc, contains_map, each_in, each_left, each_right}
-use Rattle.sh_calls.proofs.NameLemmas.{numbers_after, meant_at, heard_more as names_heard_more, heard_kept, orders_at, orders_set, heeds_keeps, heard_by_heeding}
+use Rattle.sh_calls.specs.Meeting.{KeepsOrders, orders_of}
+use Rattle.sh_calls.proofs.ListLemmas.{get_set_same, take_at, next, within, get_snoc, contains_map, each_in, each_left}
+use Rattle.sh_calls.proofs.ListLemmas.{each_right}
+use Rattle.sh_calls.proofs.NameLemmas.{numbers_after, meant_at, heard_more as names_heard_more, heard_kept, orders_at}
+use Rattle.sh_calls.proofs.NameLemmas.{orders_set, heeds_keeps, heard_by_heeding}
 use Rattle.sh_calls.proofs.NameLemmas.{tells_on, tells_own}
-use Rattle.sh_calls.proofs.NameLaws.{log_at, named_by}
 use Rattle.sh_calls.proofs.LineLemmas.{part_here, part_there}
-use Rattle.sh_calls.proofs.OrderLemmas.{times_append, times_length, times_here, times_else, in_order}
+use Rattle.sh_calls.proofs.OrderLemmas.{times_append, times_length, times_here, times_else}
 use Rattle.sh_calls.proofs.GrowLemmas.{grows}
-use Rattle.sh_calls.proofs.InTurn.{begins_alone, answered_more, ends_alone, tale_of_parts, lines_wait}
-use Rattle.sh_calls.proofs.InTurn.{all_speak}
+use Rattle.sh_calls.proofs.InTurn.{begins_alone, answered_more}
 use Rattle.sh_table.specs.declared.view.Heard.{Heard}
 use Rattle.sh_table.specs.declared.view.Order.{Order}
 use Rattle.sh_table.specs.Seats.{Heap}
@@ -119,11 +111,11 @@ same_log : (last : Option Caller) (side mid : SeenPass) → HeedsLast last side 
 same_log None side mid e = ap (λ (z : SeenPass). z.part.log) e
 same_log (Some r) side mid e = ap (λ (u : PassPart). u.log) e.part.is
 
-orders_heed : (last : Option Caller) (s c : SeenPass) → HeedsLast last s c → KeepsOrders s.orders c.orders
+pub orders_heed : (last : Option Caller) (s c : SeenPass) → HeedsLast last s c → KeepsOrders s.orders c.orders
 orders_heed None s c e o h = subst (λ (z : SeenPass). Contains z.orders o) (sym e) h
 orders_heed (Some r) s c e o h = heeds_keeps r s c e o h
 
-all_heard : (heap : Option Heap) (who : List ℕ) (last : Option Caller) (side mid : SeenPass)
+pub all_heard : (heap : Option Heap) (who : List ℕ) (last : Option Caller) (side mid : SeenPass)
     → LastHeard heap who last → HeedsLast last side mid → (history : List Entry) → Each (Before history) mid.orders
     → AllHeard history who
 all_heard heap who None side mid h e history each = λ before after a is p. absurd
@@ -321,8 +313,8 @@ module _ (heap : Option Heap) (terms : RunTerms) (tag : Option ℕ) (lines : Lis
   names_heard =
       let keeps = orders_set sides l.pass side now own (keeps_side last heeds) in
       let n : Option ℕ = number_meant (numbers_told (take i lines) was.so_far.answers) l.call in
-      let it = name_heard last was.last_tells heeds n (ap (λ (ns : List (Option ℕ)). number_meant ns l.call) numbers_are)
-      in
+      let it = name_heard last was.last_tells heeds n
+      (ap (λ (ns : List (Option ℕ)). number_meant ns l.call) numbers_are) in
       let H : List Order × ℕ × ℕ → Type 0 = λ z. HeardOfNumber tag z.0 z.1 z.2 n in
       let here : HeardOfNumber tag now.orders l.pass (length (times l.pass who)) n = subst H
       (λ j. (sym now_orders j, side_pass j, (sym side_log ∙ ap (λ (q : ℕ). length (times q who)) side_pass) j)) it in
@@ -340,8 +332,8 @@ module _ (heap : Option Heap) (terms : RunTerms) (tag : Option ℕ) (lines : Lis
   tells_new : binds l.call ≡ true → tells_number tag (receipt_seen now).heard (number_told a) ≡ true
   tells_new b =
       let rest : List Heard = map told_heard now.told ++ map (λ (o : Order). o.heard) now.orders in
-      let roomy : HasTagRoom mid.terms.layout tag = subst (λ (t : RunTerms). HasTagRoom t.layout tag) (sym mid_terms) room
-      in
+      let roomy : HasTagRoom mid.terms.layout tag = subst (λ (t : RunTerms). HasTagRoom t.layout tag) (sym mid_terms)
+      room in
       let told = tells_own mid.terms tag mid.pass mid.part now.part l.call (number_meant numbers l.call) a roomy b does
       rest in
       subst (λ (q : ℕ). tells_number tag (record { pass = q; log = now.part.log } ∷ rest) (number_told a) ≡ true)
@@ -394,121 +386,3 @@ pub last_of : (heap heap' : Option Heap) (ps : List ℕ) (last : Option Caller) 
     → LastHeard heap ps last → IsLastOf heap' last
 last_of heap heap' ps None e h = tt
 last_of heap heap' ps (Some r) e h = h.heap_is ∙ sym e
-
--- ---- the end
-
-none_by : (passes p : ℕ) → passes ≤ p → (es : List Entry) → entries_of (λ q. not (nat_lt q passes)) es ≡ []
-    → by p es ≡ []
-none_by passes p le [] h = refl
-none_by passes p le (e ∷ es) h = go (nat_lt (pass_of e) passes) refl (none_by passes p le es) h
-  where
-    skip : pass_of e ≢ p → by p es ≡ [] → by p (e ∷ es) ≡ []
-    skip ne rest = ap (λ b. cond b (e ∷ by p es) (by p es)) (ne_eqb (pass_of e) p ne) ∙ rest
-
-    go : (b : Bool) → nat_lt (pass_of e) passes ≡ b → (entries_of (λ q. not (nat_lt q passes)) es ≡ [] → by p es ≡ [])
-        → cond (not b) (e ∷ entries_of (λ q. not (nat_lt q passes)) es) (entries_of (λ q. not (nat_lt q passes)) es)
-        ≡ [] → by p (e ∷ es) ≡ []
-    go true is rest h = let l : pass_of e < passes = grind (arith, nat_tests) in
-        skip (λ q. omega (arith, l, le, q)) (rest h)
-    go false is rest h = absurd (let z : e ∷ entries_of (λ q. not (nat_lt q passes)) es ≡ [] = h in cc)
-
-shard_heeds : (last : Option Caller) (s c : SeenPass) → HeedsLast last s c → c.part.shard ≡ s.part.shard
-shard_heeds None s c e = ap (λ (z : SeenPass). z.part.shard) e
-shard_heeds (Some r) s c e = ap (λ (u : PassPart). u.shard) e.part.is
-
-tale_heeds : (last : Option Caller) (s c : SeenPass) → HeedsLast last s c → tale_told c ≡ tale_told s
-tale_heeds None s c e = ap tale_told e
-tale_heeds (Some r) s c e = ap tale_told e.is
-    ∙ ap (λ (u : PassPart). record { pass = s.pass; log = u.log } ∷ s.told) e.part.is
-
-ordered_by : (heap : Option Heap) (terms : RunTerms) (tag : Option ℕ) (lines : List CallLine) (i : ℕ)
-    (numbers : List (Option ℕ)) (sides : List SeenPass) (output : List ℕ) (last : Option Caller)
-    (was : OrderedSoFar heap terms tag lines i numbers sides output last) → length lines ≤ i → (s c : SeenPass)
-    → HeedsLast last s c
-    → tale_told s ≡ map (part_told was.so_far.run.parts) (passes_below terms.shape.passes)
-    → IsOrderedBy terms lines was.so_far.answers c
-ordered_by heap terms tag lines i numbers sides output last was past s c heeds tale history has only each =
-    let who : List ℕ = adding_passes (take i lines) was.so_far.answers in
-    let n : ℕ = terms.shape.passes in
-    let logs : HasAllLogs history (map (part_told was.so_far.run.parts) (passes_below n)) = subst (HasAllLogs history)
-    (tale_heeds last s c heeds ∙ tale) has in
-    let many : (p : ℕ) → length (times p who) ≡ length (by p history) = λ p. ⊎_elim
-    (λ (less : p < n). was.counts p ∙ zip_length Agrees (was.so_far.run.parts p).log (by p history)
-    (log_at history was.so_far.run.parts (passes_below n) logs p p (up_get n p less)))
-    (λ (le : n ≤ p). ap (λ (q : List ℕ). length q) (was.few p le)
-    ∙ sym (ap (λ (q : List Entry). length q) (none_by n p le history only))) (below p n) in
-    let heard : AllHeard history who = all_heard heap who last s c was.last_heard heeds history each in
-    in_order history who many heard ∙ ap (λ (ls : List CallLine). adding_passes ls was.so_far.answers) (take_past lines i past)
-  where
-    below : (p n : ℕ) → (p < n) ⊎ (n ≤ p)
-    below p zero = inr (omega arith)
-    below zero (suc n) = inl (omega arith)
-    below (suc p) (suc n) = ⊎_elim (λ (h : p < n). inl (omega (arith, h))) (λ (h : n ≤ p). inr (omega (arith, h))) (below p n)
-
-module _ (heap : Option Heap) (terms : RunTerms) (tag : Option ℕ) (lines : List CallLine) (i : ℕ)
-    (numbers : List (Option ℕ)) (sides : List SeenPass) (output : List ℕ) (last : Option Caller)
-    (was : OrderedSoFar heap terms tag lines i numbers sides output last) (s c : SeenPass)
-    (heeds : HeedsLast last s c) (m : HasMet heap terms s (tales_told sides) (orders_of sides)) where
-  only_orders : c ≡ record s { part = c.part; orders = c.orders }
-  only_orders = orders_only last s c heeds
-
-  same_terms : c.terms ≡ terms
-  same_terms = ap (λ (z : SeenPass). z.terms) only_orders ∙ m.carries.1
-
-  same_tale : tale_told c ≡ tales_told sides
-  same_tale = tale_heeds last s c heeds ∙ m.carries.2
-
-  -- the carrier, which heeded the last receipt, speaks for all passes
-  pub carrier_speaks : map told_pass (tale_told c) ≡ passes_below c.terms.shape.passes
-  carrier_speaks = ap (map told_pass) same_tale
-      ∙ (all_speak heap terms tag lines i numbers sides output was.so_far
-      ∙ ap (λ (t : RunTerms). passes_below t.shape.passes) (sym same_terms))
-
-  -- all could meet
-  pub ran_on : length lines ≤ i → All (λ (l : CallLine). l.pass < terms.shape.passes) lines → HasOrderedTale c
-      → LinesRan true heap terms tag lines output (Some c)
-  ran_on past fits stands =
-      let tale = tale_of_parts heap terms tag lines i numbers sides output was.so_far in
-      let history : List Entry = stands.whole.history in
-      let only : entries_of (λ p. not (nat_lt p terms.shape.passes)) history ≡ [] = subst
-      (λ (t : RunTerms). entries_of (λ p. not (nat_lt p t.shape.passes)) history ≡ []) same_terms stands.whole.only in
-      let ordered : IsOrderedBy terms lines was.so_far.answers c = ordered_by heap terms tag lines i numbers sides output
-      last was past s c heeds (m.carries.2 ∙ tale) in
-      let named : IsNamedBy terms tag lines was.so_far.answers c = named_by heap terms tag lines i numbers sides output
-      was.so_far past fits c (same_tale ∙ tale) (λ o h. orders_heed last s c heeds o (m.heard o h)) in
-      record {
-        met = record {
-          told = record {
-            replies = ends_alone heap terms tag lines i numbers sides output past was.so_far;
-            tale_is = same_tale ∙ tale;
-            whole = record {
-              history = history;
-              legal = subst (λ (t : RunTerms). Legal t.shape.passes t.layout.guard_max history) same_terms
-                  stands.whole.legal;
-              has = stands.whole.has;
-              only = only;
-            };
-            named = named history stands.whole.has only stands.orders;
-            in_order = λ e. ordered history stands.whole.has only stands.orders;
-          };
-          carries = (ap (λ (z : SeenPass). z.heap) only_orders ∙ m.carries.0, same_terms, refl);
-          none = shard_heeds last s c heeds ∙ m.none;
-          named = named;
-          ordered = λ e. ordered;
-        };
-        stays = tt;
-      }
-
--- nobody carries the tale
-pub ran_to_none : {S : Type 0} (seen : S → SeenPass) (heap : Option Heap) (terms : RunTerms) (tag : Option ℕ)
-    (lines : List CallLine) (i : ℕ) (numbers : List (Option ℕ)) (sides : List SeenPass) (output : List ℕ)
-    (last : Option Caller) (o : Option S) → OrderedSoFar heap terms tag lines i numbers sides output last
-    → length lines ≤ i → o ≡ None → IfNone o (SomeWaits sides ⊎ (sides ≡ []))
-    → LinesRan true heap terms tag lines output None
-ran_to_none seen heap terms tag lines i numbers sides output last o was past is stays =
-    let waits = lines_wait seen heap terms tag lines i numbers sides output o past was.so_far stays in
-    record {
-      met = tt;
-      stays = subst (λ q. IfNone (option_map seen q) (AreWaiting heap terms tag lines output
-          ⊎ (terms.shape.passes ≡ 0))) is waits;
-    }

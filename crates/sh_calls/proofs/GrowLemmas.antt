@@ -1,10 +1,13 @@
--- How much a call adds to the log of its pass.
-use Rattle.std.proofs.Common.{◌≡◌, ℕ, ◌+◌, Bool, true, false, cond, List, [], ◌∷◌, length, refl, ap, sym, ◌∙◌}
+-- How much a call adds to the log of its pass, and that it keeps the rest.
+use Rattle.std.proofs.Common.{◌≡◌, ℕ, zero, suc, ◌+◌, Bool, true, false, cond, List, [], ◌∷◌, length, map, slice_get}
+use Rattle.std.proofs.Common.{refl, ap, sym, ◌∙◌}
 use Rattle.std.proofs.Common.{Option, Some, None, Result, Ok, Err, length-append, arith, subst}
 use Rattle.sh_value.specs.declared.hold.Hold.{Hold}
 use Rattle.sh_value.specs.declared.refusal.Refusal.{Refusal}
 use Rattle.sh_value.specs.declared.refusal.Refusal.TheVariants as refusal
+use Rattle.sh_history.specs.declared.entry.Entry.{Entry}
 use Rattle.sh_history.specs.declared.log.LogEntry.{LogEntry}
+use Rattle.sh_history.specs.declared.log.LogEntry.TheVariants.{Known}
 use Rattle.sh_history.specs.Log.{filled}
 use Rattle.std.specs.Prelude.{ok_or}
 use Rattle.sh_script.specs.declared.calls.Reference.{Reference}
@@ -21,20 +24,41 @@ use Rattle.sh_calls.specs.Calls.{PartLeft, ValueInserted, HoldGot}
 use Rattle.sh_calls.specs.Calls.{ValueRead, HoldReleased, KeyRemoved}
 use Rattle.sh_calls.specs.Calls.{adopt_refusal, needs_shard, words_refusal, get_refusal, hold_refusal, remove_refusal}
 use Rattle.sh_calls.specs.InOrder.{adds_entry, is_done_gone_or_crowded, is_done_or_gone, is_done, is_key}
+use Rattle.std.proofs.lemmas.Option.{none-some, same_Some}
+use Rattle.sh_calls.proofs.ListLemmas.{get_left}
 use Rattle.sh_calls.proofs.Newcomers.{length_map}
 
--- so many entries more
+-- what was known stays, in its place
+abbrev pub KeepsKnown : List LogEntry → List LogEntry → Type 0
+KeepsKnown xs ys = (k : ℕ) (e : Entry) → slice_get xs k ≡ Some (Known e) → slice_get ys k ≡ Some (Known e)
+
+-- so many entries more, and what was known stays
 abbrev Grows : PassPart → PassPart → Bool → Type 0
-Grows v w b = length w.log ≡ length v.log + cond b 1 0
+Grows v w b = (length w.log ≡ length v.log + cond b 1 0) × KeepsKnown v.log w.log
+
+no_more : (v w : PassPart) → w.log ≡ v.log → Grows v w false
+no_more v w is = (
+  (let z : length w.log ≡ length v.log = ap (λ (l : List LogEntry). length l) is in omega (arith, z)),
+  λ k e at. subst (λ (l : List LogEntry). slice_get l k ≡ Some (Known e)) (sym is) at,
+)
 
 same_log : (v w : PassPart) → Becomes v w → Grows v w false
-same_log v w e = let z : length w.log ≡ length v.log = ap (λ (p : PassPart). length p.log) e in omega (arith, z)
+same_log v w e = no_more v w (ap (λ (p : PassPart). p.log) e)
 
 same_part : (v w : PassPart) → w ≡ v → Grows v w false
-same_part v w e = let z : length w.log ≡ length v.log = ap (λ (p : PassPart). length p.log) e in omega (arith, z)
+same_part v w e = no_more v w (ap (λ (p : PassPart). p.log) e)
 
 entry_more : (v w : PassPart) (e : LogEntry) → Becomes (with_entry v e) w → Grows v w true
-entry_more v w e is = ap (λ (p : PassPart). length p.log) is ∙ length-append v.log (e ∷ [])
+entry_more v w e is = (
+  ap (λ (p : PassPart). length p.log) is ∙ length-append v.log (e ∷ []),
+  λ k x at. subst (λ (p : PassPart). slice_get p.log k ≡ Some (Known x)) (sym is)
+      (get_left v.log (e ∷ []) k (Known x) at),
+)
+
+filled_keeps : (key : ℕ) (value : List ℕ) (xs : List LogEntry) → KeepsKnown xs (map (filled key value) xs)
+filled_keeps key value [] k e at = absurd (none-some (Known e) at)
+filled_keeps key value (x ∷ xs) zero e at = ap (λ (z : LogEntry). Some (filled key value z)) (same_Some x (Known e) at)
+filled_keeps key value (x ∷ xs) (suc k) e at = filled_keeps key value xs k e at
 
 -- a refusal that comes first adds nothing, where such an answer adds no entry
 unless : {A : Type 0} (first : Option Refusal) (v : PassPart) (r : Result A Refusal) (w : PassPart)
@@ -46,13 +70,13 @@ unless (Some e) v r w Unchanged Rest adds same none rest h = subst (Grows v w) (
     (same h.1)
 
 adopts : (v w : PassPart) (shard : ℕ) (r : Result (Unit {0}) Refusal) → PartAdopted v shard r w → Grows v w false
-adopts v w shard (Ok x) e = let z : length w.log ≡ length v.log = ap (λ (p : PassPart). length p.log) e in omega (arith, z)
+adopts v w shard (Ok x) e = no_more v w (ap (λ (p : PassPart). p.log) e)
 adopts v w shard (Err refusal.Taken) e = same_log v w e
 adopts v w shard (Err refusal.Memory) e = same_log v w e
 adopts v w shard (Err _) e = absurd e
 
 leaves : (v w : PassPart) (r : Result (Unit {0}) Refusal) → PartLeft v r w → Grows v w false
-leaves v w (Ok x) e = let z : length w.log ≡ length v.log = ap (λ (p : PassPart). length p.log) e in omega (arith, z)
+leaves v w (Ok x) e = no_more v w (ap (λ (p : PassPart). p.log) e)
 leaves v w (Err refusal.Waiting) e = same_log v w e
 leaves v w (Err _) e = absurd e
 
@@ -71,8 +95,12 @@ module _ (terms : RunTerms) (tag : Option ℕ) (pass : ℕ) (v w : PassPart) whe
   gets key (Err _) e = absurd e
 
   reads : (key : ℕ) (r : Result (List ℕ) Refusal) → ValueRead v key r w → Grows v w false
-  reads key (Ok value) h = let z : length w.log ≡ length v.log = ap (λ (p : PassPart). length p.log) h.0
-      ∙ length_map (filled key value) v.log in omega (arith, z)
+  reads key (Ok value) h = (
+    (let z : length w.log ≡ length v.log = ap (λ (p : PassPart). length p.log) h.0
+        ∙ length_map (filled key value) v.log in omega (arith, z)),
+    λ k e at. subst (λ (p : PassPart). slice_get p.log k ≡ Some (Known e)) (sym h.0)
+        (filled_keeps key value v.log k e at),
+  )
   reads key (Err _) e = absurd e
 
   releases : (key : ℕ) (r : Result (Unit {0}) Refusal) → HoldReleased pass v key r w → Grows v w (is_done (done_answer r))
@@ -120,32 +148,41 @@ on_key : (k : Result ℕ Answer) (v w : PassPart) (a : Answer) (C : ℕ → Answ
 on_key (Err b) v w a C f none some h = subst (Grows v w) (sym (ap f h.0 ∙ none b refl)) (same_part v w h.1)
 on_key (Ok key) v w a C f none some h = some key h
 
--- as many entries as the answer says
-pub grows : (terms : RunTerms) (tag : Option ℕ) (pass : ℕ) (v : PassPart) (c : Call) (bound : Option ℕ) (a : Answer)
-    (w : PassPart) → CallAnswers terms tag pass v c bound a w → length w.log ≡ length v.log + cond (adds_entry c a) 1 0
-grows terms tag pass v (call.Adopt shard) bound a w h = unless (adopt_refusal terms v.shard shard) v h.result w _ _
+grown : (terms : RunTerms) (tag : Option ℕ) (pass : ℕ) (v : PassPart) (c : Call) (bound : Option ℕ) (a : Answer)
+    (w : PassPart) → CallAnswers terms tag pass v c bound a w → Grows v w (adds_entry c a)
+grown terms tag pass v (call.Adopt shard) bound a w h = unless (adopt_refusal terms v.shard shard) v h.result w _ _
     (λ _. false) (same_log v w) (λ e f. refl) (adopts v w shard h.result) h.does.0
-grows terms tag pass v call.Leave bound a w h = unless (needs_shard v.shard) v h.result w _ _ (λ _. false)
+grown terms tag pass v call.Leave bound a w h = unless (needs_shard v.shard) v h.result w _ _ (λ _. false)
     (same_log v w) (λ e f. refl) (leaves v w h.result) h.does.0
-grows terms tag pass v (call.Insert words) bound a w h = subst (λ x. Grows v w (is_key x)) (sym h.is)
+grown terms tag pass v (call.Insert words) bound a w h = subst (λ x. Grows v w (is_key x)) (sym h.is)
     (unless (words_refusal words) v h.result w _ _ (λ r. is_key (key_answer tag r)) (same_part v w) (λ e f. refl)
     (λ k. unless (needs_shard v.shard) v h.result w _ _ (λ r. is_key (key_answer tag r)) (same_log v w) (λ e f. refl)
     (inserts terms tag pass v w words h.result) k.0) h.does)
-grows terms tag pass v (call.Get r) bound a w h = on_key (key_meant tag bound r) v w a _ is_done_gone_or_crowded
+grown terms tag pass v (call.Get r) bound a w h = on_key (key_meant tag bound r) v w a _ is_done_gone_or_crowded
     (no_key is_done_gone_or_crowded refl refl tag bound r)
     (λ key k. subst (λ x. Grows v w (is_done_gone_or_crowded x)) (sym k.is)
     (unless (get_refusal terms pass v key) v k.result w _ _ (λ r. is_done_gone_or_crowded (done_answer r))
     (same_log v w) (get_first _ _) (gets terms tag pass v w key k.result) k.does.0)) h
-grows terms tag pass v (call.Read r) bound a w h = on_key (key_meant tag bound r) v w a _ (λ _. false)
+grown terms tag pass v (call.Read r) bound a w h = on_key (key_meant tag bound r) v w a _ (λ _. false)
     (λ b e. refl) (λ key k. unless (hold_refusal pass v key) v k.result w _ _ (λ _. false) (same_log v w) (λ e f. refl)
     (reads terms tag pass v w key k.result) k.does.0) h
-grows terms tag pass v (call.Remove r) bound a w h = on_key (key_meant tag bound r) v w a _ is_done_or_gone
+grown terms tag pass v (call.Remove r) bound a w h = on_key (key_meant tag bound r) v w a _ is_done_or_gone
     (no_key is_done_or_gone refl refl tag bound r) (λ key k. subst (λ x. Grows v w (is_done_or_gone x)) (sym k.is)
     (unless (remove_refusal terms key) v k.result w _ _ (λ r. is_done_or_gone (done_answer r)) (same_log v w)
     (remove_first _) (removes terms tag pass v w key k.result) k.does.0)) h
-grows terms tag pass v (call.Release r) bound a w h = on_key (key_meant tag bound r) v w a _ is_done
+grown terms tag pass v (call.Release r) bound a w h = on_key (key_meant tag bound r) v w a _ is_done
     (no_key is_done refl refl tag bound r) (λ key k. subst (λ x. Grows v w (is_done x)) (sym k.is)
     (unless (hold_refusal pass v key) v k.result w _ _ (λ r. is_done (done_answer r)) (same_log v w) (λ e f. refl)
     (releases terms tag pass v w key k.result) k.does.0)) h
-grows terms tag pass v call.Post bound a w h = same_part v w h.1
-grows terms tag pass v (call.Wait name) bound a w h = same_part v w h.1
+grown terms tag pass v call.Post bound a w h = same_part v w h.1
+grown terms tag pass v (call.Wait name) bound a w h = same_part v w h.1
+
+-- as many entries as the answer says
+pub grows : (terms : RunTerms) (tag : Option ℕ) (pass : ℕ) (v : PassPart) (c : Call) (bound : Option ℕ) (a : Answer)
+    (w : PassPart) → CallAnswers terms tag pass v c bound a w → length w.log ≡ length v.log + cond (adds_entry c a) 1 0
+grows terms tag pass v c bound a w h = (grown terms tag pass v c bound a w h).0
+
+-- what was known stays
+pub keeps_known : (terms : RunTerms) (tag : Option ℕ) (pass : ℕ) (v : PassPart) (c : Call) (bound : Option ℕ)
+    (a : Answer) (w : PassPart) → CallAnswers terms tag pass v c bound a w → KeepsKnown v.log w.log
+keeps_known terms tag pass v c bound a w h = (grown terms tag pass v c bound a w h).1

@@ -6,7 +6,10 @@ pub mod OrderLemmas
 pub mod GrowLemmas
 pub mod NameLemmas
 pub mod NameLaws
+pub mod MeetLaws
 pub mod InTurn
 pub mod AloneLaws
+pub mod AloneEnds
+pub mod GoneLaws
 pub mod RunningLaws
 pub mod TaleLaws

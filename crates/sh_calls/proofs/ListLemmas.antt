@@ -77,7 +77,7 @@ pub each_right : {A : Type 0} (P : A → Type 0) (xs ys : List A) → Each P (xs
 each_right P [] ys h = h
 each_right P (x ∷ xs) ys h = each_right P xs ys h.1
 
-get_left : {A : Type 0} (xs ys : List A) (k : ℕ) (x : A) → slice_get xs k ≡ Some x → slice_get (xs ++ ys) k ≡ Some x
+pub get_left : {A : Type 0} (xs ys : List A) (k : ℕ) (x : A) → slice_get xs k ≡ Some x → slice_get (xs ++ ys) k ≡ Some x
 get_left [] ys k x e = absurd (none-some x e)
 get_left (z ∷ zs) ys zero x e = e
 get_left (z ∷ zs) ys (suc k) x e = get_left zs ys k x e

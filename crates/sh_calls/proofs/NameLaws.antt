@@ -1,26 +1,23 @@
 -- Where passes had heard of names, their inserts come first.
 use Rattle.std.proofs.Common.{◌≡◌, ◌≢◌, ℕ, zero, suc, ◌+◌, ◌<◌, ◌≤◌, ◌==◌, Bool, true, false, cond, List, [], ◌∷◌, ◌++◌}
 use Rattle.std.proofs.Common.{length, take, map, slice_get, Option, Some, None, sym, refl, ap, ◌∙◌, subst, arith}
-use Rattle.std.proofs.Common.{append_assoc, append-nil, length-append, eqb-true, ⊎_elim}
+use Rattle.std.proofs.Common.{append_assoc, eqb-true, ⊎_elim}
 use Rattle.std.specs.List.{All, AllZip, Contains}
 use Rattle.std.proofs.lemmas.List.Elements.{Contains-append_left, Contains-append_right, Contains-append_cases}
 use Rattle.std.proofs.lemmas.Option.{none-some, same_Some, get_or_from_slice_get}
 use mathlib.Core.Logic.{dite}
 use native.Mathlib.Decide.{ℕ_discrete}
 use Rattle.sh_history.specs.declared.entry.Entry.{Entry}
-use Rattle.sh_history.specs.declared.entry.Entry.TheVariants.{Insert, Gone}
+use Rattle.sh_history.specs.declared.entry.Entry.TheVariants.{Insert}
 use Rattle.sh_history.specs.declared.log.LogEntry.{LogEntry}
 use Rattle.sh_history.specs.declared.log.LogEntry.TheVariants.{Known, Unread}
-use Rattle.sh_history.specs.History.{value_of, Allowed, Legal}
 use Rattle.sh_history.specs.Log.{Agrees, pass_of}
-use Rattle.sh_history.proofs.Laws.{legal_after_parts}
-use Rattle.sh_history.proofs.LogLaws.{value_of_insert}
-use Rattle.sh_history.proofs.Standing.{splits_at, has_removal}
+use Rattle.sh_history.proofs.Standing.{splits_at}
 use Rattle.sh_table.specs.declared.view.Heard.{Heard}
 use Rattle.sh_table.specs.declared.view.Order.{Order}
 use Rattle.sh_table.specs.Seats.{Heap}
 use Rattle.sh_table.specs.Tales.{by, Before}
-use Rattle.sh_table.proofs.Zips.{zip_length, by_append}
+use Rattle.sh_table.proofs.Zips.{zip_length}
 use Rattle.sh_script.specs.declared.calls.CallLine.{CallLine}
 use Rattle.sh_output.specs.declared.answer.Answer.{Answer}
 use Rattle.sh_output.specs.Keys.{key_shown}
@@ -29,7 +26,7 @@ use Rattle.sh_calls.specs.Runs.{opening_calls}
 use Rattle.sh_calls.specs.Told.{part_told}
 use Rattle.sh_calls.specs.InOrder.{adds_entry, adding_passes, times}
 use Rattle.sh_calls.specs.Meeting.{KeepsOrders, orders_of}
-use Rattle.sh_calls.specs.Named.{FollowsInsert, NamesComeFirst, NamedIsRemoved, is_insert_of, has_insert}
+use Rattle.sh_calls.specs.Named.{FollowsInsert, NamesComeFirst, is_insert_of, has_insert}
 use Rattle.sh_calls.specs.Named.{HeardOfNumber, NamesWereHeard}
 use Rattle.sh_calls.specs.Alone.{AnsweredSoFar}
 use Rattle.sh_calls.specs.Finished.{IsNamedBy}
@@ -208,17 +205,3 @@ named_by heap terms tag lines i numbers sides output was past fits c tale keeps 
     (by l.pass history) (log_at history parts (passes_below n) logs l.pass l.pass (up_get n l.pass less)) in
     let none : length ((opening_calls heap).parts l.pass).log ≡ 0 = refl in
     omega (arith, counted, same, long, none))
-
--- ---- the law
-
-pub named_is_removed : NamedIsRemoved
-named_is_removed passes guard_max history legal pass first key f gone =
-    let parts = legal_after_parts passes guard_max [] f.early (f.own ∷ f.late)
-    (subst (Legal passes guard_max) f.is legal) in
-    let may : Allowed passes guard_max f.early (Gone pass key) = subst (Allowed passes guard_max f.early) gone
-    parts.1.0 in
-    let s = splits_at f.early (Insert f.inserter key f.value) f.inserted in
-    let issued : value_of f.early key ≡ Some f.value = ap (λ l. value_of l key) s.2 ∙ value_of_insert passes
-    guard_max s.0 s.1 f.inserter key f.value (subst (Legal passes guard_max) s.2 parts.0) in
-    ⊎_elim (λ (n : value_of f.early key ≡ None). absurd (let z : None ≡ Some f.value = sym n ∙ issued in cc))
-    (has_removal f.early key) may

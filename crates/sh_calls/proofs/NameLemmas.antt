@@ -1,6 +1,7 @@
 -- What was heard of names: a line more, and a receipt more.
-use Rattle.std.proofs.Common.{◌≡◌, ◌≢◌, ℕ, zero, suc, ◌+◌, ◌*◌, ◌/◌, ◌%◌, ◌^◌, ◌<◌, ◌≤◌, ◌==◌, Bool, true, false, cond}
-use Rattle.std.proofs.Common.{List, [], ◌∷◌, ◌++◌, length, take, set, map, slice_get, Option, Some, None, Result, Ok, Err}
+use Rattle.std.proofs.Common.{◌≡◌, ◌≢◌, ℕ, zero, suc, ◌+◌, ◌*◌, ◌/◌, ◌%◌, ◌^◌, ◌<◌, ◌≤◌, Bool, true, false, cond}
+use Rattle.std.proofs.Common.{List, [], ◌∷◌, ◌++◌, length, take, set, map, slice_get, Option, Some, None, Result, Ok}
+use Rattle.std.proofs.Common.{Err}
 use Rattle.std.proofs.Common.{sym, refl, ap, ◌∙◌, subst, arith, append_assoc, append-nil, eq-eqb, ◌⊎◌, ⊎_elim}
 use Rattle.std.specs.List.{Contains, list_any}
 use Rattle.std.proofs.lemmas.List.Elements.{Contains-append_left, Contains-append_right, Contains-push}
@@ -24,10 +25,10 @@ use Rattle.sh_output.specs.declared.answer.Answer.{Answer}
 use Rattle.sh_output.specs.Keys.{shown, key_shown, HasTagRoom}
 use Rattle.sh_output.specs.Results.{key_answer}
 use Rattle.sh_pass.specs.Passes.{Caller}
-use Rattle.sh_calls.specs.Parts.{RunTerms, PassPart, SeenPass, SamePass, Becomes, with_entry}
+use Rattle.sh_calls.specs.Parts.{RunTerms, PassPart, SeenPass, SamePass}
 use Rattle.sh_calls.specs.Calls.{CallAnswers, UnlessRefused, WordsAnswers, ValueInserted, words_refusal, needs_shard}
 use Rattle.sh_calls.specs.Calls.{name_used, binds, number_told}
-use Rattle.sh_calls.specs.Runs.{CallsRun, LineAnswered, LinesAnswered, number_bound, number_meant, with_part}
+use Rattle.sh_calls.specs.Runs.{CallsRun, LineAnswered, LinesAnswered, number_bound, number_meant}
 use Rattle.sh_calls.specs.Receipts.{seen_of_receipt, receipt_seen, order_seen, told_heard, MayHeed, PartHeeds, Heeds}
 use Rattle.sh_calls.specs.InOrder.{adds_entry, adding_passes, times}
 use Rattle.sh_calls.specs.Meeting.{KeepsOrders, orders_of}
@@ -55,7 +56,8 @@ take_few (x ∷ xs) (suc i) = let h = take_few xs i in omega (arith, h)
 pub first_in : {A : Type 0} (x : A) (xs : List A) → Contains (x ∷ xs) x
 first_in x xs = Contains-append_left (x ∷ []) xs x (Contains-push [] x)
 
-pub some_passes : {A : Type 0} (p : A → Bool) (xs : List A) → list_any p xs ≡ true → (x : A) × Contains xs x × (p x ≡ true)
+pub some_passes : {A : Type 0} (p : A → Bool) (xs : List A) → list_any p xs ≡ true
+    → (x : A) × Contains xs x × (p x ≡ true)
 some_passes p xs e = let a = Any-from_list_any p xs e in (a.1, (a.0, a.2, a.3), a.4)
 
 passes_there : {A : Type 0} (p : A → Bool) (xs : List A) (x : A) → Contains xs x → p x ≡ true → list_any p xs ≡ true
@@ -105,7 +107,7 @@ pub may_log : (v w : PassPart) → MayHeed v w → w.log ≡ v.log
 may_log v w h = ⊎_elim (λ (e : w ≡ v). ap (λ (u : PassPart). u.log) e)
     (λ (k : (r : Caller) × PartHeeds r v w). ap (λ (u : PassPart). u.log) k.1.is) h
 
-line_count : (terms : RunTerms) (tag : Option ℕ) (run next : CallsRun) (l : CallLine) (a : Answer)
+pub line_count : (terms : RunTerms) (tag : Option ℕ) (run next : CallsRun) (l : CallLine) (a : Answer)
     → LineAnswered terms tag run l a next → (p : ℕ) → length (next.parts p).log
     ≡ length (run.parts p).log + length (times p (cond (adds_entry l.call a) (l.pass ∷ []) []))
 line_count terms tag run next l a s p = dite (ℕ_discrete p l.pass)
@@ -143,7 +145,8 @@ pub counts_after : (terms : RunTerms) (tag : Option ℕ) (before after : CallsRu
     (bs : List Answer) → LinesAnswered terms tag before ls bs after → (p : ℕ)
     → length (after.parts p).log ≡ length (before.parts p).log + length (times p (adding_passes ls bs))
 counts_after terms tag before after [] [] h p =
-    let e : length (after.parts p).log ≡ length (before.parts p).log = ap (λ (r : CallsRun). length (r.parts p).log) h in
+    let e : length (after.parts p).log ≡ length (before.parts p).log = ap (λ (r : CallsRun). length (r.parts p).log) h
+    in
     let none : length (times p (adding_passes [] [])) ≡ 0 = refl in
     omega (arith, e, none)
 counts_after terms tag before after [] (b ∷ bs) h p = absurd h
@@ -203,7 +206,8 @@ HeardAt tag orders z = HeardOfNumber tag orders z.0.pass (length (times z.0.pass
 pub heard_more : (terms : RunTerms) (tag : Option ℕ) (before run : CallsRun) (ls : List CallLine) (bs : List Answer)
     (orders more : List Order) (l : CallLine) (a : Answer) → LinesAnswered terms tag before ls bs run
     → NamesWereHeard tag ls bs orders → KeepsOrders orders more
-    → HeardOfNumber tag more l.pass (length (times l.pass (adding_passes ls bs))) (number_meant (numbers_told ls bs) l.call)
+    → HeardOfNumber tag more l.pass (length (times l.pass (adding_passes ls bs)))
+    (number_meant (numbers_told ls bs) l.call)
     → NamesWereHeard tag (ls ++ l ∷ []) (bs ++ a ∷ []) more
 heard_more terms tag before run ls bs orders more l a ran was keeps new i m at =
     ⊎_elim old last (get_snoc ls l m i at)
@@ -278,7 +282,8 @@ tells_on tag r side mid now e same n t = tells_more tag (seen_of_receipt r).hear
     let os : Contains now.orders (order_seen side h) = subst (λ (z : SeenPass). Contains z.orders (order_seen side h))
     (sym same) (heeded_order r side mid e h c) in
     Contains-append_right (record { pass = now.pass; log = now.part.log } ∷ map told_heard now.told)
-    (map (λ (o : Order). o.heard) now.orders) h (contains_map (λ (o : Order). o.heard) now.orders (order_seen side h) os))
+    (map (λ (o : Order). o.heard) now.orders) h
+    (contains_map (λ (o : Order). o.heard) now.orders (order_seen side h) os))
     n t
 
 -- a key is shown by the number that it is told as

@@ -22,7 +22,7 @@ times_here t ts = ap (λ b. cond b (t ∷ times t ts) (times t ts)) (eq-eqb t t 
 pub times_else : (a t : ℕ) (ts : List ℕ) → t ≢ a → times a (t ∷ ts) ≡ times a ts
 times_else a t ts ne = ap (λ b. cond b (t ∷ times a ts) (times a ts)) (ne_eqb t a ne)
 
-by_here : (e : Entry) (es : List Entry) → by (pass_of e) (e ∷ es) ≡ e ∷ by (pass_of e) es
+pub by_here : (e : Entry) (es : List Entry) → by (pass_of e) (e ∷ es) ≡ e ∷ by (pass_of e) es
 by_here e es = ap (λ b. cond b (e ∷ by (pass_of e) es) (by (pass_of e) es)) (eq-eqb (pass_of e) (pass_of e) refl)
 
 pub by_else : (a : ℕ) (e : Entry) (es : List Entry) → pass_of e ≢ a → by a (e ∷ es) ≡ by a es

@@ -3,11 +3,9 @@ use Rattle.std.specs.Prelude.{◌≡◌, ℕ, ◌==◌, Bool, true, false, cond,
 use Rattle.std.specs.Prelude.{Option, Some, None}
 use Rattle.std.specs.List.{Contains, list_any}
 use Rattle.sh_history.specs.declared.entry.Entry.{Entry}
-use Rattle.sh_history.specs.declared.entry.Entry.TheVariants.{Insert, Gone}
+use Rattle.sh_history.specs.declared.entry.Entry.TheVariants.{Insert}
 use Rattle.sh_history.specs.declared.log.LogEntry.{LogEntry}
-use Rattle.sh_history.specs.declared.log.LogEntry.TheVariants.{Known, Unread}
-use Rattle.sh_history.specs.History.{Legal}
-use Rattle.sh_history.specs.Laws.{HasRemoval}
+use Rattle.sh_history.specs.declared.log.LogEntry.TheVariants.{Known}
 use Rattle.sh_history.specs.Log.{pass_of}
 use Rattle.sh_table.specs.declared.view.Heard.{Heard}
 use Rattle.sh_table.specs.declared.view.Order.{Order}
@@ -25,8 +23,7 @@ numbers_told [] answers = []
 numbers_told (l ∷ lines) [] = []
 numbers_told (l ∷ lines) (a ∷ answers) = cond (binds l.call) (number_told a ∷ []) [] ++ numbers_told lines answers
 
--- in this history the next entry of the pass after its first ones, of which there are so many, has the insert of the key
--- before it
+-- in this history the next entry of the pass after so many first ones has the insert of the key before it
 pub record FollowsInsert (history : List Entry) (pass first key : ℕ) : Type 0 where
   pub early : List Entry
   pub own : Entry
@@ -46,11 +43,6 @@ NamesComeFirst tag lines answers history = (i : ℕ) (l : CallLine) (a : Answer)
     → number_meant (numbers_told (take i lines) answers) l.call ≡ Some number
     → (key : ℕ) × (key_shown tag number ≡ Some key)
     × FollowsInsert history l.pass (length (times l.pass (adding_passes (take i lines) answers))) key
-
--- in a legal history an entry that follows the insert of a key, and says that the key is gone, has a removal before it
-abbrev pub NamedIsRemoved : Type 0
-NamedIsRemoved = (passes guard_max : ℕ) (history : List Entry) → Legal passes guard_max history
-    → (pass first key : ℕ) (f : FollowsInsert history pass first key) → f.own ≡ Gone pass key → HasRemoval f.early key
 
 -- ---- how it is found
 

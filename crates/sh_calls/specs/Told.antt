@@ -1,13 +1,18 @@
 -- What a run on the running heap writes.
-use Rattle.std.specs.Prelude.{◌≡◌, ℕ, Bool, true, List, map, Option}
+use Rattle.std.specs.Prelude.{◌≡◌, ℕ, Bool, true, List, map, take, length, slice_get, Option, Some}
+use Rattle.sh_value.specs.declared.refusal.Refusal.TheVariants as refusal
+use Rattle.sh_history.specs.declared.entry.Entry.TheVariants.{Gone}
+use Rattle.sh_history.specs.Laws.{HasRemoval}
 use Rattle.sh_script.specs.declared.calls.CallLine.{CallLine}
 use Rattle.sh_output.specs.declared.answer.Answer.{Answer}
+use Rattle.sh_output.specs.declared.answer.Answer.TheVariants as answer
+use Rattle.sh_output.specs.Keys.{key_shown}
 use Rattle.sh_output.specs.Replies.{replies_text}
 use Rattle.sh_table.specs.Seats.{Heap}
 use Rattle.sh_calls.specs.Parts.{RunTerms, PassPart, PassTold, HasWholeTale, passes_below}
-use Rattle.sh_calls.specs.InOrder.{IsInOrder}
-use Rattle.sh_calls.specs.Named.{NamesComeFirst}
-use Rattle.sh_calls.specs.Runs.{CallsRun, LinesAnswered, opening_calls}
+use Rattle.sh_calls.specs.InOrder.{IsInOrder, adding_passes, times}
+use Rattle.sh_calls.specs.Named.{NamesComeFirst, FollowsInsert, numbers_told}
+use Rattle.sh_calls.specs.Runs.{CallsRun, LinesAnswered, opening_calls, number_meant}
 
 -- each pass with the entries of its part
 abbrev pub part_told : (ℕ → PassPart) → ℕ → PassTold
@@ -24,8 +29,8 @@ pub record AreReplies (heap : Option Heap) (terms : RunTerms) (tag : Option ℕ)
 
 -- The same, where all passes met at the end: this is their tale. There is one legal history in which the entries of
 -- each pass are just those that its answers say, in order, and there are no others. What is answered of a name stands
--- behind the insert that bound it. Where the lines ran one after the other, the entries of all passes stand in the order
--- of the lines.
+-- behind the insert that bound it. Where the lines ran one after the other, the entries of all passes stand in the
+-- order of the lines.
 pub record IsTold (alone : Bool) (heap : Option Heap) (terms : RunTerms) (tag : Option ℕ) (lines : List CallLine)
     (output : List ℕ) (tale : List PassTold) : Type 0 where
   pub replies : AreReplies heap terms tag lines output
@@ -33,3 +38,16 @@ pub record IsTold (alone : Bool) (heap : Option Heap) (terms : RunTerms) (tag : 
   pub whole : HasWholeTale terms tale
   pub named : NamesComeFirst tag lines replies.answers whole.history
   pub in_order : alone ≡ true → IsInOrder lines replies.answers whole.history
+
+-- In a told run a line on a name is answered Gone only where the key was removed before: the name stands for the number
+-- of a key, and the entry of the line is Gone and has before it the insert and a removal of the key.
+abbrev pub NamedIsRemoved : Type 0
+NamedIsRemoved = (alone : Bool) (heap : Option Heap) (terms : RunTerms) (tag : Option ℕ) (lines : List CallLine)
+    (output : List ℕ) (tale : List PassTold) (t : IsTold alone heap terms tag lines output tale)
+    → (i : ℕ) (l : CallLine) (number : ℕ) → slice_get lines i ≡ Some l
+    → slice_get t.replies.answers i ≡ Some (answer.Refused refusal.Gone)
+    → number_meant (numbers_told (take i lines) t.replies.answers) l.call ≡ Some number
+    → (key : ℕ) × (key_shown tag number ≡ Some key)
+    × (f : FollowsInsert t.whole.history l.pass
+    (length (times l.pass (adding_passes (take i lines) t.replies.answers))) key)
+    × (f.own ≡ Gone l.pass key) × HasRemoval f.early key

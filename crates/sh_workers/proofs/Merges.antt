@@ -245,7 +245,7 @@ merging_ends heap terms tag lines i numbers sides rests output past h =
             let made = get_some rests p (omega (arith, few, h.sides_all, h.rests_all)) in
             let Q : List CallLine → Type 0 = λ ls. IsWork heap terms tag ls p (h.run.parts p) s made.0 in
             none_left heap terms tag p h.run.parts s made.0
-                (subst Q (drop_past lines i past) (h.each p s made.0 e made.1));
+            (subst Q (drop_past lines i past) (h.each p s made.0 e made.1));
         heard = subst (λ (ls : List CallLine). NamesWereHeard tag ls h.answers (orders_of sides)) whole h.heard;
       },
     )

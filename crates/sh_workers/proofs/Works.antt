@@ -119,7 +119,8 @@ module _ (heap : Option Heap) (terms : RunTerms) (tag : Option ℕ) (lines : Lis
   pub work_room : l.pass ≡ n → length ms < length (own_calls n lines)
   work_room own =
       let below = own_below n lines i l at own in
-      let made = calls_length terms tag n side.orders (new_part heap n) side.part (own_calls n (take i lines)) ms h.calls in
+      let made = calls_length terms tag n side.orders (new_part heap n) side.part (own_calls n (take i lines)) ms
+      h.calls in
       omega (arith, below, made)
 
   -- a line of its own, whose call was made, once what is known of its name was heard
@@ -144,14 +145,15 @@ module _ (heap : Option Heap) (terms : RunTerms) (tag : Option ℕ) (lines : Lis
         heard = heard;
         does = subst P mid_is does;
       } in
-      let Q : List Call → Type 0 = λ cs. CallsMade terms tag n after.orders (new_part heap n) cs (ms ++ m ∷ []) after.part
-      in
+      let Q : List Call → Type 0 = λ cs. CallsMade terms tag n after.orders (new_part heap n) cs (ms ++ m ∷ [])
+      after.part in
       record {
         is = same ∙ (ap (λ (z : SeenPass). record z { part = after.part }) mid_is
-            ∙ ap (λ (z : SeenPass). record (new_pass heap terms n) { part = after.part; orders = z.orders }) (sym same));
+            ∙ ap (λ (z : SeenPass). record (new_pass heap terms n) { part = after.part; orders = z.orders })
+            (sym same));
         calls = subst Q (sym (own_then n lines i l at own)) (calls_next terms tag n after.orders (new_part heap n)
-            side.part after.part (own_calls n (take i lines)) ms l.call m (calls_kept terms tag n side.orders after.orders
-            (new_part heap n) side.part (own_calls n (take i lines)) ms keeps h.calls) made);
+            side.part after.part (own_calls n (take i lines)) ms l.call m (calls_kept terms tag n side.orders
+            after.orders (new_part heap n) side.part (own_calls n (take i lines)) ms keeps h.calls) made);
       }
 
   -- a line of another pass
@@ -177,9 +179,9 @@ module _ (heap : Option Heap) (terms : RunTerms) (tag : Option ℕ) (lines : Lis
       room in
       let rest : List Heard = map told_heard after.told ++ map (λ (o : Order). o.heard) after.orders in (
         ap (λ (z : SeenPass). z.heap) same ∙ ap (λ (z : SeenPass). z.heap) mid_is,
-        λ b. subst (λ (q : ℕ). tells_number tag (record { pass = q; log = after.part.log } ∷ rest) (number_told m.answer)
-            ≡ true) (ap (λ (z : SeenPass). z.pass) (sym same)) (tells_own mid.terms tag mid.pass mid.part after.part l.call
-            m.bound m.answer roomy b does rest),
+        λ b. subst (λ (q : ℕ). tells_number tag (record { pass = q; log = after.part.log } ∷ rest)
+            (number_told m.answer) ≡ true) (ap (λ (z : SeenPass). z.pass) (sym same))
+            (tells_own mid.terms tag mid.pass mid.part after.part l.call m.bound m.answer roomy b does rest),
       )
 
   -- a pass that is as it was

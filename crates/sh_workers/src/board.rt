@@ -150,8 +150,8 @@ impl<B: Room> Board<B> {
         self.changed.notify_all();
     }
 
-    /// Waits for a name, heeds what is known with it, and tells the number that it stands for. `None` where the board is
-    /// closed and the name is not bound, or there is no such name.
+    /// Waits for a name, heeds the receipt that goes with it, and tells the number that it stands for. `None` where the
+    /// board is closed and the name is not bound, or there is no such name.
     pub fn wait<S: Side, R: Wait>(&self, rt: &R, name: usize, side: &mut S) -> Option<Option<u64>>
         requires heap { (S.seen side.old).heap ≡ B.heap }
         ensures heard { MatchOption result (S.seen side.new ≡ S.seen side.old)

@@ -7,7 +7,7 @@ pub mod board;
 pub mod gate;
 mod gather;
 mod merge;
-mod room;
+pub mod room;
 mod run;
 pub mod threads;
 mod worker;

@@ -64,8 +64,8 @@ impl<S: Side, B: Room> Model for Worker<S, B> {
         × (length (own_calls w.number B.lines) ≤ vec_capacity w.made) };
 }
 
-// The number that the name of the call stands for: waited for, if the call is on a name, and the pass heeds what is known
-// with it. `None` where the board is closed.
+// The number that the name of the call stands for: waited for, if the call is on a name, and the pass heeds the receipt
+// that goes with it. `None` where the board is closed.
 fn awaited<S: Side, B: Room, R: Wait>(
     rt: &R,
     board: &Board<B>,
@@ -88,8 +88,8 @@ fn awaited<S: Side, B: Room, R: Wait>(
     }
 }
 
-// Binds the name, if the call binds one: to the number that the call was answered, if it was answered one, with a receipt
-// of the pass.
+// Binds the name, if the call binds one: to the number that the call was answered, if it was answered one. A receipt of
+// the pass goes with it.
 fn bind<S: Side, B: Room, R: Wait>(
     rt: &R,
     board: &Board<B>,
@@ -135,7 +135,14 @@ impl<S: Side, B: Room> Worker<S, B> {
                 return false;
             };
             let answer = answered(shared.alloc, &mut self.side, shared.tag, &line.call, bound);
-            bind(rt, shared.board, self.names, &mut self.side, &line.call, &answer);
+            bind(
+                rt,
+                shared.board,
+                self.names,
+                &mut self.side,
+                &line.call,
+                &answer,
+            );
             self.made.push_reserved(Made { bound, answer });
             shared.gate.after(self.number, call);
         }

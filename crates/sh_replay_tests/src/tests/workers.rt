@@ -1,19 +1,22 @@
 //! Workers in threads: they wait for names, and end where one stops.
-ghost use Rattle.std.specs.Prelude.{◌<◌};
+ghost use Rattle.std.specs.Prelude.{◌≡◌, ◌<◌};
 ghost use Rattle.std.specs.List.{All};
 ghost use Rattle.sh_script.specs.declared.calls.CallLine.{CallLine};
 
-use sh_heap_run::heap_lines::holders;
+use sh_calls::side::Side;
+use sh_heap_run::heap_lines::{PassHolder, holders};
 use sh_key::Tiny;
 use sh_pass::Heap;
 use sh_script::{Call, CallLine, Fault, Reference};
 use sh_shape::Shape;
-use sh_workers::board::Board;
+use sh_workers::board::{Board, Note};
 use sh_workers::gate::{Gate, OpenGate};
+use sh_workers::room::Room;
 use sh_workers::threads::threads_lines;
-use std::alloc::Global;
+use std::alloc::{AllocError, Global};
+use std::marker::Brand;
 use std::sync::Wait;
-use std::thread::{Threads, join};
+use std::thread::Threads;
 
 /// The reply lines of calls of two passes on a new heap, each pass's in a thread of its own.
 fn replies<R: Threads + Wait + Sync, G: Gate + Sync>(
@@ -35,21 +38,48 @@ fn replies<R: Threads + Wait + Sync, G: Gate + Sync>(
     Ok(output)
 }
 
-#[test]
-fn a_closed_board_ends_a_wait(rt: HostRuntime) {
-    let board = Board::new(rt.alloc(), 2).expect(&rt, "memory");
-    board.bind(&rt, 0, Some(7));
-    let (waited, ()) = join(&rt, || board.wait(&rt, 1), || board.close(&rt));
-    assert_eq!(rt; waited, None);
-    assert_eq!(rt; board.wait(&rt, 0), Some(Some(7)));
-    assert_eq!(rt; board.wait(&rt, 2), None);
+// What is told of a name by a board of two names, of which the first is bound to nothing, once it is closed.
+fn told_once_closed<S: Side, B: Room, R: Wait>(
+    rt: &R,
+    alloc: Global,
+    side: S,
+    name: usize,
+) -> Result<Option<Option<u64>>, AllocError>
+    requires { (S.seen side).heap ≡ B.heap }
+{
+    let mut side = side;
+    let board = Board::<B>::new(alloc, 2)?;
+    board.bind(rt, 0, Note::new(None, side.receipt()));
+    board.close(rt);
+    Ok(board.wait(rt, name, &mut side))
+}
+
+// The same, for a pass of a new heap.
+fn told_of<R: Wait>(rt: &R, alloc: Global, name: usize) -> Result<Option<Option<u64>>, Fault> {
+    let Ok(shape) = Shape::new(1, 1, 2) else {
+        return Err(Fault::BadShape);
+    };
+    let Ok((heap, seats)) = Heap::<Tiny>::open(alloc, shape) else {
+        return Err(Fault::BadShape);
+    };
+    let mut sides = holders(alloc, &heap, seats)?;
+    let Some(side) = sides.pop() else {
+        return Err(Fault::BadShape);
+    };
+    match told_once_closed::<PassHolder<'_, Tiny>, Brand, R>(rt, alloc, side, name) {
+        Ok(told) => Ok(told),
+        Err(_) => Err(Fault::Memory),
+    }
 }
 
 #[test]
-fn a_name_that_is_bound_to_nothing_ends_a_wait(rt: HostRuntime) {
-    let board = Board::new(rt.alloc(), 1).expect(&rt, "memory");
-    let (waited, ()) = join(&rt, || board.wait(&rt, 0), || board.bind(&rt, 0, None));
-    assert_eq!(rt; waited, Some(None));
+fn a_closed_board_tells_of_what_is_bound_and_waits_for_nothing(rt: HostRuntime) {
+    let bound = told_of(&rt, rt.alloc(), 0).expect(&rt, "it runs");
+    let open = told_of(&rt, rt.alloc(), 1).expect(&rt, "it runs");
+    let absent = told_of(&rt, rt.alloc(), 2).expect(&rt, "it runs");
+    assert_eq!(rt; bound, Some(None));
+    assert_eq!(rt; open, None);
+    assert_eq!(rt; absent, None);
 }
 
 #[test]

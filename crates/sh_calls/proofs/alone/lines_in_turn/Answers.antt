@@ -10,8 +10,8 @@ use Rattle.sh_calls.specs.Parts.{RunTerms, SeenPass, new_passes}
 use Rattle.sh_calls.specs.Calls.{CallAnswers}
 use Rattle.sh_output.specs.Replies.{reply_line}
 use Rattle.sh_calls.specs.Runs.{number_meant, with_number}
-use Rattle.sh_calls.proofs.AloneLaws.{begins_ordered, ordered_more, orders_only, last_of, ran_on, ran_to_none}
-use Rattle.sh_calls.proofs.AloneLaws.{carrier_speaks}
+use Rattle.sh_calls.proofs.AloneLaws.{begins_ordered, ordered_more, orders_only, last_of}
+use Rattle.sh_calls.proofs.AloneEnds.{ran_on, ran_to_none, carrier_speaks}
 use Rattle.sh_calls.proofs.InTurn.{heap_at, map_set, all_are, all_speak, terms_at}
 use Rattle.sh_calls.proofs.alone.lines_in_turn.Goals as goal
 

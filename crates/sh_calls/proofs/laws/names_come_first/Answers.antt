@@ -1,4 +1,4 @@
-use Rattle.sh_calls.proofs.NameLaws.{named_is_removed}
+use Rattle.sh_calls.proofs.GoneLaws.{named_is_removed}
 use Rattle.sh_calls.proofs.laws.names_come_first.Goals as goal
 
 pub returns : goal.returns
