@@ -147,7 +147,7 @@ pub use sh_key::{Deep, KeyLayout, Tagged, Tiny, Wide};
 pub use sh_meet::{Task, all, both};
 pub use sh_pass::{Guard, Heap, Pass, Receipt, Seats, remove_then_get};
 pub use sh_plain::{Lookup, Store};
-pub use sh_readers::Reader;
+pub use sh_readers::{Reader, ToldKey, fetch_told, insert_told};
 pub use sh_shape::Shape;
 pub use sh_shard::Shard;
 pub use sh_table::heard_comes_first;
