@@ -6,6 +6,7 @@ use crate::using;
 use sh_judge::dice::Dice;
 use sh_judge::record::Record;
 use sh_key::{KeyLayout, Parts};
+use std::sync::Wait;
 
 // The number of one of the holds, if there is one.
 fn some_hold(record: &Record, dice: &mut Dice) -> Option<u64> {
@@ -33,27 +34,28 @@ fn next_key<L: KeyLayout>(key: u64) -> u64 {
 }
 
 /// Does a turn on keys. Others do nothing.
-pub fn take_turn<L: KeyLayout, U: User>(
+pub fn take_turn<R: Wait, L: KeyLayout, U: User>(
     user: &mut U,
     record: &mut Record,
-    board: &Board,
+    board: &Board<'_, R, U::Home>,
     dice: &mut Dice,
     turn: Turn,
 ) {
-    let key = board.look(dice.word());
+    let key = board.look(dice.word(), user);
+    let moments = &board.moments;
     let held = some_hold(record, dice);
     match (turn, key, held) {
-        (Turn::Get, Some(key), _) => using::get(user, record, board, key, false),
-        (Turn::Glance, Some(key), _) => using::glance(user, record, board, key),
+        (Turn::Get, Some(key), _) => using::get(user, record, moments, key, false),
+        (Turn::Glance, Some(key), _) => using::glance(user, record, moments, key),
         (Turn::Guess, Some(key), _) => {
-            using::get(user, record, board, next_key::<L>(key), true);
+            using::get(user, record, moments, next_key::<L>(key), true);
         }
-        (Turn::Remove, Some(key), _) => using::remove(user, record, board, key),
+        (Turn::Remove, Some(key), _) => using::remove(user, record, moments, key),
         (Turn::Read, _, Some(number)) => using::read(user, record, number),
-        (Turn::Release, _, Some(number)) => using::release(user, record, board, number),
+        (Turn::Release, _, Some(number)) => using::release(user, record, moments, number),
         (Turn::RemoveHeld, _, Some(number)) => {
             if let Some(held) = record.hold(number) {
-                using::remove(user, record, board, held.hold.key);
+                using::remove(user, record, moments, held.hold.key);
             }
         }
         _ => {}

@@ -1,7 +1,7 @@
 //! A pass that owns no shard.
 ghost use Rattle.std.specs.Prelude.{◌≡◌, Some};
 
-use crate::home::Home;
+use crate::home::{Home, HomeReceipt};
 use crate::owner::Owner;
 use crate::stopped::Stopped;
 use crate::user::User;
@@ -59,6 +59,8 @@ impl<'a, L: KeyLayout, H: Home> Lone<'a, L, H> {
 }
 
 impl<L: KeyLayout, H: Home> User for Lone<'_, L, H> {
+    type Home = H;
+
     fn get(&mut self, key: u64) -> Result<Hold, Refusal> {
         self.pass.get(key)
     }
@@ -79,5 +81,13 @@ impl<L: KeyLayout, H: Home> User for Lone<'_, L, H> {
 
     fn release(&mut self, hold: Hold) -> Result<(), Refusal> {
         self.pass.release(hold)
+    }
+
+    fn receipt(&mut self) -> HomeReceipt<H> {
+        HomeReceipt::new(self.pass.receipt())
+    }
+
+    fn heed(&mut self, told: HomeReceipt<H>) {
+        self.pass.heed(told.into_receipt());
     }
 }

@@ -1,7 +1,7 @@
 //! A pass that owns a shard.
 ghost use Rattle.std.specs.Prelude.{◌≡◌, Some};
 
-use crate::home::Home;
+use crate::home::{Home, HomeReceipt};
 use crate::lone::Lone;
 use crate::user::User;
 use sh_key::KeyLayout;
@@ -44,6 +44,8 @@ impl<'a, L: KeyLayout, H: Home> Owner<'a, L, H> {
 }
 
 impl<L: KeyLayout, H: Home> User for Owner<'_, L, H> {
+    type Home = H;
+
     fn get(&mut self, key: u64) -> Result<Hold, Refusal> {
         self.shard.get(key)
     }
@@ -64,5 +66,13 @@ impl<L: KeyLayout, H: Home> User for Owner<'_, L, H> {
 
     fn release(&mut self, hold: Hold) -> Result<(), Refusal> {
         self.shard.release(hold)
+    }
+
+    fn receipt(&mut self) -> HomeReceipt<H> {
+        HomeReceipt::new(self.shard.receipt())
+    }
+
+    fn heed(&mut self, told: HomeReceipt<H>) {
+        self.shard.heed(told.into_receipt());
     }
 }
