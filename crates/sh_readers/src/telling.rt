@@ -25,7 +25,10 @@ pub struct ToldKey {
 /// let told = insert_told(&mut owner, &value)?;    // goes to another thread, in any way
 /// let value = fetch_told(&mut pass, told)?;       // there: `Gone` only where someone removed the key
 /// ```
-pub fn insert_told<L: KeyLayout>(owner: &mut Shard<'_, L>, value: &Value) -> Result<ToldKey, Refusal>
+pub fn insert_told<L: KeyLayout>(
+    owner: &mut Shard<'_, L>,
+    value: &Value,
+) -> Result<ToldKey, Refusal>
     ensures serves { InsertServes L.layout (value_class value.now) value.now owner.old
         (key_told result) owner.new }
     ensures stays { StaysOwner L.layout owner.old owner.new }
