@@ -1,5 +1,5 @@
 -- Keys that go from one thread to another with a receipt of their insert.
-use Rattle.std.specs.Prelude.{ℕ, List, Unit, Result, Ok, Err}
+use Rattle.std.specs.Prelude.{ℕ, List, Result, Ok, Err}
 use Rattle.std.specs.List.{Contains}
 use Rattle.sh_history.specs.declared.entry.Entry.{Entry}
 use Rattle.sh_history.specs.declared.entry.Entry.TheVariants.{Insert, Gone}
