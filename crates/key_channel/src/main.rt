@@ -8,36 +8,33 @@ ghost use Rattle.std.specs.Prelude.{◌≡◌, Some, IfOk};
 ghost use Rattle.gearlongan.specs.Passes.{AreOf};
 
 use crossbeam_channel::{Receiver, Sender, bounded};
-use gearlongan::{Heap, Pass, Refusal, Shape, Shard, Task, Value, Wide, both, gather, total};
+use gearlongan::{Heap, Pass, Refusal, Shape, Shard, Value, Wide, gather, total};
 use message::{Message, Room};
 use std::alloc::Global;
-use std::io;
 use std::marker::Brand;
 use std::process::ExitCode;
 use std::sync::Wait;
 use std::thread::Threads;
+use std::{io, thread};
 
 // How many values are stored, and how many messages wait at most.
 const VALUES: u64 = 12;
 
 const WAITING: usize = 4;
 
-// Stores the values, in a thread of its own.
+// The thread that stores the values.
 #[derive(Drop)]
-struct Storing<'a, R, B: Room> {
-    rt: &'a R,
+struct Storing<'a, B: Room> {
     owner: Shard<'a, Wide>,
     to: Sender<Message<B>, Global>,
     ghost in_room: { Some owner.pages.owner.heap ≡ B.heap },
 }
 
-impl<'a, R: Wait, B: Room> Task for Storing<'a, R, B> {
-    type Output = Result<Shard<'a, Wide>, Refusal>;
-
-    ghost gives = { λ task output. IfOk output (λ owner. owner.pages.owner.heap ≡ task.owner.pages.owner.heap) };
-
-    fn run(self) -> Result<Shard<'a, Wide>, Refusal> {
-        let Storing { rt, mut owner, to } = self;
+impl<'a, B: Room> Storing<'a, B> {
+    fn run<R: Wait>(self, rt: &R) -> Result<Shard<'a, Wide>, Refusal>
+        ensures { IfOk result (λ owner. Some owner.pages.owner.heap ≡ B.heap) }
+    {
+        let Storing { mut owner, to } = self;
         store_all(rt, &mut owner, &to)?;
         Ok(owner)
     }
@@ -70,22 +67,19 @@ struct Counts {
     gone: u64,
 }
 
-// Fetches the values, in another thread.
+// The thread that fetches them.
 #[derive(Drop)]
-struct Fetching<'a, R, B: Room> {
-    rt: &'a R,
+struct Fetching<'a, B: Room> {
     pass: Pass<'a, Wide>,
     from: Receiver<Message<B>, Global>,
     ghost in_room: { Some pass.heap ≡ B.heap },
 }
 
-impl<'a, R: Wait, B: Room> Task for Fetching<'a, R, B> {
-    type Output = Result<(Pass<'a, Wide>, Counts), Refusal>;
-
-    ghost gives = { λ task output. IfOk output (λ r. r.0.heap ≡ task.pass.heap) };
-
-    fn run(self) -> Result<(Pass<'a, Wide>, Counts), Refusal> {
-        let Fetching { rt, mut pass, from } = self;
+impl<'a, B: Room> Fetching<'a, B> {
+    fn run<R: Wait>(self, rt: &R) -> Result<(Pass<'a, Wide>, Counts), Refusal>
+        ensures { IfOk result (λ r. Some r.0.heap ≡ B.heap) }
+    {
+        let Fetching { mut pass, from } = self;
         let counts = fetch_all(rt, &mut pass, &from)?;
         Ok((pass, counts))
     }
@@ -120,8 +114,41 @@ struct Story {
     left: Option<u32>,
 }
 
+// Runs both, each in a thread of its own where one can be made.
+fn run_both<'a, R: Threads + Wait + Sync, B: Room + Send>(
+    rt: &R,
+    storing: Storing<'a, B>,
+    fetching: Fetching<'a, B>,
+) -> Result<(Shard<'a, Wide>, Pass<'a, Wide>, Counts), Refusal>
+    ensures owner { IfOk result (λ r. Some r.0.pages.owner.heap ≡ B.heap) }
+    ensures pass { IfOk result (λ r. Some r.1.heap ≡ B.heap) }
+{
+    let (owner, fetched) = thread::join(
+        rt,
+        move || -> Result<Shard<'_, Wide>, Refusal>
+            ensures { IfOk result (λ owner. Some owner.pages.owner.heap ≡ B.heap) }
+        { storing.run(rt) },
+        move || -> Result<(Pass<'_, Wide>, Counts), Refusal>
+            ensures { IfOk result (λ r. Some r.0.heap ≡ B.heap) }
+        { fetching.run(rt) },
+    );
+    let owner = owner?;
+    let (pass, counts) = fetched?;
+    Ok((owner, pass, counts))
+}
+
+// How many values the heap has, where all its passes have met.
+fn live(heap: &Heap<Wide>, passes: Vec<Pass<'_, Wide>>) -> Option<u32>
+    requires { AreOf heap.now passes.items }
+{
+    match gather(heap, passes) {
+        Ok(mut all) => Some(total(&mut all).live),
+        Err(_) => None,
+    }
+}
+
 fn share<'a, R: Threads + Wait + Sync, B: Room + Send>(
-    rt: &'a R,
+    rt: &R,
     alloc: Global,
     heap: &'a Heap<Wide>,
     passes: Vec<Pass<'a, Wide>>,
@@ -136,18 +163,16 @@ fn share<'a, R: Threads + Wait + Sync, B: Room + Send>(
     let mut back = Vec::with_capacity(alloc, 2)?;
     let owner = Shard::adopt(alloc, owner, 0)?;
     let (to, from) = bounded::<Message<B>, Global>(alloc, WAITING)?;
-    let (owner, fetched) = both(rt, Storing { rt, owner, to }, Fetching { rt, pass, from });
-    let (pass, counts) = fetched?;
-    back.push_reserved(owner?.leave()?);
+    let (owner, pass, counts) = run_both(rt, Storing { owner, to }, Fetching { pass, from })?;
+    back.push_reserved(owner.leave()?);
     back.push_reserved(pass);
-    let left = match gather(heap, back) {
-        Ok(mut all) => Some(total(&mut all).live),
-        Err(_) => None,
-    };
-    Ok(Story { counts, left })
+    Ok(Story {
+        counts,
+        left: live(heap, back),
+    })
 }
 
-fn run<R: Threads + Wait + Sync>(rt: &R, alloc: Global) -> Result<Story, Refusal> {
+fn run<R: Threads + Wait + Sync + 'static>(rt: &R, alloc: Global) -> Result<Story, Refusal> {
     // One shard, of one segment, and two passes.
     let shape = Shape::new(1, 1, 2)?;
     let (heap, seats) = Heap::<Wide>::open(alloc, shape)?;
