@@ -1,10 +1,9 @@
 //! What threads share: recent keys with receipts of their inserts, a clock, and whether to stop.
 use crate::home::{Home, Letter};
 use crate::moments::Moments;
-use crate::user::User;
 use std::alloc::{AllocError, Global};
 use std::sync::atomic::{AtomicBool, Ordering};
-use std::sync::{Mutex, Wait};
+use std::sync::{Mutex, MutexGuard, Wait};
 
 // How many keys stand on a board.
 const PLACES: u64 = 16;
@@ -45,17 +44,9 @@ impl<'r, R: Wait, H: Home> Board<'r, R, H> {
         self.place(number)?.lock(self.rt).replace(letter)
     }
 
-    /// The key at some place, once the user heeded its receipt. A receipt of the user's stands there then, which tells
-    /// as much.
-    pub fn look<U: User<Home = H>>(&self, number: u64, user: &mut U) -> Option<u64> {
-        let mut place = self.place(number)?.lock(self.rt);
-        let Letter { key, told } = place.take()?;
-        user.heed(told);
-        *place = Some(Letter {
-            key,
-            told: user.receipt(),
-        });
-        Some(key)
+    /// What stands at some place, for nobody else meanwhile.
+    pub fn look(&self, number: u64) -> Option<MutexGuard<'_, Option<Letter<H>>>> {
+        Some(self.place(number)?.lock(self.rt))
     }
 
     /// Asks all threads to end.

@@ -23,7 +23,7 @@ pub fn begin<'a, R: Wait, L: KeyLayout, H: Home>(
     dice: &mut Dice,
 ) -> Actor<'a, L, H> {
     record.counts.one(Count::Begun);
-    let key = board.look(dice.word(), &mut lone);
+    let key = lone.look(board, dice.word());
     let stopped = lone.begin();
     let moments = &board.moments;
     match (dice.below(8), key) {

@@ -1,12 +1,11 @@
 //! Turns on keys.
-use crate::board::Board;
+use crate::moments::Moments;
 use crate::turn::Turn;
 use crate::user::User;
 use crate::using;
 use sh_judge::dice::Dice;
 use sh_judge::record::Record;
 use sh_key::{KeyLayout, Parts};
-use std::sync::Wait;
 
 // The number of one of the holds, if there is one.
 fn some_hold(record: &Record, dice: &mut Dice) -> Option<u64> {
@@ -33,16 +32,15 @@ fn next_key<L: KeyLayout>(key: u64) -> u64 {
     }
 }
 
-/// Does a turn on keys. Others do nothing.
-pub fn take_turn<R: Wait, L: KeyLayout, U: User>(
+/// Does a turn on keys: one that somebody left, if there is one, or one that it holds. Others do nothing.
+pub fn take_turn<L: KeyLayout, U: User>(
     user: &mut U,
     record: &mut Record,
-    board: &Board<'_, R, U::Home>,
+    moments: &Moments,
     dice: &mut Dice,
     turn: Turn,
+    key: Option<u64>,
 ) {
-    let key = board.look(dice.word(), user);
-    let moments = &board.moments;
     let held = some_hold(record, dice);
     match (turn, key, held) {
         (Turn::Get, Some(key), _) => using::get(user, record, moments, key, false),

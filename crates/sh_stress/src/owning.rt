@@ -7,7 +7,6 @@ use crate::home::{Home, Letter};
 use crate::lone::Lone;
 use crate::moments::Moments;
 use crate::owner::Owner;
-use crate::user::User;
 use crate::using;
 use sh_judge::counts::Count;
 use sh_judge::dice::Dice;

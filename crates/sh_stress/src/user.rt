@@ -1,12 +1,8 @@
 //! The calls that every pass may make, whether it owns a shard or not.
-use crate::home::{Home, HomeReceipt};
 use sh_value::{Hold, Refusal, Value};
 
 /// One who gets, reads, removes and releases.
 pub trait User {
-    /// Names its heap.
-    type Home: Home;
-
     /// Takes a hold on a key.
     fn get(&mut self, key: u64) -> Result<Hold, Refusal>;
 
@@ -21,10 +17,4 @@ pub trait User {
 
     /// Gives a hold back.
     fn release(&mut self, hold: Hold) -> Result<(), Refusal>;
-
-    /// A receipt of all that it was answered, and of all that it heard of others.
-    fn receipt(&mut self) -> HomeReceipt<Self::Home>;
-
-    /// All that the receipt tells stands before what it is answered from now on.
-    fn heed(&mut self, told: HomeReceipt<Self::Home>);
 }

@@ -59,7 +59,9 @@ impl<'a, L: KeyLayout, H: Home> Worker<'a, L, H> {
             }
             Turn::Begin => by_hand::begin(lone, &mut self.record, board, dice),
             turn => {
-                keys::take_turn::<R, L, _>(&mut lone, &mut self.record, board, dice, turn);
+                let key = lone.look(board, dice.word());
+                let record = &mut self.record;
+                keys::take_turn::<L, _>(&mut lone, record, &board.moments, dice, turn, key);
                 Actor::Lone(lone)
             }
         }
@@ -79,7 +81,9 @@ impl<'a, L: KeyLayout, H: Home> Worker<'a, L, H> {
                 Actor::Owner(owner)
             }
             turn => {
-                keys::take_turn::<R, L, _>(&mut owner, &mut self.record, board, dice, turn);
+                let key = owner.look(board, dice.word());
+                let record = &mut self.record;
+                keys::take_turn::<L, _>(&mut owner, record, &board.moments, dice, turn, key);
                 Actor::Owner(owner)
             }
         }
