@@ -100,9 +100,10 @@ fn filling() -> Vec<Row> {
     [short, mixed].concat()
 }
 
-/// Gets beside more and more passes that are open, which the library alone has.
+/// What the library alone has: gets beside more and more passes that are open, and receipts.
 pub fn passes() -> Vec<Row> {
-    [2, 4, 16, 64].map(|passes| Row::new(Workload::Get, 1, 1_000_000).passes(passes)).to_vec()
+    let beside = [2, 4, 16, 64].map(|passes| Row::new(Workload::Get, 1, 1_000_000).passes(passes));
+    [&beside[..], &[Row::new(Workload::Heed, 1, 1_000_000)]].concat()
 }
 
 /// Shards of more and more pages that change hands, which of the rivals the model alone has.

@@ -4,6 +4,7 @@ use crate::ours;
 use crate::rival::Rival;
 use crate::rivals::{with_rival, Room, Task};
 use crate::row::Row;
+use crate::workload::Workload;
 use crate::workloads;
 use std::path::Path;
 
@@ -58,7 +59,7 @@ impl Side {
         match (self, row.workload.changes_hands()) {
             (Side::Model, true) => Some(changing::measure(row)),
             (_, true) => None,
-            (_, false) if row.passes > 1 => None,
+            (_, false) if row.passes > 1 || row.workload == Workload::Heed => None,
             (_, false) => with_rival(self, &room, Measures(row)),
         }
     }
@@ -75,13 +76,13 @@ impl Side {
 #[cfg(test)]
 mod tests {
     use super::*;
-    use crate::workload::Workload;
 
     #[test]
-    fn passes_and_owners_that_change_are_asked_of_those_alone_that_have_them() {
+    fn passes_receipts_and_owners_that_change_are_asked_of_those_alone_that_have_them() {
         let with = |row: Row| RIVALS.map(|side| side.rival_turn(&row).is_some());
         assert_eq!(with(Row::new(Workload::Get, 1, 10)), [true; 6]);
         assert_eq!(with(Row::new(Workload::Get, 1, 10).passes(2)), [false; 6]);
+        assert_eq!(with(Row::new(Workload::Heed, 1, 10)), [false; 6]);
         assert_eq!(with(Row::new(Workload::Adopt, 1, 10)), [false, false, false, false, false, true]);
     }
 

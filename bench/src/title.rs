@@ -57,6 +57,7 @@ impl Row {
             Workload::Hand => format!("producer and consumer, {words}"),
             Workload::Adopt => format!("adopt, {}", put_back(self)),
             Workload::Leave => format!("leave, {}", put_back(self)),
+            Workload::Heed => "give a receipt and heed it".to_string(),
         }
     }
 }
@@ -93,6 +94,7 @@ mod tests {
             (Row::new(Workload::Churn, 1, 9), "remove + insert, one value, 1 word"),
             (Row::new(Workload::Churn, 4, 9).live(2500), "churn, 10,000 live, 1 word"),
             (Row::new(Workload::Leave, 1, 9).live(47).freed(1), "leave, 1 page, 1 slot put"),
+            (Row::new(Workload::Heed, 1, 9), "give a receipt and heed it"),
         ];
         for (row, title) in table {
             assert_eq!(row.title(), title);

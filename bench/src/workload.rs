@@ -20,6 +20,8 @@ pub enum Workload {
     Hand,
     Adopt,
     Leave,
+    /// A pass gives a receipt and heeds it, which the library alone has.
+    Heed,
 }
 
 impl Workload {
@@ -39,6 +41,7 @@ impl Workload {
             Workload::Hand => "hand",
             Workload::Adopt => "adopt",
             Workload::Leave => "leave",
+            Workload::Heed => "heed",
         }
     }
 

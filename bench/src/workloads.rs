@@ -20,6 +20,7 @@ pub fn measure<H: Rival>(rival: &H, row: &Row) -> f64 {
         Workload::Hand => handing(rival, row),
         Workload::Insert | Workload::Fill | Workload::Remove | Workload::Churn => inserting(rival, row),
         Workload::Adopt | Workload::Leave => unreachable!("the model alone has owners that change"),
+        Workload::Heed => unreachable!("no rival has receipts"),
     };
     longest.as_nanos() as f64 / row.operations as f64
 }

@@ -136,9 +136,12 @@
 //! ```
 //!
 //! All that the receipt tells stands before whatever the pass is answered from then on, in each history, and the
-//! receipts that this pass gives tell of it too. `heard_comes_first` says what follows of keys, to be cited by proofs;
-//! `remove_then_get` shows it: who heard of a removal does not find the key any more. A receipt is of one heap, as a
-//! pass is, and `heed` asks that both are of the same. `copy` makes a second receipt for one more thread.
+//! receipts that this pass gives tell of it too. A receipt is of one heap, as a pass is, and `heed` asks that both are of
+//! the same. `copy` makes a second receipt for one more thread.
+//!
+//! `insert_told` and `fetch_told` do both ends, for a key and its receipt that go together; `crates/key_channel` sends
+//! such keys over a channel. `heard_comes_first` says what follows of keys, to be cited by proofs; `remove_then_get`
+//! shows it: who heard of a removal does not find the key any more.
 #![tactic(auto)]
 
 pub use sh_core::Accounts;
@@ -147,7 +150,7 @@ pub use sh_key::{Deep, KeyLayout, Tagged, Tiny, Wide};
 pub use sh_meet::{Task, all, both};
 pub use sh_pass::{Guard, Heap, Pass, Receipt, Seats, remove_then_get};
 pub use sh_plain::{Lookup, Store};
-pub use sh_readers::Reader;
+pub use sh_readers::{Reader, ToldKey, fetch_told, insert_told};
 pub use sh_shape::Shape;
 pub use sh_shard::Shard;
 pub use sh_table::heard_comes_first;

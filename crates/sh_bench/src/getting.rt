@@ -1,4 +1,4 @@
-//! Workloads of passes that own nothing: get and release, and get, read and release.
+//! Workloads of passes that own nothing: get and release, get, read and release, and receipts.
 ghost use Rattle.std.specs.Prelude.{◌≡◌, IfOk};
 
 use crate::gate::Gate;
@@ -90,6 +90,17 @@ fn read_each_guarded<L: KeyLayout>(pass: &mut Pass<'_, L>, keys: &[u64]) -> Resu
     Ok(sum)
 }
 
+// Gives a receipt for each key and heeds it. Answers the sum of the keys.
+fn heed_each<L: KeyLayout>(pass: &mut Pass<'_, L>, keys: &[u64]) -> u64 {
+    let mut sum = 0u64;
+    for key in keys {
+        let receipt = pass.receipt();
+        pass.heed(receipt);
+        sum = sum.wrapping_add(*key);
+    }
+    sum
+}
+
 fn use_each<L: KeyLayout>(
     pass: &mut Pass<'_, L>,
     keys: &[u64],
@@ -100,6 +111,7 @@ fn use_each<L: KeyLayout>(
         Workload::ReadInto => read_each_into(pass, keys),
         Workload::GetGuard => guard_each(pass, keys),
         Workload::ReadGuard => read_each_guarded(pass, keys),
+        Workload::Heed => Ok(heed_each(pass, keys)),
         _ => get_each(pass, keys),
     }
 }

@@ -25,7 +25,8 @@ fn measure_with<L: KeyLayout + Send + Sync, R: Threads + Clock + Sync>(
         | Workload::Read
         | Workload::ReadInto
         | Workload::GetGuard
-        | Workload::ReadGuard => getting::measure::<L, R>(rt, alloc, options),
+        | Workload::ReadGuard
+        | Workload::Heed => getting::measure::<L, R>(rt, alloc, options),
         Workload::Insert | Workload::Fill | Workload::Remove | Workload::Churn => {
             inserting::measure::<L, R>(rt, alloc, options)
         }

@@ -25,7 +25,7 @@ lettered first third fourth sixth =
     else if first == 105 then workload.Insert
     else if first == 102 then workload.Fill
     else if first == 99 then workload.Churn
-    else if first == 104 then workload.Hand
+    else if first == 104 then (if third == 101 then workload.Heed else workload.Hand)
     else if first == 97 then workload.Adopt
     else workload.Leave
 
@@ -45,6 +45,7 @@ back workload.Churn = refl
 back workload.Hand = refl
 back workload.Adopt = refl
 back workload.Leave = refl
+back workload.Heed = refl
 
 pub one_workload : (v w : Workload) → workload_name v ≡ workload_name w → v ≡ w
 one_workload v w same = sym (back v) ∙ ap workload_at same ∙ back w

@@ -21,7 +21,7 @@ use Rattle.sh_load.specs.Names.{layout_name, workload_name}
 abbrev pub all_workloads : List Workload
 all_workloads = workload.Get ∷ workload.Read ∷ workload.ReadInto ∷ workload.GetGuard ∷ workload.ReadGuard
     ∷ workload.Insert ∷ workload.Fill ∷ workload.Remove ∷ workload.Churn ∷ workload.Hand ∷ workload.Adopt
-    ∷ workload.Leave ∷ []
+    ∷ workload.Leave ∷ workload.Heed ∷ []
 
 abbrev pub all_layouts : List Layout
 all_layouts = layout.Wide ∷ layout.Tagged ∷ layout.Deep ∷ []

@@ -19,6 +19,7 @@ workload_name workload.Churn = codes "churn"
 workload_name workload.Hand = codes "hand"
 workload_name workload.Adopt = codes "adopt"
 workload_name workload.Leave = codes "leave"
+workload_name workload.Heed = codes "heed"
 
 -- the word names no workload
 abbrev pub IsNoWorkload : List ℕ → Type 0

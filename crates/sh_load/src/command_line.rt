@@ -231,6 +231,7 @@ pub fn options_of<'a>(alloc: Global, words: &'a [&'a str]) -> Result<Options, Er
         workload::name(Workload::Hand),
         workload::name(Workload::Adopt),
         workload::name(Workload::Leave),
+        workload::name(Workload::Heed),
     ];
     let layouts = [
         layout::name(Layout::Wide),

@@ -29,6 +29,8 @@ pub enum Workload {
     Adopt,
     /// An owner leaves its shard.
     Leave,
+    /// A pass gives a receipt and heeds it.
+    Heed,
 }
 
 /// How a workload is written.
@@ -48,6 +50,7 @@ pub fn name(workload: Workload) -> &'static str
         Workload::Hand => "hand",
         Workload::Adopt => "adopt",
         Workload::Leave => "leave",
+        Workload::Heed => "heed",
     }
 }
 
@@ -69,6 +72,7 @@ pub fn workload_named(word: &str) -> Option<Workload>
         "hand" => Some(Workload::Hand),
         "adopt" => Some(Workload::Adopt),
         "leave" => Some(Workload::Leave),
+        "heed" => Some(Workload::Heed),
         _ => None,
     }
 }

@@ -54,6 +54,7 @@ fn each_workload_has_its_name(rt: HostRuntime) -> Result<(), Fail> {
         ("hand", Workload::Hand),
         ("adopt", Workload::Adopt),
         ("leave", Workload::Leave),
+        ("heed", Workload::Heed),
     ];
     for (name, workload) in table {
         let options = options_of(rt.alloc(), &["sh_bench", name])?;

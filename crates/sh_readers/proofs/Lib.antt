@@ -1,2 +1,3 @@
-mod Holding
-mod Ending
+pub mod Ending
+pub mod Hearing
+pub mod Holding

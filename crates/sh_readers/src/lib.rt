@@ -7,5 +7,7 @@ mod pass;
 pub mod reader;
 mod shard;
 pub mod taking;
+pub mod telling;
 
 pub use reader::Reader;
+pub use telling::{ToldKey, fetch_told, insert_told};

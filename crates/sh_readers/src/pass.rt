@@ -1,7 +1,7 @@
 // A pass reads.
 use crate::reader::Reader;
 use sh_key::KeyLayout;
-use sh_pass::Pass;
+use sh_pass::{Pass, Receipt};
 use sh_value::{Hold, Refusal, Value};
 
 impl<L: KeyLayout> Reader for Pass<'_, L> {
@@ -42,5 +42,18 @@ impl<L: KeyLayout> Reader for Pass<'_, L> {
         let answer = Pass::release(self, hold);
         let _after = self.shape();
         answer
+    }
+
+    fn receipt(&mut self) -> Receipt {
+        let _before = self.shape();
+        let receipt = Pass::receipt(self);
+        let _after = self.shape();
+        receipt
+    }
+
+    fn heed(&mut self, receipt: Receipt) {
+        let _before = self.shape();
+        Pass::heed(self, receipt);
+        let _after = self.shape();
     }
 }

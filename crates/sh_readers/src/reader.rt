@@ -1,12 +1,14 @@
 //! What a pass and a shard have in common.
-ghost use Rattle.std.specs.Prelude.{ℕ, Result};
+ghost use Rattle.std.specs.Prelude.{◌≡◌, ℕ, Result};
 ghost use Rattle.sh_key.specs.Layout.{Layout};
 ghost use Rattle.sh_pass.specs.Passes.{Caller, GetDoes, ReadDoes, ReadIntoDoes, RemoveDoes, ReleaseDoes};
+ghost use Rattle.sh_pass.specs.Receipts.{heeded, receipt_by};
 ghost use Rattle.sh_readers.specs.Readers.{Remains, FetchDoes, WithDoes, TakeDoes};
 ghost use Rattle.std.specs.Fn.{FnOnceReturnsAt};
 
 use crate::fetching::{fetch, with};
 use crate::taking::take;
+use sh_pass::Receipt;
 use sh_value::{Hold, Refusal, Value};
 
 /// Who may look keys up: a pass, or a shard by its owner's pass.
@@ -16,7 +18,7 @@ use sh_value::{Hold, Refusal, Value};
 /// let value = pass.take(key)?;    // read and removed: no one else gets it by `take`
 /// ```
 ///
-/// The first five calls are those of `Pass` and of `Shard`, with the same contracts. `fetch` and `take` end what they
+/// The first seven calls are those of `Pass` and of `Shard`, with the same contracts. `fetch` and `take` end what they
 /// begin: whatever they answer, they leave the holds as they were.
 pub trait Reader {
     // How keys are numbered.
@@ -51,6 +53,18 @@ pub trait Reader {
     /// Gives one hold on a key back. Refused as `NotHeld`, exactly where there is none on the key.
     fn release(&mut self, hold: Hold) -> Result<(), Refusal>
         ensures does { ReleaseDoes layout hold.key (caller self.old) result (caller self.new) }
+        ensures remains { Remains layout (caller self.old) (caller self.new) };
+
+    /// A receipt of all that it was answered, and of all that it heard of others: one load.
+    fn receipt(&mut self) -> Receipt
+        ensures same { caller self.new ≡ caller self.old }
+        ensures tells { result ≡ receipt_by (caller self.old) }
+        ensures remains { Remains layout (caller self.old) (caller self.new) };
+
+    /// All that the receipt tells stands before what it is answered from now on: two loads.
+    fn heed(&mut self, receipt: Receipt)
+        requires { receipt.heap ≡ (caller self.old).heap }
+        ensures heeds { caller self.new ≡ heeded (caller self.old) receipt }
         ensures remains { Remains layout (caller self.old) (caller self.new) };
 
     /// The value of a key: a get, a read and a release in one, in at most w + 9 steps for w words. Refused as a get is:

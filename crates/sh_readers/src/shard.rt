@@ -1,6 +1,7 @@
 // A shard reads, by its owner's pass.
 use crate::reader::Reader;
 use sh_key::KeyLayout;
+use sh_pass::Receipt;
 use sh_shard::Shard;
 use sh_value::{Hold, Refusal, Value};
 
@@ -42,5 +43,18 @@ impl<L: KeyLayout> Reader for Shard<'_, L> {
         let answer = Shard::release(self, hold);
         let _after = self.shape();
         answer
+    }
+
+    fn receipt(&mut self) -> Receipt {
+        let _before = self.shape();
+        let receipt = Shard::receipt(self);
+        let _after = self.shape();
+        receipt
+    }
+
+    fn heed(&mut self, receipt: Receipt) {
+        let _before = self.shape();
+        Shard::heed(self, receipt);
+        let _after = self.shape();
     }
 }

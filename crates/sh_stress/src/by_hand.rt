@@ -3,6 +3,7 @@ use crate::actor::{Actor, Task};
 use crate::board::Board;
 use crate::home::Home;
 use crate::lone::Lone;
+use crate::moments::Moments;
 use crate::stopped::Stopped;
 use sh_judge::counts::Count;
 use sh_judge::dice::Dice;
@@ -12,21 +13,23 @@ use sh_judge::record::Record;
 use sh_key::KeyLayout;
 use sh_step::Action;
 use sh_value::Hold;
+use std::sync::Wait;
 
 /// Begins something by hand.
-pub fn begin<'a, L: KeyLayout, H: Home>(
-    lone: Lone<'a, L, H>,
+pub fn begin<'a, R: Wait, L: KeyLayout, H: Home>(
+    mut lone: Lone<'a, L, H>,
     record: &mut Record,
-    board: &Board,
+    board: &Board<'_, R, H>,
     dice: &mut Dice,
 ) -> Actor<'a, L, H> {
     record.counts.one(Count::Begun);
+    let key = lone.look(board, dice.word());
     let stopped = lone.begin();
-    let key = board.look(dice.word());
+    let moments = &board.moments;
     match (dice.below(8), key) {
-        (0, Some(key)) => get(stopped, record, board, key),
-        (1..4, _) => release(stopped, record, board),
-        (_, Some(key)) => remove(stopped, record, board, key),
+        (0, Some(key)) => get(stopped, record, moments, key),
+        (1..4, _) => release(stopped, record, moments),
+        (_, Some(key)) => remove(stopped, record, moments, key),
         _ => end(stopped, record),
     }
 }
@@ -35,15 +38,15 @@ pub fn begin<'a, L: KeyLayout, H: Home>(
 fn act<L: KeyLayout, H: Home>(
     stopped: &mut Stopped<'_, L, H>,
     record: &mut Record,
-    board: &Board,
+    moments: &Moments,
     action: &Action,
 ) -> Option<Span> {
-    let begin = board.moment();
+    let begin = moments.next();
     if !stopped.act(action) {
         return None;
     }
     record.counts.one(Count::Acts);
-    Some(board.since(begin))
+    Some(moments.since(begin))
 }
 
 // Enters the slot of a key, to get it. Where the pass can be had again at once, it has a hold; else it was refused, as
@@ -51,10 +54,10 @@ fn act<L: KeyLayout, H: Home>(
 fn get<'a, L: KeyLayout, H: Home>(
     mut stopped: Stopped<'a, L, H>,
     record: &mut Record,
-    board: &Board,
+    moments: &Moments,
     key: u64,
 ) -> Actor<'a, L, H> {
-    let Some(span) = act(&mut stopped, record, board, &Action::EnterGet(key)) else {
+    let Some(span) = act(&mut stopped, record, moments, &Action::EnterGet(key)) else {
         if !record.is_full() {
             record.unbegun(Call::Get);
         }
@@ -73,13 +76,13 @@ fn get<'a, L: KeyLayout, H: Home>(
 fn release<'a, L: KeyLayout, H: Home>(
     mut stopped: Stopped<'a, L, H>,
     record: &mut Record,
-    board: &Board,
+    moments: &Moments,
 ) -> Actor<'a, L, H> {
     let Some(held) = record.hold(0) else {
         return end(stopped, record);
     };
     let key = held.hold.key;
-    match act(&mut stopped, record, board, &Action::DropHold(key)) {
+    match act(&mut stopped, record, moments, &Action::DropHold(key)) {
         Some(span) => {
             record.counts.one(Count::Releases);
             record.tell(key, span, Told::Released);
@@ -94,10 +97,10 @@ fn release<'a, L: KeyLayout, H: Home>(
 fn remove<'a, L: KeyLayout, H: Home>(
     mut stopped: Stopped<'a, L, H>,
     record: &mut Record,
-    board: &Board,
+    moments: &Moments,
     key: u64,
 ) -> Actor<'a, L, H> {
-    match act(&mut stopped, record, board, &Action::EnterRemove(key)) {
+    match act(&mut stopped, record, moments, &Action::EnterRemove(key)) {
         Some(span) => Actor::Stopped(stopped, Task::Removing(key, span)),
         None => {
             record.unbegun(Call::Remove);
@@ -110,11 +113,11 @@ fn remove<'a, L: KeyLayout, H: Home>(
 fn mark<L: KeyLayout, H: Home>(
     stopped: &mut Stopped<'_, L, H>,
     record: &mut Record,
-    board: &Board,
+    moments: &Moments,
     key: u64,
     entered: Span,
 ) {
-    match act(stopped, record, board, &Action::Mark) {
+    match act(stopped, record, moments, &Action::Mark) {
         Some(span) => {
             record.counts.one(Count::Marks);
             record.tell(key, span, Told::Marked);
@@ -145,10 +148,10 @@ pub fn go_on<'a, L: KeyLayout, H: Home>(
     mut stopped: Stopped<'a, L, H>,
     task: Task,
     record: &mut Record,
-    board: &Board,
+    moments: &Moments,
 ) -> Actor<'a, L, H> {
     if let Task::Removing(key, entered) = task {
-        mark(&mut stopped, record, board, key, entered);
+        mark(&mut stopped, record, moments, key, entered);
         return Actor::Stopped(stopped, Task::Ending);
     }
     if stopped.go_on() {

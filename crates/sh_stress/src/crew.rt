@@ -4,11 +4,12 @@ use crate::home::Home;
 use crate::worker::Worker;
 use sh_judge::dice::Dice;
 use sh_key::KeyLayout;
+use std::sync::Wait;
 
 // One turn of one of the passes. False where something was found.
-fn turn<L: KeyLayout, H: Home>(
+fn turn<R: Wait, L: KeyLayout, H: Home>(
     workers: &mut [Worker<'_, L, H>],
-    board: &Board,
+    board: &Board<'_, R, H>,
     dice: &mut Dice,
 ) -> bool {
     let count = workers.len() as u64;
@@ -25,9 +26,9 @@ fn turn<L: KeyLayout, H: Home>(
 
 /// Passes take so many turns in one thread, in an order that the dice give, or as many as there are until somebody
 /// finds something.
-pub fn run<L: KeyLayout, H: Home>(
+pub fn run<R: Wait, L: KeyLayout, H: Home>(
     workers: &mut [Worker<'_, L, H>],
-    board: &Board,
+    board: &Board<'_, R, H>,
     dice: &mut Dice,
     steps: u64,
 ) {

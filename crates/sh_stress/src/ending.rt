@@ -1,7 +1,7 @@
 //! The end of a round: all that was begun is ended, all passes meet, and what they were answered is judged.
-use crate::board::Board;
 use crate::home::Home;
 use crate::lone::Lone;
+use crate::moments::Moments;
 use crate::worker::Worker;
 use sh_gather::{Whole, whole};
 use sh_judge::counts::{Count, Counts};
@@ -16,12 +16,16 @@ use sh_shape::{Shape, class_of};
 use std::alloc::Global;
 
 // Ends what was begun by hand, gives most holds back, and leaves each shard.
-fn settle<L: KeyLayout, H: Home>(workers: &mut [Worker<'_, L, H>], board: &Board, dice: &mut Dice) {
+fn settle<L: KeyLayout, H: Home>(
+    workers: &mut [Worker<'_, L, H>],
+    moments: &Moments,
+    dice: &mut Dice,
+) {
     for worker in workers.iter_mut() {
-        worker.end_by_hand(board);
+        worker.end_by_hand(moments);
     }
     for worker in workers.iter_mut() {
-        worker.release_most(board, dice);
+        worker.release_most(moments, dice);
     }
     for worker in workers.iter_mut() {
         worker.retire();
@@ -31,12 +35,12 @@ fn settle<L: KeyLayout, H: Home>(workers: &mut [Worker<'_, L, H>], board: &Board
 // Fills each shard with values of some length, and answers their class.
 fn fill<L: KeyLayout, H: Home>(
     workers: &mut [Worker<'_, L, H>],
-    board: &Board,
+    moments: &Moments,
     dice: &mut Dice,
 ) -> u32 {
     let len = dice.below(17) as usize;
     if let Some(worker) = workers.first_mut() {
-        worker.fill(board, len);
+        worker.fill(moments, len);
         worker.retire();
     }
     class_of(len).unwrap_or(0)
@@ -155,12 +159,12 @@ fn audit<L: KeyLayout>(
 /// Ends a round, and answers how often what was answered.
 pub fn ended<L: KeyLayout, H: Home>(
     alloc: Global,
-    board: &Board,
+    moments: &Moments,
     mut workers: Vec<Worker<'_, L, H>>,
     dice: &mut Dice,
 ) -> Result<Counts, Fault> {
-    settle(workers.as_mut_slice(), board, dice);
-    let class = fill(workers.as_mut_slice(), board, dice);
+    settle(workers.as_mut_slice(), moments, dice);
+    let class = fill(workers.as_mut_slice(), moments, dice);
     let mut counts = Counts::new();
     let (carrier, mut lines) = met(alloc, workers, &mut counts)?;
     let Ok(mut whole) = whole(carrier.into_pass()) else {

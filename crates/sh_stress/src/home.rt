@@ -1,5 +1,8 @@
 //! Names the heap of one round.
-use std::marker::Brand;
+ghost use Rattle.std.specs.Prelude.{◌≡◌, Some};
+
+use sh_pass::Receipt;
+use std::marker::{Brand, PhantomData};
 
 /// The heap of a round. Each round picks it, and all that has this name is of that heap.
 pub trait Home {
@@ -13,4 +16,39 @@ impl Home for Brand {
     ghost use Rattle.std.specs.Prelude.{None};
 
     ghost heap = { None };
+}
+
+/// A receipt of the heap that `H` names.
+#[derive(Drop)]
+pub struct HomeReceipt<H: Home> {
+    receipt: Receipt,
+    home: PhantomData<H>,
+    ghost at_home: { H.heap ≡ Some receipt.heap },
+}
+
+impl<H: Home> HomeReceipt<H> {
+    /// The receipt.
+    pub fn new(receipt: Receipt) -> Self
+        requires { H.heap ≡ Some receipt.heap }
+    {
+        HomeReceipt {
+            receipt,
+            home: PhantomData,
+        }
+    }
+
+    /// The receipt again.
+    pub fn into_receipt(self) -> Receipt
+        ensures { H.heap ≡ Some result.heap }
+    {
+        let HomeReceipt { receipt, home: _ } = self;
+        receipt
+    }
+}
+
+/// A key, with a receipt of whoever inserted it, or of one who heeded such a receipt.
+#[derive(Drop)]
+pub struct Letter<H: Home> {
+    pub key: u64,
+    pub told: HomeReceipt<H>,
 }

@@ -1,5 +1,5 @@
 //! Turns on keys.
-use crate::board::Board;
+use crate::moments::Moments;
 use crate::turn::Turn;
 use crate::user::User;
 use crate::using;
@@ -32,28 +32,28 @@ fn next_key<L: KeyLayout>(key: u64) -> u64 {
     }
 }
 
-/// Does a turn on keys. Others do nothing.
+/// Does a turn on keys: one that somebody left, if there is one, or one that it holds. Others do nothing.
 pub fn take_turn<L: KeyLayout, U: User>(
     user: &mut U,
     record: &mut Record,
-    board: &Board,
+    moments: &Moments,
     dice: &mut Dice,
     turn: Turn,
+    key: Option<u64>,
 ) {
-    let key = board.look(dice.word());
     let held = some_hold(record, dice);
     match (turn, key, held) {
-        (Turn::Get, Some(key), _) => using::get(user, record, board, key, false),
-        (Turn::Glance, Some(key), _) => using::glance(user, record, board, key),
+        (Turn::Get, Some(key), _) => using::get(user, record, moments, key, false),
+        (Turn::Glance, Some(key), _) => using::glance(user, record, moments, key),
         (Turn::Guess, Some(key), _) => {
-            using::get(user, record, board, next_key::<L>(key), true);
+            using::get(user, record, moments, next_key::<L>(key), true);
         }
-        (Turn::Remove, Some(key), _) => using::remove(user, record, board, key),
+        (Turn::Remove, Some(key), _) => using::remove(user, record, moments, key),
         (Turn::Read, _, Some(number)) => using::read(user, record, number),
-        (Turn::Release, _, Some(number)) => using::release(user, record, board, number),
+        (Turn::Release, _, Some(number)) => using::release(user, record, moments, number),
         (Turn::RemoveHeld, _, Some(number)) => {
             if let Some(held) = record.hold(number) {
-                using::remove(user, record, board, held.hold.key);
+                using::remove(user, record, moments, held.hold.key);
             }
         }
         _ => {}

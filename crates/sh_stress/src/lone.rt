@@ -1,7 +1,8 @@
 //! A pass that owns no shard.
 ghost use Rattle.std.specs.Prelude.{◌≡◌, Some};
 
-use crate::home::Home;
+use crate::board::Board;
+use crate::home::{Home, HomeReceipt, Letter};
 use crate::owner::Owner;
 use crate::stopped::Stopped;
 use crate::user::User;
@@ -11,6 +12,7 @@ use sh_shard::Shard;
 use sh_value::{Hold, Refusal, Value};
 use std::alloc::Global;
 use std::marker::PhantomData;
+use std::sync::Wait;
 
 /// A pass of the heap that `H` names.
 #[derive(Drop)]
@@ -55,6 +57,29 @@ impl<'a, L: KeyLayout, H: Home> Lone<'a, L, H> {
     /// Two passes meet: the first one now carries both tales.
     pub fn join(self, other: Self) -> Self {
         Lone::new(sh_gather::join(self.into_pass(), other.into_pass()))
+    }
+
+    /// A receipt of all that it was answered, and of all that it heard of others.
+    pub fn receipt(&mut self) -> HomeReceipt<H> {
+        HomeReceipt::new(self.pass.receipt())
+    }
+
+    /// All that the receipt tells stands before what it is answered from now on.
+    pub fn heed(&mut self, told: HomeReceipt<H>) {
+        self.pass.heed(told.into_receipt());
+    }
+
+    /// The key at some place of the board, once its receipt was heeded. A receipt of its own, which tells as much,
+    /// stands there then.
+    pub fn look<R: Wait>(&mut self, board: &Board<'_, R, H>, number: u64) -> Option<u64> {
+        let mut place = board.look(number)?;
+        let Letter { key, told } = place.take()?;
+        self.heed(told);
+        *place = Some(Letter {
+            key,
+            told: self.receipt(),
+        });
+        Some(key)
     }
 }
 

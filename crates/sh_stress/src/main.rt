@@ -16,6 +16,7 @@ mod ending;
 mod home;
 mod keys;
 mod lone;
+mod moments;
 mod options;
 mod owner;
 mod owning;
@@ -31,6 +32,7 @@ use std::alloc::{AllocError, Global};
 use std::io;
 use std::io::{ErrorKind, Write};
 use std::process::ExitCode;
+use std::sync::Wait;
 use std::thread::Threads;
 
 fn texts(alloc: Global, words: &[String]) -> Result<Vec<&str>, AllocError> {
@@ -41,7 +43,7 @@ fn texts(alloc: Global, words: &[String]) -> Result<Vec<&str>, AllocError> {
     Ok(texts)
 }
 
-fn start<T: Threads + Sync>(rt: &HostRuntime, threads: &T) -> io::Result<u8> {
+fn start<T: Threads + Wait + Sync>(rt: &HostRuntime, threads: &T) -> io::Result<u8> {
     let alloc = rt.alloc();
     let words: Vec<String> = std::env::args(rt)?.collect(alloc)?;
     let words = texts(alloc, words.as_slice())?;

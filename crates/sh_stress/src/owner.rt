@@ -1,13 +1,15 @@
 //! A pass that owns a shard.
 ghost use Rattle.std.specs.Prelude.{◌≡◌, Some};
 
-use crate::home::Home;
+use crate::board::Board;
+use crate::home::{Home, HomeReceipt, Letter};
 use crate::lone::Lone;
 use crate::user::User;
 use sh_key::KeyLayout;
 use sh_shard::Shard;
 use sh_value::{Hold, Refusal, Value};
 use std::marker::PhantomData;
+use std::sync::Wait;
 
 /// A shard of the heap that `H` names.
 #[derive(Drop)]
@@ -40,6 +42,29 @@ impl<'a, L: KeyLayout, H: Home> Owner<'a, L, H> {
             Ok(pass) => Ok(Lone::new(pass)),
             Err((shard, refusal)) => Err((Owner::new(shard), refusal)),
         }
+    }
+
+    /// A receipt of all that it was answered, and of all that it heard of others.
+    pub fn receipt(&mut self) -> HomeReceipt<H> {
+        HomeReceipt::new(self.shard.receipt())
+    }
+
+    /// All that the receipt tells stands before what it is answered from now on.
+    pub fn heed(&mut self, told: HomeReceipt<H>) {
+        self.shard.heed(told.into_receipt());
+    }
+
+    /// The key at some place of the board, once its receipt was heeded. A receipt of its own, which tells as much,
+    /// stands there then.
+    pub fn look<R: Wait>(&mut self, board: &Board<'_, R, H>, number: u64) -> Option<u64> {
+        let mut place = board.look(number)?;
+        let Letter { key, told } = place.take()?;
+        self.heed(told);
+        *place = Some(Letter {
+            key,
+            told: self.receipt(),
+        });
+        Some(key)
     }
 }
 

@@ -3,8 +3,9 @@ ghost use Rattle.std.specs.Prelude.{◌≤◌};
 
 use crate::actor::Actor;
 use crate::board::Board;
-use crate::home::Home;
+use crate::home::{Home, Letter};
 use crate::lone::Lone;
+use crate::moments::Moments;
 use crate::owner::Owner;
 use crate::using;
 use sh_judge::counts::Count;
@@ -16,6 +17,7 @@ use sh_judge::record::Record;
 use sh_key::KeyLayout;
 use sh_value::Refusal;
 use std::alloc::Global;
+use std::sync::Wait;
 
 // As many slots as the two segments of a shard may have.
 const MOST_SLOTS: u32 = 768;
@@ -66,15 +68,15 @@ pub fn leave<'a, L: KeyLayout, H: Home>(
 fn put<L: KeyLayout, H: Home>(
     owner: &mut Owner<'_, L, H>,
     record: &mut Record,
-    board: &Board,
+    moments: &Moments,
     len: usize,
 ) -> Option<u64>
     requires { len ≤ 16 }
 {
-    let begin = board.moment();
+    let begin = moments.next();
     let value = pattern::value(begin, len);
     let answer = owner.insert(&value);
-    let span = board.since(begin);
+    let span = moments.since(begin);
     match answer {
         Ok(key) => {
             record.counts.one(Count::Inserts);
@@ -92,19 +94,24 @@ fn put<L: KeyLayout, H: Home>(
     }
 }
 
-/// Inserts a value of any length and leaves its key on the board; the key that stood there is removed.
-pub fn insert<L: KeyLayout, H: Home>(
+/// Inserts a value of any length and leaves its key on the board, with a receipt; the key that stood there is removed.
+pub fn insert<R: Wait, L: KeyLayout, H: Home>(
     owner: &mut Owner<'_, L, H>,
     record: &mut Record,
-    board: &Board,
+    board: &Board<'_, R, H>,
     dice: &mut Dice,
 ) {
     let len = dice.below(17) as usize;
-    let Some(key) = put(owner, record, board, len) else {
+    let Some(key) = put(owner, record, &board.moments, len) else {
         return;
     };
-    if let Some(old) = board.leave(dice.word(), key) {
-        using::remove(owner, record, board, old);
+    let letter = Letter {
+        key,
+        told: owner.receipt(),
+    };
+    if let Some(old) = board.leave(dice.word(), letter) {
+        owner.heed(old.told);
+        using::remove(owner, record, &board.moments, old.key);
     }
 }
 
@@ -113,7 +120,7 @@ pub fn fill<'a, L: KeyLayout, H: Home>(
     alloc: Global,
     lone: Lone<'a, L, H>,
     record: &mut Record,
-    board: &Board,
+    moments: &Moments,
     shard: u64,
     len: usize,
 ) -> Actor<'a, L, H>
@@ -124,7 +131,7 @@ pub fn fill<'a, L: KeyLayout, H: Home>(
         return Actor::Moving;
     };
     for _ in 0..MOST_SLOTS {
-        if put(&mut owner, record, board, len).is_none() {
+        if put(&mut owner, record, moments, len).is_none() {
             break;
         }
     }

@@ -9,6 +9,7 @@ use sh_judge::fault::Fault;
 use sh_key::{Tiny, Wide};
 use std::alloc::Global;
 use std::io::Write;
+use std::sync::Wait;
 use std::thread::Threads;
 
 // After how many rounds progress is told.
@@ -42,7 +43,7 @@ fn plan(options: &Options, dice: &mut Dice) -> Plan {
 
 // Plays the round of this number: with a layout of which slots have few generations and holds, and with one of which
 // they have many, in turn.
-fn play_one<R: Threads + Sync>(
+fn play_one<R: Threads + Wait + Sync>(
     rt: &R,
     alloc: Global,
     options: &Options,
@@ -58,7 +59,7 @@ fn play_one<R: Threads + Sync>(
 }
 
 // Plays all rounds.
-fn play_all<E: Write, R: Threads + Sync>(
+fn play_all<E: Write, R: Threads + Wait + Sync>(
     rt: &R,
     alloc: Global,
     options: &Options,
@@ -89,7 +90,7 @@ fn report<E: Write>(options: &Options, round: u64, fault: Fault, errors: &mut E)
 
 /// Runs the program, and gives the exit status: 0 where nothing was found, 1 where something was, 2 for a mistake in
 /// the words, and 3 where memory or a write failed. The first word is the program's name.
-pub fn run<W: Write, E: Write, R: Threads + Sync>(
+pub fn run<W: Write, E: Write, R: Threads + Wait + Sync>(
     rt: &R,
     alloc: Global,
     words: &[&str],

@@ -17,6 +17,7 @@ use sh_shape::Shape;
 use sh_value::Refusal;
 use std::alloc::Global;
 use std::marker::Brand;
+use std::sync::Wait;
 use std::thread;
 use std::thread::Threads;
 
@@ -91,7 +92,7 @@ fn workers<'a, L: KeyLayout, H: Home>(
 }
 
 // A round on the heap that `H` names.
-fn worked<'a, L: KeyLayout + Send, H: Home + Send + Sync, R: Threads + Sync>(
+fn worked<'a, L: KeyLayout + Send, H: Home + Send + Sync, R: Threads + Wait + Sync>(
     rt: &R,
     alloc: Global,
     plan: &Plan,
@@ -102,7 +103,7 @@ fn worked<'a, L: KeyLayout + Send, H: Home + Send + Sync, R: Threads + Sync>(
     requires home { H.heap ≡ Some heap.now }
     requires seats { seats ≡ heap.now }
 {
-    let board = Board::new(alloc)?;
+    let board: Board<'_, R, H> = Board::new(rt, alloc)?;
     let lones: Vec<Lone<'a, L, H>> = at_home(alloc, heap, seats)?;
     let mut workers = workers(alloc, plan, lones)?;
     let steps = plan.steps;
@@ -116,11 +117,11 @@ fn worked<'a, L: KeyLayout + Send, H: Home + Send + Sync, R: Threads + Sync>(
             crew::run(part, &board, &mut dice, steps);
         },
     );
-    ending::ended(alloc, &board, workers, dice)
+    ending::ended(alloc, &board.moments, workers, dice)
 }
 
 /// Plays a round, and answers how often what was answered.
-pub fn play<L: KeyLayout + Send, R: Threads + Sync>(
+pub fn play<L: KeyLayout + Send, R: Threads + Wait + Sync>(
     rt: &R,
     alloc: Global,
     plan: &Plan,

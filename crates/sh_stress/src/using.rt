@@ -1,5 +1,5 @@
 //! Calls on keys, with what is noted of their answers.
-use crate::board::Board;
+use crate::moments::Moments;
 use crate::user::User;
 use sh_judge::counts::Count;
 use sh_judge::fault::Call;
@@ -8,10 +8,10 @@ use sh_judge::record::Record;
 use sh_value::{Hold, Refusal, Value};
 
 /// Takes a hold on a number, which may be no key where it was guessed.
-pub fn get<U: User>(user: &mut U, record: &mut Record, board: &Board, key: u64, guessed: bool) {
-    let begin = board.moment();
+pub fn get<U: User>(user: &mut U, record: &mut Record, moments: &Moments, key: u64, guessed: bool) {
+    let begin = moments.next();
     let answer = user.get(key);
-    let span = board.since(begin);
+    let span = moments.since(begin);
     match answer {
         Ok(hold) => record.got(hold, span),
         Err(Refusal::BadKey) if guessed => record.counts.one(Count::BadKeys),
@@ -36,11 +36,11 @@ fn not_got(record: &mut Record, key: u64, span: Span, refusal: Refusal) {
 }
 
 /// Takes a hold on a key by a guard, and reads by it.
-pub fn glance<U: User>(user: &mut U, record: &mut Record, board: &Board, key: u64) {
+pub fn glance<U: User>(user: &mut U, record: &mut Record, moments: &Moments, key: u64) {
     let mut value = Value::empty();
-    let begin = board.moment();
+    let begin = moments.next();
     let answer = user.glance(key, &mut value);
-    let span = board.since(begin);
+    let span = moments.since(begin);
     match answer {
         Ok(hold) => seen(record, hold, span, value),
         Err(refusal) => not_got(record, key, span, refusal),
@@ -57,10 +57,10 @@ fn seen(record: &mut Record, hold: Hold, span: Span, value: Value) {
 }
 
 /// Removes a key.
-pub fn remove<U: User>(user: &mut U, record: &mut Record, board: &Board, key: u64) {
-    let begin = board.moment();
+pub fn remove<U: User>(user: &mut U, record: &mut Record, moments: &Moments, key: u64) {
+    let begin = moments.next();
     let answer = user.remove(key);
-    let span = board.since(begin);
+    let span = moments.since(begin);
     match answer {
         Ok(()) => {
             record.counts.one(Count::Removes);
@@ -86,13 +86,13 @@ pub fn read<U: User>(user: &mut U, record: &mut Record, number: u64) {
 }
 
 /// Gives one of its holds back.
-pub fn release<U: User>(user: &mut U, record: &mut Record, board: &Board, number: u64) {
+pub fn release<U: User>(user: &mut U, record: &mut Record, moments: &Moments, number: u64) {
     let Some(held) = record.hold(number) else {
         return;
     };
-    let begin = board.moment();
+    let begin = moments.next();
     let answer = user.release(held.hold);
-    let span = board.since(begin);
+    let span = moments.since(begin);
     match answer {
         Ok(()) => {
             record.counts.one(Count::Releases);

@@ -5,6 +5,7 @@ use crate::actor::Actor;
 use crate::board::Board;
 use crate::home::Home;
 use crate::lone::Lone;
+use crate::moments::Moments;
 use crate::owner::Owner;
 use crate::turn::Turn;
 use crate::{by_hand, keys, owning, turn, using};
@@ -14,6 +15,7 @@ use sh_judge::record::Record;
 use sh_key::KeyLayout;
 use std::alloc::Global;
 use std::mem;
+use std::sync::Wait;
 
 // As many steps as something begun by hand has, and its end.
 const STEPS_BY_HAND: u32 = 9;
@@ -44,10 +46,10 @@ impl<'a, L: KeyLayout, H: Home> Worker<'a, L, H> {
     }
 
     // The turn of a pass that owns no shard.
-    fn lone_turn(
+    fn lone_turn<R: Wait>(
         &mut self,
         mut lone: Lone<'a, L, H>,
-        board: &Board,
+        board: &Board<'_, R, H>,
         dice: &mut Dice,
     ) -> Actor<'a, L, H> {
         match turn::of_lone(dice) {
@@ -57,17 +59,19 @@ impl<'a, L: KeyLayout, H: Home> Worker<'a, L, H> {
             }
             Turn::Begin => by_hand::begin(lone, &mut self.record, board, dice),
             turn => {
-                keys::take_turn::<L, _>(&mut lone, &mut self.record, board, dice, turn);
+                let key = lone.look(board, dice.word());
+                let record = &mut self.record;
+                keys::take_turn::<L, _>(&mut lone, record, &board.moments, dice, turn, key);
                 Actor::Lone(lone)
             }
         }
     }
 
     // The turn of an owner.
-    fn owner_turn(
+    fn owner_turn<R: Wait>(
         &mut self,
         mut owner: Owner<'a, L, H>,
-        board: &Board,
+        board: &Board<'_, R, H>,
         dice: &mut Dice,
     ) -> Actor<'a, L, H> {
         match turn::of_owner(dice) {
@@ -77,14 +81,16 @@ impl<'a, L: KeyLayout, H: Home> Worker<'a, L, H> {
                 Actor::Owner(owner)
             }
             turn => {
-                keys::take_turn::<L, _>(&mut owner, &mut self.record, board, dice, turn);
+                let key = owner.look(board, dice.word());
+                let record = &mut self.record;
+                keys::take_turn::<L, _>(&mut owner, record, &board.moments, dice, turn, key);
                 Actor::Owner(owner)
             }
         }
     }
 
     /// Takes a turn.
-    pub fn turn(&mut self, board: &Board, dice: &mut Dice) {
+    pub fn turn<R: Wait>(&mut self, board: &Board<'_, R, H>, dice: &mut Dice) {
         self.actor = match mem::replace(&mut self.actor, Actor::Moving) {
             Actor::Lone(lone) => self.lone_turn(lone, board, dice),
             Actor::Owner(owner) => self.owner_turn(owner, board, dice),
@@ -93,7 +99,7 @@ impl<'a, L: KeyLayout, H: Home> Worker<'a, L, H> {
                     self.record.counts.one(Count::Stands);
                     Actor::Stopped(stopped, task)
                 } else {
-                    by_hand::go_on(stopped, task, &mut self.record, board)
+                    by_hand::go_on(stopped, task, &mut self.record, &board.moments)
                 }
             }
             Actor::Moving => Actor::Moving,
@@ -101,11 +107,11 @@ impl<'a, L: KeyLayout, H: Home> Worker<'a, L, H> {
     }
 
     /// Ends what it began by hand.
-    pub fn end_by_hand(&mut self, board: &Board) {
+    pub fn end_by_hand(&mut self, moments: &Moments) {
         for _ in 0..STEPS_BY_HAND {
             self.actor = match mem::replace(&mut self.actor, Actor::Moving) {
                 Actor::Stopped(stopped, task) => {
-                    by_hand::go_on(stopped, task, &mut self.record, board)
+                    by_hand::go_on(stopped, task, &mut self.record, moments)
                 }
                 actor => actor,
             };
@@ -116,19 +122,19 @@ impl<'a, L: KeyLayout, H: Home> Worker<'a, L, H> {
     }
 
     // Gives back one of its holds.
-    fn release(&mut self, board: &Board, number: u64) {
+    fn release(&mut self, moments: &Moments, number: u64) {
         match &mut self.actor {
-            Actor::Lone(lone) => using::release(lone, &mut self.record, board, number),
-            Actor::Owner(owner) => using::release(owner, &mut self.record, board, number),
+            Actor::Lone(lone) => using::release(lone, &mut self.record, moments, number),
+            Actor::Owner(owner) => using::release(owner, &mut self.record, moments, number),
             _ => {}
         }
     }
 
     /// Gives back its holds, but for a few.
-    pub fn release_most(&mut self, board: &Board, dice: &mut Dice) {
+    pub fn release_most(&mut self, moments: &Moments, dice: &mut Dice) {
         for number in (0..self.record.holds()).rev() {
             if !dice.once_in(3) {
-                self.release(board, number);
+                self.release(moments, number);
             }
         }
     }
@@ -145,13 +151,13 @@ impl<'a, L: KeyLayout, H: Home> Worker<'a, L, H> {
     }
 
     /// Fills each shard, of which nobody owns one, with values of so many words.
-    pub fn fill(&mut self, board: &Board, len: usize)
+    pub fn fill(&mut self, moments: &Moments, len: usize)
         requires { len ≤ 16 }
     {
         for shard in 0..self.shards {
             self.actor = match mem::replace(&mut self.actor, Actor::Moving) {
                 Actor::Lone(lone) => {
-                    owning::fill(self.alloc, lone, &mut self.record, board, shard, len)
+                    owning::fill(self.alloc, lone, &mut self.record, moments, shard, len)
                 }
                 actor => actor,
             };

@@ -2,17 +2,18 @@
 ghost use Rattle.std.specs.Prelude.{◌≡◌};
 
 use super::{opened, owner_and_reader};
-use gearlongan::{Pass, Reader, Receipt, Refusal, Task, Value, Wide, both, remove_then_get};
+use gearlongan::{
+    Pass, Refusal, Task, ToldKey, Value, Wide, both, fetch_told, insert_told, remove_then_get,
+};
 use std::process::Abort;
 use std::test::Fail;
 
-// A key that was sent to a pass in another thread, with a receipt of what came before.
+// A key that was sent to a pass in another thread, with a receipt of its insert.
 #[derive(Drop)]
 struct Sent<'a> {
     pass: Pass<'a, Wide>,
-    key: u64,
-    receipt: Receipt,
-    ghost of_one_heap: { receipt.heap ≡ pass.heap },
+    told: ToldKey,
+    ghost of_one_heap: { told.receipt.heap ≡ pass.heap },
 }
 
 impl<'a> Task for Sent<'a> {
@@ -21,13 +22,8 @@ impl<'a> Task for Sent<'a> {
     ghost gives = { λ task output. output.0.heap ≡ task.pass.heap };
 
     fn run(self) -> (Pass<'a, Wide>, Result<Value, Refusal>) {
-        let Sent {
-            mut pass,
-            key,
-            receipt,
-        } = self;
-        pass.heed(receipt);
-        let value = pass.fetch(key);
+        let Sent { mut pass, told } = self;
+        let value = fetch_told(&mut pass, told);
         (pass, value)
     }
 }
@@ -36,25 +32,22 @@ impl<'a> Task for Sent<'a> {
 fn a_key_that_comes_with_a_receipt_is_found(rt: HostRuntime) -> Result<(), Fail> {
     let (heap, seats) = opened(&rt, rt.alloc(), 2);
     let (mut owner, pass) = owner_and_reader(&rt, rt.alloc(), &heap, seats);
-    let first = owner.insert(&Value::from(7))?;
-    let receipt = owner.receipt();
-    let sent = Sent {
-        pass,
-        key: first,
-        receipt,
-    };
-    let (pass, value) = sent.run();
+    let told = insert_told(&mut owner, &Value::from(7))?;
+    let ((pass, value), ()) = both(&rt, Sent { pass, told }, Idle);
     assert_eq!(rt; value, Ok(Value::from(7)));
-    let second = owner.insert(&Value::from(8))?;
-    let receipt = owner.receipt();
-    let sent = Sent {
-        pass,
-        key: second,
-        receipt,
-    };
-    let ((pass, value), ()) = both(&rt, sent, Idle);
-    assert_eq!(rt; value, Ok(Value::from(8)));
     drop(pass);
+    Ok(())
+}
+
+#[test]
+fn a_key_that_comes_with_a_receipt_is_gone_where_it_was_removed(
+    rt: HostRuntime,
+) -> Result<(), Fail> {
+    let (heap, seats) = opened(&rt, rt.alloc(), 2);
+    let (mut owner, mut pass) = owner_and_reader(&rt, rt.alloc(), &heap, seats);
+    let told = insert_told(&mut owner, &Value::from(7))?;
+    owner.remove(told.key)?;
+    assert_eq!(rt; fetch_told(&mut pass, told), Err(Refusal::Gone));
     Ok(())
 }
 
