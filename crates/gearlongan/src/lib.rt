@@ -70,8 +70,8 @@
 //! ```
 //!
 //! Each call answers a `Result`, whose `Refusal` says why it was not done and changes nothing. `?` takes a refusal out
-//! of all of them, also where it comes with what was to be used. A loop over a pass needs one line that says what stays,
-//! as in `crates/session_store`; `crates/gearlongan_tests` has an example of each call.
+//! of all of them, also where it comes with what was to be used. A loop over a pass needs one line that says what
+//! stays, as in `crates/session_store`; `crates/gearlongan_tests` has an example of each call.
 //!
 //! # The words
 //!
@@ -136,8 +136,8 @@
 //! ```
 //!
 //! All that the receipt tells stands before whatever the pass is answered from then on, in each history, and the
-//! receipts that this pass gives tell of it too. A receipt is of one heap, as a pass is, and `heed` asks that both are of
-//! the same. `copy` makes a second receipt for one more thread.
+//! receipts that this pass gives tell of it too. A receipt is of one heap, as a pass is, and `heed` asks that both are
+//! of the same. `copy` makes a second receipt for one more thread.
 //!
 //! `insert_told` and `fetch_told` do both ends, for a key and its receipt that go together; `crates/key_channel` sends
 //! such keys over a channel. `heard_comes_first` says what follows of keys, to be cited by proofs; `remove_then_get`
