@@ -103,9 +103,9 @@ fn played<S: Side + Send, B: Room + Send + Sync, R: Threads + Wait + Sync, G: Ga
 }
 
 /// Runs each pass's lines in a thread of its own, in the order of the script; a line that uses a name waits until it is
-/// bound. Answers the reply lines in the order of the script's lines, and the pass that carries the tale of all once
-/// all owners have left and all passes have met; none where an owner could not leave. `Io` where a thread can't be
-/// started.
+/// bound, and its entry stands behind the insert that bound it. Answers the reply lines in the order of the script's
+/// lines, and the pass that carries the tale of all once all owners have left and all passes have met; none where an
+/// owner could not leave. `Io` where a thread can't be started.
 pub fn threads_lines<S: Side + Send, R: Threads + Wait + Sync, G: Gate + Sync>(
     rt: &R,
     alloc: Global,
