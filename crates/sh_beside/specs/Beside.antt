@@ -27,7 +27,8 @@ abbrev pub unnamed : Run → Run
 unnamed run = record run { keys = run.keys ++ None ∷ [] }
 
 -- the value stands under a key of the heap's choice: one with a place in the shape, which was not given before
-pub record GivesKey (layout : Layout) (shape : Numbers) (run : Run) (words : List ℕ) (told : Answer) (next : Run) : Type 0
+pub record GivesKey (layout : Layout) (shape : Numbers) (run : Run) (words : List ℕ) (told : Answer)
+    (next : Run) : Type 0
   where
     pub key : ℕ
     pub placed : is_placed_key layout shape key ≡ true
@@ -54,7 +55,8 @@ WherePlaced layout shape (Err a) Does run told next = Does
 
 -- ---- Crowded
 
--- A key with so many holds is crowded for this get. To mode plain that is a key with as many holds as the layout allows.
+-- A key with so many holds is crowded for this get. To mode plain that is a key with as many holds as the layout
+-- allows.
 -- The running heap counts the passes too that are on their way to the slot, all but one of them at most.
 pub record IsLimit (layout : Layout) (run : Run) (limit : ℕ) : Type 0 where
   pub most : limit ≤ layout.guard_max
@@ -78,10 +80,13 @@ AsPlain layout shape run (call.Remove r) told next =
     WherePlaced layout shape (key_of run r) (CallDoes layout run (call.Remove r) told next) run told next
 AsPlain layout shape run c told next = CallDoes layout run c told next
 
--- A refusal that the running heap alone has, of what mode plain would do; the line then changes nothing. By the contracts
--- of passes and shards, which the answers of mode heap keep: Taken, where a step met an owner of the shard (that another
+-- A refusal that the running heap alone has, of what mode plain would do; the line then changes nothing. By the
+-- contracts
+-- of passes and shards, which the answers of mode heap keep: Taken, where a step met an owner of the shard (that
+-- another
 -- pass owns it by the lines before is not said, since no entry tells of owners); Memory, where room for what is kept of
--- pages was refused; Waiting, where others have begun to free slots of the shard; Full, where its pages have no slot for
+-- pages was refused; Waiting, where others have begun to free slots of the shard; Full, where its pages have no slot
+-- for
 -- such a value.
 abbrev pub RefusedAlone : Layout → Run → Call → Answer → Run → Type 0
 RefusedAlone layout run (call.Adopt shard) told next = (adopt_answer run shard ≡ answer.Done)
