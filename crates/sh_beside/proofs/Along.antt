@@ -140,7 +140,8 @@ module _ (layout : Layout) (shape : Numbers) (f : ℕ → ℕ) (one : (i j : ℕ
     abbrev Done : Type 0
     Done = Found run next (call.Insert words) a
 
-    refuses_too : (r : Refusal) → Replied (insert_attempt layout (own run) words) (own run).store (Err r) (own run).store
+    refuses_too : (r : Refusal) → Replied (insert_attempt layout (own run) words) (own run).store (Err r)
+        (own run).store
         → a ≡ answer.Refused r → next ≡ unnamed run → Done
     refuses_too r replied is same =
         let p : own next ≡ unnamed (own run) = ap own same ∙ own_unnamed run in
@@ -244,7 +245,8 @@ module _ (layout : Layout) (shape : Numbers) (f : ℕ → ℕ) (one : (i j : ℕ
   bound_is : (o : Option (Option ℕ)) (key : ℕ) → bound_key o ≡ Ok key → o ≡ Some (Some key)
   bound_is None key e = absurd (let z : Err answer.Unbound ≡ Ok key = e in let w : ⊥ = cc in w)
   bound_is (Some None) key e = absurd (let z : Err answer.Unbound ≡ Ok key = e in let w : ⊥ = cc in w)
-  bound_is (Some (Some k)) key e = let same : k ≡ key = (let z : Ok k ≡ Ok key = e in cc) in ap (λ (x : ℕ). Some (Some x)) same
+  bound_is (Some (Some k)) key e = let same : k ≡ key = (let z : Ok k ≡ Ok key =
+      e in cc) in ap (λ (x : ℕ). Some (Some x)) same
 
   module _ (run next : Run) (i : ℕ) (a : Answer) (keys : KeysAre run.keys) where
     abbrev pub meant : Result ℕ Answer

@@ -107,7 +107,8 @@ module _ (layout : Layout) (shape : Numbers) (f : ℕ → ℕ) (one : (i j : ℕ
             rw q (t.0, ap own t.1)
 
     read_same : read_answer (own run).store (f key) ≡ read_answer run.store key
-    read_same = λ j. ok_or (cond (nat_lt 0 (same_holds_by f one es run.store.pass key j)) (same_value f one es key j) None)
+    read_same = λ j. ok_or (cond (nat_lt 0 (same_holds_by f one es run.store.pass key j))
+        (same_value f one es key j) None)
         refusal.NotHeld
 
   pub remove_along : WherePlaced layout shape meant (Tells (remove_reply layout) run meant a next) run a next
@@ -116,7 +117,8 @@ module _ (layout : Layout) (shape : Numbers) (f : ℕ → ℕ) (one : (i j : ℕ
     where
       at : (k : Result ℕ Answer) → meant ≡ k
           → WherePlaced layout shape k (Tells (remove_reply layout) run k a next) run a next
-      at k e = subst (λ (x : Result ℕ Answer). WherePlaced layout shape x (Tells (remove_reply layout) run x a next) run a
+      at k e = subst (λ (x : Result ℕ Answer). WherePlaced layout shape x (Tells
+          (remove_reply layout) run x a next) run a
           next) e h
 
       go : (k : Result ℕ Answer) → meant ≡ k → Found layout shape f one run next (call.Remove (reference.Name i)) a

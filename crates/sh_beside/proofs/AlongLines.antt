@@ -1,6 +1,8 @@
--- A line beside mode plain is one along with mode plain's own run, where the keys of a history have the numbers in which
+-- A line beside mode plain is one along with mode plain's own run, where the keys of a history have the numbers in
+-- which
 -- they were given.
-use Rattle.std.proofs.Common.{◌≡◌, ℕ, ◌+◌, Bool, true, false, cond, List, [], ◌∷◌, ◌++◌, refl, ap, sym, ◌∙◌, subst, arith}
+use Rattle.std.proofs.Common.{◌≡◌, ℕ, ◌+◌, Bool, true, false, cond, List, [], ◌∷◌, ◌++◌, refl, ap, sym, ◌∙◌, subst}
+use Rattle.std.proofs.Common.{arith}
 use Rattle.std.proofs.Common.{append_assoc, inl, inr, Option, None, slice_set}
 use Rattle.std.specs.Prelude.{nat_le}
 use Rattle.sh_key.specs.Layout.{Layout, first_key}
@@ -67,7 +69,10 @@ module _ (layout : Layout) (shape : Numbers) (f : ℕ → ℕ) (one : (i j : ℕ
   keys_refused call.Post h = absurd h
   keys_refused (call.Wait i) h = absurd h
 
-  adopted : (b c : Bool) → (cond b run (cond c run (record run { owners = slice_set run.owners run.store.pass true }))).keys
+  adopted : (b c : Bool) → (cond b run (cond c run (record run {
+    owners =
+        slice_set run.owners run.store.pass true;
+  }))).keys
       ≡ run.keys
   adopted true c = refl
   adopted false true = refl
@@ -98,7 +103,8 @@ module _ (layout : Layout) (shape : Numbers) (f : ℕ → ℕ) (one : (i j : ℕ
   call_along (call.Read (reference.Key n)) named (inl h) number = absurd named
   call_along (call.Remove (reference.Name i)) named (inl h) number = remove_along layout shape f one run next i a keys h
   call_along (call.Remove (reference.Key n)) named (inl h) number = absurd named
-  call_along (call.Release (reference.Name i)) named (inl h) number = release_along layout shape f one run next i a keys h
+  call_along (call.Release (reference.Name i)) named (inl h) number =
+      release_along layout shape f one run next i a keys h
   call_along (call.Release (reference.Key n)) named (inl h) number = absurd named
   call_along call.Post named (inl h) number = record {
     along = post_along layout shape f one run next a h;

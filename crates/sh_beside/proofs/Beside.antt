@@ -50,7 +50,11 @@ told_below history parts (suc n) h q below =
 
 nobody_owns : (terms : RunTerms) (tag : Option ℕ) (heap : Option Heap)
     → OwnersAre terms tag (replicate 64 false) (new_part heap)
-nobody_owns terms tag heap = record { few = length-replicate 64 false; each = λ q below. get_or-replicate 64 q false false below }
+nobody_owns terms tag heap = record {
+  few = length-replicate 64 false;
+  each =
+      λ q below. get_or-replicate 64 q false false below;
+}
 
 new_pass_knows : (terms : RunTerms) (tag : Option ℕ) (heap : Option Heap) → IfSome heap (λ h. h.shape ≡ terms.shape)
     → KnowsEach terms tag (new_part heap)
@@ -69,7 +73,8 @@ lines_walked heap terms tag lines output tale told shape some few room below hol
     let logs : LogsAre terms told.replies.after.parts history =
     told_below history told.replies.after.parts terms.shape.passes
     (subst (HasAllLogs history) told.tale_is told.whole.has) in
-    walk terms tag room some few history lines told.replies.answers _ told.replies.after [] history 0 (replicate 64 false)
+    walk terms tag room some few history lines told.replies.answers _ told.replies.after [] history 0
+    (replicate 64 false)
     [] told.replies.ran told.whole.legal logs (told.in_order refl) below (nobody_owns terms tag heap) tt
     (none_issued terms.layout) (new_pass_knows terms tag heap shape) holds refl
 

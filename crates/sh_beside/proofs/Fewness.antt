@@ -118,7 +118,8 @@ module _ (layout : Layout) (shape : Numbers) (lawful : IsLayout layout) (is_shap
 
   along : (done es : List Event) → FewAlong layout.guard_max (run plan done).log
       → FewAlong layout.guard_max (run plan (done ++ es)).log
-  along done [] few = subst (λ (es : List Event). FewAlong layout.guard_max (run plan es).log) (sym (append-nil done)) few
+  along done [] few = subst (λ (es : List Event). FewAlong layout.guard_max (run plan es).log) (sym
+      (append-nil done)) few
   along done (e ∷ es) few = subst (λ (es : List Event). FewAlong layout.guard_max (run plan es).log)
       (append_assoc done (e ∷ []) es) (along (done ++ e ∷ []) es (begun done few e))
 

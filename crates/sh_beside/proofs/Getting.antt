@@ -38,7 +38,8 @@ use Rattle.sh_beside.proofs.Steps.{state, Ready, Stepped, stays, allowed_last, s
 
 -- ---- what the history says of a key
 
-pub present_here : (es : List Entry) (key : ℕ) (value : List ℕ) → value_of es key ≡ Some value → is_removed es key ≡ false
+pub present_here : (es : List Entry) (key : ℕ) (value : List ℕ) → value_of es key ≡ Some value
+    → is_removed es key ≡ false
     → present_value es key ≡ Some value
 present_here es key value e f = rw (f, e) refl
 
@@ -123,7 +124,8 @@ module _ (terms : RunTerms) (tag : Option ℕ) (pass : ℕ) (v w : PassPart) (be
   no_key_said : (b : Answer) → meant ≡ Err b → key_meant tag (number_bound numbers (name_referred r)) r ≡ Err b
       → a ≡ b → w ≡ v → Done
   no_key_said b e f is same =
-      let unmoved = still b is (no_key is_done_gone_or_crowded refl refl tag (number_bound numbers (name_referred r)) r b f)
+      let unmoved = still b is (no_key is_done_gone_or_crowded refl refl tag (number_bound numbers
+      (name_referred r)) r b f)
       in
       says (ap (λ (p : PassPart). p.shard) same) (issued_same terms.layout before after unmoved ready.issued)
       (subst Says (sym e) (record { limit = many; is_limit = within; tells = (is, same_next unmoved) }))
@@ -165,7 +167,10 @@ module _ (terms : RunTerms) (tag : Option ℕ) (pass : ℕ) (v w : PassPart) (be
 
         -- what it answers where there is room for a hold
         abbrev Got_so : ℕ → Option (List ℕ) → Type 0
-        Got_so limit o = (a ≡ done_answer (got_reply (record terms.layout { guard_max = limit }) run.store key o).answer)
+        Got_so limit o = (a ≡ done_answer (got_reply (record terms.layout {
+          guard_max =
+              limit;
+        }) run.store key o).answer)
             × (next ≡ record run {
               store = with_added run.store
                   (got_reply (record terms.layout { guard_max = limit }) run.store key o).adds;
@@ -183,7 +188,8 @@ module _ (terms : RunTerms) (tag : Option ℕ) (pass : ℕ) (v w : PassPart) (be
             let it = got_is pass key h.1.0 g.0 h.1.1 (added_agrees pass v.log h.1.0 w.log before after
             (ap (λ (p : PassPart). p.log) h.1.2) g ready.log_after) in
             let at : after ≡ before ++ Got pass key it.0 ∷ [] = g.1 ∙ ap (λ (x : Entry). before ++ x ∷ []) it.1 in
-            let ok = allowed_last terms.shape.passes terms.layout.guard_max before after (Got pass key it.0) at ready.legal
+            let ok = allowed_last terms.shape.passes terms.layout.guard_max before after
+            (Got pass key it.0) at ready.legal
             in
             let room = room_before terms.layout.guard_max before pass key it.0 ready.few
             (subst (FewHolds terms.layout.guard_max) at ready.few_after) in
@@ -192,13 +198,18 @@ module _ (terms : RunTerms) (tag : Option ℕ) (pass : ℕ) (v w : PassPart) (be
             (subst (AreIssued terms.layout) (sym at)
             (issued_other terms.layout before (Got pass key it.0) refl ready.issued))
             many within
-            (by_value many (Some it.0) (present_here before key it.0 ok.0 ok.1) (rw few (is, one_more (Got pass key it.0) at)))
+            (by_value many (Some it.0) (present_here before key it.0 ok.0 ok.1) (rw few (
+              is,
+              one_more
+                  (Got pass key it.0) at,
+            )))
         got (Err refusal.Gone) is h =
             let g = grown (answer.Refused refusal.Gone) is refl in
             let it : g.0 ≡ Gone pass key = added_agrees pass v.log (Known (Gone pass key)) w.log before after
             (ap (λ (p : PassPart). p.log) h) g ready.log_after in
             let at : after ≡ before ++ Gone pass key ∷ [] = g.1 ∙ ap (λ (x : Entry). before ++ x ∷ []) it in
-            let ok = allowed_last terms.shape.passes terms.layout.guard_max before after (Gone pass key) at ready.legal in
+            let ok = allowed_last terms.shape.passes terms.layout.guard_max before after
+            (Gone pass key) at ready.legal in
             placed (ap (λ (p : PassPart). p.shard) h)
             (subst (AreIssued terms.layout) (sym at)
             (issued_other terms.layout before (Gone pass key) refl ready.issued)) many within
@@ -208,7 +219,8 @@ module _ (terms : RunTerms) (tag : Option ℕ) (pass : ℕ) (v w : PassPart) (be
             let it : g.0 ≡ Crowded pass key = added_agrees pass v.log (Known (Crowded pass key)) w.log before after
             (ap (λ (p : PassPart). p.log) h) g ready.log_after in
             let at : after ≡ before ++ Crowded pass key ∷ [] = g.1 ∙ ap (λ (x : Entry). before ++ x ∷ []) it in
-            let ok = allowed_last terms.shape.passes terms.layout.guard_max before after (Crowded pass key) at ready.legal
+            let ok = allowed_last terms.shape.passes terms.layout.guard_max before after
+            (Crowded pass key) at ready.legal
             in
             let has = some_value (value_of before key) ok.0 in
             let full : nat_le (holds_on before key) (holds_on before key) ≡ true = grind (arith, nat_tests) in
@@ -225,7 +237,8 @@ module _ (terms : RunTerms) (tag : Option ℕ) (pass : ℕ) (v w : PassPart) (be
       where
         room : (f : is_placed_key terms.layout terms.shape key ≡ true) (c : Bool)
             → nat_le 16 (logged_hold_count v.log pass) ≡ c
-            → UnlessRefused (cond c (Some refusal.HoldsFull) None) h.result (Becomes v w) (HoldGot pass v key h.result w)
+            → UnlessRefused (cond c (Some refusal.HoldsFull) None) h.result (Becomes v w)
+            (HoldGot pass v key h.result w)
             → Done
         room f true g d = full f g (h.is ∙ ap done_answer d.0) d.1
         room f false g d = got f g h.result h.is d
@@ -242,8 +255,10 @@ module _ (terms : RunTerms) (tag : Option ℕ) (pass : ℕ) (v w : PassPart) (be
       go : (k : Result ℕ Answer) → meant ≡ k
           → key_meant tag (number_bound numbers (name_referred r)) r ≡ meant → Done
       go (Err b) e f =
-          let d = subst (λ (z : Result ℕ Answer). OnKey z v (λ key. AnswerSays done_answer (GetAnswers terms pass v key)) a w)
+          let d = subst (λ (z : Result ℕ Answer). OnKey z v (λ key. AnswerSays done_answer
+          (GetAnswers terms pass v key)) a w)
           (f ∙ e) h in no_key_said b e (f ∙ e) d.0 d.1
       go (Ok key) e f =
-          let d = subst (λ (z : Result ℕ Answer). OnKey z v (λ key. AnswerSays done_answer (GetAnswers terms pass v key)) a w)
+          let d = subst (λ (z : Result ℕ Answer). OnKey z v (λ key. AnswerSays done_answer
+          (GetAnswers terms pass v key)) a w)
           (f ∙ e) h in on_key key e d

@@ -1,5 +1,6 @@
 -- The holds of a pass by its log are those by the history.
-use Rattle.std.proofs.Common.{◌≡◌, ℕ, ◌-◌, ◌==◌, ◌&&◌, Bool, true, false, cond, List, [], ◌∷◌, refl, ap, ◌∙◌, sym, arith}
+use Rattle.std.proofs.Common.{◌≡◌, ℕ, ◌-◌, ◌==◌, ◌&&◌, Bool, true, false, cond, List, [], ◌∷◌, refl, ap, ◌∙◌, sym}
+use Rattle.std.proofs.Common.{arith}
 use Rattle.std.specs.Prelude.{count_by, filter}
 use Rattle.std.specs.List.{AllZip}
 use Rattle.sh_history.specs.declared.entry.Entry.{Entry}
@@ -113,6 +114,7 @@ module _ (a : ℕ) (log : List LogEntry) (es : List Entry) (agrees : AllZip Agre
 
     pub same_hold_count : logged_hold_count log a ≡ hold_count es a
     same_hold_count =
-        let got = told_count a (is_logged_got_from a) (is_got_from a) (same_got_from a) (got_from_own a) log es agrees in
+        let got = told_count a (is_logged_got_from a) (is_got_from a) (same_got_from a)
+        (got_from_own a) log es agrees in
         let gone = told_count a (is_logged_release_from a) (is_release_from a) (same_release_from a)
         (release_from_own a) log es agrees in (λ i. got i - gone i)

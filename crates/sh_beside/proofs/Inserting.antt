@@ -79,7 +79,8 @@ module _ (terms : RunTerms) (tag : Option ℕ) (pass : ℕ) (v w : PassPart) (be
   both_refuse : (r : Refusal) → (insert_attempt terms.layout run words).answer ≡ Err r → a ≡ answer.Refused r
       → w.shard ≡ v.shard → Done
   both_refuse r plain is same = refused r is same (λ still. inl (subst (λ (x : Result ℕ Refusal).
-      InsertsBeside terms.layout terms.shape run words x a (state terms tag after pass owners (keys ++ None ∷ []))) (sym plain)
+      InsertsBeside terms.layout terms.shape run words x a (state terms tag after pass owners (keys ++ None ∷ [])))
+      (sym plain)
       (is, unnamed_is still)))
 
   attempt_long : nat_lt 16 (length words) ≡ true
@@ -101,7 +102,8 @@ module _ (terms : RunTerms) (tag : Option ℕ) (pass : ℕ) (v w : PassPart) (be
   inserted few own e (Ok key) is h served =
       let has_place = placed_key terms.shape terms.layout own words v.stands key w.stands
       (subst (λ (o : Option ℕ). InsertServed terms.layout o words v.stands (Ok key) w.stands) e served) ready.knows in
-      let grown : Grown true pass before after = subst (λ (x : Answer). Grown (is_key x) pass before after) is ready.grown
+      let grown : Grown true pass before after = subst (λ (x : Answer). Grown
+      (is_key x) pass before after) is ready.grown
       in
       let entry : grown.0 ≡ Insert pass key words = added_agrees pass v.log (Known (Insert pass key words)) w.log before
       after (ap (λ (p : PassPart). p.log) h.1) grown ready.log_after in
@@ -129,7 +131,8 @@ module _ (terms : RunTerms) (tag : Option ℕ) (pass : ℕ) (v w : PassPart) (be
         names = subst (λ (x : Answer). AreNames tag (keys ++ Some key ∷ []) (with_number numbers (call.Insert words) x))
             (sym is) (one_more_name tag keys numbers (Some key) (Some (shown tag key)) ready.names
             (shown_is terms.layout tag key room h.0.small));
-        issued = subst (AreIssued terms.layout) (sym at) (issued_more terms.layout before ready.issued pass key words of_it
+        issued = subst (AreIssued terms.layout) (sym at) (issued_more terms.layout before ready.issued pass key words
+            of_it
             new);
       }
   inserted few own e (Err refusal.Full) is h served = refused refusal.Full is (shard_kept v w h)

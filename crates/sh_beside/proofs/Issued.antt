@@ -127,7 +127,8 @@ module _ (layout : Layout) (es : List Entry) (h : AreIssued layout es) (p key : 
     small = more_small;
     others = λ k few none.
         neither (eqb (k - first_key layout) (key - first_key layout)) (list_any (eqb (k - first_key layout)) h.places)
-        (ne_eqb (k - first_key layout) (key - first_key layout) (λ (same : k - first_key layout ≡ key - first_key layout).
+        (ne_eqb (k - first_key layout) (key - first_key layout) (λ
+        (same : k - first_key layout ≡ key - first_key layout).
         other_key k none (let f = from_first in omega (arith, same, few, f))))
         (h.others k few (none_before es (Insert p key value) k none));
   }

@@ -72,7 +72,8 @@ module _ (terms : RunTerms) (tag : Option ℕ) (pass : ℕ) (v w : PassPart) whe
   inserts words (Err refusal.Memory) e = same_log v w e
   inserts words (Err _) e = absurd e
 
-  gets : (key : ℕ) (r : Result Hold Refusal) → HoldGot pass v key r w → More v w (is_done_gone_or_crowded (done_answer r))
+  gets : (key : ℕ) (r : Result Hold Refusal) → HoldGot pass v key r w
+      → More v w (is_done_gone_or_crowded (done_answer r))
   gets key (Ok hold) h = entry_more v w h.1.0 h.1.2
   gets key (Err refusal.Gone) e = entry_more v w _ e
   gets key (Err refusal.Crowded) e = entry_more v w _ e
@@ -82,7 +83,8 @@ module _ (terms : RunTerms) (tag : Option ℕ) (pass : ℕ) (v w : PassPart) whe
   reads key (Ok value) h = inr (key, value, ap (λ (p : PassPart). p.log) h.0)
   reads key (Err _) e = absurd e
 
-  releases : (key : ℕ) (r : Result (Unit {0}) Refusal) → HoldReleased pass v key r w → More v w (is_done (done_answer r))
+  releases : (key : ℕ) (r : Result (Unit {0}) Refusal) → HoldReleased pass v key r w
+      → More v w (is_done (done_answer r))
   releases key (Ok x) e = entry_more v w _ e
   releases key (Err _) e = absurd e
 
@@ -98,8 +100,10 @@ same_refusal x e h = cc
 
 get_first : (b c : Bool) (e : Refusal) → cond b (Some refusal.BadKey) (cond c (Some refusal.HoldsFull) None) ≡ Some e
     → is_done_gone_or_crowded (answer.Refused e) ≡ false
-get_first true c e h = subst (λ z. is_done_gone_or_crowded (answer.Refused z) ≡ false) (same_refusal refusal.BadKey e h) refl
-get_first false true e h = subst (λ z. is_done_gone_or_crowded (answer.Refused z) ≡ false) (same_refusal refusal.HoldsFull e h) refl
+get_first true c e h = subst (λ z. is_done_gone_or_crowded (answer.Refused z) ≡ false)
+    (same_refusal refusal.BadKey e h) refl
+get_first false true e h = subst (λ z. is_done_gone_or_crowded (answer.Refused z) ≡ false)
+    (same_refusal refusal.HoldsFull e h) refl
 get_first false false e h = absurd (let z : None ≡ Some e = h in cc)
 
 remove_first : (b : Bool) (e : Refusal) → cond b None (Some refusal.BadKey) ≡ Some e

@@ -51,7 +51,8 @@ read_here : (pass key : ℕ) (value given : List ℕ) (x : LogEntry) (e : Entry)
     → Agrees x e → HasValue key value x → HasValue key given (Known e) → value ≡ given
 read_here pass key value given (Known f) (Got p k u) is agrees has has_given =
     let same = both p pass k key is in
-    let at : HasValue key value (Known (Got p k u)) = subst (λ (z : Entry). HasValue key value (Known z)) (sym agrees) has
+    let at : HasValue key value (Known (Got p k u)) = subst (λ (z : Entry). HasValue key value (Known z))
+    (sym agrees) has
     in sym (at same.1) ∙ has_given same.1
 read_here pass key value given (Unread q j) (Got p k u) is agrees has has_given =
     absurd (has (key_got agrees.0 (sym agrees.1) ∙ (both p pass k key is).1))
@@ -83,7 +84,8 @@ value_read pass key value given (x ∷ log) (e ∷ es) agrees has has_given some
 
 -- what is read of a held key is its value
 read_is : (passes guard_max pass key : ℕ) (value : List ℕ) (log : List LogEntry) (es : List Entry)
-    → Legal passes guard_max es → LogIs pass log es → AllHaveValue key value log → nat_lt 0 (holds_by es pass key) ≡ true
+    → Legal passes guard_max es → LogIs pass log es → AllHaveValue key value log
+    → nat_lt 0 (holds_by es pass key) ≡ true
     → value_of es key ≡ Some value
 read_is passes guard_max pass key value log es legal is has some =
     let held : 0 < holds_by es pass key = grind (arith, nat_tests) in

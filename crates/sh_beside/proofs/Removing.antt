@@ -102,7 +102,8 @@ module _ (terms : RunTerms) (tag : Option ℕ) (pass : ℕ) (v w : PassPart) (be
           let it : g.0 ≡ Removed pass key = added_agrees pass v.log (Known (Removed pass key)) w.log before after
           (ap (λ (p : PassPart). p.log) h) g ready.log_after in
           let at : after ≡ before ++ Removed pass key ∷ [] = g.1 ∙ ap (λ (x : Entry). before ++ x ∷ []) it in
-          let ok = allowed_last terms.shape.passes terms.layout.guard_max before after (Removed pass key) at ready.legal in
+          let ok = allowed_last terms.shape.passes terms.layout.guard_max before after
+          (Removed pass key) at ready.legal in
           let has = some_value (value_of before key) ok.0 in
           placed (ap (λ (p : PassPart). p.shard) h)
           (subst (AreIssued terms.layout) (sym at)
@@ -124,7 +125,8 @@ module _ (terms : RunTerms) (tag : Option ℕ) (pass : ℕ) (v w : PassPart) (be
     on_key h = go (is_placed_key terms.layout terms.shape key) refl h.does.0
       where
         go : (b : Bool) → is_placed_key terms.layout terms.shape key ≡ b
-            → UnlessRefused (cond b None (Some refusal.BadKey)) h.result (Becomes v w) (KeyRemoved pass v key h.result w)
+            → UnlessRefused (cond b None (Some refusal.BadKey)) h.result (Becomes v w)
+            (KeyRemoved pass v key h.result w)
             → Done
         go true f d = removed f h.result h.is d
         go false f d = nowhere f (h.is ∙ ap done_answer d.0) d.1

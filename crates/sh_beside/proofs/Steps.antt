@@ -115,7 +115,8 @@ module _ (terms : RunTerms) (tag : Option ℕ) (pass : ℕ) (v w : PassPart) (be
         → nat_le terms.shape.shards shard ≡ c
         → cond b (answer.Refused refusal.Taken) (cond c (answer.Refused refusal.NoShard) answer.Done) ≡ answer.Refused r
         → cond b run (cond c run (record run { owners = slice_set owners pass true })) ≡ run
-        → a ≡ answer.Refused r → Becomes v w → Stepped terms tag (call.Adopt shard) a pass w before after owners keys numbers
+        → a ≡ answer.Refused r → Becomes v w → Stepped terms tag
+        (call.Adopt shard) a pass w before after owners keys numbers
     adopt_refused r b c e f said done is same = stays (call.Adopt shard) a ready (shard_kept v w same) ready.names here
         (inl (
           is ∙ sym (adopt_said b c shard e f ∙ said),
@@ -155,11 +156,13 @@ module _ (terms : RunTerms) (tag : Option ℕ) (pass : ℕ) (v w : PassPart) (be
             (h.is ∙ ap done_answer d.0) d.1
         room false e f d = adopt_tried (ready.owner ∙ ap is_some e) f h.result h.is d
 
-        go : (o : Option ℕ) → v.shard ≡ o → Stepped terms tag (call.Adopt shard) a pass w before after owners keys numbers
+        go : (o : Option ℕ) → v.shard ≡ o → Stepped terms tag
+            (call.Adopt shard) a pass w before after owners keys numbers
         go (Some own) e =
             let d = subst (λ (z : Option ℕ). UnlessRefused (adopt_refusal terms z shard) h.result (Becomes v w)
             (PartAdopted v shard h.result w)) e h.does.0 in
-            adopt_refused refusal.Taken true (nat_le terms.shape.shards shard) (ready.owner ∙ ap is_some e) refl refl refl
+            adopt_refused refusal.Taken true (nat_le terms.shape.shards shard) (ready.owner
+            ∙ ap is_some e) refl refl refl
             (h.is ∙ ap done_answer d.0) d.1
         go None e =
             let d = subst (λ (z : Option ℕ). UnlessRefused (adopt_refusal terms z shard) h.result (Becomes v w)
@@ -219,7 +222,8 @@ module _ (terms : RunTerms) (tag : Option ℕ) (pass : ℕ) (v w : PassPart) (be
 
   -- ---- post and wait
 
-  pub post_step : (a : Answer) (bound : Option ℕ) → Ready terms tag call.Post a pass v w before after owners keys numbers
+  pub post_step : (a : Answer) (bound : Option ℕ) → Ready terms tag call.Post a pass v w before after owners keys
+      numbers
       → CallAnswers terms tag pass v call.Post bound a w
       → Stepped terms tag call.Post a pass w before after owners keys numbers
   post_step a bound ready h = record {

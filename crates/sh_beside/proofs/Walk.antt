@@ -201,7 +201,8 @@ module _ (terms : RunTerms) (tag : Option ℕ) where
 
   -- mode plain's own run, where the keys of this history have the numbers in which they were given
   abbrev pub own_of : List Entry → Run → Run
-  own_of history run = own terms.layout terms.shape (number_of terms.layout history) (one_number terms.layout history) run
+  own_of history run = own terms.layout terms.shape (number_of terms.layout history)
+      (one_number terms.layout history) run
 
   abbrev pub KeysOf : List Entry → List (Option ℕ) → Type 0
   KeysOf history keys = KeysAre terms.layout terms.shape (number_of terms.layout history)
@@ -236,8 +237,12 @@ module _ (terms : RunTerms) (tag : Option ℕ) where
             (one_number terms.layout history) (state terms tag before l.pass owners keys) next a known l.call
             (named 0 l (omega arith)) at
             (λ words given. number_now terms.layout before after later history l.pass given.key words
-            (ap (λ (m : Run). m.store.entries) given.next_is) whole given.new.not_issued) in
-            (own_of history next, found.along, rest.along (λ k d inside. named (suc k) d (omega (arith, inside))) found.keys);
+            (ap (λ (m : Run). m.store.entries) given.next_is) whole given.new.not_issued) in (
+              own_of history next,
+              found.along,
+              rest.along (λ k d inside. named (suc k) d (omega
+                  (arith, inside))) found.keys,
+            );
       }
 
   module _ (room : HasTagRoom terms.layout tag) (some : 1 ≤ terms.shape.passes) (few : terms.shape.passes ≤ 64)
@@ -252,9 +257,12 @@ module _ (terms : RunTerms) (tag : Option ℕ) where
         → Walked history (state terms tag before last owners keys) lines answers
     walk [] [] r end before todo last owners keys ran legal logs passes below owns names issued knows holds whole =
         record { after = state terms tag before last owners keys; beside = refl; along = λ named known. refl }
-    walk [] (a ∷ answers) r end before todo last owners keys ran legal logs passes below owns names issued knows holds whole = absurd ran
-    walk (l ∷ lines) [] r end before todo last owners keys ran legal logs passes below owns names issued knows holds whole = absurd ran
-    walk (l ∷ lines) (a ∷ answers) r end before todo last owners keys ran legal logs passes below owns names issued knows holds whole =
+    walk [] (a ∷ answers) r end before todo last owners keys ran legal logs passes below owns names issued knows holds
+        whole = absurd ran
+    walk (l ∷ lines) [] r end before todo last owners keys ran legal logs passes below owns names issued knows holds
+        whole = absurd ran
+    walk (l ∷ lines) (a ∷ answers) r end before todo last owners keys ran legal logs passes below owns names issued
+        knows holds whole =
         let g = goes (adds_entry l.call a) l.pass before todo (adding_passes lines answers) passes in
         let h = ran.1 in
         let logs_end : LogsAre terms end.parts (g.after ++ g.later) = subst (LogsAre terms end.parts) g.same logs in
@@ -288,5 +296,6 @@ module _ (terms : RunTerms) (tag : Option ℕ) where
         (subst (λ (n : CallsRun). AreNames tag s.keys_after n.numbers) (sym h.next_is) s.names) s.issued
         (knows_next r ran.0 l a h knows) (subst (FewAlong terms.layout.guard_max) g.same holds)
         (sym g.same ∙ whole) in
-        one_line history before g.after g.later l.pass last owners s.owners_after keys s.keys_after l a lines answers refl
+        one_line history before g.after g.later l.pass last owners s.owners_after keys s.keys_after l a lines answers
+        refl
         (sym g.same ∙ whole) s.beside rest

@@ -11,8 +11,7 @@ use Rattle.sh_models.specs.Output.{IsPlain, IsSteps}
 use Rattle.sh_heap_run.specs.HeapOutput.{IsHeap, IsHeapWaiting}
 use Rattle.sh_beside.specs.Law.{IsBesidePlain}
 
--- the text is a script of calls, and this is what mode heap may write for it: its answers are beside those of mode
--- plain
+-- the text is a script of calls, and this is what mode heap may write for it: what it answers is beside mode plain
 abbrev pub IsHeapAlone : (accounts : Bool) → (text output : List ℕ) → Type 0
 IsHeapAlone accounts text output = (heap : IsHeap true accounts text output) × IsBesidePlain heap
 
