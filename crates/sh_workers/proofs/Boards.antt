@@ -1,4 +1,4 @@
--- A note that a pass heeds, and one that it leaves.
+-- A binding that a pass heeds, and one that it leaves.
 use Rattle.std.proofs.Common.{◌≡◌, ℕ, true, length, Option, None, sym, refl, ap, ◌∙◌, subst, inl, inr, ⊎_elim}
 use Rattle.sh_table.specs.Seats.{Heap}
 use Rattle.sh_pass.specs.Passes.{Caller}
@@ -7,15 +7,15 @@ use Rattle.sh_calls.specs.Meeting.{KeepsOrders}
 use Rattle.sh_calls.specs.Named.{HeardOfNumber, tells_number}
 use Rattle.sh_calls.specs.Receipts.{SeenReceipt, Heeds, MayHeed, PartHeeds, receipt_seen, seen_of_receipt}
 use Rattle.sh_calls.proofs.NameLemmas.{heeds_keeps, heard_by_heeding, tells_on}
-use Rattle.sh_workers.specs.Boards.{IsNote, HeardName, MayHearName}
+use Rattle.sh_workers.specs.Boards.{IsBinding, HeardName, MayHearName}
 
--- a pass that heeded a note leaves one of its own
-pub note_left : (heap : Option Heap) (tag number : Option ℕ) (r own : Caller) (s t : SeenPass) → s.heap ≡ heap
-    → IsNote heap tag number r → Heeds r s t → seen_of_receipt own ≡ receipt_seen t → IsNote heap tag number own
-note_left heap tag number r own s t of note e is = record {
+-- a pass that heeded a binding leaves one of its own
+pub binding_left : (heap : Option Heap) (tag number : Option ℕ) (r own : Caller) (s t : SeenPass) → s.heap ≡ heap
+    → IsBinding heap tag number r → Heeds r s t → seen_of_receipt own ≡ receipt_seen t → IsBinding heap tag number own
+binding_left heap tag number r own s t of binding e is = record {
   heap_is = ap (λ (z : SeenReceipt). z.heap) is ∙ (ap (λ (z : SeenPass). z.heap) e.is ∙ of);
   tells = subst (λ (z : SeenReceipt). tells_number tag z.heard number ≡ true) (sym is)
-      (tells_on tag r s t t e refl number note.tells);
+      (tells_on tag r s t t e refl number binding.tells);
 }
 
 pub name_only : (tag number : Option ℕ) (s t : SeenPass) → MayHearName tag number s t

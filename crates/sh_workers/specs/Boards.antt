@@ -7,7 +7,7 @@ use Rattle.sh_calls.specs.Named.{tells_number}
 use Rattle.sh_calls.specs.Receipts.{Heeds, seen_of_receipt}
 
 -- the receipt is of this heap, and where there is a number, it tells of the insert of its key
-pub record IsNote (heap : Option Heap) (tag number : Option ℕ) (receipt : Caller) : Type 0 where
+pub record IsBinding (heap : Option Heap) (tag number : Option ℕ) (receipt : Caller) : Type 0 where
   pub heap_is : (seen_of_receipt receipt).heap ≡ heap
   pub tells : tells_number tag (seen_of_receipt receipt).heard number ≡ true
 

@@ -2,7 +2,7 @@
 ghost use Rattle.std.specs.Prelude.{◌≡◌, MatchOption, true};
 ghost use Rattle.sh_calls.specs.Named.{tells_number};
 ghost use Rattle.sh_calls.specs.Receipts.{seen_of_receipt};
-ghost use Rattle.sh_workers.specs.Boards.{IsNote, HeardName};
+ghost use Rattle.sh_workers.specs.Boards.{IsBinding, HeardName};
 
 use crate::room::Room;
 use sh_calls::side::Side;
@@ -15,31 +15,31 @@ use std::sync::{Condvar, Mutex, Wait};
 /// What a name stands for: a number, if its insert was answered one, and then a receipt that tells of the insert of its
 /// key. A contract sees the number.
 #[derive(Drop)]
-pub struct Note<B: Room> {
+pub struct Binding<B: Room> {
     number: Option<u64>,
     receipt: Receipt,
     room: PhantomData<B>,
 }
 
-impl<B: Room> Model for Note<B> {
+impl<B: Room> Model for Binding<B> {
     ghost use Rattle.std.specs.Prelude.{ℕ, Option};
-    ghost use Rattle.sh_workers.specs.Boards.{IsNote};
+    ghost use Rattle.sh_workers.specs.Boards.{IsBinding};
 
     ghost Value = { Option ℕ };
 
-    ghost view = { λ n. n.number };
+    ghost view = { λ b. b.number };
 
-    ghost invariant = { λ n. IsNote B.heap B.tag n.number n.receipt };
+    ghost invariant = { λ b. IsBinding B.heap B.tag b.number b.receipt };
 }
 
-impl<B: Room> Note<B> {
+impl<B: Room> Binding<B> {
     /// The number, with a receipt of the pass that bound the name.
     pub fn new(number: Option<u64>, receipt: Receipt) -> Self
         requires heap { (seen_of_receipt receipt).heap ≡ B.heap }
         requires tells { tells_number B.tag (seen_of_receipt receipt).heard number ≡ true }
         ensures { result ≡ number }
     {
-        Note {
+        Binding {
             number,
             receipt,
             room: PhantomData,
@@ -52,13 +52,13 @@ impl<B: Room> Note<B> {
         ensures number { result ≡ self }
         ensures heard { HeardName B.tag self (S.seen side.old) (S.seen side.new) }
     {
-        let Note {
+        let Binding {
             number,
             receipt,
             room,
         } = self;
         side.heed(receipt);
-        Note {
+        Binding {
             number,
             receipt: side.receipt(),
             room,
@@ -78,7 +78,7 @@ enum Name<B: Room> {
     // Nothing yet.
     Open,
     // It is bound.
-    Bound(Note<B>),
+    Bound(Binding<B>),
 }
 
 #[derive(Drop)]
@@ -92,14 +92,14 @@ impl<B: Room> Names<B> {
         !self.is_closed && matches!(self.names.get(name), Some(Name::Open))
     }
 
-    fn bind(&mut self, name: usize, note: Note<B>) {
+    fn bind(&mut self, name: usize, binding: Binding<B>) {
         if let Some(place) = self.names.get_mut(name) {
-            *place = Name::Bound(note);
+            *place = Name::Bound(binding);
         }
     }
 
-    // The number that the name stands for, once the pass heeded what the note of it tells. A name that was bound before
-    // the board was closed is still answered.
+    // The number that the name stands for, once the pass heeded what its binding tells. A name that was bound before the
+    // board was closed is still answered.
     fn told<S: Side>(&mut self, name: usize, side: &mut S) -> Option<Option<u64>>
         requires heap { (S.seen side.old).heap ≡ B.heap }
         ensures heard { MatchOption result (S.seen side.new ≡ S.seen side.old)
@@ -108,12 +108,12 @@ impl<B: Room> Names<B> {
         let Some(place) = self.names.get_mut(name) else {
             return None;
         };
-        let Name::Bound(note) = mem::replace(place, Name::Open) else {
+        let Name::Bound(binding) = mem::replace(place, Name::Open) else {
             return None;
         };
-        let note = note.heeded(side);
-        let number = note.number();
-        *place = Name::Bound(note);
+        let binding = binding.heeded(side);
+        let number = binding.number();
+        *place = Name::Bound(binding);
         Some(number)
     }
 }
@@ -143,9 +143,9 @@ impl<B: Room> Board<B> {
     }
 
     /// Binds a name, and wakes who waits for it.
-    pub fn bind<R: Wait>(&self, rt: &R, name: usize, note: Note<B>) {
+    pub fn bind<R: Wait>(&self, rt: &R, name: usize, binding: Binding<B>) {
         let mut names = self.names.lock(rt);
-        names.bind(name, note);
+        names.bind(name, binding);
         drop(names);
         self.changed.notify_all();
     }

@@ -9,7 +9,7 @@ ghost use Rattle.sh_calls.specs.Receipts.{receipt_seen};
 ghost use Rattle.sh_workers.specs.Boards.{MayHearName};
 ghost use Rattle.sh_workers.specs.Works.{own_calls, IsWork};
 
-use crate::board::{Board, Note};
+use crate::board::{Binding, Board};
 use crate::gate::Gate;
 use crate::room::Room;
 use sh_calls::line::{answered, binds, name_used, number_told};
@@ -104,8 +104,8 @@ fn bind<S: Side, B: Room, R: Wait>(
     ensures { S.seen side.new ≡ S.seen side.old }
 {
     if binds(call) {
-        let note = Note::new(number_told(answer), side.receipt());
-        board.bind(rt, name, note);
+        let binding = Binding::new(number_told(answer), side.receipt());
+        board.bind(rt, name, binding);
     }
 }
 

@@ -9,7 +9,7 @@ use sh_key::Tiny;
 use sh_pass::Heap;
 use sh_script::{Call, CallLine, Fault, Reference};
 use sh_shape::Shape;
-use sh_workers::board::{Board, Note};
+use sh_workers::board::{Binding, Board};
 use sh_workers::gate::{Gate, OpenGate};
 use sh_workers::room::Room;
 use sh_workers::threads::threads_lines;
@@ -49,7 +49,7 @@ fn told_once_closed<S: Side, B: Room, R: Wait>(
 {
     let mut side = side;
     let board = Board::<B>::new(alloc, 2)?;
-    board.bind(rt, 0, Note::new(None, side.receipt()));
+    board.bind(rt, 0, Binding::new(None, side.receipt()));
     board.close(rt);
     Ok(board.wait(rt, name, &mut side))
 }
