@@ -55,8 +55,11 @@ module _ (R Z : RattleType) (L : Laws Z) (g : Ghosts Z.Denot) where
   -- such a pair is well typed
   pub nullable_good : (p : Ptr) (h : Val) → Good (layout Z) h
       → T (has_ty (mir.Syntax.ty_ptr) (ptr_val p) && (has_ty (layout Z) h && true)) × WT (both (ptr_val p) h)
-  nullable_good p h fits = (both_tt (has_ty mir.Syntax.ty_ptr (ptr_val p)) (has_ty (layout Z) h)
-      (Ptr-Good p).0 fits.0, ((Ptr-Good p).1, (fits.1, tt)))
+  nullable_good p h fits = (
+    both_tt (has_ty mir.Syntax.ty_ptr (ptr_val p)) (has_ty (layout Z) h)
+        (Ptr-Good p).0 fits.0,
+    ((Ptr-Good p).1, (fits.1, tt)),
+  )
 
   module _ {M : Type 1} {𝓤 : Ura M} {𝓛 : Logic 𝓤} {K : Type 0} {Γ : List (Item 𝓤)} {G : Goal 𝓤 𝓛.H} where
     -- a full one, taken apart: its pointer, with the right to the value and its block, and its allocator

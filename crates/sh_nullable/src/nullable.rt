@@ -13,7 +13,9 @@ use std::ptr::null_mut;
 
 /// A pointer that owns its value, or null. A contract sees the value, if there is one.
 ///
-/// It has no test for null: whoever empties it keeps that in mind by another value, as a word or an `Option` beside it.
+/// It has no test for null, since whoever empties it keeps that in mind by another value, as a word or an `Option` beside
+/// it. For the same reason it does not free its value when it is dropped: one that owns a value is opened by `into_box`
+/// first, and else its memory is lost.
 #[repr(C)]
 #[derive(Drop)]
 pub struct NullableBox<T, A: Allocator> {
@@ -68,10 +70,23 @@ unsafe impl<T, A: Allocator + Sync> Sync for NullableBox<T, A> {}
 
 #[cfg(test)]
 mod tests {
-    use super::NullableBox;
-    use std::cell::Cell;
-    use std::rc::Rc;
+    use super::*;
+    use std::test::Fail;
 
-    // A value that says when it is freed.
+    #[test]
+    fn a_value_goes_in_and_comes_out(rt: HostRuntime) -> Result<(), Fail> {
+        let alloc = rt.alloc();
+        let full = NullableBox::of(Box::new(alloc, 7)?);
+        let mut value = full.into_box();
+        assert_eq!(rt; *value, 7);
+        *value = 8;
+        assert_eq!(rt; *NullableBox::of(value).into_box(), 8);
+        Ok(())
+    }
 
+    #[test]
+    fn null_is_dropped(rt: HostRuntime) -> Result<(), Fail> {
+        drop(NullableBox::<u64, _>::empty(rt.alloc()));
+        Ok(())
+    }
 }

@@ -37,8 +37,11 @@ empty_spec 𝓤 𝓛 𝓜 𝓡 wired T A L LA g d dd allocator glued =
     let c = clauses T A g d dd 𝓛 𝓜.mem 𝓡.returns in
     let fn = inst_fn (bounded (a_type ∷ a_type ∷ []) (T, (A, tt)) (dcons d (dcons dd dnil))) code.function in
     let hs : Stays En.signature.params En.kept = (stay_dropped (plain (λ _. Z)) no, tt) in
-    proved_at 𝓛 En hs c 𝓜 𝓡 (Goes-blank 𝓛 2 (plain (λ _. Z)) no
-    (λ κs x f. tt), tt) (#self (bounded (a_type ∷ a_type ∷ []) (T, (A, tt)) (dcons d (dcons dd dnil)))) fn
+    proved_at 𝓛 En hs c 𝓜 𝓡 (
+      Goes-blank 𝓛 2 (plain (λ _. Z)) no
+          (λ κs x f. tt),
+      tt,
+    ) (#self (bounded (a_type ∷ a_type ∷ []) (T, (A, tt)) (dcons d (dcons dd dnil)))) fn
     (code.unfolded 𝓤 H 𝓜 𝓡 wired (T, (A, tt)) d dd) (λ z are.
     let κs = z.0.0 in let qs = z.0.1 in let a = z.0.3.0 in
     let Post : Val → SProp 𝓤 = (walk_of 𝓛 En hs c).post z in
