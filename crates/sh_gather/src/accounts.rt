@@ -14,7 +14,8 @@ ghost use Rattle.sh_gather.specs.Gathering.{CountedTo, StatesAlone, states_count
 use crate::laws::core_refines;
 use sh_core::Accounts;
 use sh_key::KeyLayout;
-use sh_pass::Pass;
+use sh_pass::KeepsHeap;
+use sh_pass::pass::Pass;
 use sh_shape::{Place, slots};
 use sh_word::{Kind, State};
 
@@ -60,8 +61,8 @@ fn count_one(accounts: &mut Accounts, word: u64)
 }
 
 // Counts the first so many slots of a page, each by its state word.
-fn count_states<L: KeyLayout>(
-    pass: &mut Pass<'_, L>,
+fn count_states<L: KeyLayout, H: KeepsHeap<L>>(
+    pass: &mut Pass<L, H>,
     page: u64,
     class: Option<u32>,
     count: u32,
@@ -88,7 +89,7 @@ fn count_states<L: KeyLayout>(
 
 // Walks the stack of a page, from its head word to the end, and counts its slots. Each slot of a page stands there once
 // at most, so 48 links are enough.
-fn walk<L: KeyLayout>(pass: &mut Pass<'_, L>, page: u64) -> u32
+fn walk<L: KeyLayout, H: KeepsHeap<L>>(pass: &mut Pass<L, H>, page: u64) -> u32
     requires page { page < all_pages pass.old.heap.shape }
     requires gathered { IsGathered pass.old.view }
     ensures heap { pass.new.heap ≡ pass.old.heap }
@@ -111,8 +112,8 @@ fn walk<L: KeyLayout>(pass: &mut Pass<'_, L>, page: u64) -> u32
 }
 
 // The accounts of a shard's page. None where the heap has no such page.
-pub(crate) fn accounts<L: KeyLayout>(
-    pass: &mut Pass<'_, L>,
+pub(crate) fn accounts<L: KeyLayout, H: KeepsHeap<L>>(
+    pass: &mut Pass<L, H>,
     shard: u32,
     page: u32,
 ) -> Option<Accounts>

@@ -8,25 +8,26 @@ ghost use Rattle.sh_gather.specs.Gathering.{IsGatheredFrom, met_view};
 
 use crate::view::Whole;
 use sh_key::KeyLayout;
-use sh_pass::{Heap, Pass, are_all, merge};
+use sh_pass::pass::Pass;
+use sh_pass::{Heap, KeepsHeap, are_all, merge};
 
 /// Two passes of one heap meet: the first one, which now carries both tales, so that one legal history has the entries
 /// of all passes that either names, and all that the second carried stands before what the first answers from now on.
 /// The holds of the second stay in their slots for good.
-pub fn join<'a, L: KeyLayout>(one: Pass<'a, L>, other: Pass<'a, L>) -> Pass<'a, L>
+pub fn join<L: KeyLayout, H: KeepsHeap<L>>(one: Pass<L, H>, other: Pass<L, H>) -> Pass<L, H>
     requires { other.heap ≡ one.heap }
-    ensures heap { result.heap ≡ one.entry.heap }
-    ensures tale { result.view ≡ joined_view one.entry.view other.entry.view }
+    ensures heap { result.heap ≡ one.heap }
+    ensures tale { result.view ≡ joined_view one.view other.view }
     ensures stands { ViewStands L.layout result.view }
 {
     merge(one, other)
 }
 
 /// The heap as a whole, exactly where the tales of all its passes are joined in this one; else the pass comes back.
-pub fn whole<L: KeyLayout>(pass: Pass<'_, L>) -> Result<Whole<'_, L>, Pass<'_, L>>
+pub fn whole<L: KeyLayout, H: KeepsHeap<L>>(pass: Pass<L, H>) -> Result<Whole<L, H>, Pass<L, H>>
     ensures { MatchResult result
-        (λ whole. (whole ≡ pass.entry) × IsWhole pass.entry.view)
-        (λ back. (back ≡ pass.entry) × ¬ IsWhole pass.entry.view) }
+        (λ whole. (whole ≡ pass) × IsWhole pass.view)
+        (λ back. (back ≡ pass) × ¬ IsWhole pass.view) }
 {
     if pass.is_whole() {
         Ok(Whole { pass })
@@ -38,10 +39,10 @@ pub fn whole<L: KeyLayout>(pass: Pass<'_, L>) -> Result<Whole<'_, L>, Pass<'_, L
 /// The heap as a whole, where the tales of these passes together name all its passes; else the passes come back as they
 /// were, and so does an empty list. The last one takes in the others, in order. Their holds stay in their slots for
 /// good.
-pub fn gather<'a, L: KeyLayout>(
-    heap: &'a Heap<L>,
-    passes: Vec<Pass<'a, L>>,
-) -> Result<Whole<'a, L>, Vec<Pass<'a, L>>>
+pub fn gather<L: KeyLayout, H: KeepsHeap<L>>(
+    heap: &Heap<L>,
+    passes: Vec<Pass<L, H>>,
+) -> Result<Whole<L, H>, Vec<Pass<L, H>>>
     requires { AreOf heap.now passes.items }
     ensures { MatchResult result
         (λ whole. (whole.heap ≡ heap.now) × IsWhole whole.view × AreAll heap.now passes.entry.items
@@ -63,10 +64,10 @@ pub fn gather<'a, L: KeyLayout>(
 }
 
 // The first pass, which takes in the others, in order.
-fn met<'a, L: KeyLayout>(one: Pass<'a, L>, others: Vec<Pass<'a, L>>) -> Pass<'a, L>
+fn met<L: KeyLayout, H: KeepsHeap<L>>(one: Pass<L, H>, others: Vec<Pass<L, H>>) -> Pass<L, H>
     requires { AreOf one.heap others.items }
-    ensures heap { result.heap ≡ one.entry.heap }
-    ensures tale { result.view ≡ met_view one.entry.view others.entry.items }
+    ensures heap { result.heap ≡ one.heap }
+    ensures tale { result.view ≡ met_view one.view others.entry.items }
 {
     let mut carrier = one;
     for pass in others {

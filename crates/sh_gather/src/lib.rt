@@ -3,13 +3,14 @@
 #![tactic(auto)]
 
 mod accounts;
+mod borrowing;
 pub mod gathering;
 pub mod laws;
 #[cfg(test)]
 mod tests;
 pub mod view;
 
+pub use borrowing::Whole;
 pub use gathering::{gather, join, whole};
 pub use laws::{notes_keep_histories, page_keys_are_all};
 pub use sh_core::Accounts;
-pub use view::Whole;

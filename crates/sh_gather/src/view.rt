@@ -9,17 +9,18 @@ ghost use Rattle.sh_gather.specs.Gathering.{AreWholeAccounts, NotedMore};
 use crate::accounts::accounts;
 use sh_core::Accounts;
 use sh_key::KeyLayout;
-use sh_pass::Pass;
+use sh_pass::KeepsHeap;
+use sh_pass::pass::Pass;
 use sh_shape::Shape;
 use std::marker::Model;
 
 /// The heap as the pass sees it that carries the tales of all passes. No other pass steps any more, so nothing changes.
 #[derive(Drop)]
-pub struct Whole<'a, L: KeyLayout> {
-    pub(crate) pass: Pass<'a, L>,
+pub struct Whole<L: KeyLayout, H: KeepsHeap<L>> {
+    pub(crate) pass: Pass<L, H>,
 }
 
-impl<'a, L: KeyLayout> Model for Whole<'a, L> {
+impl<L: KeyLayout, H: KeepsHeap<L>> Model for Whole<L, H> {
     ghost use Rattle.sh_table.specs.Whole.{IsWhole};
     ghost use Rattle.sh_pass.specs.Passes.{Caller};
 
@@ -30,7 +31,7 @@ impl<'a, L: KeyLayout> Model for Whole<'a, L> {
     ghost invariant = { λ w. IsWhole w.pass.view };
 }
 
-impl<'a, L: KeyLayout> Whole<'a, L> {
+impl<L: KeyLayout, H: KeepsHeap<L>> Whole<L, H> {
     /// The shape of the heap. The pass that carries the tales owns no shard, and all that it knows stands.
     pub fn shape(&self) -> &Shape
         ensures is { result.now ≡ self.now.heap.shape }

@@ -4,7 +4,7 @@ ghost use Rattle.sh_table.specs.Tales.{ViewStands};
 ghost use Rattle.sh_pass.specs.Busy.{Acts, Ends};
 
 use crate::by_hand::BusyState;
-use crate::heap::Heap;
+use crate::keeping::KeepsHeap;
 use crate::pass::Pass;
 use crate::state::PassState;
 use sh_key::KeyLayout;
@@ -21,12 +21,13 @@ use std::marker::{Model, PhantomData};
 /// slot that it put and did not tie, and its leave is refused as `Waiting`. Of a page for which it was to ring, the
 /// owner never hears. So it is best stepped on until `end` gives the pass back.
 #[derive(Drop)]
-pub struct Busy<'a, L: KeyLayout> {
-    heap: &'a Heap<L>,
+pub struct Busy<L: KeyLayout, H: KeepsHeap<L>> {
+    heap: H,
     state: BusyState,
+    layout: PhantomData<L>,
 }
 
-impl<'a, L: KeyLayout> Model for Busy<'a, L> {
+impl<L: KeyLayout, H: KeepsHeap<L>> Model for Busy<L, H> {
     ghost use Rattle.sh_pass.specs.Passes.{Caller, caller_of};
     ghost use Rattle.sh_pass.specs.Busy.{IsBusy};
 
@@ -34,13 +35,13 @@ impl<'a, L: KeyLayout> Model for Busy<'a, L> {
 
     ghost view = { λ b. caller_of b.state.seat };
 
-    ghost invariant = { λ b. IsBusy L.layout b.heap.now b.state.seat b.state.held.items b.state.named b.state.hand };
+    ghost invariant = { λ b. IsBusy L.layout (H.heap b.heap) b.state.seat b.state.held.items b.state.named b.state.hand };
 }
 
-impl<'a, L: KeyLayout> Pass<'a, L> {
+impl<L: KeyLayout, H: KeepsHeap<L>> Pass<L, H> {
     /// The pass, to step by hand.
-    pub fn begin(self) -> Busy<'a, L>
-        ensures { result ≡ self.entry }
+    pub fn begin(self) -> Busy<L, H>
+        ensures { result ≡ self }
     {
         let Pass { heap, state } = self;
         let PassState {
@@ -57,11 +58,12 @@ impl<'a, L: KeyLayout> Pass<'a, L> {
                 named,
                 hand: Hand::Idle,
             },
+            layout: PhantomData,
         }
     }
 }
 
-impl<'a, L: KeyLayout> Busy<'a, L> {
+impl<L: KeyLayout, H: KeepsHeap<L>> Busy<L, H> {
     /// Does one step: true exactly where the action is of one of the kinds Enter, Mark, Drop, Finish, Put, Tie, Ring
     /// and RingTie, and its condition holds. Else it does nothing.
     pub fn act(&mut self, action: &Action) -> bool
@@ -69,15 +71,19 @@ impl<'a, L: KeyLayout> Busy<'a, L> {
         ensures same { self.new.heap ≡ self.old.heap }
         ensures stands { ViewStands L.layout self.new.view }
     {
-        let heap = self.heap;
+        let heap = self.heap.kept();
         self.state.act(&heap.table, action)
     }
 
     /// The pass again, exactly where it has begun nothing that it has yet to end.
-    pub fn end(self) -> Result<Pass<'a, L>, Busy<'a, L>>
-        ensures { Ends self.entry result }
+    pub fn end(self) -> Result<Pass<L, H>, Busy<L, H>>
+        ensures { Ends self result }
     {
-        let Busy { heap, state } = self;
+        let Busy {
+            heap,
+            state,
+            layout: _,
+        } = self;
         let BusyState {
             seat,
             held,
@@ -102,6 +108,7 @@ impl<'a, L: KeyLayout> Busy<'a, L> {
                     named,
                     hand,
                 },
+                layout: PhantomData,
             }),
         }
     }

@@ -2,6 +2,7 @@
 ghost use Rattle.std.specs.Prelude.{◌≡◌, ◌⊎◌};
 ghost use Rattle.sh_pass.specs.Receipts.{RemovalRefused, GetsAfterRemoval};
 
+use crate::keeping::KeepsHeap;
 use crate::pass::Pass;
 use sh_key::KeyLayout;
 use sh_table::heard_comes_first;
@@ -9,9 +10,9 @@ use sh_value::{Hold, Refusal};
 
 /// Removes a key by one pass, and then gets it by another, which heeds a receipt of the removal. A removal that is
 /// refused, as `BadKey` or `Gone`, ends it. Else that get does not find the key: it is refused, and not as `Crowded`.
-pub fn remove_then_get<L: KeyLayout>(
-    one: &mut Pass<'_, L>,
-    other: &mut Pass<'_, L>,
+pub fn remove_then_get<L: KeyLayout, H: KeepsHeap<L>>(
+    one: &mut Pass<L, H>,
+    other: &mut Pass<L, H>,
     key: u64,
 ) -> Result<Hold, Refusal>
     requires { other.old.heap ≡ one.old.heap }

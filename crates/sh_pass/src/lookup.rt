@@ -1,10 +1,11 @@
 // A pass looks keys up.
+use crate::keeping::KeepsHeap;
 use crate::pass::Pass;
 use sh_key::KeyLayout;
 use sh_plain::Lookup;
 use sh_value::{Hold, Refusal, Value};
 
-impl<L: KeyLayout> Lookup for Pass<'_, L> {
+impl<L: KeyLayout, H: KeepsHeap<L>> Lookup for Pass<L, H> {
     ghost use Rattle.sh_pass.specs.Passes.{GetDoes, ReadDoes, RemoveDoes, ReleaseDoes};
     ghost use Rattle.sh_pass.specs.Lookups.{caller_book, caller_setting};
 

@@ -8,7 +8,7 @@ ghost use Rattle.sh_table.specs.Tales.{ViewStands};
 ghost use Rattle.sh_pass.specs.Owners.{OwnerDid, OwnerTries, OwnerAdopts, Left, HasNothing, NonePut, NoneArmed};
 ghost use Rattle.sh_pass.specs.Owners.{heap_page, own_body, seen_page};
 
-use crate::heap::Heap;
+use crate::keeping::KeepsHeap;
 use crate::pass::Pass;
 use crate::state::PassState;
 use arrayvec::ArrayVec;
@@ -26,8 +26,8 @@ use std::marker::{Model, PhantomData};
 /// One that is dropped leaves its shard taken for good, with the slots that are its own, what it has begun, and its
 /// holds. So it is best made to leave, and given back by `into_pass`.
 #[derive(Drop)]
-pub struct Owner<'a, L: KeyLayout> {
-    pub(crate) heap: &'a Heap<L>,
+pub struct Owner<L: KeyLayout, H: KeepsHeap<L>> {
+    pub(crate) heap: H,
     pub(crate) seat: Token,
     // The keys that it holds, in any order.
     pub(crate) held: ArrayVec<u64, 16>,
@@ -35,9 +35,10 @@ pub struct Owner<'a, L: KeyLayout> {
     pub(crate) named: u64,
     // The shard that it owns.
     pub(crate) owned: Option<u64>,
+    pub(crate) layout: PhantomData<L>,
 }
 
-impl<'a, L: KeyLayout> Model for Owner<'a, L> {
+impl<L: KeyLayout, H: KeepsHeap<L>> Model for Owner<L, H> {
     ghost use Rattle.sh_pass.specs.Passes.{Caller, caller_of};
     ghost use Rattle.sh_pass.specs.Owners.{IsOwner};
 
@@ -45,13 +46,13 @@ impl<'a, L: KeyLayout> Model for Owner<'a, L> {
 
     ghost view = { λ o. caller_of o.seat };
 
-    ghost invariant = { λ o. IsOwner L.layout o.heap.now o.seat o.held.items o.named o.owned };
+    ghost invariant = { λ o. IsOwner L.layout (H.heap o.heap) o.seat o.held.items o.named o.owned };
 }
 
-impl<'a, L: KeyLayout> Owner<'a, L> {
+impl<L: KeyLayout, H: KeepsHeap<L>> Owner<L, H> {
     /// The pass, to own a shard.
-    pub fn of(pass: Pass<'a, L>) -> Self
-        ensures same { result ≡ pass.entry }
+    pub fn of(pass: Pass<L, H>) -> Self
+        ensures same { result ≡ pass }
         ensures idle { (own_body result).hand ≡ Idle }
         ensures left { (own_body result).owned ≡ None }
         ensures stands { ViewStands L.layout result.view }
@@ -69,14 +70,15 @@ impl<'a, L: KeyLayout> Owner<'a, L> {
             held,
             named,
             owned: None,
+            layout: PhantomData,
         }
     }
 
     /// The pass again.
-    pub fn into_pass(self) -> Pass<'a, L>
+    pub fn into_pass(self) -> Pass<L, H>
         requires idle { (own_body self).hand ≡ Idle }
         requires left { (own_body self).owned ≡ None }
-        ensures { result ≡ self.entry }
+        ensures { result ≡ self }
     {
         let Owner {
             heap,
@@ -84,6 +86,7 @@ impl<'a, L: KeyLayout> Owner<'a, L> {
             held,
             named,
             owned: _,
+            layout: _,
         } = self;
         Pass {
             heap,
@@ -104,7 +107,7 @@ impl<'a, L: KeyLayout> Owner<'a, L> {
     {
         // What holds of every owner holds of this one.
         let _ = &self.held;
-        let heap = self.heap;
+        let heap = self.heap.kept();
         heap.table.shape()
     }
 
@@ -112,7 +115,7 @@ impl<'a, L: KeyLayout> Owner<'a, L> {
     pub fn shards(&self) -> u64
         ensures { result ≡ self.now.view.shape.shards }
     {
-        let heap = self.heap;
+        let heap = self.heap.kept();
         u64::from(heap.table.shape().shards())
     }
 
@@ -120,7 +123,7 @@ impl<'a, L: KeyLayout> Owner<'a, L> {
     pub fn pages(&self) -> u64
         ensures { result ≡ pages_of self.now.view.shape }
     {
-        let heap = self.heap;
+        let heap = self.heap.kept();
         u64::from(heap.table.shape().pages())
     }
 
@@ -130,7 +133,7 @@ impl<'a, L: KeyLayout> Owner<'a, L> {
         requires page { name.page < pages_of self.now.view.shape }
         ensures { result ≡ heap_page self.now name }
     {
-        let heap = self.heap;
+        let heap = self.heap.kept();
         let shape = heap.table.shape();
         let (_shards, _pages) = (shape.shards(), shape.pages());
         u64::from(shape.page_number(name.shard as u32, name.page as u32))
@@ -147,7 +150,7 @@ impl<'a, L: KeyLayout> Owner<'a, L> {
         ensures put { NonePut self.old self.new }
         ensures arm { NoneArmed self.old self.new }
     {
-        let heap = self.heap;
+        let heap = self.heap.kept();
         let found = heap.table.adopt(&mut self.seat, shard);
         if found == 0 {
             self.owned = Some(shard);
@@ -164,7 +167,7 @@ impl<'a, L: KeyLayout> Owner<'a, L> {
         ensures does { OwnerDid L.layout action.Leave (move.Leave shard) 0 self.old self.new }
         ensures left { Left self.old self.new }
     {
-        let heap = self.heap;
+        let heap = self.heap.kept();
         heap.table.leave(&mut self.seat, shard);
         self.owned = None;
     }

@@ -6,11 +6,12 @@ ghost use Rattle.sh_step.specs.declared.moves.Move.TheVariants as move;
 ghost use Rattle.sh_pass.specs.Owners.{MayTouch, OwnerDid, OwnerActs, OnPage, SamePages, NonePut, NoneArmed, heap_page};
 ghost use Rattle.sh_pass.specs.Owners.{own_body, seen_page, seen_bell, bell_taken, bell_followed, page_rung};
 
+use crate::keeping::KeepsHeap;
 use crate::owner::Owner;
 use sh_key::KeyLayout;
 use sh_step::PageName;
 
-impl<'a, L: KeyLayout> Owner<'a, L> {
+impl<L: KeyLayout, H: KeepsHeap<L>> Owner<L, H> {
     /// Takes what was put on the shard's bell. Answers the bell word that it found.
     pub fn take_bell(&mut self, shard: u64) -> u64
         requires idle { (own_body self.old).hand ≡ Idle }
@@ -24,7 +25,7 @@ impl<'a, L: KeyLayout> Owner<'a, L> {
         ensures put { NonePut self.old self.new }
         ensures arm { NoneArmed self.old self.new }
     {
-        let heap = self.heap;
+        let heap = self.heap.kept();
         heap.table.take_bell(&mut self.seat, shard)
     }
 
@@ -43,7 +44,7 @@ impl<'a, L: KeyLayout> Owner<'a, L> {
         ensures arm { NoneArmed self.old self.new }
     {
         let page = self.number(name);
-        let heap = self.heap;
+        let heap = self.heap.kept();
         heap.table.follow_bell(&mut self.seat, page)
     }
 }

@@ -7,13 +7,14 @@ ghost use Rattle.sh_pass.specs.Owners.{CallLeaves, own_body};
 
 use crate::calls::{get_guard_of, get_key, read_key, release_key, remove_key};
 use crate::guard::Guard;
+use crate::keeping::KeepsHeap;
 use crate::owner::Owner;
 use sh_key::KeyLayout;
 use sh_slots::Spot;
 use sh_step::operands::place_of_key;
 use sh_value::{Hold, Refusal, Value};
 
-impl<'a, L: KeyLayout> Owner<'a, L> {
+impl<L: KeyLayout, H: KeepsHeap<L>> Owner<L, H> {
     /// Takes a hold on a key, so that its value stays readable. Refused as `BadKey`, `HoldsFull`, `Gone` or `Crowded`,
     /// tried in that order, as the get of a `Pass` is. Where a get that is refused comes to be the last on a removed
     /// key, the slot is its own.
@@ -23,7 +24,7 @@ impl<'a, L: KeyLayout> Owner<'a, L> {
         ensures leaves { CallLeaves L.layout result.1 self.old self.new }
         ensures stands { ViewStands L.layout self.new.view }
     {
-        let heap = self.heap;
+        let heap = self.heap.kept();
         get_key(&heap.table, &mut self.seat, &mut self.held, key, self.owned)
     }
 
@@ -35,7 +36,7 @@ impl<'a, L: KeyLayout> Owner<'a, L> {
         ensures leaves { CallLeaves L.layout result.1 self.old self.new }
         ensures stands { ViewStands L.layout self.new.view }
     {
-        let heap = self.heap;
+        let heap = self.heap.kept();
         get_guard_of(&heap.table, &mut self.seat, &mut self.held, key, self.owned)
     }
 
@@ -47,7 +48,7 @@ impl<'a, L: KeyLayout> Owner<'a, L> {
         ensures leaves { CallLeaves L.layout result.1 self.old self.new }
         ensures stands { ViewStands L.layout self.new.view }
     {
-        let heap = self.heap;
+        let heap = self.heap.kept();
         remove_key(&heap.table, &mut self.seat, key, self.owned)
     }
 
@@ -58,7 +59,7 @@ impl<'a, L: KeyLayout> Owner<'a, L> {
         ensures leaves { CallLeaves L.layout result.1 self.old self.new }
         ensures stands { ViewStands L.layout self.new.view }
     {
-        let heap = self.heap;
+        let heap = self.heap.kept();
         release_key(
             &heap.table,
             &mut self.seat,
@@ -77,7 +78,7 @@ impl<'a, L: KeyLayout> Owner<'a, L> {
         ensures leaves { CallLeaves L.layout result.1 self.old self.new }
         ensures stands { ViewStands L.layout self.new.view }
     {
-        let heap = self.heap;
+        let heap = self.heap.kept();
         release_key(
             &heap.table,
             &mut self.seat,
@@ -110,7 +111,7 @@ impl<'a, L: KeyLayout> Owner<'a, L> {
         ensures leaves { CallLeaves L.layout None self.old self.new }
         ensures stands { ViewStands L.layout self.new.view }
     {
-        let heap = self.heap;
+        let heap = self.heap.kept();
         let place = place_of_key::<L>(heap.table.shape(), hold.key);
         read_key(
             &heap.table,
@@ -130,7 +131,7 @@ impl<'a, L: KeyLayout> Owner<'a, L> {
         ensures leaves { CallLeaves L.layout None self.old self.new }
         ensures stands { ViewStands L.layout self.new.view }
     {
-        let heap = self.heap;
+        let heap = self.heap.kept();
         let place = guard.place(heap.table.shape());
         read_key(
             &heap.table,

@@ -8,11 +8,12 @@ ghost use Rattle.sh_pass.specs.Owners.{MayTouch, MayGive, OwnerDid, OwnerActs, O
 ghost use Rattle.sh_pass.specs.Owners.{heap_page, own_body, seen_page, page_given, page_noted, page_taken, page_armed};
 ghost use Rattle.sh_pass.specs.Owners.{page_followed};
 
+use crate::keeping::KeepsHeap;
 use crate::owner::Owner;
 use sh_key::KeyLayout;
 use sh_step::PageName;
 
-impl<'a, L: KeyLayout> Owner<'a, L> {
+impl<L: KeyLayout, H: KeepsHeap<L>> Owner<L, H> {
     /// Reads the class word of the page: 0 where the page is blank, and else one more than its class.
     pub fn read_page(&mut self, name: PageName) -> u64
         requires touch { MayTouch self.old name }
@@ -25,7 +26,7 @@ impl<'a, L: KeyLayout> Owner<'a, L> {
         ensures few { result ≤ 8 }
     {
         let page = self.number(name);
-        let heap = self.heap;
+        let heap = self.heap.kept();
         heap.table.read_page(&mut self.seat, name, page)
     }
 
@@ -44,7 +45,7 @@ impl<'a, L: KeyLayout> Owner<'a, L> {
         ensures arm { NoneArmed self.old self.new }
     {
         let page = self.number(name);
-        let heap = self.heap;
+        let heap = self.heap.kept();
         heap.table.set_class(&mut self.seat, name, page, class);
     }
 
@@ -63,7 +64,7 @@ impl<'a, L: KeyLayout> Owner<'a, L> {
         ensures arm { NoneArmed self.old self.new }
     {
         let page = self.number(name);
-        let heap = self.heap;
+        let heap = self.heap.kept();
         heap.table.take(&mut self.seat, name, page)
     }
 
@@ -81,7 +82,7 @@ impl<'a, L: KeyLayout> Owner<'a, L> {
         ensures put { NonePut self.old self.new }
     {
         let page = self.number(name);
-        let heap = self.heap;
+        let heap = self.heap.kept();
         heap.table.arm(&mut self.seat, name, page)
     }
 
@@ -99,7 +100,7 @@ impl<'a, L: KeyLayout> Owner<'a, L> {
         ensures arm { NoneArmed self.old self.new }
     {
         let page = self.number(name);
-        let heap = self.heap;
+        let heap = self.heap.kept();
         heap.table.follow(&mut self.seat, name, page, slot)
     }
 }

@@ -14,6 +14,7 @@ ghost use Rattle.sh_pass.specs.Owners.{MayTouch, OwnerDid, OwnerActs, OnPage, Sa
 ghost use Rattle.sh_pass.specs.Owners.{own_body, seen_page, published, slot_in, heap_spot, page_without, IsKeyIn};
 ghost use Rattle.sh_pass.specs.Owners.{IsKeyOn};
 
+use crate::keeping::KeepsHeap;
 use crate::owner::Owner;
 use sh_key::KeyLayout;
 use sh_slots::{Spot, published_name};
@@ -21,7 +22,7 @@ use sh_step::operands::key_of_name;
 use sh_step::{PageName, SlotName};
 use sh_value::Value;
 
-impl<'a, L: KeyLayout> Owner<'a, L> {
+impl<L: KeyLayout, H: KeepsHeap<L>> Owner<L, H> {
     /// Stores the length of the value, as it begins to fill a slot of its own. Answers the slot's place over the whole
     /// heap.
     pub fn fill_slot(&mut self, name: PageName, slot: u64, value: &Value) -> Spot
@@ -47,7 +48,7 @@ impl<'a, L: KeyLayout> Owner<'a, L> {
             page: name.page,
             slot,
         };
-        let heap = self.heap;
+        let heap = self.heap.kept();
         heap.table.fill_slot(&mut self.seat, slot_name, spot, value);
         spot
     }
@@ -63,7 +64,7 @@ impl<'a, L: KeyLayout> Owner<'a, L> {
         ensures pages { SamePages self.old self.new }
         ensures put { NonePut self.old self.new }
     {
-        let heap = self.heap;
+        let heap = self.heap.kept();
         heap.table.fill(&mut self.seat, spot, value, i, class_word);
     }
 
@@ -77,7 +78,7 @@ impl<'a, L: KeyLayout> Owner<'a, L> {
         ensures pages { SamePages self.old self.new }
         ensures put { NonePut self.old self.new }
     {
-        let heap = self.heap;
+        let heap = self.heap.kept();
         heap.table.publish(&mut self.seat, spot, value)
     }
 
@@ -105,7 +106,7 @@ impl<'a, L: KeyLayout> Owner<'a, L> {
         }
         let found = self.publish(spot, value);
         let stored = published_name(spot, found);
-        let heap = self.heap;
+        let heap = self.heap.kept();
         key_of_name::<L>(heap.table.shape(), stored)
     }
 
@@ -131,7 +132,7 @@ impl<'a, L: KeyLayout> Owner<'a, L> {
             page: name.page,
             slot,
         };
-        let heap = self.heap;
+        let heap = self.heap.kept();
         heap.table.put_slot(&mut self.seat, slot_name, spot)
     }
 
@@ -144,7 +145,7 @@ impl<'a, L: KeyLayout> Owner<'a, L> {
         ensures pages { SamePages self.old self.new }
         ensures put { NonePut self.old self.new }
     {
-        let heap = self.heap;
+        let heap = self.heap.kept();
         heap.table.tie(&mut self.seat, spot, link, ring);
     }
 }

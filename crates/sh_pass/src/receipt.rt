@@ -5,6 +5,7 @@ ghost use Rattle.sh_table.specs.Tales.{ViewStands};
 ghost use Rattle.sh_pass.specs.Receipts.{receipt_by, heeded};
 
 use crate::heap::Heap;
+use crate::keeping::KeepsHeap;
 use crate::owner::Owner;
 use crate::pass::Pass;
 use crate::state::PassState;
@@ -75,13 +76,13 @@ impl<L: KeyLayout> PassState<L> {
     }
 }
 
-impl<L: KeyLayout> Pass<'_, L> {
+impl<L: KeyLayout, H: KeepsHeap<L>> Pass<L, H> {
     /// A receipt of all that the pass was answered, and of all that it heard of others: one load.
     pub fn receipt(&mut self) -> Receipt
         ensures same { self.new ≡ self.old }
         ensures tells { result ≡ receipt_by self.old }
     {
-        self.state.receipt(self.heap)
+        self.state.receipt(self.heap.kept())
     }
 
     /// All that the receipt tells stands before what the pass is answered from now on: two loads.
@@ -90,17 +91,17 @@ impl<L: KeyLayout> Pass<'_, L> {
         ensures heeds { self.new ≡ heeded self.old receipt }
         ensures stands { ViewStands L.layout self.new.view }
     {
-        self.state.heed(self.heap, receipt);
+        self.state.heed(self.heap.kept(), receipt);
     }
 }
 
-impl<L: KeyLayout> Owner<'_, L> {
+impl<L: KeyLayout, H: KeepsHeap<L>> Owner<L, H> {
     /// A receipt of all that the owner was answered, and of all that it heard of others: one load.
     pub fn receipt(&mut self) -> Receipt
         ensures same { self.new ≡ self.old }
         ensures tells { result ≡ receipt_by self.old }
     {
-        let heap = self.heap;
+        let heap = self.heap.kept();
         Receipt {
             seat: heap.table.receipt(&mut self.seat),
         }
@@ -113,7 +114,7 @@ impl<L: KeyLayout> Owner<'_, L> {
         ensures stands { ViewStands L.layout self.new.view }
     {
         let Receipt { seat: told } = receipt;
-        let heap = self.heap;
+        let heap = self.heap.kept();
         heap.table.heed(&mut self.seat, told);
     }
 }

@@ -47,7 +47,7 @@ count_others f g p (suc n) l same =
     let x : if1 (g n) ≡ if1 (f n) = ap if1 (same n (λ e. absurd (omega arith))) in
     let z = count_others f g p n (omega arith) same in omega arith
 
-more : (p n : ℕ) → p < suc n → n ≢ p → p < n
+pub more : (p n : ℕ) → p < suc n → n ≢ p → p < n
 more p n l ne = grind (arith, nat_tests)
 
 pub count_less : (f g : ℕ → Bool) (p n : ℕ) → p < n → f p ≡ true → g p ≡ false → ((q : ℕ) → q ≢ p → g q ≡ f q)
@@ -101,7 +101,7 @@ following_more turn p o n m f b = record {
   steps = rings_then 0 0 0 o n m f.steps (read_steps p n m b) (omega arith);
 }
 
-weaken : (c : Option ℕ) (a b d : ℕ) → a ≤ b → MatchOption c (Unit {0}) (λ _. b < d)
+pub weaken : (c : Option ℕ) (a b d : ℕ) → a ≤ b → MatchOption c (Unit {0}) (λ _. b < d)
     → MatchOption c (Unit {0}) (λ _. a < d)
 weaken None a b d l h = tt
 weaken (Some s) a b d l h = omega arith

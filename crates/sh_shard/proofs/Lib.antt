@@ -15,5 +15,6 @@ pub mod Wholly
 pub mod SlotCounts
 pub mod Booking
 pub mod LeavingLaws
+pub mod RemoteLaws
 pub mod Beginning
 pub mod Coming

@@ -5,6 +5,7 @@ pub mod Works
 pub mod Leaving
 pub mod Filing
 pub mod Shards
+pub mod RemoteFrees
 pub mod Bounds
 pub mod Finding
 pub mod Searches

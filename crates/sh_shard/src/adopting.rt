@@ -9,19 +9,20 @@ ghost use Rattle.sh_shard.specs.Filing.{OpensClassed, FilesRising};
 use crate::pages::Pages;
 use crate::shard::Shard;
 use sh_key::KeyLayout;
-use sh_pass::Pass;
+use sh_pass::KeepsHeap;
+use sh_pass::pass::Pass;
 use sh_queue::{Filing, Queues};
 use sh_value::Refusal;
 use std::alloc::Global;
 
-impl<'a, L: KeyLayout> Shard<'a, L> {
+impl<L: KeyLayout, H: KeepsHeap<L>> Shard<L, H> {
     /// Makes the pass the owner of shard `n`: it finds what those before it left there. Refused, with the pass, as
     /// `NoShard` exactly where the heap has no shard of this number, as `Taken` where the shard has an owner, and as
     /// `Memory` where memory for its pages is refused: then the shard is left again. It takes at most two steps more
     /// than the shard has pages.
-    pub fn adopt(alloc: Global, pass: Pass<'a, L>, n: u64) -> Result<Self, (Pass<'a, L>, Refusal)>
-        ensures serves { AdoptServes n pass.entry result }
-        ensures bounded { AdoptIsBounded pass.entry result }
+    pub fn adopt(alloc: Global, pass: Pass<L, H>, n: u64) -> Result<Self, (Pass<L, H>, Refusal)>
+        ensures serves { AdoptServes n pass result }
+        ensures bounded { AdoptIsBounded pass result }
         ensures holds { IfOk result (HoldsShard L.layout) }
     {
         let pages = Pages::adopt(alloc, pass, n)?;
@@ -37,7 +38,10 @@ impl<'a, L: KeyLayout> Shard<'a, L> {
 }
 
 // The queues of the pages, of which the segments are opened up to the last page that has a class.
-fn queues_of<L: KeyLayout>(alloc: Global, pages: &Pages<'_, L>) -> Result<Queues, Refusal>
+fn queues_of<L: KeyLayout, H: KeepsHeap<L>>(
+    alloc: Global,
+    pages: &Pages<L, H>,
+) -> Result<Queues, Refusal>
     requires segments { (k : ℕ) × (pages.now.count ≡ 8 * k) }
     ensures sorted { IfOk result (λ queues. SortedPages pages.now queues) }
     ensures opened { IfOk result (λ queues. OpensClassed pages.now queues) }
@@ -52,7 +56,7 @@ fn queues_of<L: KeyLayout>(alloc: Global, pages: &Pages<'_, L>) -> Result<Queues
 }
 
 // The number behind the last page that has a class, 0 where none has. It is looked for from the back.
-fn classed_end<L: KeyLayout>(pages: &Pages<'_, L>) -> u64
+fn classed_end<L: KeyLayout, H: KeepsHeap<L>>(pages: &Pages<L, H>) -> u64
     ensures few { result ≤ pages.now.count }
     ensures later { (p : ℕ) → result ≤ p → p < pages.now.count → (page_at pages.now p).class ≡ Some 0 }
     ensures classed { IsClassedEnd result pages.now }
@@ -68,7 +72,7 @@ fn classed_end<L: KeyLayout>(pages: &Pages<'_, L>) -> u64
 }
 
 // Files each page that there will be, in ascending order.
-fn file_pages<L: KeyLayout>(pages: &Pages<'_, L>, filing: &mut Filing)
+fn file_pages<L: KeyLayout, H: KeepsHeap<L>>(pages: &Pages<L, H>, filing: &mut Filing)
     requires few { filing.old.pages ≤ pages.now.count }
     requires none { FilesFirst 0 pages.now filing.old filing.old }
     ensures { FilesFirst filing.old.pages pages.now filing.old filing.new }
@@ -79,7 +83,7 @@ fn file_pages<L: KeyLayout>(pages: &Pages<'_, L>, filing: &mut Filing)
 }
 
 // The class of a page, where it is not blank.
-fn class_of<L: KeyLayout>(pages: &Pages<'_, L>, page: u64) -> Option<u32>
+fn class_of<L: KeyLayout, H: KeepsHeap<L>>(pages: &Pages<L, H>, page: u64) -> Option<u32>
     requires { page < pages.now.count }
     ensures class { MatchOption result ((page_at pages.now page).class ≡ Some 0)
         (λ c. (page_at pages.now page).class ≡ Some (c + 1)) }

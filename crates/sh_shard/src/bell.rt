@@ -4,10 +4,11 @@ ghost use Rattle.sh_shard.specs.Pages.{CursorStands, BellTakes, BellStops, BellR
 
 use crate::pages::Pages;
 use sh_key::KeyLayout;
+use sh_pass::KeepsHeap;
 use sh_stack::{link_item, top_item};
 use sh_step::PageName;
 
-impl<'a, L: KeyLayout> Pages<'a, L> {
+impl<L: KeyLayout, H: KeepsHeap<L>> Pages<L, H> {
     /// Whether the bell has a cursor.
     pub(crate) fn has_rings(&self) -> bool
         ensures { MatchBool result (CursorStands self.now.bell.cursor) (self.now.bell.cursor ≡ None) }

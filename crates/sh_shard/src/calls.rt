@@ -6,7 +6,7 @@ ghost use Rattle.sh_shard.specs.Pages.{SlotComes};
 
 use crate::pages::Pages;
 use sh_key::KeyLayout;
-use sh_pass::Guard;
+use sh_pass::{Guard, KeepsHeap};
 use sh_slots::Spot;
 use sh_states::PageStates;
 use sh_value::{Hold, Refusal, Value};
@@ -25,7 +25,7 @@ fn keep(states: &mut PageStates, shard: u64, came: Option<Spot>) -> Option<u64>
     Some(page)
 }
 
-impl<'a, L: KeyLayout> Pages<'a, L> {
+impl<L: KeyLayout, H: KeepsHeap<L>> Pages<L, H> {
     /// Takes a hold on a key. Refused as `BadKey`, `HoldsFull`, `Gone` or `Crowded`, tried in that order. Answers also
     /// the page to which a slot came.
     pub(crate) fn get(&mut self, key: u64) -> (Result<Hold, Refusal>, Option<u64>)

@@ -7,6 +7,7 @@ ghost use Rattle.sh_shard.specs.Pages.{CollectsPage, GuardsPage, StepsForSlots};
 use crate::pages::Pages;
 use sh_bell::{is_armed, top_of};
 use sh_key::KeyLayout;
+use sh_pass::KeepsHeap;
 use sh_stack::{link_item, top_item};
 use sh_step::PageName;
 
@@ -28,7 +29,7 @@ fn still_armed(armed: bool, found: u64) -> bool
     if is_armed(found) { false } else { armed }
 }
 
-impl<'a, L: KeyLayout> Pages<'a, L> {
+impl<L: KeyLayout, H: KeepsHeap<L>> Pages<L, H> {
     /// One step: what was put on the page becomes its cursor.
     pub(crate) fn take(&mut self, page: u64)
         requires inside { page < self.old.count }

@@ -5,9 +5,10 @@ ghost use Rattle.sh_shard.specs.Pages.{page_at, blank_pages, page_out, slots_out
 use crate::pages::Pages;
 use crate::shard::Shard;
 use sh_key::KeyLayout;
+use sh_pass::KeepsHeap;
 use sh_shape::classes;
 
-impl<'a, L: KeyLayout> Pages<'a, L> {
+impl<L: KeyLayout, H: KeepsHeap<L>> Pages<L, H> {
     // How many slots of the page are not the owner's: none where it is blank.
     fn slots_out(&self, page: u64) -> u32
         requires { page < self.now.count }
@@ -22,7 +23,7 @@ impl<'a, L: KeyLayout> Pages<'a, L> {
     }
 }
 
-impl<'a, L: KeyLayout> Shard<'a, L> {
+impl<L: KeyLayout, H: KeepsHeap<L>> Shard<L, H> {
     /// How many pages of the shard have no class yet, of the opened segments and of the others. Each of them has room
     /// for values of any class: 48 of one word, or 3 of sixteen.
     ///

@@ -6,16 +6,17 @@ ghost use Rattle.sh_shard.specs.Bounds.{LeaveIsBounded};
 use crate::returning::return_all;
 use crate::shard::Shard;
 use sh_key::KeyLayout;
-use sh_pass::Pass;
+use sh_pass::KeepsHeap;
+use sh_pass::pass::Pass;
 use sh_value::Refusal;
 
-impl<'a, L: KeyLayout> Shard<'a, L> {
+impl<L: KeyLayout, H: KeepsHeap<L>> Shard<L, H> {
     /// Leaves the shard: what others freed is collected, all that the owner has is put back for the next owner, and the
     /// pass comes back. Refused as `Waiting`, with the shard, where another caller has begun a free in it that is yet
     /// to end: then nothing is put back, and the shard serves as before. It takes at most 148 steps for each page, and 4.
-    pub fn leave(self) -> Result<Pass<'a, L>, (Self, Refusal)>
-        ensures serves { LeaveServes self.entry result }
-        ensures bounded { LeaveIsBounded self.entry result }
+    pub fn leave(self) -> Result<Pass<L, H>, (Self, Refusal)>
+        ensures serves { LeaveServes self result }
+        ensures bounded { LeaveIsBounded self result }
         ensures holds { IfErr result (λ r. HoldsShard L.layout r.0) }
     {
         let Shard { pages, mut queues } = self;

@@ -10,9 +10,10 @@ ghost use Rattle.sh_shard.specs.Finding.{StoresAtFront, InsertsElsewhere};
 
 use crate::shard::Shard;
 use sh_key::KeyLayout;
+use sh_pass::KeepsHeap;
 use sh_value::{Refusal, Value};
 
-impl<'a, L: KeyLayout> Shard<'a, L> {
+impl<L: KeyLayout, H: KeepsHeap<L>> Shard<L, H> {
     // Stores a value of the class, and answers its key.
     pub(crate) fn insert_in(&mut self, c: u32, value: &Value) -> Result<u64, Refusal>
         requires class { c < 8 }

@@ -12,12 +12,13 @@ ghost use Rattle.sh_shard.specs.Bounds.{leave_steps};
 use crate::pages::Pages;
 use sh_bell::{is_armed, top_of};
 use sh_key::KeyLayout;
-use sh_pass::Pass;
+use sh_pass::KeepsHeap;
+use sh_pass::pass::Pass;
 use sh_slots::Spot;
 use sh_stack::link_over;
 use sh_step::PageName;
 
-impl<'a, L: KeyLayout> Pages<'a, L> {
+impl<L: KeyLayout, H: KeepsHeap<L>> Pages<L, H> {
     // Follows the bell to its end or to a link that is not written.
     fn follow_rings(&mut self)
         ensures { BellFollowed self.old self.new }
@@ -30,8 +31,8 @@ impl<'a, L: KeyLayout> Pages<'a, L> {
         }
     }
 
-    // Follows the bell, takes it where it is at its end, and follows.
-    fn empty_bell(&mut self)
+    /// Follows the bell, takes it where it is at its end, and follows.
+    pub(crate) fn empty_bell(&mut self)
         ensures through { Collecting self.old self.new }
         ensures bell { BellDone self.old self.new }
         ensures steps { StepsForRings 3 self.old self.new }
@@ -161,11 +162,11 @@ impl<'a, L: KeyLayout> Pages<'a, L> {
     }
 
     /// Gives the shard up, of which it has nothing.
-    pub(crate) fn give_up(self) -> Pass<'a, L>
+    pub(crate) fn give_up(self) -> Pass<L, H>
         requires pages { (p : ℕ) → p < self.count → HasNothing (page_at self p) }
         requires bell { self.bell.cursor ≡ None }
-        ensures left { ShardLeft self.entry.owner result }
-        ensures steps { StepsAtMost 1 self.entry.owner result }
+        ensures left { ShardLeft self.owner result }
+        ensures steps { StepsAtMost 1 self.owner result }
     {
         let Pages {
             mut owner,
@@ -181,12 +182,12 @@ impl<'a, L: KeyLayout> Pages<'a, L> {
     /// has no cursor is taken and followed. Where a cursor stands then or a page is armed, others have yet to end what
     /// they began: nothing is put, and the pages come back. Else the owner's slots are put on their pages, and the
     /// shard is given up. The pages from `opened` on are blank, and are not looked at.
-    pub(crate) fn leave(mut self, opened: u64) -> Result<Pass<'a, L>, Self>
+    pub(crate) fn leave(mut self, opened: u64) -> Result<Pass<L, H>, Self>
         requires few { opened ≤ self.count }
         requires later { BlankFrom opened self }
-        ensures does { LeaveDoes self.entry result }
-        ensures steps { MatchResult result (λ v. StepsAtMost (leave_steps self.entry.count) self.entry.owner v)
-            (λ n. StepsAtMost (leave_steps self.entry.count) self.entry.owner n.owner) }
+        ensures does { LeaveDoes self result }
+        ensures steps { MatchResult result (λ v. StepsAtMost (leave_steps self.count) self.owner v)
+            (λ n. StepsAtMost (leave_steps self.count) self.owner n.owner) }
     {
         self.empty_bell();
         self.empty_pages(opened);

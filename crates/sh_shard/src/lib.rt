@@ -6,6 +6,7 @@
 
 mod adopting;
 mod bell;
+mod borrowing;
 mod calls;
 mod collecting;
 mod counting;
@@ -15,6 +16,7 @@ mod leaving;
 pub mod pages;
 mod prepare;
 mod receipts;
+mod remote_frees;
 mod returning;
 mod ringing;
 mod search;
@@ -23,5 +25,4 @@ mod standing;
 mod store;
 mod using;
 
-pub use pages::Pages;
-pub use shard::Shard;
+pub use borrowing::{Pages, Shard};

@@ -8,7 +8,9 @@ ghost use Rattle.sh_shard.specs.Pages.{WhollyMine, NoneWhollyMine, BlankHasNothi
 ghost use Rattle.sh_shard.specs.Steps.{StepsAtMost};
 
 use sh_key::KeyLayout;
-use sh_pass::{Owner, Pass};
+use sh_pass::KeepsHeap;
+use sh_pass::owner::Owner;
+use sh_pass::pass::Pass;
 use sh_states::PageStates;
 use sh_step::PageName;
 use sh_value::Refusal;
@@ -17,8 +19,8 @@ use std::marker::Model;
 
 /// The pages of an owner's shard.
 #[derive(Drop)]
-pub struct Pages<'a, L: KeyLayout> {
-    pub(crate) owner: Owner<'a, L>,
+pub struct Pages<L: KeyLayout, H: KeepsHeap<L>> {
+    pub(crate) owner: Owner<L, H>,
     pub(crate) shard: u64,
     // The page of the bell whose link is to be followed next.
     pub(crate) rings: Option<u64>,
@@ -26,7 +28,7 @@ pub struct Pages<'a, L: KeyLayout> {
     pub(crate) states: PageStates,
 }
 
-impl<'a, L: KeyLayout> Model for Pages<'a, L> {
+impl<L: KeyLayout, H: KeepsHeap<L>> Model for Pages<L, H> {
     ghost use Rattle.std.specs.Prelude.{length};
     ghost use Rattle.sh_pass.specs.Owners.{seen_bell};
     ghost use Rattle.sh_shard.specs.Kept.{KeepsPages};
@@ -45,18 +47,18 @@ impl<'a, L: KeyLayout> Model for Pages<'a, L> {
     ghost invariant = { λ p. KeepsPages L.layout p.owner p.shard p.rings p.states };
 }
 
-impl<'a, L: KeyLayout> Pages<'a, L> {
+impl<L: KeyLayout, H: KeepsHeap<L>> Pages<L, H> {
     /// Makes the pass the owner of the shard, and reads the class word of each page in ascending order. Refused, with
     /// the pass, as `NoShard` where there is no such shard, as `Taken` where it has an owner, and as `Memory` where
     /// memory for the pages is refused: then the shard is left again.
     pub(crate) fn adopt(
         alloc: Global,
-        pass: Pass<'a, L>,
+        pass: Pass<L, H>,
         shard: u64,
-    ) -> Result<Self, (Pass<'a, L>, Refusal)>
-        ensures adopts { AdoptsPages shard pass.entry result }
-        ensures steps { MatchResult result (λ pages. StepsAtMost (pages.count + 1) pass.entry pages.owner)
-            (λ r. StepsAtMost 2 pass.entry r.0) }
+    ) -> Result<Self, (Pass<L, H>, Refusal)>
+        ensures adopts { AdoptsPages shard pass result }
+        ensures steps { MatchResult result (λ pages. StepsAtMost (pages.count + 1) pass pages.owner)
+            (λ r. StepsAtMost 2 pass r.0) }
     {
         let mut owner = Owner::of(pass);
         if shard >= owner.shards() {
@@ -72,16 +74,16 @@ impl<'a, L: KeyLayout> Pages<'a, L> {
     }
 
     // Reads the class word of each page of the shard that was adopted. Where memory is refused, the shard is left.
-    fn begin(alloc: Global, owner: Owner<'a, L>, shard: u64) -> Result<Self, Owner<'a, L>>
+    fn begin(alloc: Global, owner: Owner<L, H>, shard: u64) -> Result<Self, Owner<L, H>>
         requires idle { (own_body owner).hand ≡ Idle }
         requires owned { (own_body owner).owned ≡ Some shard }
         requires bell { (own_body owner).bell_cursor ≡ None }
         requires pages { (q : ℕ) → HasNothing (seen_page owner q) }
         requires stands { ViewStands L.layout owner.view }
-        ensures begins { MatchResult result (λ pages. AdoptsShard owner.entry shard pages)
-            (λ back. ShardLeft owner.entry back) }
-        ensures steps { MatchResult result (λ pages. StepsAtMost pages.count owner.entry pages.owner)
-            (λ back. StepsAtMost 1 owner.entry back) }
+        ensures begins { MatchResult result (λ pages. AdoptsShard owner shard pages)
+            (λ back. ShardLeft owner back) }
+        ensures steps { MatchResult result (λ pages. StepsAtMost pages.count owner pages.owner)
+            (λ back. StepsAtMost 1 owner back) }
     {
         let mut owner = owner;
         let count = owner.pages();

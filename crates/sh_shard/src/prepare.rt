@@ -9,9 +9,10 @@ ghost use Rattle.sh_shard.specs.Bounds.{PrepareIsBounded};
 
 use crate::shard::Shard;
 use sh_key::KeyLayout;
+use sh_pass::KeepsHeap;
 use sh_value::Refusal;
 
-impl<'a, L: KeyLayout> Shard<'a, L> {
+impl<L: KeyLayout, H: KeepsHeap<L>> Shard<L, H> {
     /// Gives a page the class, from 0 to 7, puts it in front of the class's queue, and answers it: the lowest blank
     /// page of the opened segments, else the lowest page of another class all of whose slots are the owner's, else the
     /// first page of the next segment, which is opened. Refused, with nothing changed, as `Full` exactly where there is

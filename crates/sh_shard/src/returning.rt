@@ -8,10 +8,11 @@ ghost use Rattle.sh_shard.specs.Filing.{ReturnsRising};
 
 use crate::pages::Pages;
 use sh_key::KeyLayout;
+use sh_pass::KeepsHeap;
 use sh_queue::Queues;
 
 // All pages that are not full any longer go back to their classes, in ascending order.
-pub(crate) fn return_all<L: KeyLayout>(pages: &Pages<'_, L>, queues: &mut Queues)
+pub(crate) fn return_all<L: KeyLayout, H: KeepsHeap<L>>(pages: &Pages<L, H>, queues: &mut Queues)
     requires { SortedBut (λ p. Unit {0}) pages.now queues.old }
     ensures sorted { SortedPages pages.now queues.new }
     ensures rising { ReturnsRising queues.old queues.new }
@@ -25,7 +26,11 @@ pub(crate) fn return_all<L: KeyLayout>(pages: &Pages<'_, L>, queues: &mut Queues
 }
 
 // A page to which a slot came goes back to its class, where it was full.
-pub(crate) fn return_one<L: KeyLayout>(pages: &Pages<'_, L>, queues: &mut Queues, came: Option<u64>)
+pub(crate) fn return_one<L: KeyLayout, H: KeepsHeap<L>>(
+    pages: &Pages<L, H>,
+    queues: &mut Queues,
+    came: Option<u64>,
+)
     requires sorted { SortedBut (λ p. came ≡ Some p) pages.now queues.old }
     requires inside { IfSome came (λ p. p < pages.now.count) }
     ensures { SortedPages pages.now queues.new }
@@ -38,7 +43,7 @@ pub(crate) fn return_one<L: KeyLayout>(pages: &Pages<'_, L>, queues: &mut Queues
 }
 
 // The page, where it stands in the full queue and is not a full page, goes to the back of its class.
-fn return_page<L: KeyLayout>(pages: &Pages<'_, L>, queues: &mut Queues, page: u64)
+fn return_page<L: KeyLayout, H: KeepsHeap<L>>(pages: &Pages<L, H>, queues: &mut Queues, page: u64)
     requires inside { page < pages.now.count }
     requires classed { has_number page queues.old.full ≡ true → 0 < seen_class (page_at pages.now page) }
     ensures { ReturnsPage page pages.now queues.old queues.new }
@@ -58,7 +63,7 @@ fn return_page<L: KeyLayout>(pages: &Pages<'_, L>, queues: &mut Queues, page: u6
 }
 
 // Whether the page, which has a class, belongs in the full queue.
-fn is_full<L: KeyLayout>(pages: &Pages<'_, L>, page: u64) -> bool
+fn is_full<L: KeyLayout, H: KeepsHeap<L>>(pages: &Pages<L, H>, page: u64) -> bool
     requires inside { page < pages.now.count }
     requires classed { 0 < seen_class (page_at pages.now page) }
     ensures { MatchBool result (FullPage (page_at pages.now page)) (Unit {0}) }

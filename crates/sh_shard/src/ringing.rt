@@ -5,6 +5,7 @@ ghost use Rattle.sh_shard.specs.Searches.{Heard, Hears, BellWaits, RingsOut};
 
 use crate::shard::Shard;
 use sh_key::KeyLayout;
+use sh_pass::KeepsHeap;
 
 // Whether a page of class c was read, once this class word was.
 fn is_heard(read: bool, word: u64, c: u32) -> bool
@@ -19,7 +20,7 @@ fn either(first: bool, second: bool) -> bool
     first || second
 }
 
-impl<'a, L: KeyLayout> Shard<'a, L> {
+impl<L: KeyLayout, H: KeepsHeap<L>> Shard<L, H> {
     // Follows the bell, takes it once it is at its end, and follows: whether a page of the class was read.
     pub(crate) fn ring_out(&mut self, c: u32) -> bool
         requires class { c < 8 }

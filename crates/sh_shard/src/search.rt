@@ -12,9 +12,10 @@ ghost use Rattle.sh_shard.specs.Searches.{Settles, Searched, Tried};
 
 use crate::shard::Shard;
 use sh_key::KeyLayout;
+use sh_pass::KeepsHeap;
 use sh_value::Value;
 
-impl<'a, L: KeyLayout> Shard<'a, L> {
+impl<L: KeyLayout, H: KeepsHeap<L>> Shard<L, H> {
     // The search, the bell, and the search again where a page of the class was read from the bell.
     pub(crate) fn look(&mut self, c: u32, value: &Value) -> Option<u64>
         requires class { c < 8 }

@@ -8,7 +8,7 @@ ghost use Rattle.sh_shard.specs.Shards.{SortedPages, StaysOwner, InsertServes, I
 use crate::pages::Pages;
 use crate::returning::return_one;
 use sh_key::KeyLayout;
-use sh_pass::Guard;
+use sh_pass::{Guard, KeepsHeap};
 use sh_queue::Queues;
 use sh_shape::classes;
 use sh_value::{Hold, Refusal, Value};
@@ -24,12 +24,12 @@ use std::marker::Model;
 /// Its pass is gone with it: no other pass can be joined to it, so the heap is never known whole. The values stay, and
 /// other passes get, read, remove and release them as before.
 #[derive(Drop)]
-pub struct Shard<'a, L: KeyLayout> {
-    pub(crate) pages: Pages<'a, L>,
+pub struct Shard<L: KeyLayout, H: KeepsHeap<L>> {
+    pub(crate) pages: Pages<L, H>,
     pub(crate) queues: Queues,
 }
 
-impl<'a, L: KeyLayout> Model for Shard<'a, L> {
+impl<L: KeyLayout, H: KeepsHeap<L>> Model for Shard<L, H> {
     ghost use Rattle.sh_shard.specs.Shards.{Sharded, SortedPages};
 
     ghost Value = { Sharded };
@@ -39,7 +39,7 @@ impl<'a, L: KeyLayout> Model for Shard<'a, L> {
     ghost invariant = { λ s. SortedPages s.pages s.queues };
 }
 
-impl<'a, L: KeyLayout> Shard<'a, L> {
+impl<L: KeyLayout, H: KeepsHeap<L>> Shard<L, H> {
     /// Stores a value in the shard under a new key, and answers the key. Refused as `Full` where the shard has no room
     /// for a value of its class, of which each page and the bell were looked at in this call, and as `Memory` where the
     /// growth of a segment was refused; the log, the holds and the keys are then as they were.

@@ -8,9 +8,10 @@ ghost use Rattle.sh_shard.specs.Shards.{HoldsShard};
 use crate::pages::Pages;
 use crate::shard::Shard;
 use sh_key::KeyLayout;
+use sh_pass::KeepsHeap;
 use sh_shape::Shape;
 
-impl<'a, L: KeyLayout> Pages<'a, L> {
+impl<L: KeyLayout, H: KeepsHeap<L>> Pages<L, H> {
     // What is known of the owner.
     fn known(&self)
         ensures stands { ViewStands L.layout self.now.owner.view }
@@ -29,7 +30,7 @@ impl<'a, L: KeyLayout> Pages<'a, L> {
     }
 }
 
-impl<'a, L: KeyLayout> Shard<'a, L> {
+impl<L: KeyLayout, H: KeepsHeap<L>> Shard<L, H> {
     /// The shape of the heap. Between its calls the owner has begun nothing, the shard is its own, and all that it
     /// knows stands.
     pub fn shape(&self) -> &Shape

@@ -1,10 +1,11 @@
 // A shard is a store.
 use crate::shard::Shard;
 use sh_key::KeyLayout;
+use sh_pass::KeepsHeap;
 use sh_plain::{Lookup, Store};
 use sh_value::{Hold, Refusal, Value};
 
-impl<L: KeyLayout> Lookup for Shard<'_, L> {
+impl<L: KeyLayout, H: KeepsHeap<L>> Lookup for Shard<L, H> {
     ghost use Rattle.sh_pass.specs.Passes.{GetDoes, ReadDoes, RemoveDoes, ReleaseDoes};
     ghost use Rattle.sh_shard.specs.Stores.{shard_book, shard_setting};
 
@@ -41,7 +42,7 @@ impl<L: KeyLayout> Lookup for Shard<'_, L> {
     }
 }
 
-impl<L: KeyLayout> Store for Shard<'_, L> {
+impl<L: KeyLayout, H: KeepsHeap<L>> Store for Shard<L, H> {
     ghost use Rattle.sh_shard.specs.Shards.{InsertServes, value_class};
 
     ghost inserts = { λ old value result new. InsertServes L.layout (value_class value) value old result new };

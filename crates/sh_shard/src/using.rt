@@ -7,10 +7,11 @@ ghost use Rattle.sh_shard.specs.Steps.{StepsAtMost};
 
 use crate::pages::Pages;
 use sh_key::KeyLayout;
+use sh_pass::KeepsHeap;
 use sh_step::PageName;
 use sh_value::Value;
 
-impl<'a, L: KeyLayout> Pages<'a, L> {
+impl<L: KeyLayout, H: KeepsHeap<L>> Pages<L, H> {
     /// Stores the value in a slot of the page, if one is the owner's. Answers its key.
     pub(crate) fn use_slot(&mut self, page: u64, value: &Value) -> Option<u64>
         requires inside { page < self.old.count }

@@ -5,8 +5,9 @@ ghost use Rattle.sh_gather.specs.Gathering.{NotedMore};
 ghost use Rattle.sh_totals.specs.Pages.{IsPage, AreFirst};
 
 use sh_core::Accounts;
-use sh_gather::Whole;
+use sh_gather::view::Whole;
 use sh_key::KeyLayout;
+use sh_pass::KeepsHeap;
 use sh_shape::Shape;
 use std::alloc::{AllocError, Global};
 
@@ -30,7 +31,10 @@ pub fn page_count(shape: &Shape) -> u32
 
 /// The accounts of the page with this number over the heap: those of shard 0 come first, in their order, then those of
 /// shard 1, and so on.
-pub fn page_accounts<L: KeyLayout>(whole: &mut Whole<'_, L>, number: u32) -> PageAccounts
+pub fn page_accounts<L: KeyLayout, H: KeepsHeap<L>>(
+    whole: &mut Whole<L, H>,
+    number: u32,
+) -> PageAccounts
     requires there { number < all_pages whole.old.heap.shape }
     ensures heap { whole.new.heap ≡ whole.old.heap }
     ensures tale { NotedMore whole.old.view whole.new.view }
@@ -50,9 +54,9 @@ pub fn page_accounts<L: KeyLayout>(whole: &mut Whole<'_, L>, number: u32) -> Pag
 
 /// The accounts of all pages of the heap, in the order of their numbers, to go over them: `for page in &all`. Refused
 /// where there is no memory for the list.
-pub fn all_accounts<L: KeyLayout>(
+pub fn all_accounts<L: KeyLayout, H: KeepsHeap<L>>(
     alloc: Global,
-    whole: &mut Whole<'_, L>,
+    whole: &mut Whole<L, H>,
 ) -> Result<Vec<PageAccounts>, AllocError>
     ensures heap { whole.new.heap ≡ whole.old.heap }
     ensures tale { NotedMore whole.old.view whole.new.view }

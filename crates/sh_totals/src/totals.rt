@@ -8,8 +8,9 @@ ghost use Rattle.sh_totals.specs.Pages.{AreFirst};
 ghost use Rattle.sh_totals.specs.Sums.{AtMost, with_page, sums};
 
 use crate::pages::{PageAccounts, page_accounts, page_count};
-use sh_gather::Whole;
+use sh_gather::view::Whole;
 use sh_key::KeyLayout;
+use sh_pass::KeepsHeap;
 
 /// How many slots of each kind the pages of a heap have together.
 ///
@@ -65,7 +66,7 @@ impl Totals {
 }
 
 /// The sums over all pages of a heap of which all passes met. It takes no memory.
-pub fn total<L: KeyLayout>(whole: &mut Whole<'_, L>) -> Totals
+pub fn total<L: KeyLayout, H: KeepsHeap<L>>(whole: &mut Whole<L, H>) -> Totals
     ensures heap { whole.new.heap ≡ whole.old.heap }
     ensures tale { NotedMore whole.old.view whole.new.view }
     ensures are { (pages : List PageAccounts) × AreFirst L.layout whole.old whole.new (all_pages whole.old.heap.shape) pages

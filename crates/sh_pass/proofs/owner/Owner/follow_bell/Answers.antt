@@ -1,4 +1,4 @@
-use Rattle.std.proofs.Common.{ℕ, sym, subst}
+use Rattle.std.proofs.Common.{◌∙◌, ℕ, sym, subst}
 use Rattle.sh_step.specs.declared.action.Action.TheVariants as action
 use Rattle.sh_step.specs.declared.moves.Move.TheVariants as move
 use Rattle.sh_table.specs.Seats.{CanDo, Did}
@@ -14,7 +14,7 @@ follow_bell-requires g c =
     let layout = g.L.KeyLayout.layout in
     let v = c.args.self.now in
     let touch = c.requires.touch in
-    let seat = seat_at c.heap.view_is c.self.invariant.seat in
+    let seat = seat_at (c.heap.view_is ∙ c.kept-heap.ensures) c.self.invariant.seat in
     let s = stood v c.self.view_is seat in
     let P : ℕ → Type 0 = λ q. CanDo layout c.heap.inside.table action.FollowBell (move.FollowBell q) c.self.inside.seat
     in
@@ -26,7 +26,7 @@ returns g c =
     let layout = g.L.KeyLayout.layout in
     let v = c.args.self.now in
     let touch = c.requires.touch in
-    let seat = seat_at c.heap.view_is c.self.invariant.seat in
+    let seat = seat_at (c.heap.view_is ∙ c.kept-heap.ensures) c.self.invariant.seat in
     let s = stood v c.self.view_is seat in
     let P : ℕ → Type 0 = λ q. Did layout c.heap.inside.table action.FollowBell (move.FollowBell q) c.follow_bell.result
     c.self.inside.seat c.follow_bell.new.seat in

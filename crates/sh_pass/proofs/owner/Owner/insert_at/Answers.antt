@@ -27,7 +27,7 @@ pub key_of_name-requires-clause-names : goal.key_of_name-requires-clause-names
 key_of_name-requires-clause-names g c =
     let p = c.publish-found.ensures in
     let now : c.shape.result.now ≡ c.publish-found.new.self.view.shape = c.shape.ensures
-    ∙ (ap (λ (h : Heap). h.shape) c.heap.view_is ∙ (sym c.self.invariant.seat.shape
+    ∙ (ap (λ (h : Heap). h.shape) (c.heap.view_is ∙ c.kept-heap.ensures) ∙ (sym c.self.invariant.seat.shape
     ∙ ap (λ (v : Caller). v.view.shape) c.self.view_is)) in
     issued g.L.KeyLayout.layout c.shape.result.now c.loop-i.self c.publish-found.new.self c.fill_slot-spot.result
     c.args.value.now c.publish-found.result c.published_name-stored.result p.does (now ∙ p.acts.aside.same.shape)
@@ -40,7 +40,7 @@ returns-clause-on g c =
     let p = c.publish-found.ensures in
     let before : c.loop-i.self.view.shape ≡ v.view.shape = c.loop-i.invariant.0.aside.same.shape in
     let now : c.shape.result.now ≡ c.publish-found.new.self.view.shape = c.shape.ensures
-    ∙ (ap (λ (h : Heap). h.shape) c.heap.view_is ∙ (sym c.self.invariant.seat.shape
+    ∙ (ap (λ (h : Heap). h.shape) (c.heap.view_is ∙ c.kept-heap.ensures) ∙ (sym c.self.invariant.seat.shape
     ∙ ap (λ (v : Caller). v.view.shape) c.self.view_is)) in
     let at : c.shape.result.now ≡ c.loop-i.self.view.shape = now ∙ p.acts.aside.same.shape in
     let x = c.fill_slot-spot.ensures.spot in

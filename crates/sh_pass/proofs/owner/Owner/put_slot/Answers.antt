@@ -1,4 +1,4 @@
-use Rattle.std.proofs.Common.{ℕ, refl, sym, subst}
+use Rattle.std.proofs.Common.{◌∙◌, ℕ, refl, sym, subst}
 use Rattle.sh_step.specs.declared.action.Action.TheVariants as action
 use Rattle.sh_step.specs.declared.moves.Move.TheVariants as move
 use Rattle.sh_table.specs.Seats.{CanDo, Did}
@@ -13,7 +13,7 @@ put_slot-requires g c =
     let layout = g.L.KeyLayout.layout in
     let v = c.args.self.now in
     let touch = c.requires.touch in
-    let seat = seat_at c.heap.view_is c.self.invariant.seat in
+    let seat = seat_at (c.heap.view_is ∙ c.kept-heap.ensures) c.self.invariant.seat in
     let s = stood v c.self.view_is seat in
     let P : ℕ → Type 0 = λ q. CanDo layout c.heap.inside.table (action.PutSlot (slot_in c.args.name c.args.slot))
     (move.PutSlot (record { page = q; slot = c.args.slot })) c.self.inside.seat in
@@ -26,7 +26,7 @@ returns g c =
     let layout = g.L.KeyLayout.layout in
     let v = c.args.self.now in
     let touch = c.requires.touch in
-    let seat = seat_at c.heap.view_is c.self.invariant.seat in
+    let seat = seat_at (c.heap.view_is ∙ c.kept-heap.ensures) c.self.invariant.seat in
     let s = stood v c.self.view_is seat in
     let P : ℕ → Type 0 = λ q. Did layout c.heap.inside.table (action.PutSlot (slot_in c.args.name c.args.slot))
     (move.PutSlot (record { page = q; slot = c.args.slot })) c.put_slot.result c.self.inside.seat

@@ -1,4 +1,4 @@
-use Rattle.std.proofs.Common.{ℕ, sym, subst}
+use Rattle.std.proofs.Common.{◌∙◌, ℕ, sym, subst}
 use Rattle.sh_step.specs.declared.action.Action.TheVariants as action
 use Rattle.sh_step.specs.declared.moves.Move.TheVariants as move
 use Rattle.sh_table.specs.Seats.{CanDo, Did}
@@ -12,7 +12,7 @@ take-requires g c =
     let layout = g.L.KeyLayout.layout in
     let v = c.args.self.now in
     let touch = c.requires.touch in
-    let seat = seat_at c.heap.view_is c.self.invariant.seat in
+    let seat = seat_at (c.heap.view_is ∙ c.kept-heap.ensures) c.self.invariant.seat in
     let s = stood v c.self.view_is seat in
     let P : ℕ → Type 0 = λ q. CanDo layout c.heap.inside.table (action.Take c.args.name) (move.Take q)
     c.self.inside.seat in
@@ -25,7 +25,7 @@ returns g c =
     let layout = g.L.KeyLayout.layout in
     let v = c.args.self.now in
     let touch = c.requires.touch in
-    let seat = seat_at c.heap.view_is c.self.invariant.seat in
+    let seat = seat_at (c.heap.view_is ∙ c.kept-heap.ensures) c.self.invariant.seat in
     let s = stood v c.self.view_is seat in
     let P : ℕ → Type 0 = λ q. Did layout c.heap.inside.table (action.Take c.args.name) (move.Take q) c.take.result
     c.self.inside.seat c.take.new.seat in

@@ -1,0 +1,66 @@
+-- A pass that may own a shard, and what its calls do.
+use Rattle.std.specs.Prelude.{◌≡◌, ℕ, Bool, true, false, List, Result, Ok, Err}
+use Rattle.sh_key.specs.Layout.{Layout}
+use Rattle.sh_value.specs.declared.refusal.Refusal.{Refusal}
+use Rattle.sh_value.specs.declared.refusal.Refusal.TheVariants as refusal
+use Rattle.sh_pass.specs.Passes.{Caller}
+use Rattle.sh_shard.specs.Shards.{Sharded, StaysOwner, InsertServes, AdoptServes, LeaveServes, value_class}
+use Rattle.sh_shard.specs.RemoteFrees.{CollectServes}
+use Rattle.sh_member.specs.declared.member.Side.{Side}
+use Rattle.sh_member.specs.declared.member.Side.TheVariants.{Pass, Shard, Moving}
+
+-- it is not between the two
+abbrev pub is_settled : Side → Bool
+is_settled (Pass v) = true
+is_settled (Shard o) = true
+is_settled Moving = false
+
+-- a call by which it stays what it is: a pass does as `does` says, and so does the owner of a shard, which it stays
+abbrev pub SideDoes : {A : Type 0} → Layout → (Caller → Result A Refusal → Caller → Type 0) → Side → Result A Refusal
+    → Side → Type 0
+SideDoes layout does (Pass v) answer (Pass w) = does v answer w
+SideDoes layout does (Pass v) answer (Shard n) = ⊥
+SideDoes layout does (Pass v) answer Moving = ⊥
+SideDoes layout does (Shard o) answer (Shard n) = does o.pages.owner answer n.pages.owner × StaysOwner layout o n
+SideDoes layout does (Shard o) answer (Pass w) = ⊥
+SideDoes layout does (Shard o) answer Moving = ⊥
+SideDoes layout does Moving answer new = ⊥
+
+-- an insert: the owner of a shard does it, and stays one; a pass that owns none is refused
+abbrev pub SideInserts : Layout → List ℕ → Side → Result ℕ Refusal → Side → Type 0
+SideInserts layout value (Pass v) answer new = (answer ≡ Err refusal.NoShard) × (new ≡ Pass v)
+SideInserts layout value (Shard o) answer (Shard n) = InsertServes layout (value_class value) value o answer n
+    × StaysOwner layout o n
+SideInserts layout value (Shard o) answer (Pass w) = ⊥
+SideInserts layout value (Shard o) answer Moving = ⊥
+SideInserts layout value Moving answer new = ⊥
+
+-- a collect: the same
+abbrev pub SideCollects : Layout → Side → Result (Unit {0}) Refusal → Side → Type 0
+SideCollects layout (Pass v) answer new = (answer ≡ Err refusal.NoShard) × (new ≡ Pass v)
+SideCollects layout (Shard o) answer (Shard n) = (answer ≡ Ok tt) × CollectServes o n × StaysOwner layout o n
+SideCollects layout (Shard o) answer (Pass w) = ⊥
+SideCollects layout (Shard o) answer Moving = ⊥
+SideCollects layout Moving answer new = ⊥
+
+-- an adoption: the pass becomes the owner of the shard, or stays a pass; the owner of a shard is refused
+abbrev pub SideAdopts : ℕ → Side → Result (Unit {0}) Refusal → Side → Type 0
+SideAdopts k (Pass v) (Ok _) (Shard n) = AdoptServes k v (Ok n)
+SideAdopts k (Pass v) (Ok _) (Pass w) = ⊥
+SideAdopts k (Pass v) (Ok _) Moving = ⊥
+SideAdopts k (Pass v) (Err why) (Pass w) = AdoptServes k v (Err (w, why))
+SideAdopts k (Pass v) (Err why) (Shard n) = ⊥
+SideAdopts k (Pass v) (Err why) Moving = ⊥
+SideAdopts k (Shard o) answer new = (answer ≡ Err refusal.Taken) × (new ≡ Shard o)
+SideAdopts k Moving answer new = ⊥
+
+-- leaving: the owner of a shard becomes a pass again, or stays the owner; a pass that owns none is refused
+abbrev pub SideLeaves : Side → Result (Unit {0}) Refusal → Side → Type 0
+SideLeaves (Shard o) (Ok _) (Pass w) = LeaveServes o (Ok w)
+SideLeaves (Shard o) (Ok _) (Shard n) = ⊥
+SideLeaves (Shard o) (Ok _) Moving = ⊥
+SideLeaves (Shard o) (Err why) (Shard n) = LeaveServes o (Err (n, why))
+SideLeaves (Shard o) (Err why) (Pass w) = ⊥
+SideLeaves (Shard o) (Err why) Moving = ⊥
+SideLeaves (Pass v) answer new = (answer ≡ Err refusal.NoShard) × (new ≡ Pass v)
+SideLeaves Moving answer new = ⊥

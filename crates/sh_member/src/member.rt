@@ -1,0 +1,37 @@
+//! What a member is.
+ghost use Rattle.std.specs.Prelude.{◌≡◌, true};
+ghost use Rattle.sh_member.specs.Sides.{is_settled};
+
+use sh_key::KeyLayout;
+use sh_pass::KeepsHeap;
+use sh_pass::pass::Pass;
+use sh_shard::shard::Shard;
+
+/// A pass, or the shard that it owns.
+#[derive(Drop)]
+pub enum Side<L: KeyLayout, H: KeepsHeap<L>> {
+    /// It owns no shard.
+    Pass(Pass<L, H>),
+    /// It owns a shard.
+    Shard(Shard<L, H>),
+    /// It is about to adopt or to leave. Between calls it never is.
+    Moving,
+}
+
+/// A pass that may own a shard.
+#[derive(Drop)]
+pub struct Member<L: KeyLayout, H: KeepsHeap<L>> {
+    pub(crate) side: Side<L, H>,
+    ghost settled: { is_settled side ≡ true },
+}
+
+impl<L: KeyLayout, H: KeepsHeap<L>> Member<L, H> {
+    /// The pass, which owns no shard.
+    pub fn of(pass: Pass<L, H>) -> Self
+        ensures { result.side ≡ Side::Pass pass }
+    {
+        Member {
+            side: Side::Pass(pass),
+        }
+    }
+}

@@ -1,0 +1,74 @@
+// How a member adopts a shard and leaves it.
+ghost use Rattle.sh_member.specs.Sides.{SideAdopts, SideLeaves, SideGivesPass};
+
+use crate::member::{Member, Side};
+use sh_key::KeyLayout;
+use sh_pass::KeepsHeap;
+use sh_pass::pass::Pass;
+use sh_shard::shard::Shard;
+use sh_value::Refusal;
+use std::alloc::Global;
+use std::mem::replace;
+
+impl<L: KeyLayout, H: KeepsHeap<L>> Member<L, H> {
+    /// Makes it the owner of shard `n`. Refused as `Taken` where it owns one already or another pass owns that one, as
+    /// `NoShard` where there is none, and as `Memory`.
+    pub fn adopt(&mut self, alloc: Global, n: u64) -> Result<(), Refusal>
+        ensures { SideAdopts n self.old.side result self.new.side }
+    {
+        match replace(&mut self.side, Side::Moving) {
+            Side::Pass(pass) => match Shard::adopt(alloc, pass, n) {
+                Ok(shard) => {
+                    self.side = Side::Shard(shard);
+                    Ok(())
+                }
+                Err((pass, refusal)) => {
+                    self.side = Side::Pass(pass);
+                    Err(refusal)
+                }
+            },
+            Side::Shard(shard) => {
+                self.side = Side::Shard(shard);
+                Err(Refusal::Taken)
+            }
+            Side::Moving => unreachable!(),
+        }
+    }
+
+    /// Leaves the shard that it owns. Refused as `NoShard` where it owns none, and as `Waiting` where another caller
+    /// has begun a free there that is yet to end.
+    pub fn leave(&mut self) -> Result<(), Refusal>
+        ensures { SideLeaves self.old.side result self.new.side }
+    {
+        match replace(&mut self.side, Side::Moving) {
+            Side::Shard(shard) => match shard.leave() {
+                Ok(pass) => {
+                    self.side = Side::Pass(pass);
+                    Ok(())
+                }
+                Err((shard, refusal)) => {
+                    self.side = Side::Shard(shard);
+                    Err(refusal)
+                }
+            },
+            Side::Pass(pass) => {
+                self.side = Side::Pass(pass);
+                Err(Refusal::NoShard)
+            }
+            Side::Moving => unreachable!(),
+        }
+    }
+
+    /// The pass, where it owns no shard; else it comes back.
+    pub fn into_pass(self) -> Result<Pass<L, H>, Self>
+        ensures { SideGivesPass self.side result }
+    {
+        match self.side {
+            Side::Pass(pass) => Ok(pass),
+            Side::Shard(shard) => Err(Member {
+                side: Side::Shard(shard),
+            }),
+            Side::Moving => unreachable!(),
+        }
+    }
+}
