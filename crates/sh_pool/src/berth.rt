@@ -113,7 +113,9 @@ pub(crate) fn berth_of<L: KeyLayout>(
     requires { state.heap ≡ heap.now }
     ensures { MatchResult result (λ place. place ≡ heap.now) (λ why. why ≡ Memory) }
 {
-    let place = Box::new(alloc, Some(state))?;
+    let Ok(place) = Box::new(alloc, Some(state)) else {
+        return Err(Refusal::Memory);
+    };
     Ok(Counted::new(Some(Resting::of(place)), heap))
 }
 

@@ -5,7 +5,10 @@
 #![tactic(auto)]
 
 mod berth;
+pub mod crossing;
 mod pool;
+pub mod share;
 
 pub use berth::{Berth, Taken};
 pub use pool::Pool;
+pub use share::{Share, give_pass, take_pass};

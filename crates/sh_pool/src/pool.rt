@@ -1,5 +1,5 @@
 //! Pools: heaps with berths for their passes.
-ghost use Rattle.std.specs.Prelude.{◌≡◌, ◌×◌, IfErr, IfSome, MatchResult, length};
+ghost use Rattle.std.specs.Prelude.{◌≡◌, IfErr, IfSome, MatchResult, length};
 ghost use Rattle.sh_value.specs.declared.refusal.Refusal.TheVariants.{Memory};
 ghost use Rattle.sh_table.specs.Tales.{ViewStands};
 ghost use Rattle.sh_pass.specs.Passes.{AreOf, IsAtRest};
@@ -59,9 +59,11 @@ fn berths_for<L: KeyLayout>(
     requires count { length states.items ≡ heap.now.shape.passes }
     ensures { MatchResult result (λ berths. AreBerths heap.now berths.items) (λ why. why ≡ Memory) }
 {
-    let mut berths = Vec::with_capacity(alloc, states.len())?;
+    let Ok(mut berths) = Vec::with_capacity(alloc, states.len()) else {
+        return Err(Refusal::Memory);
+    };
     for state in states {
-        berths.push(berth_of(alloc, heap, state)?)?;
+        berths.push_reserved(berth_of(alloc, heap, state)?);
     }
     Ok(berths)
 }

@@ -33,7 +33,9 @@ impl<L: KeyLayout> Share<L> {
     pub fn new(alloc: Global, pool: Pool<L>) -> Result<Share<L>, Refusal>
         ensures { MatchResult result (λ share. share ≡ pool) (λ why. why ≡ Memory) }
     {
-        let pool = Arc::new(alloc, pool)?;
+        let Ok(pool) = Arc::new(alloc, pool) else {
+            return Err(Refusal::Memory);
+        };
         Ok(Share { pool })
     }
 
@@ -48,7 +50,9 @@ impl<L: KeyLayout> Share<L> {
     pub fn share(&self) -> Result<Share<L>, Refusal>
         ensures { MatchResult result (λ share. share ≡ self.now) (λ why. why ≡ Memory) }
     {
-        let pool = Arc::try_clone(&self.pool)?;
+        let Ok(pool) = Arc::try_clone(&self.pool) else {
+            return Err(Refusal::Memory);
+        };
         Ok(Share { pool })
     }
 }
