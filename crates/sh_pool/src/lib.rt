@@ -7,7 +7,7 @@
 mod berth;
 pub mod crossing;
 mod pool;
-pub mod share;
+mod share;
 
 pub use berth::{Berth, Taken};
 pub use pool::Pool;

@@ -1,7 +1,6 @@
 //! Pools: heaps with berths for their passes.
-ghost use Rattle.std.specs.Prelude.{◌≡◌, IfErr, IfSome, MatchResult, length};
+ghost use Rattle.std.specs.Prelude.{◌≡◌, ◌<◌, IfErr, IfOk, IfSome, MatchResult, OnOk, length};
 ghost use Rattle.sh_value.specs.declared.refusal.Refusal.TheVariants.{Memory};
-ghost use Rattle.sh_table.specs.Tales.{ViewStands};
 ghost use Rattle.sh_pass.specs.Passes.{AreOf, IsAtRest};
 ghost use Rattle.sh_pool.specs.Berths.{AreBerths, OpensPool};
 
@@ -40,8 +39,9 @@ fn all_states<L: KeyLayout>(
     seats: Seats<L>,
 ) -> Result<Vec<PassState<L>>, Refusal>
     requires { seats ≡ heap.now }
-    ensures of { MatchResult result (λ states. AreOf heap.now states.items) (λ why. why ≡ Memory) }
-    ensures count { MatchResult result (λ states. length states.items ≡ heap.now.shape.passes) (λ why. why ≡ Memory) }
+    ensures of { IfOk result (λ states. AreOf heap.now states.items) }
+    ensures count { IfOk result (λ states. length states.items ≡ heap.now.shape.passes) }
+    ensures err { IfErr result (λ why. why ≡ Memory) }
 {
     match heap.states(alloc, seats) {
         Ok(states) => Ok(states),
@@ -94,18 +94,25 @@ impl<L: KeyLayout> Pool<L> {
         self.berths.len()
     }
 
-    /// Takes the pass of the berth of this number, where it is at home. `None` where it is away, or where there is no
-    /// such berth.
+    /// Takes the pass of the berth of this number, where it is at home: it has begun nothing, and owns no shard. `None`
+    /// where it is away, or where there is no such berth.
     pub fn take_at(&self, number: usize) -> Option<Taken<L>>
-        ensures { IfSome result (λ taken. (taken.state.heap ≡ self.now) × (taken.berth ≡ number)) }
+        ensures heap { IfSome result (λ taken. taken.state.heap ≡ self.now) }
+        ensures rest { IfSome result (λ taken. IsAtRest taken.state) }
+        ensures berth { IfSome result (λ taken. (taken.berth ≡ number) × (number < self.now.shape.passes)) }
     {
-        take_from(self.berths.get(number)?, number)
+        let taken = take_from(self.berths.get(number)?, number)?;
+        // What holds of every pass holds of this one.
+        taken.state.shape(&self.heap);
+        Some(taken)
     }
 
-    /// Takes the first pass that is at home, of those that it finds so when it comes to their berths. `None` where it
-    /// finds each of them away.
+    /// Takes a pass that is at home, from the first berth where one is when it comes there. `None` where it finds each
+    /// of them away.
     pub fn take(&self) -> Option<Taken<L>>
-        ensures { IfSome result (λ taken. taken.state.heap ≡ self.now) }
+        ensures heap { IfSome result (λ taken. taken.state.heap ≡ self.now) }
+        ensures rest { IfSome result (λ taken. IsAtRest taken.state) }
+        ensures berth { IfSome result (λ taken. taken.berth < self.now.shape.passes) }
     {
         for number in 0..self.berths.len() {
             if let Some(taken) = self.take_at(number) {
@@ -117,13 +124,10 @@ impl<L: KeyLayout> Pool<L> {
 
     /// Gives a pass of the heap back to its berth. Refused, with both back as they were, where a pass is at home there,
     /// or where there is no such berth: none of this is so of a berth that was taken from this pool.
-    pub fn give(
-        &self,
-        state: PassState<L>,
-        berth: Berth<L>,
-    ) -> Result<(), (PassState<L>, Berth<L>)>
+    pub fn give(&self, state: PassState<L>, berth: Berth<L>) -> Result<(), (PassState<L>, Berth<L>)>
         requires { state.heap ≡ self.now }
-        ensures { IfErr result (λ back. (back.0 ≡ state) × (back.1 ≡ berth)) }
+        ensures ok { OnOk result (berth < self.now.shape.passes) }
+        ensures err { IfErr result (λ back. (back.0 ≡ state) × (back.1 ≡ berth)) }
     {
         match self.berths.get(berth.number()) {
             Some(place) => give_to(place, state, berth),

@@ -1,6 +1,7 @@
 //! Shares of a pool: what keeps it while anyone uses it.
-ghost use Rattle.std.specs.Prelude.{◌≡◌, IfErr, IfSome, MatchResult};
+ghost use Rattle.std.specs.Prelude.{◌≡◌, ◌<◌, IfErr, IfSome, MatchResult, OnOk};
 ghost use Rattle.sh_value.specs.declared.refusal.Refusal.TheVariants.{Memory};
+ghost use Rattle.sh_pass.specs.Passes.{IsAtRest};
 
 use crate::berth::{Berth, Taken};
 use crate::pool::Pool;
@@ -29,7 +30,7 @@ impl<L: KeyLayout> Model for Share<L> {
 }
 
 impl<L: KeyLayout> Share<L> {
-    /// The first share of this pool. Refused as `Memory` where memory is refused.
+    /// The first share of this pool. Refused as `Memory` where memory is refused: then the pool is let go.
     pub fn new(alloc: Global, pool: Pool<L>) -> Result<Share<L>, Refusal>
         ensures { MatchResult result (λ share. share ≡ pool) (λ why. why ≡ Memory) }
     {
@@ -65,10 +66,12 @@ impl<L: KeyLayout> KeepsHeap<L> for Share<L> {
     }
 }
 
-/// Takes a pass that is at home, with a share of its pool. `None` where each of them is away, or where no more shares
-/// can be counted.
+/// Takes a pass that is at home, with a share of its pool. `None` where it finds each of them away, or where no more
+/// shares can be counted.
 pub fn take_pass<L: KeyLayout>(share: &Share<L>) -> Option<(Pass<L, Share<L>>, Berth<L>)>
-    ensures { IfSome result (λ taken. taken.0.heap ≡ share.now) }
+    ensures heap { IfSome result (λ taken. taken.0.heap ≡ share.now) }
+    ensures rest { IfSome result (λ taken. IsAtRest taken.0) }
+    ensures berth { IfSome result (λ taken. taken.1 < share.now.shape.passes) }
 {
     let kept = share.share().ok()?;
     let Taken { state, berth } = share.pool().take()?;
@@ -81,7 +84,8 @@ pub fn give_pass<L: KeyLayout>(
     pass: Pass<L, Share<L>>,
     berth: Berth<L>,
 ) -> Result<(), (Pass<L, Share<L>>, Berth<L>)>
-    ensures { IfErr result (λ back. (back.0 ≡ pass) × (back.1 ≡ berth)) }
+    ensures ok { OnOk result (berth < pass.heap.shape.passes) }
+    ensures err { IfErr result (λ back. (back.0 ≡ pass) × (back.1 ≡ berth)) }
 {
     let (share, state) = pass.into_parts();
     match share.pool().give(state, berth) {
