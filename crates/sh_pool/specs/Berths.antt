@@ -1,5 +1,5 @@
 -- Berths, and pools of them.
-use Rattle.std.specs.Prelude.{◌≡◌, ℕ, Option, Some, Result, Ok, Err, All, List, length}
+use Rattle.std.specs.Prelude.{◌≡◌, Option, Some, Result, Ok, Err, All, List, length}
 use Rattle.sh_key.specs.Layout.{Layout}
 use Rattle.sh_shape.specs.Shape.{Numbers, Fits}
 use Rattle.sh_value.specs.declared.refusal.Refusal.{Refusal}

@@ -1,4 +1,4 @@
-use Rattle.std.proofs.Common.{◌≡◌, ap, ◌∙◌, length, subst, sym}
+use Rattle.std.proofs.Common.{ap, ◌∙◌, length, subst, sym}
 use Rattle.sh_pass.specs.Passes.{AreOf}
 use Rattle.sh_pass.proofs.Together.{newcomers_are_of}
 use Rattle.sh_pool.proofs.Newcomers.{newcomers_count}

@@ -1,5 +1,4 @@
 -- It goes to another thread where its value and its allocator do: no part of what it owns is bound to a thread.
-use mathlib.Core.List.{[], ◌∷◌}
 use mir.Raw.{raw}
 use base.Shift.{Keyless}
 use denote.RattleType.{RattleType}

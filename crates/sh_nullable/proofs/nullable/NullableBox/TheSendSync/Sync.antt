@@ -1,8 +1,7 @@
 -- It may be shared where its allocator may: a `&` to it holds a pointer and an allocator, and nothing of its value.
-use mathlib.Core.List.{[], ◌∷◌}
 use denote.RattleType.{RattleType}
 use denote.Builtin.{RawPtr}
-use denote.Struct.Owning.{shape, fields, to}
+use denote.Struct.Owning.{shape, to}
 use denote.Param.Send.{IsSync, struct_sync, sendable}
 use Rattle.core.specs.declared.alloc.Allocator.{Ghosts}
 use Rattle.sh_nullable.specs.contracts.nullable.NullableBox.{the_row, the_type}
