@@ -1,15 +1,12 @@
 //! What no clause says: that each pass is at home at first, that one which is away is taken by nobody, and that it can be
 //! taken again once it is back.
-ghost use Rattle.std.specs.Prelude.{◌≡◌, ◌<◌};
 
 use sh_key::Tiny;
-use sh_pass::pass::Pass;
-use sh_pool::{Berth, Pool, Share, Taken, give_pass, take_pass};
+use sh_pool::{Pool, Share, Taken, give_pass, take_pass};
 use sh_shape::Shape;
 use sh_value::Refusal;
 use std::alloc::Global;
 use std::process::Abort;
-use std::test::Fail;
 use std::thread::join;
 
 fn opened(rt: &impl Abort, alloc: Global, passes: u32) -> Pool<Tiny> {
@@ -104,4 +101,32 @@ fn two_threads_share_a_pool(rt: HostRuntime) {
     assert_eq!(rt; (seen.1, seen_too.1), (0, 0));
     assert!(rt; seen.0 > 0 && seen_too.0 > 0);
     assert!(rt; share.pool().take().is_some());
+}
+
+// A pool of two passes, opened once more where memory was refused.
+fn opened_with_memory(rt: &impl Abort, alloc: Global) -> Pool<Tiny> {
+    let shape = Shape::new(1, 1, 2).expect(rt, "a shape");
+    match Pool::<Tiny>::open(alloc, shape) {
+        Ok(pool) => pool,
+        Err(why) => {
+            assert_eq!(rt; why, Refusal::Memory);
+            opened(rt, alloc, 2)
+        }
+    }
+}
+
+// Refused memory: nothing is opened or shared, and the same call then answers.
+#[test]
+fn refused_memory_is_told(rt: HostRuntime) {
+    let pool = opened_with_memory(&rt, rt.alloc());
+    let share = match Share::new(rt.alloc(), pool) {
+        Ok(share) => share,
+        Err(why) => {
+            assert_eq!(rt; why, Refusal::Memory);
+            let pool = opened(&rt, rt.alloc(), 2);
+            Share::new(rt.alloc(), pool).expect(&rt, "a share")
+        }
+    };
+    assert_eq!(rt; share.pool().berths(), 2);
+    assert!(rt; take_pass(&share).is_some());
 }
