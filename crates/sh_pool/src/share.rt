@@ -1,0 +1,95 @@
+//! Shares of a pool: what keeps it while anyone uses it.
+ghost use Rattle.std.specs.Prelude.{◌≡◌, ◌<◌, IfErr, IfSome, MatchResult, OnOk};
+ghost use Rattle.sh_value.specs.declared.refusal.Refusal.TheVariants.{Memory};
+ghost use Rattle.sh_pass.specs.Passes.{IsAtRest};
+
+use crate::berth::{Berth, Taken};
+use crate::pool::Pool;
+use sh_key::KeyLayout;
+use sh_pass::pass::Pass;
+use sh_pass::{Heap, KeepsHeap};
+use sh_value::Refusal;
+use std::alloc::Global;
+use std::marker::Model;
+use std::sync::Arc;
+
+/// A share of a pool. A pass with a share borrows nothing, and the pool goes with the last of its shares.
+///
+/// A contract sees the heap.
+#[derive(Drop)]
+pub struct Share<L: KeyLayout> {
+    pool: Arc<Pool<L>, Global>,
+}
+
+impl<L: KeyLayout> Model for Share<L> {
+    ghost use Rattle.sh_table.specs.Seats.{Heap};
+
+    ghost Value = { Heap };
+
+    ghost view = { λ s. s.pool.value };
+}
+
+impl<L: KeyLayout> Share<L> {
+    /// The first share of this pool. Refused as `Memory` where memory is refused: then the pool is let go.
+    pub fn new(alloc: Global, pool: Pool<L>) -> Result<Share<L>, Refusal>
+        ensures { MatchResult result (λ share. share ≡ pool) (λ why. why ≡ Memory) }
+    {
+        let Ok(pool) = Arc::new(alloc, pool) else {
+            return Err(Refusal::Memory);
+        };
+        Ok(Share { pool })
+    }
+
+    /// The pool.
+    pub fn pool(&self) -> &Pool<L>
+        ensures { result.now ≡ self.now }
+    {
+        &self.pool
+    }
+
+    /// One share more, which takes no memory. Refused as `Memory` where no more can be counted, which is after 2^63.
+    pub fn share(&self) -> Result<Share<L>, Refusal>
+        ensures { MatchResult result (λ share. share ≡ self.now) (λ why. why ≡ Memory) }
+    {
+        let Ok(pool) = Arc::try_clone(&self.pool) else {
+            return Err(Refusal::Memory);
+        };
+        Ok(Share { pool })
+    }
+}
+
+impl<L: KeyLayout> KeepsHeap<L> for Share<L> {
+    ghost heap = { λ s. s };
+
+    fn kept(&self) -> &Heap<L> {
+        self.pool.heap()
+    }
+}
+
+/// Takes a pass that is at home, with a share of its pool. `None` where it finds each of them away, or where no more
+/// shares can be counted.
+pub fn take_pass<L: KeyLayout>(share: &Share<L>) -> Option<(Pass<L, Share<L>>, Berth<L>)>
+    ensures heap { IfSome result (λ taken. taken.0.heap ≡ share.now) }
+    ensures rest { IfSome result (λ taken. IsAtRest taken.0) }
+    ensures berth { IfSome result (λ taken. taken.1 < share.now.shape.passes) }
+{
+    let kept = share.share().ok()?;
+    let Taken { state, berth } = share.pool().take()?;
+    Some((Pass::on(kept, state), berth))
+}
+
+/// Gives a pass back to its berth, and lets its share go. Refused, with both back as they were, where a pass is at home
+/// there, or where there is no such berth: none of this is so of a berth that was taken from this pool.
+pub fn give_pass<L: KeyLayout>(
+    pass: Pass<L, Share<L>>,
+    berth: Berth<L>,
+) -> Result<(), (Pass<L, Share<L>>, Berth<L>)>
+    ensures ok { OnOk result (berth < pass.heap.shape.passes) }
+    ensures err { IfErr result (λ back. (back.0 ≡ pass) × (back.1 ≡ berth)) }
+{
+    let (share, state) = pass.into_parts();
+    match share.pool().give(state, berth) {
+        Ok(()) => Ok(()),
+        Err((state, berth)) => Err((Pass::on(share, state), berth)),
+    }
+}

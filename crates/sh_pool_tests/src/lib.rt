@@ -1,0 +1,5 @@
+//! Tests of pools: that passes are taken one by one and come home, by one thread and by two.
+#![tactic(auto)]
+
+#[cfg(test)]
+mod tests;

@@ -1,0 +1,107 @@
+//! What no clause says: that each pass is at home at first, that one which is away is taken by nobody, and that it can be
+//! taken again once it is back.
+ghost use Rattle.std.specs.Prelude.{◌≡◌, ◌<◌};
+
+use sh_key::Tiny;
+use sh_pass::pass::Pass;
+use sh_pool::{Berth, Pool, Share, Taken, give_pass, take_pass};
+use sh_shape::Shape;
+use sh_value::Refusal;
+use std::alloc::Global;
+use std::process::Abort;
+use std::test::Fail;
+use std::thread::join;
+
+fn opened(rt: &impl Abort, alloc: Global, passes: u32) -> Pool<Tiny> {
+    let shape = Shape::new(1, 1, passes).expect(rt, "a shape");
+    Pool::<Tiny>::open(alloc, shape).expect(rt, "a pool")
+}
+
+#[test]
+fn each_pass_is_taken_once_and_comes_home(rt: HostRuntime) {
+    let pool = opened(&rt, rt.alloc(), 2);
+    assert_eq!(rt; pool.berths(), 2);
+    let (Some(one), Some(other)) = (pool.take(), pool.take()) else {
+        panic!(rt; "not two passes")
+    };
+    assert_eq!(rt; (one.berth.number(), other.berth.number()), (0, 1));
+    assert!(rt; pool.take().is_none());
+    assert!(rt; pool.give(other.state, other.berth).is_ok());
+    assert!(rt; pool.take_at(0).is_none());
+    assert!(rt; pool.take_at(2).is_none());
+    let Some(again) = pool.take() else {
+        panic!(rt; "no pass has come home")
+    };
+    assert_eq!(rt; again.berth.number(), 1);
+    assert!(rt; pool.give(one.state, one.berth).is_ok());
+    assert!(rt; pool.give(again.state, again.berth).is_ok());
+}
+
+// The berths of another pool: the first one's pass is at home here, and the third one's number is too large.
+#[test]
+fn a_berth_of_another_pool_is_refused(rt: HostRuntime) {
+    let pool = opened(&rt, rt.alloc(), 2);
+    let larger = opened(&rt, rt.alloc(), 3);
+    let (Some(first), Some(third)) = (larger.take_at(0), larger.take_at(2)) else {
+        panic!(rt; "no passes in the larger pool")
+    };
+    let Some(Taken { state, berth }) = pool.take_at(1) else {
+        panic!(rt; "no pass")
+    };
+    let Err((state, first)) = pool.give(state, first.berth) else {
+        panic!(rt; "it is given to a berth with a pass")
+    };
+    let Err((state, third)) = pool.give(state, third.berth) else {
+        panic!(rt; "it is given to a berth that is not there")
+    };
+    assert_eq!(rt; (first.number(), third.number()), (0, 2));
+    assert!(rt; pool.give(state, berth).is_ok());
+    assert!(rt; pool.take_at(1).is_some());
+}
+
+#[test]
+fn a_pass_outlives_the_share_that_it_was_taken_by(rt: HostRuntime) {
+    let pool = opened(&rt, rt.alloc(), 1);
+    let share = Share::new(rt.alloc(), pool).expect(&rt, "a share");
+    let Some((mut pass, berth)) = take_pass(&share) else {
+        panic!(rt; "no pass")
+    };
+    assert!(rt; take_pass(&share).is_none());
+    drop(share);
+    assert_eq!(rt; pass.get(0), Err(Refusal::BadKey));
+    assert_eq!(rt; pass.get(4_096), Err(Refusal::Gone));
+    assert!(rt; give_pass(pass, berth).is_ok());
+}
+
+// Takes a pass, looks a key up and gives the pass back, over and over: how often there was a pass, and how often one was
+// refused on its way home.
+fn taken_and_given(share: Share<Tiny>) -> (u32, u32) {
+    let mut taken = 0u32;
+    let mut refused = 0u32;
+    for _ in 0..1_000 {
+        if let Some((mut pass, berth)) = take_pass(&share) {
+            taken = taken.saturating_add(1);
+            let _gone = pass.get(4_096);
+            if give_pass(pass, berth).is_err() {
+                refused = refused.saturating_add(1);
+            }
+        }
+    }
+    (taken, refused)
+}
+
+#[test]
+fn two_threads_share_a_pool(rt: HostRuntime) {
+    let pool = opened(&rt, rt.alloc(), 2);
+    let share = Share::new(rt.alloc(), pool).expect(&rt, "a share");
+    let one = share.share().expect(&rt, "a share");
+    let other = share.share().expect(&rt, "another share");
+    let (seen, seen_too) = join(
+        &rt,
+        move || taken_and_given(one),
+        move || taken_and_given(other),
+    );
+    assert_eq!(rt; (seen.1, seen_too.1), (0, 0));
+    assert!(rt; seen.0 > 0 && seen_too.0 > 0);
+    assert!(rt; share.pool().take().is_some());
+}
