@@ -45,9 +45,9 @@ pub fn gather<L: KeyLayout, H: KeepsHeap<L>>(
 ) -> Result<Whole<L, H>, Vec<Pass<L, H>>>
     requires { AreOf heap.now passes.items }
     ensures { MatchResult result
-        (λ whole. (whole.heap ≡ heap.now) × IsWhole whole.view × AreAll heap.now passes.entry.items
-        × IsGatheredFrom passes.entry.items whole.view)
-        (λ back. (back ≡ passes.entry) × ¬ AreAll heap.now passes.entry.items) }
+        (λ whole. (whole.heap ≡ heap.now) × IsWhole whole.view × AreAll heap.now passes.items
+        × IsGatheredFrom passes.items whole.view)
+        (λ back. (back ≡ passes) × ¬ AreAll heap.now passes.items) }
 {
     if !are_all(heap, &passes) {
         return Err(passes);
@@ -67,7 +67,7 @@ pub fn gather<L: KeyLayout, H: KeepsHeap<L>>(
 fn met<L: KeyLayout, H: KeepsHeap<L>>(one: Pass<L, H>, others: Vec<Pass<L, H>>) -> Pass<L, H>
     requires { AreOf one.heap others.items }
     ensures heap { result.heap ≡ one.heap }
-    ensures tale { result.view ≡ met_view one.view others.entry.items }
+    ensures tale { result.view ≡ met_view one.view others.items }
 {
     let mut carrier = one;
     for pass in others {

@@ -10,14 +10,14 @@ use Rattle.sh_member.specs.declared.member.Side.{Side}
 use Rattle.sh_member.specs.declared.member.Side.TheVariants.{Pass, Shard, Moving}
 
 -- it is not between the two
-abbrev pub is_settled : Side → Bool
+abbrev pub is_settled : {L H : Type 0} → Side L H → Bool
 is_settled (Pass v) = true
 is_settled (Shard o) = true
 is_settled Moving = false
 
 -- a call by which it stays what it is: a pass does as `does` says, and so does the owner of a shard, which it stays
-abbrev pub SideDoes : {A : Type 0} → Layout → (Caller → Result A Refusal → Caller → Type 0) → Side → Result A Refusal
-    → Side → Type 0
+abbrev pub SideDoes : {L H A : Type 0} → Layout → (Caller → Result A Refusal → Caller → Type 0) → Side L H
+    → Result A Refusal → Side L H → Type 0
 SideDoes layout does (Pass v) answer (Pass w) = does v answer w
 SideDoes layout does (Pass v) answer (Shard n) = ⊥
 SideDoes layout does (Pass v) answer Moving = ⊥
@@ -27,7 +27,7 @@ SideDoes layout does (Shard o) answer Moving = ⊥
 SideDoes layout does Moving answer new = ⊥
 
 -- an insert: the owner of a shard does it, and stays one; a pass that owns none is refused
-abbrev pub SideInserts : Layout → List ℕ → Side → Result ℕ Refusal → Side → Type 0
+abbrev pub SideInserts : {L H : Type 0} → Layout → List ℕ → Side L H → Result ℕ Refusal → Side L H → Type 0
 SideInserts layout value (Pass v) answer new = (answer ≡ Err refusal.NoShard) × (new ≡ Pass v)
 SideInserts layout value (Shard o) answer (Shard n) = InsertServes layout (value_class value) value o answer n
     × StaysOwner layout o n
@@ -36,7 +36,7 @@ SideInserts layout value (Shard o) answer Moving = ⊥
 SideInserts layout value Moving answer new = ⊥
 
 -- a collect: the same
-abbrev pub SideCollects : Layout → Side → Result (Unit {0}) Refusal → Side → Type 0
+abbrev pub SideCollects : {L H : Type 0} → Layout → Side L H → Result (Unit {0}) Refusal → Side L H → Type 0
 SideCollects layout (Pass v) answer new = (answer ≡ Err refusal.NoShard) × (new ≡ Pass v)
 SideCollects layout (Shard o) answer (Shard n) = (answer ≡ Ok tt) × CollectServes o n × StaysOwner layout o n
 SideCollects layout (Shard o) answer (Pass w) = ⊥
@@ -44,7 +44,7 @@ SideCollects layout (Shard o) answer Moving = ⊥
 SideCollects layout Moving answer new = ⊥
 
 -- an adoption: the pass becomes the owner of the shard, or stays a pass; the owner of a shard is refused
-abbrev pub SideAdopts : ℕ → Side → Result (Unit {0}) Refusal → Side → Type 0
+abbrev pub SideAdopts : {L H : Type 0} → ℕ → Side L H → Result (Unit {0}) Refusal → Side L H → Type 0
 SideAdopts k (Pass v) (Ok _) (Shard n) = AdoptServes k v (Ok n)
 SideAdopts k (Pass v) (Ok _) (Pass w) = ⊥
 SideAdopts k (Pass v) (Ok _) Moving = ⊥
@@ -55,7 +55,7 @@ SideAdopts k (Shard o) answer new = (answer ≡ Err refusal.Taken) × (new ≡ S
 SideAdopts k Moving answer new = ⊥
 
 -- leaving: the owner of a shard becomes a pass again, or stays the owner; a pass that owns none is refused
-abbrev pub SideLeaves : Side → Result (Unit {0}) Refusal → Side → Type 0
+abbrev pub SideLeaves : {L H : Type 0} → Side L H → Result (Unit {0}) Refusal → Side L H → Type 0
 SideLeaves (Shard o) (Ok _) (Pass w) = LeaveServes o (Ok w)
 SideLeaves (Shard o) (Ok _) (Shard n) = ⊥
 SideLeaves (Shard o) (Ok _) Moving = ⊥
@@ -64,3 +64,11 @@ SideLeaves (Shard o) (Err why) (Pass w) = ⊥
 SideLeaves (Shard o) (Err why) Moving = ⊥
 SideLeaves (Pass v) answer new = (answer ≡ Err refusal.NoShard) × (new ≡ Pass v)
 SideLeaves Moving answer new = ⊥
+
+-- its pass, where it owns no shard; else it comes back
+abbrev pub SideGivesPass : {L H M : Type 0} → (M → Side L H) → Side L H → Result Caller M → Type 0
+SideGivesPass side (Pass v) (Ok w) = w ≡ v
+SideGivesPass side (Pass v) (Err m) = ⊥
+SideGivesPass side (Shard o) (Ok w) = ⊥
+SideGivesPass side (Shard o) (Err m) = side m ≡ Shard o
+SideGivesPass side Moving answer = ⊥

@@ -56,7 +56,7 @@ impl<L: KeyLayout, H: KeepsHeap<L>> Member<L, H> {
 
     /// Gives one hold on a key back. Refused as `NotHeld`.
     pub fn release(&mut self, hold: Hold) -> Result<(), Refusal>
-        ensures { SideDoes L.layout (ReleaseDoes hold.key) self.old.side result self.new.side }
+        ensures { SideDoes L.layout (ReleaseDoes L.layout hold.key) self.old.side result self.new.side }
     {
         match &mut self.side {
             Side::Pass(pass) => pass.release(hold),

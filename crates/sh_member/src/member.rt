@@ -1,5 +1,6 @@
 //! What a member is.
 ghost use Rattle.std.specs.Prelude.{◌≡◌, true};
+ghost use Rattle.sh_member.specs.declared.member.Side.TheVariants as side;
 ghost use Rattle.sh_member.specs.Sides.{is_settled};
 
 use sh_key::KeyLayout;
@@ -28,7 +29,7 @@ pub struct Member<L: KeyLayout, H: KeepsHeap<L>> {
 impl<L: KeyLayout, H: KeepsHeap<L>> Member<L, H> {
     /// The pass, which owns no shard.
     pub fn of(pass: Pass<L, H>) -> Self
-        ensures { result.side ≡ Side::Pass pass }
+        ensures { result.side ≡ side.Pass pass }
     {
         Member {
             side: Side::Pass(pass),

@@ -61,9 +61,10 @@ impl<L: KeyLayout, H: KeepsHeap<L>> Member<L, H> {
 
     /// The pass, where it owns no shard; else it comes back.
     pub fn into_pass(self) -> Result<Pass<L, H>, Self>
-        ensures { SideGivesPass self.side result }
+        ensures { SideGivesPass (λ m. m.side) self.side result }
     {
-        match self.side {
+        let Member { side } = self;
+        match side {
             Side::Pass(pass) => Ok(pass),
             Side::Shard(shard) => Err(Member {
                 side: Side::Shard(shard),

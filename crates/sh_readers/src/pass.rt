@@ -1,10 +1,11 @@
 // A pass reads.
 use crate::reader::Reader;
 use sh_key::KeyLayout;
-use sh_pass::{Pass, Receipt};
+use sh_pass::pass::Pass;
+use sh_pass::{KeepsHeap, Receipt};
 use sh_value::{Hold, Refusal, Value};
 
-impl<L: KeyLayout> Reader for Pass<'_, L> {
+impl<L: KeyLayout, H: KeepsHeap<L>> Reader for Pass<L, H> {
     ghost layout = { L.layout };
 
     ghost caller = { λ p. p };

@@ -1,11 +1,11 @@
 // A shard reads, by its owner's pass.
 use crate::reader::Reader;
 use sh_key::KeyLayout;
-use sh_pass::Receipt;
-use sh_shard::Shard;
+use sh_pass::{KeepsHeap, Receipt};
+use sh_shard::shard::Shard;
 use sh_value::{Hold, Refusal, Value};
 
-impl<L: KeyLayout> Reader for Shard<'_, L> {
+impl<L: KeyLayout, H: KeepsHeap<L>> Reader for Shard<L, H> {
     ghost layout = { L.layout };
 
     ghost caller = { λ s. s.pages.owner };

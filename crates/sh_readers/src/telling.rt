@@ -7,8 +7,8 @@ ghost use Rattle.sh_readers.specs.Telling.{TellsOfInsert, GoneIfRemoved, key_tol
 
 use crate::reader::Reader;
 use sh_key::KeyLayout;
-use sh_pass::Receipt;
-use sh_shard::Shard;
+use sh_pass::{KeepsHeap, Receipt};
+use sh_shard::shard::Shard;
 use sh_table::heard_comes_first;
 use sh_value::{Refusal, Value};
 
@@ -25,8 +25,8 @@ pub struct ToldKey {
 /// let told = insert_told(&mut owner, &value)?;    // goes to another thread, in any way
 /// let value = fetch_told(&mut pass, told)?;       // there: `Gone` only where someone removed the key
 /// ```
-pub fn insert_told<L: KeyLayout>(
-    owner: &mut Shard<'_, L>,
+pub fn insert_told<L: KeyLayout, H: KeepsHeap<L>>(
+    owner: &mut Shard<L, H>,
     value: &Value,
 ) -> Result<ToldKey, Refusal>
     ensures serves { InsertServes L.layout (value_class value.now) value.now owner.old

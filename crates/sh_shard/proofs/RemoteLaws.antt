@@ -2,19 +2,24 @@
 use Rattle.std.proofs.Common.{◌≡◌, ◌≢◌, ℕ, ◌+◌, ◌*◌, ◌<◌, ◌≤◌, ⊎_elim, Option, Some, None, MatchOption, refl, ap, ◌∙◌}
 use Rattle.std.proofs.Common.{sym, subst, arith}
 use Rattle.std.proofs.lemmas.Bool.{cases_eq, cases_lt}
-use Rattle.sh_pass.specs.Owners.{SeenPage, HasNothing}
+use Rattle.sh_pass.specs.Owners.{SeenPage, SeenBell, HasNothing}
 use Rattle.sh_shard.specs.Pages.{Paged, page_at, seen_class, CursorStands, TakesPage, CursorStops, BlankFrom}
 use Rattle.sh_shard.specs.Pages.{BlankHasNothing, StepsForRings}
 use Rattle.sh_shard.specs.Steps.{StepsAtMost}
+use Rattle.sh_queue.specs.Queues.{PageQueues}
+use Rattle.sh_shard.specs.Filing.{ReturnsRising}
+use Rattle.sh_shard.specs.Works.{BellDone}
 use Rattle.sh_shard.specs.Leaving.{Collecting}
-use Rattle.sh_shard.specs.RemoteFrees.{PageCollected, CollectsWhole, PagesCollected, collect_steps}
+use Rattle.sh_shard.specs.RemoteFrees.{PageCollected, CollectsWhole, PagesCollected, CollectServes}
 use Rattle.sh_shard.proofs.Works.{through_works}
 use Rattle.sh_shard.proofs.Working.{works_more}
 use Rattle.sh_shard.proofs.Bounding.{plain_then, slots_then, slots_most, rings_most, steps_none}
 use Rattle.sh_shard.proofs.LeavingLaws.{weaken, more, collecting_none, collecting_more}
 
-class_number : (c : Option ℕ) → c ≡ Some 0 → elim c [ Some k ↦ k | None ↦ 0 ] ≡ 0
-class_number c e = ap (λ (z : Option ℕ). elim z [ Some k ↦ k | None ↦ 0 ]) e
+class_number : (g : SeenPage) → g.class ≡ Some 0 → seen_class g ≡ 0
+class_number g e = ap number e where
+  number : Option ℕ → ℕ
+  number c = elim c [ Some k ↦ k | None ↦ 0 ]
 
 -- a page without a class has nothing on its stack
 pub collects_blank : (p : ℕ) (o n : Paged) → CursorStops p o n → (page_at n p).class ≡ Some 0 → CollectsWhole p o n
@@ -23,7 +28,7 @@ collects_blank p o n s blank = record {
   arm = s.arm;
   collected = record {
     waits = s.waits;
-    taken = λ l e. let z = class_number (page_at o p).class (sym s.works.class ∙ blank) in absurd (omega arith);
+    taken = λ l e. let z = class_number (page_at o p) (sym s.works.class ∙ blank) in absurd (omega arith);
   };
   steps = let g = s.steps in omega arith;
 }
@@ -70,9 +75,11 @@ collected_after : (g h k : SeenPage) → g.class ≡ h.class → g.met ≤ h.met
     → PageCollected g k
 collected_after g h k same m t e = record {
   waits = weaken k.cursor g.met h.met k.met m e.waits;
-  taken = λ l c. let z = e.taken (subst (λ (x : Option ℕ). 0 < elim x [ Some j ↦ j | None ↦ 0 ]) same l) c
+  taken = λ l c. let z = e.taken (subst classed same l) c
       in omega arith;
-}
+} where
+  classed : Option ℕ → Type 0
+  classed c = 0 < elim c [ Some k ↦ k | None ↦ 0 ]
 
 pub collected_more : (page : ℕ) (o n m : Paged) → CollectedBelow page o n → CollectsWhole page n m
     → CollectedBelow (page + 1) o m
@@ -94,7 +101,7 @@ collected_more page o n m f e = record {
 blank_page : (g h : SeenPage) → g.class ≡ Some 0 → HasNothing h → PageCollected g h
 blank_page g h blank none = record {
   waits = subst (λ (z : Option ℕ). MatchOption z (Unit {0}) (λ _. g.met < h.met)) (sym none.cursor) tt;
-  taken = λ l c. let z = class_number g.class blank in absurd (omega arith);
+  taken = λ l c. let z = class_number g blank in absurd (omega arith);
 }
 
 pub pages_collected : (opened page : ℕ) (o n : Paged) → CollectedBelow page o n → BlankFrom opened o
@@ -110,14 +117,17 @@ pages_collected opened page o n f blank none l most = record {
   steps = let g = f.steps in omega arith;
 }
 
--- the pages, after the bell
-pub pages_after : (o m n : Paged) → Collecting o m → PagesCollected m n → (p : ℕ) → p < n.count
-    → PageCollected (page_at o p) (page_at n p)
-pages_after o m n g e p l = collected_after (page_at o p) (page_at m p) (page_at n p) (sym (g.through.classes p))
-    (g.through.met p) (g.through.takes p) (e.pages p l)
-
--- the bell, and then the pages
-pub collects_in : (o m n : Paged) → Collecting o m → StepsForRings 3 o m → PagesCollected m n
-    → StepsAtMost (collect_steps o.count) o.owner n.owner
-collects_in o m n g r e = plain_then _ _ _ (o.count + 3) (51 * m.count) (52 * o.count + 3) (rings_most 3 o m r) e.steps
-    (let c = g.through.count in omega arith)
+-- the bell, then the pages, and then the queues
+pub collects_all : (o m n : Paged) (q r : PageQueues) → Collecting o m → BellDone o m → StepsForRings 3 o m
+    → PagesCollected m n → ReturnsRising q r
+    → CollectServes (record { pages = o; queues = q }) (record { pages = n; queues = r })
+collects_all o m n q r g b s e z = record {
+  collects = collecting_more o m n g e.collects;
+  bell = subst (λ (x : SeenBell). MatchOption x.cursor (o.bell.takes < x.takes) (λ _. o.bell.met < x.met))
+      (sym e.bell) b;
+  pages = λ p l. collected_after (page_at o p) (page_at m p) (page_at n p) (sym (g.through.classes p))
+      (g.through.met p) (g.through.takes p) (e.pages p l);
+  opened = z.opened;
+  steps = plain_then _ _ _ (o.count + 3) (51 * m.count) (52 * o.count + 3) (rings_most 3 o m s) e.steps
+      (let c = g.through.count in omega arith);
+}
