@@ -21,8 +21,8 @@ const AWAY: u64 = 0x1_0000_0000;
 // A pass at home, in the box that it leaves when it is taken. Nothing of it is seen through a `&`, so that its berth may
 // be shared.
 pub struct Resting<L: KeyLayout> {
-    place: NullableBox<Option<PassState<L>>, Global>,
-    ghost full: { has_value place.value ≡ true },
+    boxed: NullableBox<Option<PassState<L>>, Global>,
+    ghost full: { has_value boxed.value ≡ true },
 }
 
 impl<L: KeyLayout> Fits for Resting<L> {
@@ -30,44 +30,45 @@ impl<L: KeyLayout> Fits for Resting<L> {
 
     ghost use Rattle.sh_pool.specs.Berths.{RestsOf};
 
-    ghost fits = { λ heap r. RestsOf heap r.place.value };
+    ghost fits = { λ heap r. RestsOf heap r.boxed.value };
 }
 
 impl<L: KeyLayout> Resting<L> {
-    // What lies in the box is at home.
-    fn of(place: Box<Option<PassState<L>>, Global>) -> Self
-        ensures { result.place.value ≡ Some place.value }
+    // The pass in this box.
+    fn of(full: Box<Option<PassState<L>>, Global>) -> Self
+        ensures { result.boxed.value ≡ Some full.value }
     {
         Resting {
-            place: NullableBox::of(place),
+            boxed: NullableBox::of(full),
         }
     }
 
     // The pass, and the box that it lay in.
     fn wake(self) -> (PassState<L>, Box<Option<PassState<L>>, Global>)
-        requires { HasPass self.place.value }
-        ensures state { self.place.value ≡ Some (Some result.0) }
+        requires { HasPass self.boxed.value }
+        ensures state { self.boxed.value ≡ Some (Some result.0) }
         ensures emptied { result.1.value ≡ None }
     {
-        let Resting { place } = self;
-        let mut place = place.into_box();
-        let state = place.take().unwrap();
-        (state, place)
+        let Resting { boxed } = self;
+        let mut full = boxed.into_box();
+        let state = full.take().unwrap();
+        (state, full)
     }
 }
 
 // A pointer that may be null does not free what it owns, so what rests is opened first.
 impl<L: KeyLayout> Drop for Resting<L> {
     fn drop(self) {
-        let Resting { place } = self;
-        drop(place.into_box());
+        let Resting { boxed } = self;
+        drop(boxed.into_box());
     }
 }
 
-// A place where a pass is at home, or which waits for one. A contract sees the heap whose passes it is for.
-pub(crate) type Place<L> = Counted<Option<Resting<L>>>;
+// Where a pass is at home, or its berth while it is away. A contract sees the heap whose passes it is for.
+pub(crate) type BerthCell<L> = Counted<Option<Resting<L>>>;
 
-/// The right to give a pass back: the number of the berth that it was taken from, with the box that it lay in.
+/// The berth of a pass that is away: its number, with the box that the pass lay in. Whoever has it gives the pass back
+/// by it.
 ///
 /// A contract sees the number.
 #[derive(Drop)]
@@ -95,35 +96,35 @@ impl<L: KeyLayout> Berth<L> {
     }
 }
 
-/// A pass that was taken, and where it comes from.
+/// A pass that was taken, and the berth that waits for it.
 #[derive(Drop)]
 pub struct Taken<L: KeyLayout> {
     /// What the pass knows and holds.
     pub state: PassState<L>,
-    /// What it comes home by.
+    /// Its berth, to give it back by.
     pub berth: Berth<L>,
 }
 
 // A berth with this pass at home.
-pub(crate) fn berth_of<L: KeyLayout>(
+pub(crate) fn berth_cell<L: KeyLayout>(
     alloc: Global,
     heap: &Heap<L>,
     state: PassState<L>,
-) -> Result<Place<L>, Refusal>
+) -> Result<BerthCell<L>, Refusal>
     requires { state.heap ≡ heap.now }
-    ensures { MatchResult result (λ place. place ≡ heap.now) (λ why. why ≡ Memory) }
+    ensures { MatchResult result (λ cell. cell ≡ heap.now) (λ why. why ≡ Memory) }
 {
-    let Ok(place) = Box::new(alloc, Some(state)) else {
+    let Ok(full) = Box::new(alloc, Some(state)) else {
         return Err(Refusal::Memory);
     };
-    Ok(Counted::new(Some(Resting::of(place)), heap))
+    Ok(Counted::new(Some(Resting::of(full)), heap))
 }
 
-// Takes the pass of a berth, where it is at home.
-pub(crate) fn take_from<L: KeyLayout>(place: &Place<L>, number: usize) -> Option<Taken<L>>
-    ensures { IfSome result (λ taken. (taken.state.heap ≡ place.now) × (taken.berth ≡ number)) }
+// Takes the pass that is at home there, if one is. The number is the berth's.
+pub(crate) fn take_from<L: KeyLayout>(cell: &BerthCell<L>, number: usize) -> Option<Taken<L>>
+    ensures { IfSome result (λ taken. (taken.state.heap ≡ cell.now) × (taken.berth ≡ number)) }
 {
-    let (found, claim) = place.turn(HOME, TAKEN);
+    let (found, claim) = cell.turn(HOME, TAKEN);
     if found != HOME {
         claim.done();
         return None;
@@ -133,16 +134,16 @@ pub(crate) fn take_from<L: KeyLayout>(place: &Place<L>, number: usize) -> Option
     Some(Taken { state, berth })
 }
 
-// Gives a pass back to a berth for its heap, where none is at home.
+// Gives a pass of the heap back, where the berth is empty.
 pub(crate) fn give_to<L: KeyLayout>(
-    place: &Place<L>,
+    cell: &BerthCell<L>,
     state: PassState<L>,
     berth: Berth<L>,
 ) -> Result<(), (PassState<L>, Berth<L>)>
-    requires { state.heap ≡ place.now }
+    requires { state.heap ≡ cell.now }
     ensures { IfErr result (λ back. (back.0 ≡ state) × (back.1 ≡ berth)) }
 {
-    let (found, claim) = place.turn(AWAY, TAKEN);
+    let (found, claim) = cell.turn(AWAY, TAKEN);
     if found != AWAY {
         claim.done();
         return Err((state, berth));

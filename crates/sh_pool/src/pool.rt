@@ -4,7 +4,7 @@ ghost use Rattle.sh_value.specs.declared.refusal.Refusal.TheVariants.{Memory};
 ghost use Rattle.sh_pass.specs.Passes.{AreOf, IsAtRest};
 ghost use Rattle.sh_pool.specs.Berths.{AreBerths, OpensPool};
 
-use crate::berth::{Berth, Place, Taken, berth_of, give_to, take_from};
+use crate::berth::{Berth, BerthCell, Taken, berth_cell, give_to, take_from};
 use sh_key::KeyLayout;
 use sh_pass::{Heap, PassState, Seats};
 use sh_shape::Shape;
@@ -18,7 +18,7 @@ use std::marker::Model;
 #[derive(Drop)]
 pub struct Pool<L: KeyLayout> {
     heap: Heap<L>,
-    berths: Vec<Place<L>>,
+    berths: Vec<BerthCell<L>>,
 }
 
 impl<L: KeyLayout> Model for Pool<L> {
@@ -54,7 +54,7 @@ fn berths_for<L: KeyLayout>(
     alloc: Global,
     heap: &Heap<L>,
     states: Vec<PassState<L>>,
-) -> Result<Vec<Place<L>>, Refusal>
+) -> Result<Vec<BerthCell<L>>, Refusal>
     requires of { AreOf heap.now states.items }
     requires count { length states.items ≡ heap.now.shape.passes }
     ensures { MatchResult result (λ berths. AreBerths heap.now berths.items) (λ why. why ≡ Memory) }
@@ -63,7 +63,7 @@ fn berths_for<L: KeyLayout>(
         return Err(Refusal::Memory);
     };
     for state in states {
-        berths.push_reserved(berth_of(alloc, heap, state)?);
+        berths.push_reserved(berth_cell(alloc, heap, state)?);
     }
     Ok(berths)
 }
@@ -130,7 +130,7 @@ impl<L: KeyLayout> Pool<L> {
         ensures err { IfErr result (λ back. (back.0 ≡ state) × (back.1 ≡ berth)) }
     {
         match self.berths.get(berth.number()) {
-            Some(place) => give_to(place, state, berth),
+            Some(cell) => give_to(cell, state, berth),
             None => Err((state, berth)),
         }
     }
