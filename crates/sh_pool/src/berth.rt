@@ -18,8 +18,8 @@ const HOME: u64 = FREE;
 // The word of a berth whose pass is away. It is free to be claimed as well, and 1 in its high half.
 const AWAY: u64 = 0x1_0000_0000;
 
-// A pass at home, in the box that it leaves when it is taken. Nothing of it is seen through a `&`, so that its berth may
-// be shared.
+// A pass at home, in the box that it leaves when it is taken. Nothing of it is seen through a `&`, so that its berth
+// may be shared.
 pub struct Resting<L: KeyLayout> {
     boxed: NullableBox<Option<PassState<L>>, Global>,
     ghost full: { has_value boxed.value ≡ true },

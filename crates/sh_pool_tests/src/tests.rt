@@ -1,6 +1,5 @@
-//! What no clause says: that each pass is at home at first, that one which is away is taken by nobody, and that it can be
-//! taken again once it is back.
-
+//! What no clause says: that each pass is at home at first, that one which is away is taken by nobody, and that it can
+//! be taken again once it is back.
 use sh_key::Tiny;
 use sh_pool::{Pool, Share, Taken, give_pass, take_pass};
 use sh_shape::Shape;
@@ -70,8 +69,8 @@ fn a_pass_outlives_the_share_that_it_was_taken_by(rt: HostRuntime) {
     assert!(rt; give_pass(pass, berth).is_ok());
 }
 
-// Takes a pass, looks a key up and gives the pass back, over and over: how often there was a pass, and how often one was
-// refused on its way home.
+// Takes a pass, looks a key up and gives the pass back, over and over: how often there was a pass, and how often one
+// was refused on its way home.
 fn taken_and_given(share: Share<Tiny>) -> (u32, u32) {
     let mut taken = 0u32;
     let mut refused = 0u32;
