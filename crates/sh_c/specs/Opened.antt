@@ -7,7 +7,7 @@ use Rattle.sh_member.specs.Sides.{IsPass}
 use Rattle.sh_handles.specs.declared.heap.AnyHeap.{AnyHeap}
 use Rattle.sh_handles.specs.declared.heap.LayoutName.{LayoutName}
 use Rattle.sh_handles.specs.declared.member.AnyMember.{AnyMember}
-use Rattle.sh_handles.specs.Heaps.{AnyBegins, layout_named, layout_number}
+use Rattle.sh_handles.specs.Heaps.{AnyBegins, heap_of, layout_named, layout_number}
 use Rattle.sh_handles.specs.Members.{side_of}
 
 -- an empty handle after an opening by code: the heap, or nothing and why
@@ -27,6 +27,11 @@ abbrev pub OpenTold : (Layout → Result AnyHeap Refusal → Type 0) → (number
 OpenTold opens number code (Some heap) after = (code ≡ 15) × (after ≡ Some heap)
 OpenTold opens number code None after = ((3 < number) × (code ≡ 19) × (after ≡ None))
     ⊎ ((name : LayoutName) × (layout_number name ≡ number) × PutOpened (opens (layout_named name)) code after)
+
+-- how many passes the heap has, and 0 where there is no heap
+abbrev pub PassesTold : ℕ → Option AnyHeap → Option AnyHeap → Type 0
+PassesTold told None after = (told ≡ 0) × (after ≡ None)
+PassesTold told (Some heap) after = (told ≡ (heap_of heap).shape.passes) × (after ≡ Some heap)
 
 -- the handle has a pass of the heap that was at home
 abbrev pub HasBegun : AnyHeap → Option AnyMember → Type 0

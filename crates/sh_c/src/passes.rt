@@ -1,7 +1,7 @@
 //! Passes: how they are taken and come home.
 ghost use Rattle.std.specs.Prelude.{◌≡◌, None, IfSome, MatchResult};
 ghost use Rattle.sh_value.specs.declared.refusal.Refusal.TheVariants.{Memory};
-ghost use Rattle.sh_c.specs.Opened.{TakeTold, GiveTold, IsPutBack, HasBegun};
+ghost use Rattle.sh_c.specs.Opened.{PassesTold, TakeTold, GiveTold, IsPutBack, HasBegun};
 
 use crate::codes::{EMPTY, NO_PASS, OCCUPIED, OK, OWNS};
 use sh_handles::{AnyHeap, AnyMember, HeapHandle, PassHandle};
@@ -10,7 +10,9 @@ use std::alloc::Global;
 
 /// How many passes the heap has, at home or away: 0 of an empty handle.
 #[unsafe(no_mangle)]
-pub extern "C" fn shardheap_raw_passes(alloc: Global, heap: &mut HeapHandle) -> u32 {
+pub extern "C" fn shardheap_raw_passes(alloc: Global, heap: &mut HeapHandle) -> u64
+    ensures { PassesTold result heap.old.slot.value heap.new.slot.value }
+{
     let Some(held) = heap.take(alloc) else {
         return 0;
     };

@@ -137,14 +137,14 @@ impl AnyHeap {
     }
 
     /// How many passes the heap has, at home or away.
-    pub fn passes(&self) -> u32
+    pub fn passes(&self) -> u64
         ensures { result ≡ (heap_of self.now).shape.passes }
     {
         match self {
-            AnyHeap::Wide(share) => share.pool().berths() as u32,
-            AnyHeap::Tagged(share) => share.pool().berths() as u32,
-            AnyHeap::Deep(share) => share.pool().berths() as u32,
-            AnyHeap::Tiny(share) => share.pool().berths() as u32,
+            AnyHeap::Wide(share) => share.pool().berths() as u64,
+            AnyHeap::Tagged(share) => share.pool().berths() as u64,
+            AnyHeap::Deep(share) => share.pool().berths() as u64,
+            AnyHeap::Tiny(share) => share.pool().berths() as u64,
         }
     }
 

@@ -29,6 +29,7 @@ use Rattle.std_heap.specs.contracts.Global as Heap
 use Rattle.std_heap.specs.contracts.GlobalAllocator.TheImpl.{ghosts}
 use Rattle.std_heap.proofs.Global.TheLaws as heap
 use Rattle.sh_nullable.proofs.Values as V
+use Rattle.sh_handles.proofs.Apart as Apart
 use Rattle.sh_handles.proofs.AsSlot.{PassRow, FromPassSlot as From}
 use Rattle.sh_handles.specs.contracts.pass_handle.PassSlot.into_slot as F
 use Rattle.sh_handles.specs.contracts.pass_handle.PassSlot.into_slot.Key.{name as #self}
@@ -45,7 +46,7 @@ abbrev Z : RattleType
 Z = Heap.the_row
 
 abbrev S : RattleType
-S = V.Slot R Z heap.the_row_laws ghosts
+S = V.NullableBox R Z heap.the_row_laws ghosts
 
 module _ {M : Type 1} {𝓤 : Ura M} (𝓛 : Logic 𝓤) (at_mem : Memory → SProp 𝓤) (run : Routine → Fun 𝓤) (𝓣 : Tables 𝓤 𝓛.H) where
   open 𝓛 use {H}
@@ -58,9 +59,9 @@ module _ {M : Type 1} {𝓤 : Ura M} (𝓛 : Logic 𝓤) (at_mem : Memory → SP
       let To = type_at (F.signature).result tt in
       let made : To.Denot = record { at = p; alloc = a; value = z.0.3.0.value } in
       qed 𝓛 ((‵ ftrue ⊛ ‵ (fsep (S.own_val v z.0.4.0) ftrue)) ∷ raw (emp 𝓤) ∷ []) ∵ split ! $ drop ! $ fsplit ! $
-      V.slot_apart R Z heap.the_row_laws ghosts ! v z.0.4.0 (λ h ws fits. V.slot_in R Z heap.the_row_laws ghosts ! p h a v.value $ use1 𝓛 (‵ (To.own_val made (V.both (ptr_val p) h ∷ []))) (id⊢ 𝓤 _) $ move ! (1 ∷ 2 ∷ []) $ drop ! $ drop ! $
+      Apart.nullable_apart R Z heap.the_row_laws ghosts ! v z.0.4.0 (λ h ws fits. V.nullable_in R Z heap.the_row_laws ghosts ! p h a v.value $ use1 𝓛 (‵ (To.own_val made (V.both (ptr_val p) h ∷ []))) (id⊢ 𝓤 _) $ move ! (1 ∷ 2 ∷ []) $ drop ! $ drop ! $
       let w = V.both (ptr_val p) h in
-      let good = V.slot_good R Z heap.the_row_laws ghosts p h fits in
+      let good = V.nullable_good R Z heap.the_row_laws ghosts p h fits in
       let Γ : List (Item 𝓤) = ‵ (To.own_val made (w ∷ [])) ∷ [] in
       by ! (subst (λ (us : List Val). ent 𝓤 (types.Kit.⋆ 𝓛 Γ) (WpFn 𝓤 H 𝓣.C 𝓣.Λ code.function (us ++ []) Post)) (sym ws)
       (qed 𝓛 Γ ∵ enter ! 𝓣.C 𝓣.Λ code.function (w ∷ []) _ $ alloc_all ! (λ ls. pass_all ! refl (good, tt) $
