@@ -4,10 +4,26 @@ use Rattle.sh_key.specs.Layout.{Layout}
 use Rattle.sh_value.specs.declared.refusal.Refusal.{Refusal}
 use Rattle.sh_value.specs.declared.refusal.Refusal.TheVariants as refusal
 use Rattle.sh_pass.specs.Passes.{Caller}
-use Rattle.sh_shard.specs.Shards.{Sharded, StaysOwner, InsertServes, AdoptServes, LeaveServes, value_class}
+use Rattle.sh_shard.specs.Shards.{Sharded, StaysOwner, InsertServes, AdoptServes, LeaveServes, PrepareServes}
+use Rattle.sh_shard.specs.Shards.{value_class}
 use Rattle.sh_shard.specs.RemoteFrees.{CollectServes}
 use Rattle.sh_member.specs.declared.member.Side.{Side}
 use Rattle.sh_member.specs.declared.member.Side.TheVariants.{Pass, Shard, Moving}
+
+-- what a contract sees of a member: a pass, or a shard
+abbrev pub SeenSide : Type 0
+SeenSide = Side (Unit {0}) (Unit {0})
+
+abbrev pub seen_side : {L H : Type 0} → Side L H → SeenSide
+seen_side (Pass v) = Pass v
+seen_side (Shard o) = Shard o
+seen_side Moving = Moving
+
+-- it owns no shard
+abbrev pub IsPass : SeenSide → Type 0
+IsPass (Pass v) = Unit {0}
+IsPass (Shard o) = ⊥
+IsPass Moving = ⊥
 
 -- it is not between the two
 abbrev pub is_settled : {L H : Type 0} → Side L H → Bool
@@ -16,8 +32,8 @@ is_settled (Shard o) = true
 is_settled Moving = false
 
 -- a call by which it stays what it is: a pass does as `does` says, and so does the owner of a shard, which it stays
-abbrev pub SideDoes : {L H A : Type 0} → Layout → (Caller → Result A Refusal → Caller → Type 0) → Side L H
-    → Result A Refusal → Side L H → Type 0
+abbrev pub SideDoes : {A : Type 0} → Layout → (Caller → Result A Refusal → Caller → Type 0) → SeenSide
+    → Result A Refusal → SeenSide → Type 0
 SideDoes layout does (Pass v) answer (Pass w) = does v answer w
 SideDoes layout does (Pass v) answer (Shard n) = ⊥
 SideDoes layout does (Pass v) answer Moving = ⊥
@@ -27,7 +43,7 @@ SideDoes layout does (Shard o) answer Moving = ⊥
 SideDoes layout does Moving answer new = ⊥
 
 -- an insert: the owner of a shard does it, and stays one; a pass that owns none is refused
-abbrev pub SideInserts : {L H : Type 0} → Layout → List ℕ → Side L H → Result ℕ Refusal → Side L H → Type 0
+abbrev pub SideInserts : Layout → List ℕ → SeenSide → Result ℕ Refusal → SeenSide → Type 0
 SideInserts layout value (Pass v) answer new = (answer ≡ Err refusal.NoShard) × (new ≡ Pass v)
 SideInserts layout value (Shard o) answer (Shard n) = InsertServes layout (value_class value) value o answer n
     × StaysOwner layout o n
@@ -35,8 +51,16 @@ SideInserts layout value (Shard o) answer (Pass w) = ⊥
 SideInserts layout value (Shard o) answer Moving = ⊥
 SideInserts layout value Moving answer new = ⊥
 
+-- a prepare: the same
+abbrev pub SidePrepares : Layout → ℕ → SeenSide → Result ℕ Refusal → SeenSide → Type 0
+SidePrepares layout class (Pass v) answer new = (answer ≡ Err refusal.NoShard) × (new ≡ Pass v)
+SidePrepares layout class (Shard o) answer (Shard n) = PrepareServes class o answer n × StaysOwner layout o n
+SidePrepares layout class (Shard o) answer (Pass w) = ⊥
+SidePrepares layout class (Shard o) answer Moving = ⊥
+SidePrepares layout class Moving answer new = ⊥
+
 -- a collect: the same
-abbrev pub SideCollects : {L H : Type 0} → Layout → Side L H → Result (Unit {0}) Refusal → Side L H → Type 0
+abbrev pub SideCollects : Layout → SeenSide → Result (Unit {0}) Refusal → SeenSide → Type 0
 SideCollects layout (Pass v) answer new = (answer ≡ Err refusal.NoShard) × (new ≡ Pass v)
 SideCollects layout (Shard o) answer (Shard n) = (answer ≡ Ok tt) × CollectServes o n × StaysOwner layout o n
 SideCollects layout (Shard o) answer (Pass w) = ⊥
@@ -44,7 +68,7 @@ SideCollects layout (Shard o) answer Moving = ⊥
 SideCollects layout Moving answer new = ⊥
 
 -- an adoption: the pass becomes the owner of the shard, or stays a pass; the owner of a shard is refused
-abbrev pub SideAdopts : {L H : Type 0} → ℕ → Side L H → Result (Unit {0}) Refusal → Side L H → Type 0
+abbrev pub SideAdopts : ℕ → SeenSide → Result (Unit {0}) Refusal → SeenSide → Type 0
 SideAdopts k (Pass v) (Ok _) (Shard n) = AdoptServes k v (Ok n)
 SideAdopts k (Pass v) (Ok _) (Pass w) = ⊥
 SideAdopts k (Pass v) (Ok _) Moving = ⊥
@@ -55,7 +79,7 @@ SideAdopts k (Shard o) answer new = (answer ≡ Err refusal.Taken) × (new ≡ S
 SideAdopts k Moving answer new = ⊥
 
 -- leaving: the owner of a shard becomes a pass again, or stays the owner; a pass that owns none is refused
-abbrev pub SideLeaves : {L H : Type 0} → Side L H → Result (Unit {0}) Refusal → Side L H → Type 0
+abbrev pub SideLeaves : SeenSide → Result (Unit {0}) Refusal → SeenSide → Type 0
 SideLeaves (Shard o) (Ok _) (Pass w) = LeaveServes o (Ok w)
 SideLeaves (Shard o) (Ok _) (Shard n) = ⊥
 SideLeaves (Shard o) (Ok _) Moving = ⊥
@@ -66,9 +90,9 @@ SideLeaves (Pass v) answer new = (answer ≡ Err refusal.NoShard) × (new ≡ Pa
 SideLeaves Moving answer new = ⊥
 
 -- its pass, where it owns no shard; else it comes back
-abbrev pub SideGivesPass : {L H M : Type 0} → (M → Side L H) → Side L H → Result Caller M → Type 0
-SideGivesPass side (Pass v) (Ok w) = w ≡ v
-SideGivesPass side (Pass v) (Err m) = ⊥
-SideGivesPass side (Shard o) (Ok w) = ⊥
-SideGivesPass side (Shard o) (Err m) = side m ≡ Shard o
-SideGivesPass side Moving answer = ⊥
+abbrev pub SideGivesPass : SeenSide → Result Caller SeenSide → Type 0
+SideGivesPass (Pass v) (Ok w) = w ≡ v
+SideGivesPass (Pass v) (Err m) = ⊥
+SideGivesPass (Shard o) (Ok w) = ⊥
+SideGivesPass (Shard o) (Err m) = m ≡ Shard o
+SideGivesPass Moving answer = ⊥

@@ -1,16 +1,36 @@
 // The calls of a member that leave it a pass, or the owner of its shard.
+ghost use Rattle.std.specs.Prelude.{◌<◌};
 ghost use Rattle.sh_pass.specs.Passes.{GetDoes, ReadDoes, ReadIntoDoes, RemoveDoes, ReleaseDoes};
-ghost use Rattle.sh_member.specs.Sides.{SideDoes, SideInserts, SideCollects};
+ghost use Rattle.sh_shard.specs.Shards.{StaysOwner};
+ghost use Rattle.sh_member.specs.Sides.{SideDoes, SideInserts, SidePrepares, SideCollects};
+ghost use Rattle.sh_readers.specs.Readers.{FetchDoes};
 
 use crate::member::{Member, Side};
 use sh_key::KeyLayout;
 use sh_pass::KeepsHeap;
+use sh_readers::Reader;
+use sh_shard::shard::Shard;
 use sh_value::{Hold, Refusal, Value};
+
+// The same by the owner of a shard, which it stays.
+fn fetch_by_owner<L: KeyLayout, H: KeepsHeap<L>>(
+    owner: &mut Shard<L, H>,
+    key: u64,
+) -> Result<Value, Refusal>
+    ensures does { FetchDoes L.layout key owner.old.pages.owner result owner.new.pages.owner }
+    ensures stays { StaysOwner L.layout owner.old owner.new }
+{
+    // (that the shard is the owner's is known of it before and after)
+    owner.shape();
+    let answer = owner.fetch(key);
+    owner.shape();
+    answer
+}
 
 impl<L: KeyLayout, H: KeepsHeap<L>> Member<L, H> {
     /// Takes a hold on a key. Refused as `BadKey`, `HoldsFull`, `Gone` or `Crowded`, tried in that order.
     pub fn get(&mut self, key: u64) -> Result<Hold, Refusal>
-        ensures { SideDoes L.layout (GetDoes L.layout key) self.old.side result self.new.side }
+        ensures { SideDoes L.layout (GetDoes L.layout key) self.old result self.new }
     {
         match &mut self.side {
             Side::Pass(pass) => pass.get(key),
@@ -21,7 +41,7 @@ impl<L: KeyLayout, H: KeepsHeap<L>> Member<L, H> {
 
     /// The value of a key that it holds. Refused as `NotHeld`.
     pub fn read(&mut self, hold: Hold) -> Result<Value, Refusal>
-        ensures { SideDoes L.layout (ReadDoes hold.key) self.old.side result self.new.side }
+        ensures { SideDoes L.layout (ReadDoes hold.key) self.old result self.new }
     {
         match &mut self.side {
             Side::Pass(pass) => pass.read(hold),
@@ -32,8 +52,8 @@ impl<L: KeyLayout, H: KeepsHeap<L>> Member<L, H> {
 
     /// The same into a value of the caller's, which is as it was where it is refused.
     pub fn read_into(&mut self, hold: Hold, value: &mut Value) -> Result<(), Refusal>
-        ensures { SideDoes L.layout (λ v answer w. ReadIntoDoes hold.key v value.old answer value.new w) self.old.side result
-            self.new.side }
+        ensures { SideDoes L.layout (λ v answer w. ReadIntoDoes hold.key v value.old answer value.new w) self.old result
+            self.new }
     {
         match &mut self.side {
             Side::Pass(pass) => pass.read_into(hold, value),
@@ -42,10 +62,21 @@ impl<L: KeyLayout, H: KeepsHeap<L>> Member<L, H> {
         }
     }
 
+    /// The value of a key: a get, a read and a release in one. Refused as a get is. It leaves the holds as they were.
+    pub fn fetch(&mut self, key: u64) -> Result<Value, Refusal>
+        ensures { SideDoes L.layout (FetchDoes L.layout key) self.old result self.new }
+    {
+        match &mut self.side {
+            Side::Pass(pass) => pass.fetch(key),
+            Side::Shard(shard) => fetch_by_owner(shard, key),
+            Side::Moving => unreachable!(),
+        }
+    }
+
     /// Removes a key: no later get finds it, and its value stays until the last hold goes. Refused as `BadKey` or
     /// `Gone`.
     pub fn remove(&mut self, key: u64) -> Result<(), Refusal>
-        ensures { SideDoes L.layout (RemoveDoes L.layout key) self.old.side result self.new.side }
+        ensures { SideDoes L.layout (RemoveDoes L.layout key) self.old result self.new }
     {
         match &mut self.side {
             Side::Pass(pass) => pass.remove(key),
@@ -56,7 +87,7 @@ impl<L: KeyLayout, H: KeepsHeap<L>> Member<L, H> {
 
     /// Gives one hold on a key back. Refused as `NotHeld`.
     pub fn release(&mut self, hold: Hold) -> Result<(), Refusal>
-        ensures { SideDoes L.layout (ReleaseDoes L.layout hold.key) self.old.side result self.new.side }
+        ensures { SideDoes L.layout (ReleaseDoes L.layout hold.key) self.old result self.new }
     {
         match &mut self.side {
             Side::Pass(pass) => pass.release(hold),
@@ -68,7 +99,7 @@ impl<L: KeyLayout, H: KeepsHeap<L>> Member<L, H> {
     /// Stores a value under a new key in the shard that it owns. Refused as `NoShard` where it owns none, and else as
     /// `Full` or `Memory`.
     pub fn insert(&mut self, value: &Value) -> Result<u64, Refusal>
-        ensures { SideInserts L.layout value.now self.old.side result self.new.side }
+        ensures { SideInserts L.layout value.now self.old result self.new }
     {
         match &mut self.side {
             Side::Pass(_) => Err(Refusal::NoShard),
@@ -77,9 +108,22 @@ impl<L: KeyLayout, H: KeepsHeap<L>> Member<L, H> {
         }
     }
 
+    /// Gives a page of the shard that it owns to class `class`, from 0 to 7, and answers the page. Refused as `NoShard`
+    /// where it owns none, and else as `Full` or `Memory`.
+    pub fn prepare(&mut self, class: u32) -> Result<u32, Refusal>
+        requires { class < 8 }
+        ensures { SidePrepares L.layout class self.old result self.new }
+    {
+        match &mut self.side {
+            Side::Pass(_) => Err(Refusal::NoShard),
+            Side::Shard(shard) => shard.prepare(class),
+            Side::Moving => unreachable!(),
+        }
+    }
+
     /// Collects what others freed in the shard that it owns. Refused as `NoShard` where it owns none.
     pub fn collect(&mut self) -> Result<(), Refusal>
-        ensures { SideCollects L.layout self.old.side result self.new.side }
+        ensures { SideCollects L.layout self.old result self.new }
     {
         match &mut self.side {
             Side::Pass(_) => Err(Refusal::NoShard),

@@ -1,12 +1,12 @@
 //! What a member is.
-ghost use Rattle.std.specs.Prelude.{◌≡◌, true};
+ghost use Rattle.std.specs.Prelude.{◌≡◌};
 ghost use Rattle.sh_member.specs.declared.member.Side.TheVariants as side;
-ghost use Rattle.sh_member.specs.Sides.{is_settled};
 
 use sh_key::KeyLayout;
 use sh_pass::KeepsHeap;
 use sh_pass::pass::Pass;
 use sh_shard::shard::Shard;
+use std::marker::Model;
 
 /// A pass, or the shard that it owns.
 #[derive(Drop)]
@@ -19,17 +19,27 @@ pub enum Side<L: KeyLayout, H: KeepsHeap<L>> {
     Moving,
 }
 
-/// A pass that may own a shard.
+/// A pass that may own a shard. A contract sees which of the two it is, and what is seen of that.
 #[derive(Drop)]
 pub struct Member<L: KeyLayout, H: KeepsHeap<L>> {
     pub(crate) side: Side<L, H>,
-    ghost settled: { is_settled side ≡ true },
+}
+
+impl<L: KeyLayout, H: KeepsHeap<L>> Model for Member<L, H> {
+    ghost use Rattle.std.specs.Prelude.{◌≡◌, true};
+    ghost use Rattle.sh_member.specs.Sides.{SeenSide, seen_side, is_settled};
+
+    ghost Value = { SeenSide };
+
+    ghost view = { λ m. seen_side m.side };
+
+    ghost invariant = { λ m. is_settled m.side ≡ true };
 }
 
 impl<L: KeyLayout, H: KeepsHeap<L>> Member<L, H> {
     /// The pass, which owns no shard.
     pub fn of(pass: Pass<L, H>) -> Self
-        ensures { result.side ≡ side.Pass pass }
+        ensures { result ≡ side.Pass pass }
     {
         Member {
             side: Side::Pass(pass),

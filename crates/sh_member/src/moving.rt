@@ -1,5 +1,6 @@
 // How a member adopts a shard and leaves it.
-ghost use Rattle.sh_member.specs.Sides.{SideAdopts, SideLeaves, SideGivesPass};
+ghost use Rattle.std.specs.Prelude.{MatchBool};
+ghost use Rattle.sh_member.specs.Sides.{SideAdopts, SideLeaves, SideGivesPass, IsPass};
 
 use crate::member::{Member, Side};
 use sh_key::KeyLayout;
@@ -14,7 +15,7 @@ impl<L: KeyLayout, H: KeepsHeap<L>> Member<L, H> {
     /// Makes it the owner of shard `n`. Refused as `Taken` where it owns one already or another pass owns that one, as
     /// `NoShard` where there is none, and as `Memory`.
     pub fn adopt(&mut self, alloc: Global, n: u64) -> Result<(), Refusal>
-        ensures { SideAdopts n self.old.side result self.new.side }
+        ensures { SideAdopts n self.old result self.new }
     {
         match replace(&mut self.side, Side::Moving) {
             Side::Pass(pass) => match Shard::adopt(alloc, pass, n) {
@@ -38,7 +39,7 @@ impl<L: KeyLayout, H: KeepsHeap<L>> Member<L, H> {
     /// Leaves the shard that it owns. Refused as `NoShard` where it owns none, and as `Waiting` where another caller
     /// has begun a free there that is yet to end.
     pub fn leave(&mut self) -> Result<(), Refusal>
-        ensures { SideLeaves self.old.side result self.new.side }
+        ensures { SideLeaves self.old result self.new }
     {
         match replace(&mut self.side, Side::Moving) {
             Side::Shard(shard) => match shard.leave() {
@@ -59,9 +60,20 @@ impl<L: KeyLayout, H: KeepsHeap<L>> Member<L, H> {
         }
     }
 
+    /// Whether it owns a shard.
+    pub fn owns_shard(&self) -> bool
+        ensures { MatchBool result (¬ IsPass self.now) (IsPass self.now) }
+    {
+        match &self.side {
+            Side::Pass(_) => false,
+            Side::Shard(_) => true,
+            Side::Moving => unreachable!(),
+        }
+    }
+
     /// The pass, where it owns no shard; else it comes back.
     pub fn into_pass(self) -> Result<Pass<L, H>, Self>
-        ensures { SideGivesPass (λ m. m.side) self.side result }
+        ensures { SideGivesPass self result }
     {
         let Member { side } = self;
         match side {

@@ -19,8 +19,8 @@ use std::ptr::null_mut;
 #[repr(C)]
 #[derive(Drop)]
 pub struct NullableBox<T, A: Allocator> {
-    at: *mut T,
-    alloc: A,
+    pub at: *mut T,
+    pub alloc: A,
     pub ghost value: { Option T } by { coded_option T.code },
 }
 

@@ -1,0 +1,7 @@
+use Rattle.std.proofs.Common.{◌≡◌, ap, sym, ◌∙◌, Some}
+use Rattle.sh_c.proofs.Asking.{asked_number}
+use Rattle.sh_c.proofs.values.shardheap_raw_insert.Goals as goal
+
+pub returns : goal.returns
+returns c = asked_number _ _ _ _ _ _ _ _ _ (c.in-Some.ensures.value ∙ ap Some (sym c.deref_mut.ensures.value))
+    c.of.ensures c.code.ensures c.tell_key.ensures c.insert_words-answer.ensures

@@ -1,0 +1,13 @@
+//! The heap for C: a static library.
+//!
+//! A handle holds a heap, a pass or nothing, and each call asks whether it does. The answers are codes: 0, the number of
+//! a refusal, or one of those in `codes`. No pointer may be null: the header `shardheap.h` has a call beside each of
+//! these that looks.
+#![tactic(auto)]
+
+pub mod calls;
+pub mod codes;
+pub mod opening;
+pub mod owning;
+pub mod passes;
+pub mod values;

@@ -1,0 +1,86 @@
+//! Opening and closing a heap.
+ghost use Rattle.std.specs.Prelude.{◌≡◌, None};
+ghost use Rattle.sh_handles.specs.Heaps.{OpensShaped, OpensFor};
+ghost use Rattle.sh_c.specs.Opened.{OpenTold, HeapPut};
+
+use crate::codes::{BAD_LAYOUT, OCCUPIED, OK};
+use sh_handles::{AnyHeap, HeapHandle};
+use sh_handles::heap::LayoutName;
+use sh_value::Refusal;
+use std::alloc::Global;
+
+// Puts what was opened into an empty handle.
+fn put_opened(
+    alloc: Global,
+    heap: &mut HeapHandle,
+    opened: Result<AnyHeap, Refusal>,
+) -> u32
+    requires { heap.old.slot.value ≡ None }
+    ensures { HeapPut opened result heap.new.slot.value }
+{
+    let held = match opened {
+        Ok(opened) => Box::new(alloc, opened),
+        Err(refusal) => return refusal.number(),
+    };
+    match held {
+        Ok(held) => {
+            *heap = HeapHandle::of(held);
+            OK
+        }
+        Err(_) => Refusal::Memory.number(),
+    }
+}
+
+/// Opens a heap of this layout and shape into an empty handle.
+#[unsafe(no_mangle)]
+pub extern "C" fn shardheap_raw_open(
+    alloc: Global,
+    heap: &mut HeapHandle,
+    layout: u32,
+    shards: u32,
+    segments: u32,
+    passes: u32,
+) -> u32
+    ensures { OpenTold (λ l. OpensShaped l (record { shards = shards; segments = segments; passes = passes })) layout
+        result heap.old.slot.value heap.new.slot.value }
+{
+    if heap.is_full() {
+        return OCCUPIED;
+    }
+    let Some(layout) = LayoutName::numbered(layout) else {
+        return BAD_LAYOUT;
+    };
+    let opened = AnyHeap::open_shaped(alloc, layout, shards, segments, passes);
+    put_opened(alloc, heap, opened)
+}
+
+/// Opens a heap of this layout into an empty handle, with room for so many values of so many words in the shard of each
+/// owner.
+#[unsafe(no_mangle)]
+pub extern "C" fn shardheap_raw_open_for(
+    alloc: Global,
+    heap: &mut HeapHandle,
+    layout: u32,
+    owners: u32,
+    values: u64,
+    words: u32,
+    passes: u32,
+) -> u32
+    ensures { OpenTold (λ l. OpensFor l owners values words passes) layout result heap.old.slot.value
+        heap.new.slot.value }
+{
+    if heap.is_full() {
+        return OCCUPIED;
+    }
+    let Some(layout) = LayoutName::numbered(layout) else {
+        return BAD_LAYOUT;
+    };
+    let opened = AnyHeap::open_for(alloc, layout, owners, values, words, passes);
+    put_opened(alloc, heap, opened)
+}
+
+/// Frees what the handle holds, and leaves it empty. The heap itself goes with the last of its passes.
+#[unsafe(no_mangle)]
+pub extern "C" fn shardheap_raw_close(alloc: Global, heap: &mut HeapHandle) {
+    drop(heap.take(alloc));
+}

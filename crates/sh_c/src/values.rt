@@ -1,0 +1,147 @@
+//! The calls that name a value: what they store, and what they write into the caller's room.
+ghost use Rattle.std.specs.Prelude.{◌≡◌, length};
+ghost use Rattle.sh_pass.specs.Passes.{ReadDoes};
+ghost use Rattle.sh_readers.specs.Readers.{FetchDoes};
+ghost use Rattle.sh_c.specs.Told.{InsertTold, InsertsWords, PrepareTold, PreparesFor, ReadTold, WordsTold, number_told};
+
+use crate::codes::{EMPTY, OK, SHORT, code};
+use sh_handles::{AnyMember, PassHandle};
+use sh_shape::classes;
+use sh_value::{Hold, Refusal, Value};
+use std::alloc::Global;
+
+// Puts the words of a value in front of the room, and tells how many they are.
+fn tell_words(value: &Value, words: &mut [u64], count: &mut u64) -> u32
+    ensures count { count.new ≡ length value.now }
+    ensures words { WordsTold value.now words.old result words.new }
+{
+    let told = value.words();
+    *count = told.len() as u64;
+    if told.len() > words.len() {
+        return SHORT;
+    }
+    words[..told.len()].copy_from_slice(told);
+    OK
+}
+
+/// Reads the value of a key that the pass holds.
+#[unsafe(no_mangle)]
+pub extern "C" fn shardheap_raw_read(
+    alloc: Global,
+    pass: &mut PassHandle,
+    key: u64,
+    words: &mut [u64],
+    count: &mut u64,
+) -> u32
+    ensures { ReadTold (λ l. ReadDoes key) result words.old words.new count.old count.new pass.old.slot.value
+        pass.new.slot.value }
+{
+    let Some(mut held) = pass.take(alloc) else {
+        return EMPTY;
+    };
+    let answer = held.read(Hold { key });
+    *pass = PassHandle::of(held);
+    match answer {
+        Ok(value) => tell_words(&value, words, count),
+        Err(refusal) => refusal.number(),
+    }
+}
+
+/// Gets, reads and releases a key in one. The holds stay as they were.
+#[unsafe(no_mangle)]
+pub extern "C" fn shardheap_raw_load(
+    alloc: Global,
+    pass: &mut PassHandle,
+    key: u64,
+    words: &mut [u64],
+    count: &mut u64,
+) -> u32
+    ensures { ReadTold (λ l. FetchDoes l key) result words.old words.new count.old count.new pass.old.slot.value
+        pass.new.slot.value }
+{
+    let Some(mut held) = pass.take(alloc) else {
+        return EMPTY;
+    };
+    let answer = held.fetch(key);
+    *pass = PassHandle::of(held);
+    match answer {
+        Ok(value) => tell_words(&value, words, count),
+        Err(refusal) => refusal.number(),
+    }
+}
+
+// Stores the words as a value, in the shard that the pass owns.
+fn insert_words(member: &mut AnyMember, words: &[u64]) -> Result<u64, Refusal>
+    ensures { InsertsWords words.now member.old result member.new }
+{
+    match Value::new(words) {
+        Ok(value) => member.insert(&value),
+        Err(refusal) => Err(refusal),
+    }
+}
+
+// Tells the key of a value that was stored.
+fn tell_key(answer: &Result<u64, Refusal>, key: &mut u64)
+    ensures { key.new ≡ number_told key.old answer.now }
+{
+    if let Ok(stored) = answer {
+        *key = *stored;
+    }
+}
+
+/// Stores a value under a new key in the shard that the pass owns, and tells the key.
+#[unsafe(no_mangle)]
+pub extern "C" fn shardheap_raw_insert(
+    alloc: Global,
+    pass: &mut PassHandle,
+    words: &[u64],
+    key: &mut u64,
+) -> u32
+    ensures { InsertTold words.now result key.old key.new pass.old.slot.value pass.new.slot.value }
+{
+    let Some(mut held) = pass.take(alloc) else {
+        return EMPTY;
+    };
+    let answer = insert_words(&mut held, words);
+    *pass = PassHandle::of(held);
+    tell_key(&answer, key);
+    code(&answer)
+}
+
+// Gives a page of the shard that the pass owns to the class of values of so many words.
+fn prepare_for(member: &mut AnyMember, words: u32) -> Result<u32, Refusal>
+    ensures { PreparesFor words member.old result member.new }
+{
+    match classes::class_of(words as usize) {
+        Some(class) => member.prepare(class),
+        None => Err(Refusal::TooLong),
+    }
+}
+
+// Tells the page that was prepared.
+fn tell_page(answer: &Result<u32, Refusal>, page: &mut u32)
+    ensures { page.new ≡ number_told page.old answer.now }
+{
+    if let Ok(prepared) = answer {
+        *page = *prepared;
+    }
+}
+
+/// Gives a page of the shard that the pass owns to values of so many words, and tells the page.
+#[unsafe(no_mangle)]
+pub extern "C" fn shardheap_raw_prepare(
+    alloc: Global,
+    pass: &mut PassHandle,
+    words: u32,
+    page: &mut u32,
+) -> u32
+    ensures { PrepareTold words result page.old page.new pass.old.slot.value pass.new.slot.value }
+{
+    let Some(mut held) = pass.take(alloc) else {
+        return EMPTY;
+    };
+    let answer = prepare_for(&mut held, words);
+    *pass = PassHandle::of(held);
+    tell_page(&answer, page);
+    code(&answer)
+}

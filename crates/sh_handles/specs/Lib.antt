@@ -1,0 +1,4 @@
+pub mod Members
+pub mod Heaps
+pub mod HeapOwning
+pub mod PassOwning

@@ -1,0 +1,174 @@
+//! Heaps of any layout.
+ghost use Rattle.std.specs.Prelude.{◌≡◌, ◌<◌, IfSome, MatchOption, MatchResult};
+ghost use Rattle.sh_shape.specs.Rooms.{IsLeastRoomy, NoneRoomy};
+ghost use Rattle.sh_value.specs.declared.refusal.Refusal.TheVariants.{BadShape};
+ghost use Rattle.sh_pool.specs.Berths.{OpensPool};
+ghost use Rattle.sh_handles.specs.Heaps.{AnyOpens, OpensShaped, OpensFor, AnyBegins, heap_of, layout_named, layout_number};
+ghost use Rattle.sh_handles.specs.Members.{Begins};
+
+use crate::member::AnyMember;
+use sh_key::{Deep, KeyLayout, Tagged, Tiny, Wide};
+use sh_member::Member;
+use sh_pool::{Berth, Pool, Share, take_pass};
+use sh_shape::Shape;
+use sh_value::Refusal;
+use std::alloc::Global;
+
+/// A layout of keys, by its name.
+#[derive(Clone, Copy, Debug, PartialEq, Eq)]
+pub enum LayoutName {
+    /// 256 shards of 1,024 pages.
+    Wide,
+    /// 64 shards of 256 pages, with room for 8 bits of the caller's in a key.
+    Tagged,
+    /// 64 shards of 1,048,576 pages.
+    Deep,
+    /// 4 shards of 16 pages, whose slots retire after 3 values: for tests.
+    Tiny,
+}
+
+impl LayoutName {
+    /// The layout of this number, from 0 to 3: `Wide`, `Tagged`, `Deep`, `Tiny`.
+    pub fn numbered(number: u32) -> Option<LayoutName>
+        ensures { MatchOption result (3 < number) (λ name. layout_number name ≡ number) }
+    {
+        match number {
+            0 => Some(LayoutName::Wide),
+            1 => Some(LayoutName::Tagged),
+            2 => Some(LayoutName::Deep),
+            3 => Some(LayoutName::Tiny),
+            _ => None,
+        }
+    }
+}
+
+/// A heap of any layout with its passes, as a share of it.
+#[derive(Drop)]
+pub enum AnyHeap {
+    /// Of layout `Wide`.
+    Wide(Share<Wide>),
+    /// Of layout `Tagged`.
+    Tagged(Share<Tagged>),
+    /// Of layout `Deep`.
+    Deep(Share<Deep>),
+    /// Of layout `Tiny`.
+    Tiny(Share<Tiny>),
+}
+
+// A heap of this shape, with all its passes at home.
+fn opened<L: KeyLayout>(alloc: Global, shape: Shape) -> Result<Share<L>, Refusal>
+    ensures { OpensPool L.layout shape result }
+{
+    let pool = Pool::open(alloc, shape)?;
+    Share::new(alloc, pool)
+}
+
+// A pass that is at home, which owns no shard.
+fn taken<L: KeyLayout>(share: &Share<L>) -> Option<(Member<L, Share<L>>, Berth<L>)>
+    ensures { IfSome result (λ r. Begins share.now r.0 r.1) }
+{
+    let (pass, berth) = take_pass(share)?;
+    Some((Member::of(pass), berth))
+}
+
+// The least shape of the layout with this room.
+fn roomy(
+    layout: LayoutName,
+    owners: u32,
+    values: u64,
+    words: u32,
+    passes: u32,
+) -> Result<Shape, Refusal>
+    ensures { MatchResult result (IsLeastRoomy (layout_named layout) owners values words passes)
+        (λ refusal. (refusal ≡ BadShape) × NoneRoomy (layout_named layout) owners values words passes) }
+{
+    let words = words as usize;
+    match layout {
+        LayoutName::Wide => Shape::with_room::<Wide>(owners, values, words, passes),
+        LayoutName::Tagged => Shape::with_room::<Tagged>(owners, values, words, passes),
+        LayoutName::Deep => Shape::with_room::<Deep>(owners, values, words, passes),
+        LayoutName::Tiny => Shape::with_room::<Tiny>(owners, values, words, passes),
+    }
+}
+
+impl AnyHeap {
+    /// Opens a heap of this layout and shape, with all its passes at home. Refused as `BadShape` exactly where the
+    /// shape does not fit the layout, and as `Memory` where memory is refused.
+    pub fn open(alloc: Global, layout: LayoutName, shape: Shape) -> Result<AnyHeap, Refusal>
+        ensures { AnyOpens layout shape result }
+    {
+        match layout {
+            LayoutName::Wide => Ok(AnyHeap::Wide(opened(alloc, shape)?)),
+            LayoutName::Tagged => Ok(AnyHeap::Tagged(opened(alloc, shape)?)),
+            LayoutName::Deep => Ok(AnyHeap::Deep(opened(alloc, shape)?)),
+            LayoutName::Tiny => Ok(AnyHeap::Tiny(opened(alloc, shape)?)),
+        }
+    }
+
+    /// The same of a shape with these numbers, which is refused as `BadShape` where there is none.
+    pub fn open_shaped(
+        alloc: Global,
+        layout: LayoutName,
+        shards: u32,
+        segments: u32,
+        passes: u32,
+    ) -> Result<AnyHeap, Refusal>
+        ensures { OpensShaped (layout_named layout) (record { shards = shards; segments = segments; passes = passes })
+            result }
+    {
+        let shape = Shape::large(shards, segments, passes)?;
+        AnyHeap::open(alloc, layout, shape)
+    }
+
+    /// The same of the least shape with room for so many values of so many words in the shard of each owner. Refused as
+    /// `BadShape` where no shape of the layout has the room.
+    pub fn open_for(
+        alloc: Global,
+        layout: LayoutName,
+        owners: u32,
+        values: u64,
+        words: u32,
+        passes: u32,
+    ) -> Result<AnyHeap, Refusal>
+        ensures { OpensFor (layout_named layout) owners values words passes result }
+    {
+        let shape = roomy(layout, owners, values, words, passes)?;
+        AnyHeap::open(alloc, layout, shape)
+    }
+
+    /// How many passes the heap has, at home or away.
+    pub fn passes(&self) -> u64
+        ensures { result ≡ (heap_of self.now).shape.passes }
+    {
+        match self {
+            AnyHeap::Wide(share) => share.pool().berths() as u64,
+            AnyHeap::Tagged(share) => share.pool().berths() as u64,
+            AnyHeap::Deep(share) => share.pool().berths() as u64,
+            AnyHeap::Tiny(share) => share.pool().berths() as u64,
+        }
+    }
+
+    /// Takes a pass that is at home. `None` where it finds each of them away.
+    pub fn take(&self) -> Option<AnyMember>
+        ensures { IfSome result (AnyBegins self.now) }
+    {
+        match self {
+            AnyHeap::Wide(share) => {
+                let (member, berth) = taken(share)?;
+                Some(AnyMember::Wide(member, berth))
+            }
+            AnyHeap::Tagged(share) => {
+                let (member, berth) = taken(share)?;
+                Some(AnyMember::Tagged(member, berth))
+            }
+            AnyHeap::Deep(share) => {
+                let (member, berth) = taken(share)?;
+                Some(AnyMember::Deep(member, berth))
+            }
+            AnyHeap::Tiny(share) => {
+                let (member, berth) = taken(share)?;
+                Some(AnyMember::Tiny(member, berth))
+            }
+        }
+    }
+}

@@ -1,0 +1,92 @@
+// How a member adopts a shard and leaves it, and how its pass comes home.
+ghost use Rattle.sh_member.specs.Sides.{SideAdopts, SideLeaves};
+ghost use Rattle.std.specs.Prelude.{MatchBool};
+ghost use Rattle.sh_member.specs.Sides.{IsPass};
+ghost use Rattle.sh_handles.specs.Members.{AnyDoes, AnyGives, Gives, side_of};
+
+use crate::member::AnyMember;
+use sh_key::KeyLayout;
+use sh_member::Member;
+use sh_pool::{Berth, Share, give_pass};
+use sh_value::Refusal;
+use std::alloc::Global;
+
+impl AnyMember {
+    /// Makes it the owner of shard `n`. Refused as `Taken` where it owns one already or another pass owns that one, as
+    /// `NoShard` where there is none, and as `Memory`.
+    pub fn adopt(&mut self, alloc: Global, n: u64) -> Result<(), Refusal>
+        ensures { AnyDoes (λ l. SideAdopts n) self.old result self.new }
+    {
+        match self {
+            AnyMember::Wide(member, _) => member.adopt(alloc, n),
+            AnyMember::Tagged(member, _) => member.adopt(alloc, n),
+            AnyMember::Deep(member, _) => member.adopt(alloc, n),
+            AnyMember::Tiny(member, _) => member.adopt(alloc, n),
+        }
+    }
+
+    /// Leaves the shard that it owns. Refused as `NoShard` where it owns none, and as `Waiting` where another caller
+    /// has begun a free there that is yet to end.
+    pub fn leave(&mut self) -> Result<(), Refusal>
+        ensures { AnyDoes (λ l. SideLeaves) self.old result self.new }
+    {
+        match self {
+            AnyMember::Wide(member, _) => member.leave(),
+            AnyMember::Tagged(member, _) => member.leave(),
+            AnyMember::Deep(member, _) => member.leave(),
+            AnyMember::Tiny(member, _) => member.leave(),
+        }
+    }
+
+    /// Whether it owns a shard.
+    pub fn owns_shard(&self) -> bool
+        ensures { MatchBool result (¬ IsPass (side_of self.now)) (IsPass (side_of self.now)) }
+    {
+        match self {
+            AnyMember::Wide(member, _) => member.owns_shard(),
+            AnyMember::Tagged(member, _) => member.owns_shard(),
+            AnyMember::Deep(member, _) => member.owns_shard(),
+            AnyMember::Tiny(member, _) => member.owns_shard(),
+        }
+    }
+
+    /// Brings its pass home, where it owns no shard; else it comes back as it was.
+    pub fn go_home(self) -> Result<(), AnyMember>
+        ensures { AnyGives self result }
+    {
+        match self {
+            AnyMember::Wide(member, berth) => match given(member, berth) {
+                Ok(()) => Ok(()),
+                Err((member, berth)) => Err(AnyMember::Wide(member, berth)),
+            },
+            AnyMember::Tagged(member, berth) => match given(member, berth) {
+                Ok(()) => Ok(()),
+                Err((member, berth)) => Err(AnyMember::Tagged(member, berth)),
+            },
+            AnyMember::Deep(member, berth) => match given(member, berth) {
+                Ok(()) => Ok(()),
+                Err((member, berth)) => Err(AnyMember::Deep(member, berth)),
+            },
+            AnyMember::Tiny(member, berth) => match given(member, berth) {
+                Ok(()) => Ok(()),
+                Err((member, berth)) => Err(AnyMember::Tiny(member, berth)),
+            },
+        }
+    }
+}
+
+// Brings the pass home, where it owns no shard.
+fn given<L: KeyLayout>(
+    member: Member<L, Share<L>>,
+    berth: Berth<L>,
+) -> Result<(), (Member<L, Share<L>>, Berth<L>)>
+    ensures { Gives member berth result }
+{
+    match member.into_pass() {
+        Ok(pass) => match give_pass(pass, berth) {
+            Ok(()) => Ok(()),
+            Err((pass, berth)) => Err((Member::of(pass), berth)),
+        },
+        Err(member) => Err((member, berth)),
+    }
+}
