@@ -8,6 +8,5 @@
 pub mod calls;
 pub mod codes;
 pub mod opening;
-pub mod owning;
 pub mod passes;
 pub mod values;
