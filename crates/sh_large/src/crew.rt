@@ -54,6 +54,19 @@ pub fn all_four<R: Threads + Sync, T: Task<Output = A> + Send + Drop, A: Send>(
     }
 }
 
+// Who worked in two threads, and what was done there, where neither gave up.
+fn both_done<'a, L: KeyLayout, T: Drop>(
+    one: Done<'a, L, T>,
+    two: Done<'a, L, T>,
+) -> Result<((Worker<'a, L>, T), (Worker<'a, L>, T)), Refusal>
+    ensures one { IfOk result (λ r. one.entry ≡ Ok r.0) }
+    ensures two { IfOk result (λ r. two.entry ≡ Ok r.1) }
+{
+    let one = one?;
+    let two = two?;
+    Ok((one, two))
+}
+
 /// Who worked in all four threads, and what was done there, where no thread gave up.
 pub fn all_done<'a, L: KeyLayout, T: Drop>(
     done: Four<Done<'a, L, T>>,
@@ -69,10 +82,8 @@ pub fn all_done<'a, L: KeyLayout, T: Drop>(
         three,
         four,
     } = done;
-    let (first, one) = one?;
-    let (second, two) = two?;
-    let (third, three) = three?;
-    let (fourth, four) = four?;
+    let ((first, one), (second, two)) = both_done(one, two)?;
+    let ((third, three), (fourth, four)) = both_done(three, four)?;
     let crew = Four {
         one: first,
         two: second,

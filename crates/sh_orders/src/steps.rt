@@ -20,6 +20,19 @@ pub fn slot(number: u64) -> SlotName {
     }
 }
 
+// Adds what a pass does, and tells whether memory was given for it.
+fn push(events: &mut Vec<Event>, pass: u32, action: Action) -> bool {
+    events.push(Event { pass, action }).is_ok()
+}
+
+// Adds the insert of a word, and tells whether memory was given for it.
+fn push_insert(events: &mut Vec<Event>, pass: u32, slot: SlotName, word: u64) -> bool {
+    let value = Value::from(word);
+    push(events, pass, Action::FillSlot(slot, value))
+        && push(events, pass, Action::Fill)
+        && push(events, pass, Action::Publish)
+}
+
 /// What passes do, each in the order of the list.
 #[derive(Drop)]
 pub struct Steps {
@@ -52,7 +65,7 @@ impl Steps {
 
     /// And then the pass does the action.
     pub fn does(mut self, pass: u32, action: Action) -> Steps {
-        if self.events.push(Event { pass, action }).is_err() {
+        if !push(&mut self.events, pass, action) {
             self.refused = true;
         }
         self
@@ -102,11 +115,21 @@ impl Steps {
     }
 
     /// And then the pass inserts the word in a slot of its own.
-    pub fn inserts(self, pass: u32, slot: SlotName, word: u64) -> Steps {
-        let value = Value::from(word);
-        self.does(pass, Action::FillSlot(slot, value))
-            .does(pass, Action::Fill)
-            .does(pass, Action::Publish)
+    pub fn inserts(mut self, pass: u32, slot: SlotName, word: u64) -> Steps {
+        if !push_insert(&mut self.events, pass, slot, word) {
+            self.refused = true;
+        }
+        self
+    }
+
+    /// And then the pass inserts so many values of one word in the first slots of the first page, which are its own.
+    pub fn inserts_first(mut self, pass: u32, values: u64) -> Steps {
+        for number in 0..values {
+            if !push_insert(&mut self.events, pass, slot(number), number) {
+                self.refused = true;
+            }
+        }
+        self
     }
 
     /// And then the pass takes what was put on the page, and follows it at most so many times.
@@ -124,7 +147,9 @@ impl Steps {
     // And then the pass follows the page's cursor, at most so many times.
     fn follows(mut self, pass: u32, page: PageName, times: u32) -> Steps {
         for _ in 0..times {
-            self = self.does(pass, Action::Follow(page));
+            if !push(&mut self.events, pass, Action::Follow(page)) {
+                self.refused = true;
+            }
         }
         self
     }
@@ -133,7 +158,9 @@ impl Steps {
     pub fn answers(self, pass: u32, times: u32) -> Steps {
         let mut steps = self.does(pass, Action::TakeBell);
         for _ in 0..times {
-            steps = steps.does(pass, Action::FollowBell);
+            if !push(&mut steps.events, pass, Action::FollowBell) {
+                steps.refused = true;
+            }
         }
         steps
     }

@@ -7,7 +7,7 @@ mod stacks;
 
 use crate::facts::Fact;
 use crate::program::Program;
-use crate::steps::{Steps, WIDEST, slot};
+use crate::steps::{Steps, WIDEST};
 use crate::walk::{Walked, walk};
 use sh_shape::Shape;
 use std::alloc::Global;
@@ -26,11 +26,9 @@ const GENERATION: u64 = 4096;
 
 // Pass 0 owns the shard, and its first page has this many values of one word, in its first slots, of three.
 fn opened(alloc: Global, values: u64) -> Steps {
-    let mut steps = Steps::new(alloc).opens(0, 0, WIDEST);
-    for number in 0..values {
-        steps = steps.inserts(0, slot(number), number);
-    }
-    steps
+    Steps::new(alloc)
+        .opens(0, 0, WIDEST)
+        .inserts_first(0, values)
 }
 
 // Walks what passes do with a heap of this shape that was brought to a state, and prints the counts.
