@@ -27,6 +27,16 @@ fn shards_change_hands(rt: HostRuntime) {
     agree(&rt, (one.is_whole(), other.is_whole()), (false, false));
 }
 
+// The second owner holds what the first one put, and puts more; the first one removes it all.
+fn find_and_hold(rt: &impl Abort, shard: &mut Shard<'_, Tiny>, one: &mut Pass<'_, Tiny>) {
+    let hold = shard.get(4_096).expect(rt, "a hold");
+    has_words(rt, shard.read(hold), &SIXTEEN);
+    put_each(rt, shard, &[4_098, 4_097, 4_160]);
+    other_removes(rt, one, &[4_096, 4_097, 4_098, 4_160]);
+    has_words(rt, shard.read(hold), &SIXTEEN);
+    done(rt, shard.release(hold));
+}
+
 // What the first owner left there, live and empty, the second one finds: what was put last is taken first.
 #[test]
 fn values_stay_when_their_shard_changes_hands(rt: HostRuntime) {
@@ -35,12 +45,7 @@ fn values_stay_when_their_shard_changes_hands(rt: HostRuntime) {
     put_sixteen(&rt, &mut shard, Ok(4_096));
     let mut one = left(&rt, shard);
     let mut shard = adopted(&rt, rt.alloc(), other, 0);
-    let hold = shard.get(4_096).expect(&rt, "a hold");
-    has_words(&rt, shard.read(hold), &SIXTEEN);
-    put_each(&rt, &mut shard, &[4_098, 4_097, 4_160]);
-    other_removes(&rt, &mut one, &[4_096, 4_097, 4_098, 4_160]);
-    has_words(&rt, shard.read(hold), &SIXTEEN);
-    done(&rt, shard.release(hold));
+    find_and_hold(&rt, &mut shard, &mut one);
 }
 
 #[test]

@@ -8,6 +8,13 @@ pub(super) fn fill(rt: &impl Abort, shard: &mut Shard<'_, Tiny>) {
     put_sixteen(rt, shard, Err(Refusal::Full));
 }
 
+// A new owner of the full shard removes a key of its second segment, and uses the slot again.
+fn use_one_again(rt: &impl Abort, shard: &mut Shard<'_, Tiny>) {
+    put_sixteen(rt, shard, Err(Refusal::Full));
+    owner_removes(rt, shard, &[4_608]);
+    put_sixteen(rt, shard, Ok(8_704));
+}
+
 // The next segment is opened once the first one is full.
 #[test]
 fn a_second_segment_is_filled(rt: HostRuntime) {
@@ -19,9 +26,7 @@ fn a_second_segment_is_filled(rt: HostRuntime) {
     put_sixteen(&rt, &mut shard, Ok(9_154));
     let _one = left(&rt, shard);
     let mut shard = adopted(&rt, rt.alloc(), other, 0);
-    put_sixteen(&rt, &mut shard, Err(Refusal::Full));
-    owner_removes(&rt, &mut shard, &[4_608]);
-    put_sixteen(&rt, &mut shard, Ok(8_704));
+    use_one_again(&rt, &mut shard);
 }
 
 // Two owners of full shards, of which each removes one key of the other's: each puts one value then.
@@ -30,6 +35,14 @@ fn free_for_each_other(rt: &impl Abort, first: &mut Shard<'_, Tiny>, second: &mu
     owner_removes(rt, second, &[4_226]);
     put_sixteen(rt, first, Ok(8_322));
     put_sixteen(rt, second, Ok(9_281));
+}
+
+// Two owners of full shards, of which each removes one key of its own and puts one value then.
+fn free_for_themselves(rt: &impl Abort, first: &mut Shard<'_, Tiny>, second: &mut Shard<'_, Tiny>) {
+    owner_removes(rt, second, &[9_281]);
+    owner_removes(rt, first, &[4_096]);
+    put_sixteen(rt, second, Ok(13_377));
+    put_sixteen(rt, first, Ok(8_192));
 }
 
 // Each of two owners frees into the shard of the other.
@@ -46,10 +59,24 @@ fn two_owners_remove_each_others_keys(rt: HostRuntime) {
     let (one, other) = (left(&rt, first), left(&rt, second));
     let mut first = adopted(&rt, rt.alloc(), other, 0);
     let mut second = adopted(&rt, rt.alloc(), one, 1);
-    owner_removes(&rt, &mut second, &[9_281]);
-    owner_removes(&rt, &mut first, &[4_096]);
-    put_sixteen(&rt, &mut second, Ok(13_377));
-    put_sixteen(&rt, &mut first, Ok(8_192));
+    free_for_themselves(&rt, &mut first, &mut second);
+}
+
+// Of a full shard the owner and another hold one key each, which the other of the two removes. They read what they
+// hold and release it, and so bring one slot back each.
+fn hold_and_bring_back(rt: &impl Abort, shard: &mut Shard<'_, Tiny>, other: &mut Pass<'_, Tiny>) {
+    let theirs = other.get(4_096).expect(rt, "a hold");
+    let mine = shard.get(4_546).expect(rt, "a hold");
+    owner_removes(rt, shard, &[4_096]);
+    other_removes(rt, other, &[4_546]);
+    put_sixteen(rt, shard, Err(Refusal::Full));
+    has_words(rt, other.read(theirs), &SIXTEEN);
+    has_words(rt, shard.read(mine), &SIXTEEN);
+    done(rt, other.release(theirs));
+    put_sixteen(rt, shard, Ok(8_192));
+    put_sixteen(rt, shard, Err(Refusal::Full));
+    done(rt, shard.release(mine));
+    put_sixteen(rt, shard, Ok(8_642));
 }
 
 // The slot of a removed key comes back once the last hold goes, whoever has it.
@@ -58,18 +85,7 @@ fn the_last_hold_brings_a_slot_back(rt: HostRuntime) {
     let (heap, seats) = opened::<Tiny>(&rt, rt.alloc(), 1, 1, 2);
     let (mut shard, mut other) = owner_and_other(&rt, rt.alloc(), &heap, seats);
     fill(&rt, &mut shard);
-    let theirs = other.get(4_096).expect(&rt, "a hold");
-    let mine = shard.get(4_546).expect(&rt, "a hold");
-    owner_removes(&rt, &mut shard, &[4_096]);
-    other_removes(&rt, &mut other, &[4_546]);
-    put_sixteen(&rt, &mut shard, Err(Refusal::Full));
-    has_words(&rt, other.read(theirs), &SIXTEEN);
-    has_words(&rt, shard.read(mine), &SIXTEEN);
-    done(&rt, other.release(theirs));
-    put_sixteen(&rt, &mut shard, Ok(8_192));
-    put_sixteen(&rt, &mut shard, Err(Refusal::Full));
-    done(&rt, shard.release(mine));
-    put_sixteen(&rt, &mut shard, Ok(8_642));
+    hold_and_bring_back(&rt, &mut shard, &mut other);
 }
 
 #[test]
@@ -127,6 +143,14 @@ fn all_that_another_removes_is_used_again(rt: HostRuntime) {
     remove_all_again(&rt, &mut other);
 }
 
+// Empties the first page of a full shard, and puts values of one word there.
+fn use_page_again(rt: &impl Abort, shard: &mut Shard<'_, Tiny>) {
+    owner_removes(rt, shard, &[4_096, 4_097, 4_098]);
+    for key in [8_192, 8_193, 8_194, 4_099] {
+        put_words(rt, shard, &[1], Ok(key));
+    }
+}
+
 // A page all of whose slots came back takes another class: its first keys go on from their generations, and the others
 // begin.
 #[test]
@@ -134,12 +158,18 @@ fn a_wholly_empty_page_changes_its_class(rt: HostRuntime) {
     let (heap, seats) = opened::<Tiny>(&rt, rt.alloc(), 1, 1, 1);
     let mut shard = owner(&rt, rt.alloc(), &heap, seats);
     fill(&rt, &mut shard);
-    owner_removes(&rt, &mut shard, &[4_096, 4_097, 4_098]);
-    for key in [8_192, 8_193, 8_194, 4_099] {
-        put_words(&rt, &mut shard, &[1], Ok(key));
-    }
+    use_page_again(&rt, &mut shard);
     agree(&rt, shard.get(4_096), Err(Refusal::Gone));
     put_sixteen(&rt, &mut shard, Err(Refusal::Full));
+}
+
+// Empties the first page of a full shard, whose first slot is used three times before.
+fn retire_and_empty(rt: &impl Abort, shard: &mut Shard<'_, Tiny>) {
+    for key in [4_096, 8_192] {
+        done(rt, shard.remove(key));
+        put_sixteen(rt, shard, Ok(key + 4_096));
+    }
+    owner_removes(rt, shard, &[12_288, 4_097, 4_098]);
 }
 
 // A retired slot is nobody's, so its page keeps its class.
@@ -148,10 +178,6 @@ fn a_page_with_a_retired_slot_keeps_its_class(rt: HostRuntime) {
     let (heap, seats) = opened::<Tiny>(&rt, rt.alloc(), 1, 1, 1);
     let mut shard = owner(&rt, rt.alloc(), &heap, seats);
     fill(&rt, &mut shard);
-    for key in [4_096, 8_192] {
-        done(&rt, shard.remove(key));
-        put_sixteen(&rt, &mut shard, Ok(key + 4_096));
-    }
-    owner_removes(&rt, &mut shard, &[12_288, 4_097, 4_098]);
+    retire_and_empty(&rt, &mut shard);
     put_words(&rt, &mut shard, &[1], Err(Refusal::Full));
 }

@@ -46,6 +46,16 @@ fn fill_with_two_classes(rt: &impl Abort, shard: &mut Shard<'_, Tiny>) {
     }
 }
 
+// Another removes a value of each class, and the owner puts one of each class.
+fn use_each_class(rt: &impl Abort, shard: &mut Shard<'_, Tiny>, other: &mut Pass<'_, Tiny>) {
+    other_removes(rt, other, &[4_143]);
+    put_sixteen(rt, shard, Err(Refusal::Full));
+    put_words(rt, shard, &[7], Ok(8_239));
+    other_removes(rt, other, &[4_160]);
+    put_words(rt, shard, &[7], Err(Refusal::Full));
+    put_sixteen(rt, shard, Ok(8_256));
+}
+
 // A page of another class that rings comes back to its own class.
 #[test]
 fn a_page_comes_back_to_its_own_class(rt: HostRuntime) {
@@ -54,10 +64,5 @@ fn a_page_comes_back_to_its_own_class(rt: HostRuntime) {
     fill_with_two_classes(&rt, &mut shard);
     put_words(&rt, &mut shard, &[7], Err(Refusal::Full));
     put_sixteen(&rt, &mut shard, Err(Refusal::Full));
-    other_removes(&rt, &mut other, &[4_143]);
-    put_sixteen(&rt, &mut shard, Err(Refusal::Full));
-    put_words(&rt, &mut shard, &[7], Ok(8_239));
-    other_removes(&rt, &mut other, &[4_160]);
-    put_words(&rt, &mut shard, &[7], Err(Refusal::Full));
-    put_sixteen(&rt, &mut shard, Ok(8_256));
+    use_each_class(&rt, &mut shard, &mut other);
 }

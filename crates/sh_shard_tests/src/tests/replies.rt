@@ -18,6 +18,15 @@ fn an_empty_value_is_stored(rt: HostRuntime) {
     get_words(&rt, &mut shard, 4_096, &[]);
 }
 
+// Puts values of sixteen and of thirteen words in one page, and reads both.
+fn put_sixteen_and_thirteen(rt: &impl Abort, shard: &mut Shard<'_, Tiny>) {
+    let thirteen = [1, 2, 3, 4, 5, 6, 7, 8, 9, 10, 11, 12, 13];
+    put_sixteen(rt, shard, Ok(4_096));
+    put_words(rt, shard, &thirteen, Ok(4_097));
+    get_words(rt, shard, 4_097, &thirteen);
+    get_words(rt, shard, 4_096, &SIXTEEN);
+}
+
 // Seventeen words are no value, and 13 words go where 16 do.
 #[test]
 fn long_values_share_a_page(rt: HostRuntime) {
@@ -25,11 +34,17 @@ fn long_values_share_a_page(rt: HostRuntime) {
     let mut shard = owner(&rt, rt.alloc(), &heap, seats);
     let seventeen = [1, 2, 3, 4, 5, 6, 7, 8, 9, 10, 11, 12, 13, 14, 15, 16, 17];
     agree(&rt, Value::new(&seventeen), Err(Refusal::TooLong));
-    put_sixteen(&rt, &mut shard, Ok(4_096));
-    let thirteen = [1, 2, 3, 4, 5, 6, 7, 8, 9, 10, 11, 12, 13];
-    put_words(&rt, &mut shard, &thirteen, Ok(4_097));
-    get_words(&rt, &mut shard, 4_097, &thirteen);
-    get_words(&rt, &mut shard, 4_096, &SIXTEEN);
+    put_sixteen_and_thirteen(&rt, &mut shard);
+}
+
+// Fills the first page, and removes the key of its first slot three times.
+fn use_three_times(rt: &impl Abort, shard: &mut Shard<'_, Tiny>) {
+    put_each(rt, shard, &[4_096, 4_097, 4_098]);
+    done(rt, shard.remove(4_096));
+    put_sixteen(rt, shard, Ok(8_192));
+    done(rt, shard.remove(8_192));
+    put_sixteen(rt, shard, Ok(12_288));
+    done(rt, shard.remove(12_288));
 }
 
 // A slot is used three times, and no more.
@@ -37,12 +52,7 @@ fn long_values_share_a_page(rt: HostRuntime) {
 fn a_removed_key_stays_gone(rt: HostRuntime) {
     let (heap, seats) = opened::<Tiny>(&rt, rt.alloc(), 1, 1, 1);
     let mut shard = owner(&rt, rt.alloc(), &heap, seats);
-    put_each(&rt, &mut shard, &[4_096, 4_097, 4_098]);
-    done(&rt, shard.remove(4_096));
-    put_sixteen(&rt, &mut shard, Ok(8_192));
-    done(&rt, shard.remove(8_192));
-    put_sixteen(&rt, &mut shard, Ok(12_288));
-    done(&rt, shard.remove(12_288));
+    use_three_times(&rt, &mut shard);
     for key in [4_096, 8_192, 12_288] {
         agree(&rt, shard.get(key), Err(Refusal::Gone));
         agree(&rt, shard.remove(key), Err(Refusal::Gone));

@@ -108,6 +108,14 @@ fn finish(rt: &impl Abort, busy: &mut Busy<'_, Tiny>) {
     agree(rt, busy.act(&Action::Ring), false);
 }
 
+// Another enters the slot of a key, the owner removes the key, and the other goes on.
+fn both_remove(rt: &impl Abort, shard: &mut Shard<'_, Tiny>, busy: &mut Busy<'_, Tiny>) {
+    act_each(rt, busy, &[Action::EnterRemove(4_096)]);
+    done(rt, shard.remove(4_096));
+    agree(rt, shard.remove(4_096), Err(Refusal::Gone));
+    finish(rt, busy);
+}
+
 // Two remove a key at the same time: both enter its slot, the owner marks it first, and the other, who marks it too, is
 // the one who finishes it.
 #[test]
@@ -116,10 +124,7 @@ fn of_two_removers_the_last_one_finishes(rt: HostRuntime) {
     let (mut shard, other) = owner_and_other(&rt, rt.alloc(), &heap, seats);
     put_sixteen(&rt, &mut shard, Ok(4_096));
     let mut busy = other.begin();
-    act_each(&rt, &mut busy, &[Action::EnterRemove(4_096)]);
-    done(&rt, shard.remove(4_096));
-    agree(&rt, shard.remove(4_096), Err(Refusal::Gone));
-    finish(&rt, &mut busy);
+    both_remove(&rt, &mut shard, &mut busy);
     let mut other = ended(&rt, busy);
     agree(&rt, other.get(4_096), Err(Refusal::Gone));
     agree(&rt, other.remove(4_096), Err(Refusal::Gone));
