@@ -1,5 +1,5 @@
 //! A heap that is filled, read, emptied and filled again.
-ghost use Rattle.std.specs.Prelude.{◌≡◌, ◌≤◌, ◌×◌, length, vec_len, IfOk};
+ghost use Rattle.std.specs.Prelude.{◌≡◌, ◌≤◌, length, vec_len, IfOk};
 ghost use Rattle.gearlongan.specs.Passes.{AreOf};
 ghost use Rattle.sh_large.specs.Shares.{keys_of};
 ghost use Rattle.sh_large.specs.Stories.{TellsOf};
