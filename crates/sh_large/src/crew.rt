@@ -67,8 +67,8 @@ fn both_done<A: Drop, B: Drop>(
     Ok((one, two))
 }
 
-// What four threads gave, where none gave up.
-fn four_done<A: Drop>(done: Four<Result<A, Refusal>>) -> Result<Four<A>, Refusal>
+/// What four gave, where none gave up.
+pub fn four_done<A: Drop>(done: Four<Result<A, Refusal>>) -> Result<Four<A>, Refusal>
     ensures one { IfOk result (λ r. done.one ≡ Ok r.one) }
     ensures two { IfOk result (λ r. done.two ≡ Ok r.two) }
     ensures three { IfOk result (λ r. done.three ≡ Ok r.three) }

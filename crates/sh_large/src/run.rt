@@ -5,7 +5,7 @@ ghost use Rattle.sh_large.specs.Shares.{keys_of};
 ghost use Rattle.sh_large.specs.Stories.{TellsOf};
 ghost use Rattle.sh_large.specs.Workers.{StayAt, heap_of};
 
-use crate::crew::{Crew, Four};
+use crate::crew::{Crew, Four, four_done};
 use crate::filling::Filled;
 use crate::phases::{Plan, fill, read, remove};
 use crate::story::Story;
@@ -152,22 +152,6 @@ fn worker_of<'a, L: KeyLayout>(
     }
 }
 
-// The workers with two passes, in the thread of this number and the next one.
-fn two_workers<'a, L: KeyLayout>(
-    alloc: Global,
-    one: Pass<'a, L>,
-    two: Pass<'a, L>,
-    plan: Plan,
-    number: u64,
-) -> Result<(Worker<'a, L>, Worker<'a, L>), Refusal>
-    ensures one { IfOk result (λ workers. heap_of workers.0 ≡ one.entry.heap) }
-    ensures two { IfOk result (λ workers. heap_of workers.1 ≡ two.entry.heap) }
-{
-    let one = worker_of(alloc, one, plan, number)?;
-    let two = worker_of(alloc, two, plan, number.wrapping_add(1))?;
-    Ok((one, two))
-}
-
 // Four passes of the heap.
 fn four_passes<'a, L: KeyLayout>(
     heap: &'a Heap<L>,
@@ -205,27 +189,12 @@ fn crew_of<'a, L: KeyLayout>(
     ensures three { IfOk result (λ crew. heap_of crew.three ≡ passes.entry.three.heap) }
     ensures four { IfOk result (λ crew. heap_of crew.four ≡ passes.entry.four.heap) }
 {
-    let (one, two) = two_workers(alloc, passes.one, passes.two, plan, 0)?;
-    let (three, four) = two_workers(alloc, passes.three, passes.four, plan, 2)?;
-    Ok(Four {
-        one,
-        two,
-        three,
-        four,
+    four_done(Four {
+        one: worker_of(alloc, passes.one, plan, 0),
+        two: worker_of(alloc, passes.two, plan, 1),
+        three: worker_of(alloc, passes.three, plan, 2),
+        four: worker_of(alloc, passes.four, plan, 3),
     })
-}
-
-// The passes of two workers, once their work is done.
-fn two_passes<'a, L: KeyLayout>(
-    one: Worker<'a, L>,
-    two: Worker<'a, L>,
-) -> Result<(Pass<'a, L>, Pass<'a, L>), Refusal>
-    ensures one { IfOk result (λ passes. passes.0.heap ≡ heap_of one.entry) }
-    ensures two { IfOk result (λ passes. passes.1.heap ≡ heap_of two.entry) }
-{
-    let one = one.into_pass()?;
-    let two = two.into_pass()?;
-    Ok((one, two))
 }
 
 // How many values the heap has, where all passes met.
@@ -239,13 +208,17 @@ fn counted<'a, L: KeyLayout>(
     requires three { heap_of crew.three ≡ heap.now }
     requires four { heap_of crew.four ≡ heap.now }
 {
-    let (one, two) = two_passes(crew.one, crew.two)?;
-    let (three, four) = two_passes(crew.three, crew.four)?;
+    let back = four_done(Four {
+        one: crew.one.into_pass(),
+        two: crew.two.into_pass(),
+        three: crew.three.into_pass(),
+        four: crew.four.into_pass(),
+    })?;
     let mut passes = Vec::with_capacity(alloc, 4)?;
-    passes.push_reserved(one);
-    passes.push_reserved(two);
-    passes.push_reserved(three);
-    passes.push_reserved(four);
+    passes.push_reserved(back.one);
+    passes.push_reserved(back.two);
+    passes.push_reserved(back.three);
+    passes.push_reserved(back.four);
     match gather(heap, passes) {
         Ok(mut all) => Ok(Some(total(&mut all).live)),
         Err(_) => Ok(None),

@@ -53,19 +53,24 @@ fn a_page_is_made_ready_for_values_of_a_class(rt: HostRuntime) {
     agree(&rt, owner.fetch(one), Ok(Value::from(9)));
 }
 
+// Counts the pages that are left and the slots that are out, as values come and go.
+fn count_what_is_out(rt: &impl Abort, owner: &mut Shard<'_, Wide>, reader: &mut Pass<'_, Wide>) {
+    agree(rt, owner.pages_left(), 8);
+    agree(rt, owner.slots_out(), 0);
+    let first = owner.insert(&Value::from(1)).expect(rt, "a key");
+    let second = owner.insert(&Value::from(2)).expect(rt, "a key");
+    agree(rt, owner.pages_left(), 7);
+    agree(rt, owner.slots_out(), 2);
+    agree(rt, owner.remove(first), Ok(()));
+    agree(rt, owner.slots_out(), 1);
+    // What another removes is out until the owner collects it.
+    agree(rt, reader.remove(second), Ok(()));
+    agree(rt, owner.slots_out(), 1);
+}
+
 #[test]
 fn an_owner_knows_how_full_its_shard_is(rt: HostRuntime) {
     let (heap, seats) = opened(&rt, rt.alloc(), 2);
     let (mut owner, mut reader) = owner_and_reader(&rt, rt.alloc(), &heap, seats);
-    agree(&rt, owner.pages_left(), 8);
-    agree(&rt, owner.slots_out(), 0);
-    let first = owner.insert(&Value::from(1)).expect(&rt, "a key");
-    let second = owner.insert(&Value::from(2)).expect(&rt, "a key");
-    agree(&rt, owner.pages_left(), 7);
-    agree(&rt, owner.slots_out(), 2);
-    agree(&rt, owner.remove(first), Ok(()));
-    agree(&rt, owner.slots_out(), 1);
-    // What another removes is out until the owner collects it.
-    agree(&rt, reader.remove(second), Ok(()));
-    agree(&rt, owner.slots_out(), 1);
+    count_what_is_out(&rt, &mut owner, &mut reader);
 }

@@ -1,6 +1,7 @@
 //! Values, records, and what a refusal says.
 use super::{FIRST_KEY, agree, opened, owner_and_reader};
-use gearlongan::{Record, Refusal, Shape, Typed, Value};
+use gearlongan::{Pass, Record, Refusal, Shape, Shard, Typed, Value, Wide};
+use std::process::Abort;
 use std::test::Fail;
 
 #[test]
@@ -17,34 +18,46 @@ fn values_have_up_to_sixteen_words(rt: HostRuntime) -> Result<(), Fail> {
     Ok(())
 }
 
-#[test]
-fn a_struct_of_two_numbers_is_stored_as_a_pair(rt: HostRuntime) -> Result<(), Fail> {
-    let (heap, seats) = opened(&rt, rt.alloc(), 2);
-    let (owner, _) = owner_and_reader(&rt, rt.alloc(), &heap, seats);
-    let mut sessions = Typed::<_, (u64, u64)>::new(owner);
-    let key = sessions.insert(&(110, 42)).expect(&rt, "a key");
-    agree(&rt, key, FIRST_KEY);
-    let (hold, session) = sessions.get(key).expect(&rt, "a session");
-    agree(&rt, session, (110, 42));
-    agree(&rt, sessions.release(hold), Ok(()));
-    let mut owner = sessions.into_store();
-    agree(&rt, owner.remove(key), Ok(()));
-    Ok(())
+// Stores a pair, and gets it.
+fn store_and_get(rt: &impl Abort, sessions: &mut Typed<Shard<'_, Wide>, (u64, u64)>) {
+    let key = sessions.insert(&(110, 42)).expect(rt, "a key");
+    agree(rt, key, FIRST_KEY);
+    let (hold, session) = sessions.get(key).expect(rt, "a session");
+    agree(rt, session, (110, 42));
+    agree(rt, sessions.release(hold), Ok(()));
 }
 
 #[test]
-fn a_pass_looks_records_up(rt: HostRuntime) -> Result<(), Fail> {
+fn a_struct_of_two_numbers_is_stored_as_a_pair(rt: HostRuntime) {
+    let (heap, seats) = opened(&rt, rt.alloc(), 2);
+    let (owner, _) = owner_and_reader(&rt, rt.alloc(), &heap, seats);
+    let mut sessions = Typed::<_, (u64, u64)>::new(owner);
+    store_and_get(&rt, &mut sessions);
+    let mut owner = sessions.into_store();
+    agree(&rt, owner.remove(FIRST_KEY), Ok(()));
+}
+
+// Stores a pair, which another finds and removes.
+fn store_and_find(
+    rt: &impl Abort,
+    sessions: &mut Typed<Shard<'_, Wide>, (u64, u64)>,
+    found: &mut Typed<Pass<'_, Wide>, (u64, u64)>,
+) {
+    let key = sessions.insert(&(110, 42)).expect(rt, "a key");
+    let (hold, session) = found.get(key).expect(rt, "a session");
+    agree(rt, session, (110, 42));
+    agree(rt, found.release(hold), Ok(()));
+    agree(rt, found.remove(key), Ok(()));
+    agree(rt, sessions.get(key), Err(Refusal::Gone));
+}
+
+#[test]
+fn a_pass_looks_records_up(rt: HostRuntime) {
     let (heap, seats) = opened(&rt, rt.alloc(), 2);
     let (owner, reader) = owner_and_reader(&rt, rt.alloc(), &heap, seats);
     let mut sessions = Typed::<_, (u64, u64)>::new(owner);
-    let key = sessions.insert(&(110, 42)).expect(&rt, "a key");
     let mut found = Typed::<_, (u64, u64)>::new(reader);
-    let (hold, session) = found.get(key).expect(&rt, "a session");
-    agree(&rt, session, (110, 42));
-    agree(&rt, found.release(hold), Ok(()));
-    agree(&rt, found.remove(key), Ok(()));
-    agree(&rt, sessions.get(key), Err(Refusal::Gone));
-    Ok(())
+    store_and_find(&rt, &mut sessions, &mut found);
 }
 
 #[test]
