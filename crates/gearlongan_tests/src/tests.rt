@@ -7,12 +7,18 @@ mod owning;
 mod reading;
 mod storing;
 
-use gearlongan::{Heap, Pass, Seats, Shape, Shard, Wide};
+use gearlongan::{Heap, Pass, Refusal, Seats, Shape, Shard, Wide};
 use std::alloc::Global;
+use std::fmt::Debug;
 use std::process::Abort;
 
 // The key of the first value of a heap of layout `Wide`: generation 1 of slot 0 of page 0 of shard 0.
 const FIRST_KEY: u64 = 16_777_216;
+
+// What was found is what is wanted. It is a function, since each assertion that is written out is proved anew.
+fn agree<T: PartialEq + Debug + Drop>(rt: &impl Abort, found: T, wanted: T) {
+    assert_eq!(rt; found, wanted);
+}
 
 // A heap of one shard of one segment, with so many passes.
 fn opened(rt: &impl Abort, alloc: Global, passes: u32) -> (Heap<Wide>, Seats<Wide>)
@@ -44,4 +50,22 @@ fn owner_and_reader<'a>(
         panic!(rt; "no shard")
     };
     (owner, reader)
+}
+
+// The pass of an owner that left its shard.
+fn left<'a>(rt: &impl Abort, owner: Shard<'a, Wide>) -> Pass<'a, Wide>
+    ensures { result.heap ≡ owner.entry.pages.owner.heap }
+{
+    let Ok(pass) = owner.leave() else {
+        panic!(rt; "the owner has to wait")
+    };
+    pass
+}
+
+// The owner of the shard.
+fn adopted<'a>(rt: &impl Abort, alloc: Global, pass: Pass<'a, Wide>) -> Shard<'a, Wide> {
+    let Ok(owner) = Shard::adopt(alloc, pass, 0) else {
+        panic!(rt; "no shard")
+    };
+    owner
 }

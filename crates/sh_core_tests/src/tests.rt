@@ -16,6 +16,7 @@ use sh_shape::Shape;
 use sh_step::{Action, Event, PageName, SlotName};
 use sh_value::Value;
 use std::alloc::Global;
+use std::fmt::Debug;
 use std::process::Abort;
 
 // The first page of the first shard.
@@ -28,6 +29,11 @@ fn slot(number: u64) -> SlotName {
         page: 0,
         slot: number,
     }
+}
+
+// What was found is what is wanted. It is a function, since each assertion that is written out is proved anew.
+fn agree<T: PartialEq + Debug + Drop>(found: T, wanted: T, rt: &impl Abort) {
+    assert_eq!(rt; found, wanted);
 }
 
 fn event(pass: u32, action: Action) -> Event {
@@ -51,7 +57,7 @@ fn step<L: KeyLayout>(world: &mut World<L>, event: &Event, rt: &impl Abort) -> O
 // Does these, each of which decides nothing.
 fn moves<L: KeyLayout>(world: &mut World<L>, events: &[Event], rt: &impl Abort) {
     for event in events {
-        assert_eq!(rt; step(world, event, rt), Outcome::Moved);
+        agree(step(world, event, rt), Outcome::Moved, rt);
     }
 }
 
@@ -63,20 +69,18 @@ fn replies<L: KeyLayout>(
     entry: Entry,
     rt: &impl Abort,
 ) {
-    assert_eq!(rt;
-        step(world, &event(pass, action), rt),
-        Outcome::Replied(entry)
-    );
+    let answer = step(world, &event(pass, action), rt);
+    agree(answer, Outcome::Replied(entry), rt);
 }
 
 // Has the pass try this, whose condition fails.
 fn skips<L: KeyLayout>(world: &mut World<L>, pass: u32, action: Action, rt: &impl Abort) {
-    assert_eq!(rt; step(world, &event(pass, action), rt), Outcome::Skipped);
+    agree(step(world, &event(pass, action), rt), Outcome::Skipped, rt);
 }
 
 // The log is this.
 fn has_log<L: KeyLayout, const N: usize>(world: &World<L>, log: [Entry; N], rt: &impl Abort) {
-    assert_eq!(rt; world.log(), log.as_slice());
+    agree(world.log(), log.as_slice(), rt);
 }
 
 // The words with these numbers are these.

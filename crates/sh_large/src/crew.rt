@@ -54,14 +54,25 @@ pub fn all_four<R: Threads + Sync, T: Task<Output = A> + Send + Drop, A: Send>(
     }
 }
 
-/// Who worked in all four threads, and what was done there, where no thread gave up.
-pub fn all_done<'a, L: KeyLayout, T: Drop>(
-    done: Four<Done<'a, L, T>>,
-) -> Result<(Crew<'a, L>, Four<T>), Refusal>
-    ensures one { IfOk result (λ r. done.entry.one ≡ Ok (r.0.one, r.1.one)) }
-    ensures two { IfOk result (λ r. done.entry.two ≡ Ok (r.0.two, r.1.two)) }
-    ensures three { IfOk result (λ r. done.entry.three ≡ Ok (r.0.three, r.1.three)) }
-    ensures four { IfOk result (λ r. done.entry.four ≡ Ok (r.0.four, r.1.four)) }
+// What two threads gave, where neither gave up.
+fn both_done<A: Drop, B: Drop>(
+    one: Result<A, Refusal>,
+    two: Result<B, Refusal>,
+) -> Result<(A, B), Refusal>
+    ensures one { IfOk result (λ r. one ≡ Ok r.0) }
+    ensures two { IfOk result (λ r. two ≡ Ok r.1) }
+{
+    let one = one?;
+    let two = two?;
+    Ok((one, two))
+}
+
+/// What four gave, where none gave up.
+pub fn four_done<A: Drop>(done: Four<Result<A, Refusal>>) -> Result<Four<A>, Refusal>
+    ensures one { IfOk result (λ r. done.one ≡ Ok r.one) }
+    ensures two { IfOk result (λ r. done.two ≡ Ok r.two) }
+    ensures three { IfOk result (λ r. done.three ≡ Ok r.three) }
+    ensures four { IfOk result (λ r. done.four ≡ Ok r.four) }
 {
     let Four {
         one,
@@ -69,18 +80,39 @@ pub fn all_done<'a, L: KeyLayout, T: Drop>(
         three,
         four,
     } = done;
-    let (first, one) = one?;
-    let (second, two) = two?;
-    let (third, three) = three?;
-    let (fourth, four) = four?;
-    let crew = Four {
+    let (one, two) = both_done(one, two)?;
+    let (three, four) = both_done(three, four)?;
+    Ok(Four {
+        one,
+        two,
+        three,
+        four,
+    })
+}
+
+/// Who worked in all four threads, and what was done there, where no thread gave up.
+pub fn all_done<W: Drop, T: Drop>(
+    done: Four<Result<(W, T), Refusal>>,
+) -> Result<(Four<W>, Four<T>), Refusal>
+    ensures one { IfOk result (λ r. done.one ≡ Ok (r.0.one, r.1.one)) }
+    ensures two { IfOk result (λ r. done.two ≡ Ok (r.0.two, r.1.two)) }
+    ensures three { IfOk result (λ r. done.three ≡ Ok (r.0.three, r.1.three)) }
+    ensures four { IfOk result (λ r. done.four ≡ Ok (r.0.four, r.1.four)) }
+{
+    let Four {
+        one: (first, one),
+        two: (second, two),
+        three: (third, three),
+        four: (fourth, four),
+    } = four_done(done)?;
+    let workers = Four {
         one: first,
         two: second,
         three: third,
         four: fourth,
     };
     Ok((
-        crew,
+        workers,
         Four {
             one,
             two,

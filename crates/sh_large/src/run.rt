@@ -1,11 +1,11 @@
 //! A heap that is filled, read, emptied and filled again.
-ghost use Rattle.std.specs.Prelude.{◌≡◌, vec_len, IfOk};
+ghost use Rattle.std.specs.Prelude.{◌≡◌, ◌≤◌, length, vec_len, IfOk};
 ghost use Rattle.gearlongan.specs.Passes.{AreOf};
 ghost use Rattle.sh_large.specs.Shares.{keys_of};
 ghost use Rattle.sh_large.specs.Stories.{TellsOf};
 ghost use Rattle.sh_large.specs.Workers.{StayAt, heap_of};
 
-use crate::crew::{Crew, Four};
+use crate::crew::{Crew, Four, four_done};
 use crate::filling::Filled;
 use crate::phases::{Plan, fill, read, remove};
 use crate::story::Story;
@@ -40,6 +40,74 @@ fn shards_in(filled: &Four<Filled>) -> u64 {
         .saturating_add(filled.four.shards)
 }
 
+// What was inserted by one plan.
+#[derive(Drop)]
+struct Round {
+    // The keys of all values.
+    keys: Vec<u64>,
+    // How many shards were filled, wholly or in part.
+    shards: u64,
+    // How many of the values were right when they were read.
+    right: usize,
+}
+
+// Reads what was inserted.
+fn read_round<'a, L: KeyLayout + Send + Sync, R: Threads + Sync>(
+    rt: &R,
+    crew: Crew<'a, L>,
+    filled: Four<Filled>,
+    plan: Plan,
+) -> Result<(Crew<'a, L>, Round), Refusal>
+    ensures stay { IfOk result (λ done. StayAt crew.entry done.0) }
+    ensures keys { IfOk result (λ done. vec_len done.1.keys ≡ keys_of filled) }
+    ensures most { IfOk result (λ done. done.1.right ≤ keys_of filled) }
+{
+    let shards = shards_in(&filled);
+    let (crew, right) = read(rt, crew, &filled, plan)?;
+    let keys = all_keys(filled)?;
+    let round = Round {
+        keys,
+        shards,
+        right,
+    };
+    Ok((crew, round))
+}
+
+// Inserts the values of the plan, and reads them.
+fn first_round<'a, L: KeyLayout + Send + Sync, R: Threads + Sync>(
+    rt: &R,
+    alloc: Global,
+    crew: Crew<'a, L>,
+    plan: Plan,
+) -> Result<(Crew<'a, L>, Round), Refusal>
+    ensures stay { IfOk result (λ done. StayAt crew.entry done.0) }
+    ensures keys { IfOk result (λ done. vec_len done.1.keys ≡ plan.values) }
+    ensures most { IfOk result (λ done. done.1.right ≤ plan.values) }
+{
+    let (crew, filled) = fill(rt, alloc, crew, plan)?;
+    read_round(rt, crew, filled, plan)
+}
+
+// Inserts the values of the plan in the place of others, whose keys it then tries to remove, and reads them. Answers
+// too how many of the old keys found something.
+fn second_round<'a, L: KeyLayout + Send + Sync, R: Threads + Sync>(
+    rt: &R,
+    alloc: Global,
+    crew: Crew<'a, L>,
+    plan: Plan,
+    old: &[u64],
+) -> Result<(Crew<'a, L>, Round, usize), Refusal>
+    ensures stay { IfOk result (λ done. StayAt crew.entry done.0) }
+    ensures keys { IfOk result (λ done. vec_len done.1.keys ≡ plan.values) }
+    ensures most { IfOk result (λ done. done.1.right ≤ plan.values) }
+    ensures stale { IfOk result (λ done. done.2 ≤ length old.now) }
+{
+    let (crew, filled) = fill(rt, alloc, crew, plan)?;
+    let (crew, stale) = remove(rt, crew, old)?;
+    let (crew, round) = read_round(rt, crew, filled, plan)?;
+    Ok((crew, round, stale))
+}
+
 // All phases. The story does not yet say how many values are left.
 fn worked<'a, L: KeyLayout + Send + Sync, R: Threads + Sync>(
     rt: &R,
@@ -50,26 +118,19 @@ fn worked<'a, L: KeyLayout + Send + Sync, R: Threads + Sync>(
     ensures stay { IfOk result (λ done. StayAt crew.entry done.0) }
     ensures tells { IfOk result (λ done. TellsOf plan.values done.1) }
 {
-    let (crew, first) = fill(rt, alloc, crew, plan)?;
-    let shards = shards_in(&first);
-    let (crew, right) = read(rt, crew, &first, plan)?;
-    let old = all_keys(first)?;
-    let (crew, removed) = remove(rt, crew, &old)?;
+    let (crew, first) = first_round(rt, alloc, crew, plan)?;
+    let (crew, removed) = remove(rt, crew, &first.keys)?;
     let more = Plan { round: 4, ..plan };
-    let (crew, second) = fill(rt, alloc, crew, more)?;
-    let shards_again = shards_in(&second);
-    let (crew, stale) = remove(rt, crew, &old)?;
-    let (crew, right_again) = read(rt, crew, &second, more)?;
-    let new = all_keys(second)?;
+    let (crew, second, stale) = second_round(rt, alloc, crew, more, &first.keys)?;
     let story = Story {
-        inserted: old.len(),
-        right,
+        inserted: first.keys.len(),
+        right: first.right,
         removed,
-        again: new.len(),
-        shards,
-        shards_again,
+        again: second.keys.len(),
+        shards: first.shards,
+        shards_again: second.shards,
         stale,
-        right_again,
+        right_again: second.right,
         left: None,
     };
     Ok((crew, story))
@@ -91,6 +152,51 @@ fn worker_of<'a, L: KeyLayout>(
     }
 }
 
+// Four passes of the heap.
+fn four_passes<'a, L: KeyLayout>(
+    heap: &'a Heap<L>,
+    passes: Vec<Pass<'a, L>>,
+) -> Result<Four<Pass<'a, L>>, Refusal>
+    requires { AreOf heap.now passes.items }
+    ensures one { IfOk result (λ passes. passes.one.heap ≡ heap.now) }
+    ensures two { IfOk result (λ passes. passes.two.heap ≡ heap.now) }
+    ensures three { IfOk result (λ passes. passes.three.heap ≡ heap.now) }
+    ensures four { IfOk result (λ passes. passes.four.heap ≡ heap.now) }
+{
+    let mut passes = passes.into_iter();
+    let (Some(one), Some(two)) = (passes.next(), passes.next()) else {
+        return Err(Refusal::BadShape);
+    };
+    let (Some(three), Some(four)) = (passes.next(), passes.next()) else {
+        return Err(Refusal::BadShape);
+    };
+    Ok(Four {
+        one,
+        two,
+        three,
+        four,
+    })
+}
+
+// The workers with these passes.
+fn crew_of<'a, L: KeyLayout>(
+    alloc: Global,
+    passes: Four<Pass<'a, L>>,
+    plan: Plan,
+) -> Result<Crew<'a, L>, Refusal>
+    ensures one { IfOk result (λ crew. heap_of crew.one ≡ passes.entry.one.heap) }
+    ensures two { IfOk result (λ crew. heap_of crew.two ≡ passes.entry.two.heap) }
+    ensures three { IfOk result (λ crew. heap_of crew.three ≡ passes.entry.three.heap) }
+    ensures four { IfOk result (λ crew. heap_of crew.four ≡ passes.entry.four.heap) }
+{
+    four_done(Four {
+        one: worker_of(alloc, passes.one, plan, 0),
+        two: worker_of(alloc, passes.two, plan, 1),
+        three: worker_of(alloc, passes.three, plan, 2),
+        four: worker_of(alloc, passes.four, plan, 3),
+    })
+}
+
 // How many values the heap has, where all passes met.
 fn counted<'a, L: KeyLayout>(
     alloc: Global,
@@ -102,11 +208,17 @@ fn counted<'a, L: KeyLayout>(
     requires three { heap_of crew.three ≡ heap.now }
     requires four { heap_of crew.four ≡ heap.now }
 {
+    let back = four_done(Four {
+        one: crew.one.into_pass(),
+        two: crew.two.into_pass(),
+        three: crew.three.into_pass(),
+        four: crew.four.into_pass(),
+    })?;
     let mut passes = Vec::with_capacity(alloc, 4)?;
-    passes.push_reserved(crew.one.into_pass()?);
-    passes.push_reserved(crew.two.into_pass()?);
-    passes.push_reserved(crew.three.into_pass()?);
-    passes.push_reserved(crew.four.into_pass()?);
+    passes.push_reserved(back.one);
+    passes.push_reserved(back.two);
+    passes.push_reserved(back.three);
+    passes.push_reserved(back.four);
     match gather(heap, passes) {
         Ok(mut all) => Ok(Some(total(&mut all).live)),
         Err(_) => Ok(None),
@@ -124,19 +236,7 @@ fn told<'a, L: KeyLayout + Send + Sync, R: Threads + Sync>(
     requires { AreOf heap.now passes.items }
     ensures { IfOk result (λ story. TellsOf plan.values story) }
 {
-    let mut passes = passes.into_iter();
-    let (Some(one), Some(two)) = (passes.next(), passes.next()) else {
-        return Err(Refusal::BadShape);
-    };
-    let (Some(three), Some(four)) = (passes.next(), passes.next()) else {
-        return Err(Refusal::BadShape);
-    };
-    let crew = Four {
-        one: worker_of(alloc, one, plan, 0)?,
-        two: worker_of(alloc, two, plan, 1)?,
-        three: worker_of(alloc, three, plan, 2)?,
-        four: worker_of(alloc, four, plan, 3)?,
-    };
+    let crew = crew_of(alloc, four_passes(heap, passes)?, plan)?;
     let (crew, story) = worked(rt, alloc, crew, plan)?;
     let left = counted(alloc, heap, crew)?;
     Ok(Story { left, ..story })

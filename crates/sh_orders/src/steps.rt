@@ -20,10 +20,25 @@ pub fn slot(number: u64) -> SlotName {
     }
 }
 
+// Adds what a pass does, and tells whether memory was given for it.
+fn push(events: &mut Vec<Event>, pass: u32, action: Action) -> bool {
+    events.push(Event { pass, action }).is_ok()
+}
+
+// Adds the insert of a word, and tells whether memory was given for it.
+fn push_insert(events: &mut Vec<Event>, pass: u32, slot: SlotName, word: u64) -> bool {
+    let value = Value::from(word);
+    push(events, pass, Action::FillSlot(slot, value))
+        && push(events, pass, Action::Fill)
+        && push(events, pass, Action::Publish)
+}
+
 /// What passes do, each in the order of the list.
 #[derive(Drop)]
 pub struct Steps {
     events: Vec<Event>,
+    // Whether memory was refused for one of them.
+    refused: bool,
 }
 
 impl Steps {
@@ -31,7 +46,16 @@ impl Steps {
     pub fn new(alloc: Global) -> Steps {
         Steps {
             events: Vec::new(alloc),
+            refused: false,
         }
+    }
+
+    /// These, where memory was given for each of them.
+    pub fn complete(self) -> Result<Steps, Fail> {
+        if self.refused {
+            return Err(Fail::new("memory was refused for a step"));
+        }
+        Ok(self)
     }
 
     /// The events.
@@ -40,106 +64,122 @@ impl Steps {
     }
 
     /// And then the pass does the action.
-    pub fn does(mut self, pass: u32, action: Action) -> Result<Steps, Fail> {
-        self.events.push(Event { pass, action })?;
-        Ok(self)
+    pub fn does(mut self, pass: u32, action: Action) -> Steps {
+        if !push(&mut self.events, pass, action) {
+            self.refused = true;
+        }
+        self
     }
 
     /// And then the pass removes the key, up to where it has the empty slot.
-    pub fn empties(self, pass: u32, key: u64) -> Result<Steps, Fail> {
-        self.does(pass, Action::EnterRemove(key))?
-            .does(pass, Action::Mark)?
-            .does(pass, Action::Drop)?
+    pub fn empties(self, pass: u32, key: u64) -> Steps {
+        self.does(pass, Action::EnterRemove(key))
+            .does(pass, Action::Mark)
+            .does(pass, Action::Drop)
             .does(pass, Action::Finish)
     }
 
     /// And then the pass puts the empty slot that it has, if it is another's, on its page, and rings if it must.
-    pub fn gives_back(self, pass: u32) -> Result<Steps, Fail> {
-        self.does(pass, Action::Put)?
-            .does(pass, Action::Tie)?
-            .does(pass, Action::Ring)?
+    pub fn gives_back(self, pass: u32) -> Steps {
+        self.does(pass, Action::Put)
+            .does(pass, Action::Tie)
+            .does(pass, Action::Ring)
             .does(pass, Action::RingTie)
     }
 
     /// And then the pass removes the key.
-    pub fn removes(self, pass: u32, key: u64) -> Result<Steps, Fail> {
-        self.empties(pass, key)?.gives_back(pass)
+    pub fn removes(self, pass: u32, key: u64) -> Steps {
+        self.empties(pass, key).gives_back(pass)
     }
 
     /// And then the pass gets the key.
-    pub fn gets(self, pass: u32, key: u64) -> Result<Steps, Fail> {
-        self.does(pass, Action::EnterGet(key))?
-            .does(pass, Action::Drop)?
-            .does(pass, Action::Finish)?
+    pub fn gets(self, pass: u32, key: u64) -> Steps {
+        self.does(pass, Action::EnterGet(key))
+            .does(pass, Action::Drop)
+            .does(pass, Action::Finish)
             .gives_back(pass)
     }
 
     /// And then the pass releases a hold on the key.
-    pub fn releases(self, pass: u32, key: u64) -> Result<Steps, Fail> {
-        self.does(pass, Action::DropHold(key))?
-            .does(pass, Action::Finish)?
+    pub fn releases(self, pass: u32, key: u64) -> Steps {
+        self.does(pass, Action::DropHold(key))
+            .does(pass, Action::Finish)
             .gives_back(pass)
     }
 
     /// And then the pass reads the class, the length and the one word of the value of a key that it holds.
-    pub fn reads(self, pass: u32, key: u64) -> Result<Steps, Fail> {
-        self.does(pass, Action::ReadClass(key))?
-            .does(pass, Action::ReadLength(key))?
+    pub fn reads(self, pass: u32, key: u64) -> Steps {
+        self.does(pass, Action::ReadClass(key))
+            .does(pass, Action::ReadLength(key))
             .does(pass, Action::ReadWord(key, 0))
     }
 
     /// And then the pass inserts the word in a slot of its own.
-    pub fn inserts(self, pass: u32, slot: SlotName, word: u64) -> Result<Steps, Fail> {
-        let value = Value::new(&[word])?;
-        self.does(pass, Action::FillSlot(slot, value))?
-            .does(pass, Action::Fill)?
-            .does(pass, Action::Publish)
+    pub fn inserts(mut self, pass: u32, slot: SlotName, word: u64) -> Steps {
+        if !push_insert(&mut self.events, pass, slot, word) {
+            self.refused = true;
+        }
+        self
+    }
+
+    /// And then the pass inserts so many values of one word in the first slots of the first page, which are its own.
+    pub fn inserts_first(mut self, pass: u32, values: u64) -> Steps {
+        for number in 0..values {
+            if !push_insert(&mut self.events, pass, slot(number), number) {
+                self.refused = true;
+            }
+        }
+        self
     }
 
     /// And then the pass takes what was put on the page, and follows it at most so many times.
-    pub fn collects(self, pass: u32, page: PageName, times: u32) -> Result<Steps, Fail> {
-        self.does(pass, Action::Take(page))?
+    pub fn collects(self, pass: u32, page: PageName, times: u32) -> Steps {
+        self.does(pass, Action::Take(page))
             .follows(pass, page, times)
     }
 
     /// And then the pass arms the page, and follows what it took at most so many times.
-    pub fn arms(self, pass: u32, page: PageName, times: u32) -> Result<Steps, Fail> {
-        self.does(pass, Action::Arm(page))?
+    pub fn arms(self, pass: u32, page: PageName, times: u32) -> Steps {
+        self.does(pass, Action::Arm(page))
             .follows(pass, page, times)
     }
 
     // And then the pass follows the page's cursor, at most so many times.
-    fn follows(mut self, pass: u32, page: PageName, times: u32) -> Result<Steps, Fail> {
+    fn follows(mut self, pass: u32, page: PageName, times: u32) -> Steps {
         for _ in 0..times {
-            self = self.does(pass, Action::Follow(page))?;
+            if !push(&mut self.events, pass, Action::Follow(page)) {
+                self.refused = true;
+            }
         }
-        Ok(self)
+        self
     }
 
     /// And then the pass takes the bell, and follows it at most so many times.
-    pub fn answers(self, pass: u32, times: u32) -> Result<Steps, Fail> {
-        let mut steps = self.does(pass, Action::TakeBell)?;
+    pub fn answers(self, pass: u32, times: u32) -> Steps {
+        let mut steps = self.does(pass, Action::TakeBell);
         for _ in 0..times {
-            steps = steps.does(pass, Action::FollowBell)?;
+            if !push(&mut steps.events, pass, Action::FollowBell) {
+                steps.refused = true;
+            }
         }
-        Ok(steps)
+        steps
     }
 
     /// And then the pass adopts the shard, if nobody owns it, and reads its first page.
-    pub fn adopts(self, pass: u32, shard: u64) -> Result<Steps, Fail> {
-        self.does(pass, Action::Adopt(shard))?
+    pub fn adopts(self, pass: u32, shard: u64) -> Steps {
+        self.does(pass, Action::Adopt(shard))
             .does(pass, Action::ReadPage(PageName { shard, page: 0 }))
     }
 
     /// And then the pass adopts the shard and gives its first page a class.
-    pub fn opens(self, pass: u32, shard: u64, class: u64) -> Result<Steps, Fail> {
-        self.adopts(pass, shard)?
+    pub fn opens(self, pass: u32, shard: u64, class: u64) -> Steps {
+        self.adopts(pass, shard)
             .does(pass, Action::SetClass(PageName { shard, page: 0 }, class))
     }
 
     /// And then the pass puts a slot of its own on its page.
-    pub fn puts(self, pass: u32, slot: SlotName) -> Result<Steps, Fail> {
-        self.does(pass, Action::PutSlot(slot))?
+    pub fn puts(self, pass: u32, slot: SlotName) -> Steps {
+        self.does(pass, Action::PutSlot(slot))
             .does(pass, Action::Tie)
     }
 }

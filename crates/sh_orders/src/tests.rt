@@ -5,11 +5,13 @@ mod holds;
 mod removers;
 mod stacks;
 
+use crate::facts::Fact;
 use crate::program::Program;
-use crate::steps::{Steps, WIDEST, slot};
+use crate::steps::{Steps, WIDEST};
 use crate::walk::{Walked, walk};
 use sh_shape::Shape;
 use std::alloc::Global;
+use std::fmt::Debug;
 use std::process::Abort;
 use std::test::Fail;
 
@@ -23,12 +25,10 @@ const SECOND: u64 = 4097;
 const GENERATION: u64 = 4096;
 
 // Pass 0 owns the shard, and its first page has this many values of one word, in its first slots, of three.
-fn opened(alloc: Global, values: u64) -> Result<Steps, Fail> {
-    let mut steps = Steps::new(alloc).opens(0, 0, WIDEST)?;
-    for number in 0..values {
-        steps = steps.inserts(0, slot(number), number)?;
-    }
-    Ok(steps)
+fn opened(alloc: Global, values: u64) -> Steps {
+    Steps::new(alloc)
+        .opens(0, 0, WIDEST)
+        .inserts_first(0, values)
 }
 
 // Walks what passes do with a heap of this shape that was brought to a state, and prints the counts.
@@ -41,8 +41,8 @@ fn walked(
 ) -> Result<Walked, Fail> {
     let program = Program {
         shape,
-        before,
-        then,
+        before: before.complete()?,
+        then: then.complete()?,
     };
     let walked = walk(rt, alloc, &program)?;
     let states = walked.states;
@@ -51,6 +51,28 @@ fn walked(
     println!(rt; "{states} states, {ends} ends, {orders} orders")?;
     assert!(rt; orders > 1, "there is more than one order");
     Ok(walked)
+}
+
+// What was found is what is wanted. It is a function, since each assertion that is written out is proved anew.
+fn agree<T: PartialEq + Debug + Drop>(rt: &impl Abort, found: T, wanted: T) {
+    assert_eq!(rt; found, wanted);
+}
+
+// So many orders lead to a state in which all of these are so.
+fn leads(rt: &impl Abort, walked: &Walked, facts: &[Fact], orders: u64) {
+    agree(rt, walked.orders_with(facts), orders);
+}
+
+// Each of these counts some orders.
+fn are_some(rt: &impl Abort, counts: &[u64]) {
+    for count in counts {
+        agree(rt, *count > 0, true);
+    }
+}
+
+// There are so many orders.
+fn has_orders(rt: &impl Abort, walked: &Walked, orders: u64) {
+    agree(rt, walked.orders(), orders);
 }
 
 // The same, with a heap of one shard and three passes.

@@ -21,7 +21,26 @@ use sh_shard::Shard;
 use sh_step::Action;
 use sh_value::{Refusal, Value};
 use std::alloc::Global;
+use std::fmt::Debug;
 use std::process::Abort;
+
+// The words 1 to 16. A page has three values of so many.
+const SIXTEEN: [u64; 16] = [1, 2, 3, 4, 5, 6, 7, 8, 9, 10, 11, 12, 13, 14, 15, 16];
+
+// What was found is what is wanted. It is a function, since each assertion that is written out is proved anew.
+fn agree<T: PartialEq + Debug + Drop>(rt: &impl Abort, found: T, wanted: T) {
+    assert_eq!(rt; found, wanted);
+}
+
+// A call that answers nothing more was not refused.
+fn done(rt: &impl Abort, answer: Result<(), Refusal>) {
+    agree(rt, answer, Ok(()));
+}
+
+// A read answered a value of these words.
+fn has_words(rt: &impl Abort, read: Result<Value, Refusal>, words: &[u64]) {
+    agree(rt, read, Ok(value(rt, words)));
+}
 
 // A heap with so many shards, segments of a shard and passes, asked for once more where memory was refused.
 fn opened<L: KeyLayout>(
@@ -38,7 +57,7 @@ fn opened<L: KeyLayout>(
     match Heap::<L>::open(alloc, shape) {
         Ok(both) => both,
         Err(why) => {
-            assert_eq!(rt; why, Refusal::Memory);
+            agree(rt, why, Refusal::Memory);
             let shape = Shape::new(shards, segments, passes).expect(rt, "a shape");
             Heap::<L>::open(alloc, shape).expect(rt, "a heap")
         }
@@ -57,7 +76,7 @@ fn dealt<'a, L: KeyLayout>(
     match heap.passes(alloc, seats) {
         Ok(passes) => passes,
         Err((seats, why)) => {
-            assert_eq!(rt; why, Refusal::Memory);
+            agree(rt, why, Refusal::Memory);
             let Ok(passes) = heap.passes(alloc, seats) else {
                 panic!(rt; "no passes")
             };
@@ -107,7 +126,7 @@ fn adopted<'a, L: KeyLayout>(
     match Shard::adopt(alloc, pass, n) {
         Ok(shard) => shard,
         Err((pass, why)) => {
-            assert_eq!(rt; why, Refusal::Memory);
+            agree(rt, why, Refusal::Memory);
             let Ok(shard) = Shard::adopt(alloc, pass, n) else {
                 panic!(rt; "no shard")
             };
@@ -116,17 +135,44 @@ fn adopted<'a, L: KeyLayout>(
     }
 }
 
-// The pass again, and why it got no shard.
+// The owner of shard 0 of a heap with one pass.
+fn owner<'a, L: KeyLayout>(
+    rt: &impl Abort,
+    alloc: Global,
+    heap: &'a Heap<L>,
+    seats: Seats<L>,
+) -> Shard<'a, L>
+    requires { seats ≡ heap.now }
+{
+    adopted(rt, alloc, one_pass(rt, alloc, heap, seats), 0)
+}
+
+// The owner of shard 0, and the pass of another.
+fn owner_and_other<'a, L: KeyLayout>(
+    rt: &impl Abort,
+    alloc: Global,
+    heap: &'a Heap<L>,
+    seats: Seats<L>,
+) -> (Shard<'a, L>, Pass<'a, L>)
+    requires { seats ≡ heap.now }
+{
+    let (one, other) = two_passes(rt, alloc, heap, seats);
+    (adopted(rt, alloc, one, 0), other)
+}
+
+// The pass again, which got no shard for this reason.
 fn not_adopted<'a, L: KeyLayout>(
     rt: &impl Abort,
     alloc: Global,
     pass: Pass<'a, L>,
     n: u64,
-) -> (Pass<'a, L>, Refusal) {
+    wanted: Refusal,
+) -> Pass<'a, L> {
     let Err((pass, why)) = Shard::adopt(alloc, pass, n) else {
         panic!(rt; "a shard")
     };
-    (pass, why)
+    agree(rt, why, wanted);
+    pass
 }
 
 fn left<'a, L: KeyLayout>(rt: &impl Abort, shard: Shard<'a, L>) -> Pass<'a, L> {
@@ -136,13 +182,21 @@ fn left<'a, L: KeyLayout>(rt: &impl Abort, shard: Shard<'a, L>) -> Pass<'a, L> {
     pass
 }
 
+// The shard again, since leaving it waits.
+fn not_left<'a, L: KeyLayout>(rt: &impl Abort, shard: Shard<'a, L>) -> Shard<'a, L> {
+    let Err((shard, why)) = shard.leave() else {
+        panic!(rt; "it is left")
+    };
+    agree(rt, why, Refusal::Waiting);
+    shard
+}
+
 fn value(rt: &impl Abort, words: &[u64]) -> Value {
     Value::new(words).expect(rt, "few words")
 }
 
-// The sixteen words 1 to 16, of which a page has three.
 fn sixteen(rt: &impl Abort) -> Value {
-    value(rt, &[1, 2, 3, 4, 5, 6, 7, 8, 9, 10, 11, 12, 13, 14, 15, 16])
+    value(rt, &SIXTEEN)
 }
 
 // An insert, once more where memory was refused.
@@ -150,6 +204,57 @@ fn put<L: KeyLayout>(shard: &mut Shard<'_, L>, value: &Value) -> Result<u64, Ref
     match shard.insert(value) {
         Err(Refusal::Memory) => shard.insert(value),
         answer => answer,
+    }
+}
+
+// An insert of these words is answered so.
+fn put_words<L: KeyLayout>(
+    rt: &impl Abort,
+    shard: &mut Shard<'_, L>,
+    words: &[u64],
+    answer: Result<u64, Refusal>,
+) {
+    agree(rt, put(shard, &value(rt, words)), answer);
+}
+
+// An insert of sixteen words is answered so.
+fn put_sixteen<L: KeyLayout>(
+    rt: &impl Abort,
+    shard: &mut Shard<'_, L>,
+    answer: Result<u64, Refusal>,
+) {
+    put_words(rt, shard, &SIXTEEN, answer);
+}
+
+// Inserts of sixteen words each are answered these keys, in this order.
+fn put_each<L: KeyLayout>(rt: &impl Abort, shard: &mut Shard<'_, L>, keys: &[u64]) {
+    for key in keys {
+        put_sixteen(rt, shard, Ok(*key));
+    }
+}
+
+// Inserts of sixteen words each fill so many pages, three to a page. The first keys of two pages are 64 apart.
+fn put_in_pages<L: KeyLayout>(rt: &impl Abort, shard: &mut Shard<'_, L>, first: u64, pages: u32) {
+    let mut key = first;
+    for _ in 0..pages {
+        for slot in 0..3u64 {
+            put_sixteen(rt, shard, Ok(key.wrapping_add(slot)));
+        }
+        key = key.wrapping_add(64);
+    }
+}
+
+// The owner removes these keys, in this order.
+fn owner_removes<L: KeyLayout>(rt: &impl Abort, shard: &mut Shard<'_, L>, keys: &[u64]) {
+    for key in keys {
+        done(rt, shard.remove(*key));
+    }
+}
+
+// Another removes these keys, in this order.
+fn other_removes<L: KeyLayout>(rt: &impl Abort, pass: &mut Pass<'_, L>, keys: &[u64]) {
+    for key in keys {
+        done(rt, pass.remove(*key));
     }
 }
 
@@ -177,6 +282,21 @@ fn removing(key: u64) -> [Action; 8] {
     ]
 }
 
+// The pass again, whose steps are done.
+fn ended<'a, L: KeyLayout>(rt: &impl Abort, busy: Busy<'a, L>) -> Pass<'a, L> {
+    let Ok(pass) = busy.end() else {
+        panic!(rt; "its steps are not done")
+    };
+    pass
+}
+
+// The pass does these steps, none of which is skipped.
+fn act_each<L: KeyLayout>(rt: &impl Abort, busy: &mut Busy<'_, L>, actions: &[Action]) {
+    for action in actions {
+        agree(rt, busy.act(action), true);
+    }
+}
+
 // The pass, after it did the first so many of the steps.
 fn stopped_at<'a, L: KeyLayout>(
     rt: &impl Abort,
@@ -186,7 +306,7 @@ fn stopped_at<'a, L: KeyLayout>(
 ) -> Busy<'a, L> {
     let mut busy = pass.begin();
     for action in removing(key).iter().take(steps) {
-        assert!(rt; busy.act(action));
+        agree(rt, busy.act(action), true);
     }
     busy
 }

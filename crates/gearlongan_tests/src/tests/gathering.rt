@@ -1,13 +1,13 @@
 //! How passes meet, and what is known then.
 ghost use Rattle.std.specs.Prelude.{◌≡◌};
 
-use super::{opened, owner_and_reader};
+use super::{agree, left, opened, owner_and_reader};
 use gearlongan::{
-    Pass, Reader, Refusal, Shard, Task, Value, Wide, all_accounts, both, gather, join, total, whole,
+    Heap, Pass, Reader, Refusal, Shard, Task, Value, Whole, Wide, all_accounts, both, gather, join,
+    total, whole,
 };
 use std::alloc::Global;
 use std::process::Abort;
-use std::test::Fail;
 
 // A pass that removes a key in its thread.
 #[derive(Drop)]
@@ -34,38 +34,60 @@ fn owner_left<'a>(rt: &impl Abort, owner: Shard<'a, Wide>, value: &Value) -> (Pa
 {
     let mut owner = owner;
     let key = owner.insert(value).expect(rt, "a key");
-    let Ok(pass) = owner.leave() else {
-        panic!(rt; "the owner has to wait")
-    };
-    (pass, key)
+    (left(rt, owner), key)
 }
 
-#[test]
-fn passes_that_met_know_what_each_page_has(rt: HostRuntime) -> Result<(), Fail> {
-    let (heap, seats) = opened(&rt, rt.alloc(), 2);
-    let (owner, reader) = owner_and_reader(&rt, rt.alloc(), &heap, seats);
-    let (pass, _) = owner_left(&rt, owner, &Value::from(7));
+// A pass that met no other is not the whole, and two that met are.
+fn all_of_two<'a>(rt: &impl Abort, pass: Pass<'a, Wide>, other: Pass<'a, Wide>) -> Whole<'a, Wide>
+    requires { other.heap ≡ pass.heap }
+{
     let Err(pass) = whole(pass) else {
         panic!(rt; "a pass that met no other")
     };
-    let Ok(mut all) = whole(join(pass, reader)) else {
+    let Ok(all) = whole(join(pass, other)) else {
         panic!(rt; "both passes are the whole")
     };
-    let page = all.accounts(0, 0).expect(&rt, "a page");
-    assert_eq!(rt; (page.class, page.live, page.queued), (Some(0), 1, 47));
-    assert_eq!(rt; all.accounts(0, 8), None);
-    let totals = total(&mut all);
-    assert_eq!(rt;
-        (totals.live, totals.used_pages, totals.blank_pages),
-        (1, 1, 7)
-    );
-    let pages = all_accounts(rt.alloc(), &mut all)?;
-    assert_eq!(rt; pages.len(), 8);
-    Ok(())
+    all
+}
+
+// How many values a heap has whose passes are these two.
+fn live<'a>(
+    rt: &impl Abort,
+    alloc: Global,
+    heap: &'a Heap<Wide>,
+    one: Pass<'a, Wide>,
+    two: Pass<'a, Wide>,
+) -> u32
+    requires one { one.heap ≡ heap.now }
+    requires two { two.heap ≡ heap.now }
+{
+    let mut passes = Vec::with_capacity(alloc, 2).expect(rt, "room for two passes");
+    passes.push_reserved(one);
+    passes.push_reserved(two);
+    let Ok(mut all) = gather(heap, passes) else {
+        panic!(rt; "both passes are the whole")
+    };
+    total(&mut all).live
 }
 
 #[test]
-fn of_two_that_take_a_key_one_gets_its_value(rt: HostRuntime) -> Result<(), Fail> {
+fn passes_that_met_know_what_each_page_has(rt: HostRuntime) {
+    let (heap, seats) = opened(&rt, rt.alloc(), 2);
+    let (owner, reader) = owner_and_reader(&rt, rt.alloc(), &heap, seats);
+    let (pass, _) = owner_left(&rt, owner, &Value::from(7));
+    let mut all = all_of_two(&rt, pass, reader);
+    let page = all.accounts(0, 0).expect(&rt, "a page");
+    agree(&rt, (page.class, page.live, page.queued), (Some(0), 1, 47));
+    agree(&rt, all.accounts(0, 8), None);
+    let totals = total(&mut all);
+    let counts = (totals.live, totals.used_pages, totals.blank_pages);
+    agree(&rt, counts, (1, 1, 7));
+    let pages = all_accounts(rt.alloc(), &mut all).expect(&rt, "the accounts");
+    agree(&rt, pages.len(), 8);
+}
+
+#[test]
+fn of_two_that_take_a_key_one_gets_its_value(rt: HostRuntime) {
     let (heap, seats) = opened(&rt, rt.alloc(), 2);
     let (owner, two) = owner_and_reader(&rt, rt.alloc(), &heap, seats);
     let (one, key) = owner_left(&rt, owner, &Value::from(7));
@@ -74,31 +96,21 @@ fn of_two_that_take_a_key_one_gets_its_value(rt: HostRuntime) -> Result<(), Fail
         Removing { pass: one, key },
         Removing { pass: two, key },
     );
-    assert!(rt; first.is_ok() != second.is_ok());
-    let mut passes = Vec::with_capacity(rt.alloc(), 2)?;
-    passes.push_reserved(one);
-    passes.push_reserved(two);
-    let Ok(mut all) = gather(&heap, passes) else {
-        panic!(rt; "both passes are the whole")
-    };
-    assert_eq!(rt; total(&mut all).live, 0);
-    Ok(())
+    agree(&rt, first.is_ok() != second.is_ok(), true);
+    agree(&rt, live(&rt, rt.alloc(), &heap, one, two), 0);
 }
 
 #[test]
-fn passes_that_are_not_all_come_back(rt: HostRuntime) -> Result<(), Fail> {
+fn passes_that_are_not_all_come_back(rt: HostRuntime) {
     let (heap, seats) = opened(&rt, rt.alloc(), 2);
     let Ok(mut passes) = heap.passes(rt.alloc(), seats) else {
         panic!(rt; "no passes")
     };
-    let last = passes.pop();
+    let last = passes.pop().expect(&rt, "a pass");
     let Err(mut passes) = gather(&heap, passes) else {
         panic!(rt; "one pass is the whole")
     };
-    assert_eq!(rt; passes.len(), 1);
-    if let Some(last) = last {
-        passes.push(last)?;
-    }
-    assert!(rt; gather(&heap, passes).is_ok());
-    Ok(())
+    agree(&rt, passes.len(), 1);
+    passes.push(last).expect(&rt, "room for a pass");
+    agree(&rt, gather(&heap, passes).is_ok(), true);
 }

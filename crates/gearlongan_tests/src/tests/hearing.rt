@@ -1,12 +1,11 @@
 //! Receipts: what one pass was answered stands before what another is told once it heeded them.
 ghost use Rattle.std.specs.Prelude.{◌≡◌};
 
-use super::{opened, owner_and_reader};
+use super::{agree, left, opened, owner_and_reader};
 use gearlongan::{
     Pass, Refusal, Task, ToldKey, Value, Wide, both, fetch_told, insert_told, remove_then_get,
 };
 use std::process::Abort;
-use std::test::Fail;
 
 // A key that was sent to a pass in another thread, with a receipt of its insert.
 #[derive(Drop)]
@@ -29,26 +28,22 @@ impl<'a> Task for Sent<'a> {
 }
 
 #[test]
-fn a_key_that_comes_with_a_receipt_is_found(rt: HostRuntime) -> Result<(), Fail> {
+fn a_key_that_comes_with_a_receipt_is_found(rt: HostRuntime) {
     let (heap, seats) = opened(&rt, rt.alloc(), 2);
     let (mut owner, pass) = owner_and_reader(&rt, rt.alloc(), &heap, seats);
-    let told = insert_told(&mut owner, &Value::from(7))?;
+    let told = insert_told(&mut owner, &Value::from(7)).expect(&rt, "a key");
     let ((pass, value), ()) = both(&rt, Sent { pass, told }, Idle);
-    assert_eq!(rt; value, Ok(Value::from(7)));
+    agree(&rt, value, Ok(Value::from(7)));
     drop(pass);
-    Ok(())
 }
 
 #[test]
-fn a_key_that_comes_with_a_receipt_is_gone_where_it_was_removed(
-    rt: HostRuntime,
-) -> Result<(), Fail> {
+fn a_key_that_comes_with_a_receipt_is_gone_where_it_was_removed(rt: HostRuntime) {
     let (heap, seats) = opened(&rt, rt.alloc(), 2);
     let (mut owner, mut pass) = owner_and_reader(&rt, rt.alloc(), &heap, seats);
-    let told = insert_told(&mut owner, &Value::from(7))?;
-    owner.remove(told.key)?;
-    assert_eq!(rt; fetch_told(&mut pass, told), Err(Refusal::Gone));
-    Ok(())
+    let told = insert_told(&mut owner, &Value::from(7)).expect(&rt, "a key");
+    agree(&rt, owner.remove(told.key), Ok(()));
+    agree(&rt, fetch_told(&mut pass, told), Err(Refusal::Gone));
 }
 
 // A task that does nothing.
@@ -64,41 +59,39 @@ impl Task for Idle {
 }
 
 #[test]
-fn who_heard_of_a_removal_does_not_find_the_key(rt: HostRuntime) -> Result<(), Fail> {
+fn who_heard_of_a_removal_does_not_find_the_key(rt: HostRuntime) {
     let (heap, seats) = opened(&rt, rt.alloc(), 2);
     let (mut owner, mut pass) = owner_and_reader(&rt, rt.alloc(), &heap, seats);
-    let key = owner.insert(&Value::from(7))?;
+    let key = owner.insert(&Value::from(7)).expect(&rt, "a key");
     let mut receipt = owner.receipt();
     let again = receipt.copy(&heap);
     pass.heed(receipt);
-    let hold = pass.get(key)?;
-    pass.release(hold)?;
-    owner.remove(key)?;
+    let hold = pass.get(key).expect(&rt, "a hold");
+    agree(&rt, pass.release(hold), Ok(()));
+    agree(&rt, owner.remove(key), Ok(()));
     // An older receipt is no loss: what was heard before is known still.
     pass.heed(again);
     pass.heed(owner.receipt());
-    assert_eq!(rt; pass.get(key), Err(Refusal::Gone));
+    agree(&rt, pass.get(key), Err(Refusal::Gone));
     owner.heed(pass.receipt());
-    assert_eq!(rt; owner.get(key), Err(Refusal::Gone));
-    Ok(())
+    agree(&rt, owner.get(key), Err(Refusal::Gone));
 }
 
 #[test]
-fn a_get_after_a_removal_finds_nothing(rt: HostRuntime) -> Result<(), Fail> {
+fn a_get_after_a_removal_finds_nothing(rt: HostRuntime) {
     let (heap, seats) = opened(&rt, rt.alloc(), 2);
     let (mut owner, reader) = owner_and_reader(&rt, rt.alloc(), &heap, seats);
-    let key = owner.insert(&Value::from(7))?;
-    let Ok(mut pass) = owner.leave() else {
-        panic!(rt; "the owner has to wait")
-    };
+    let key = owner.insert(&Value::from(7)).expect(&rt, "a key");
+    let mut pass = left(&rt, owner);
     let mut reader = reader;
-    assert_eq!(rt;
+    agree(
+        &rt,
         remove_then_get(&mut pass, &mut reader, key),
-        Err(Refusal::Gone)
+        Err(Refusal::Gone),
     );
-    assert_eq!(rt;
+    agree(
+        &rt,
         remove_then_get(&mut pass, &mut reader, key),
-        Err(Refusal::Gone)
+        Err(Refusal::Gone),
     );
-    Ok(())
 }

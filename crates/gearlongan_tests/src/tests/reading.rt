@@ -1,80 +1,105 @@
 //! How a value is looked up, held and read.
-use super::{FIRST_KEY, opened, owner_and_reader};
-use gearlongan::{Reader, Refusal, Value};
-use std::test::Fail;
+use super::{FIRST_KEY, agree, opened, owner_and_reader};
+use gearlongan::{Pass, Reader, Refusal, Shard, Value, Wide};
+use std::process::Abort;
 
-#[test]
-fn a_key_is_got_read_and_released(rt: HostRuntime) -> Result<(), Fail> {
-    let (heap, seats) = opened(&rt, rt.alloc(), 2);
-    let (mut owner, mut reader) = owner_and_reader(&rt, rt.alloc(), &heap, seats);
-    let key = owner.insert(&Value::of([7, 8, 9])).expect(&rt, "a key");
-    assert_eq!(rt; key, FIRST_KEY);
-    let hold = reader.get(key).expect(&rt, "a hold");
-    assert_eq!(rt; hold.key, key);
-    assert_eq!(rt; reader.read(hold), Ok(Value::of([7, 8, 9])));
-    assert_eq!(rt; reader.release(hold), Ok(()));
-    assert_eq!(rt; reader.read(hold), Err(Refusal::NotHeld));
-    assert_eq!(rt; reader.release(hold), Err(Refusal::NotHeld));
-    Ok(())
+// Gets a key, reads its value and releases it, and then holds nothing.
+fn get_read_and_release(rt: &impl Abort, owner: &mut Shard<'_, Wide>, reader: &mut Pass<'_, Wide>) {
+    let key = owner.insert(&Value::of([7, 8, 9])).expect(rt, "a key");
+    agree(rt, key, FIRST_KEY);
+    let hold = reader.get(key).expect(rt, "a hold");
+    agree(rt, hold.key, key);
+    agree(rt, reader.read(hold), Ok(Value::of([7, 8, 9])));
+    agree(rt, reader.release(hold), Ok(()));
+    agree(rt, reader.read(hold), Err(Refusal::NotHeld));
+    agree(rt, reader.release(hold), Err(Refusal::NotHeld));
 }
 
 #[test]
-fn a_value_is_read_into_the_callers(rt: HostRuntime) -> Result<(), Fail> {
+fn a_key_is_got_read_and_released(rt: HostRuntime) {
     let (heap, seats) = opened(&rt, rt.alloc(), 2);
     let (mut owner, mut reader) = owner_and_reader(&rt, rt.alloc(), &heap, seats);
-    let key = owner.insert(&Value::of([7, 8])).expect(&rt, "a key");
+    get_read_and_release(&rt, &mut owner, &mut reader);
+}
+
+// Reads into a value of its own, while the key is held and after it.
+fn read_into_ones_own(rt: &impl Abort, owner: &mut Shard<'_, Wide>, reader: &mut Pass<'_, Wide>) {
+    let key = owner.insert(&Value::of([7, 8])).expect(rt, "a key");
     let mut value = Value::from(5);
-    let hold = reader.get(key).expect(&rt, "a hold");
-    assert_eq!(rt; reader.read_into(hold, &mut value), Ok(()));
-    assert_eq!(rt; value.words(), [7, 8].as_slice());
-    assert_eq!(rt; reader.release(hold), Ok(()));
-    assert_eq!(rt; reader.read_into(hold, &mut value), Err(Refusal::NotHeld));
-    assert_eq!(rt; value.words(), [7, 8].as_slice());
-    Ok(())
-}
-
-#[test]
-fn a_guard_is_a_hold_that_keeps_its_place(rt: HostRuntime) -> Result<(), Fail> {
-    let (heap, seats) = opened(&rt, rt.alloc(), 2);
-    let (mut owner, mut reader) = owner_and_reader(&rt, rt.alloc(), &heap, seats);
-    let key = owner.insert(&Value::from(7)).expect(&rt, "a key");
-    let guard = reader.get_guard(key).expect(&rt, "a guard");
-    assert_eq!(rt; guard.key(), key);
-    let mut value = Value::empty();
-    assert_eq!(rt; reader.read_guard(&guard, &mut value), Ok(()));
-    assert_eq!(rt; value, Value::from(7));
-    assert_eq!(rt; reader.release_guard(guard), Ok(()));
-    Ok(())
-}
-
-#[test]
-fn fetch_with_and_take_leave_no_hold(rt: HostRuntime) -> Result<(), Fail> {
-    let (heap, seats) = opened(&rt, rt.alloc(), 2);
-    let (mut owner, mut reader) = owner_and_reader(&rt, rt.alloc(), &heap, seats);
-    let key = owner.insert(&Value::of([7, 8, 9])).expect(&rt, "a key");
-    assert_eq!(rt; reader.fetch(key), Ok(Value::of([7, 8, 9])));
-    assert_eq!(rt; reader.with(key, |value| value.words().len()), Ok(3));
-    assert_eq!(rt; owner.take(key), Ok(Value::of([7, 8, 9])));
-    assert_eq!(rt; reader.fetch(key), Err(Refusal::Gone));
-    assert_eq!(rt;
-        reader.with(key, |value| value.words().len()),
-        Err(Refusal::Gone)
+    let hold = reader.get(key).expect(rt, "a hold");
+    agree(rt, reader.read_into(hold, &mut value), Ok(()));
+    agree(rt, value.words(), [7, 8].as_slice());
+    agree(rt, reader.release(hold), Ok(()));
+    agree(
+        rt,
+        reader.read_into(hold, &mut value),
+        Err(Refusal::NotHeld),
     );
-    assert_eq!(rt; reader.take(key), Err(Refusal::Gone));
-    assert_eq!(rt; reader.fetch(0), Err(Refusal::BadKey));
-    Ok(())
+    agree(rt, value.words(), [7, 8].as_slice());
 }
 
 #[test]
-fn what_is_held_stays_readable_when_it_is_removed(rt: HostRuntime) -> Result<(), Fail> {
+fn a_value_is_read_into_the_callers(rt: HostRuntime) {
     let (heap, seats) = opened(&rt, rt.alloc(), 2);
     let (mut owner, mut reader) = owner_and_reader(&rt, rt.alloc(), &heap, seats);
-    let key = owner.insert(&Value::from(7)).expect(&rt, "a key");
-    let hold = reader.get(key).expect(&rt, "a hold");
-    assert_eq!(rt; owner.remove(key), Ok(()));
-    assert_eq!(rt; owner.remove(key), Err(Refusal::Gone));
-    assert_eq!(rt; reader.get(key), Err(Refusal::Gone));
-    assert_eq!(rt; reader.read(hold), Ok(Value::from(7)));
-    assert_eq!(rt; reader.release(hold), Ok(()));
-    Ok(())
+    read_into_ones_own(&rt, &mut owner, &mut reader);
+}
+
+// Reads by a guard.
+fn read_by_a_guard(rt: &impl Abort, owner: &mut Shard<'_, Wide>, reader: &mut Pass<'_, Wide>) {
+    let key = owner.insert(&Value::from(7)).expect(rt, "a key");
+    let guard = reader.get_guard(key).expect(rt, "a guard");
+    agree(rt, guard.key(), key);
+    let mut value = Value::empty();
+    agree(rt, reader.read_guard(&guard, &mut value), Ok(()));
+    agree(rt, value, Value::from(7));
+    agree(rt, reader.release_guard(guard), Ok(()));
+}
+
+#[test]
+fn a_guard_is_a_hold_that_keeps_its_place(rt: HostRuntime) {
+    let (heap, seats) = opened(&rt, rt.alloc(), 2);
+    let (mut owner, mut reader) = owner_and_reader(&rt, rt.alloc(), &heap, seats);
+    read_by_a_guard(&rt, &mut owner, &mut reader);
+}
+
+// Fetches a value, looks at it in place, and takes it; then it is gone.
+fn fetch_and_take(rt: &impl Abort, owner: &mut Shard<'_, Wide>, reader: &mut Pass<'_, Wide>) {
+    let key = owner.insert(&Value::of([7, 8, 9])).expect(rt, "a key");
+    agree(rt, reader.fetch(key), Ok(Value::of([7, 8, 9])));
+    agree(rt, reader.with(key, |value| value.words().len()), Ok(3));
+    agree(rt, owner.take(key), Ok(Value::of([7, 8, 9])));
+    agree(rt, reader.fetch(key), Err(Refusal::Gone));
+    agree(
+        rt,
+        reader.with(key, |value| value.words().len()),
+        Err(Refusal::Gone),
+    );
+    agree(rt, reader.take(key), Err(Refusal::Gone));
+    agree(rt, reader.fetch(0), Err(Refusal::BadKey));
+}
+
+#[test]
+fn fetch_with_and_take_leave_no_hold(rt: HostRuntime) {
+    let (heap, seats) = opened(&rt, rt.alloc(), 2);
+    let (mut owner, mut reader) = owner_and_reader(&rt, rt.alloc(), &heap, seats);
+    fetch_and_take(&rt, &mut owner, &mut reader);
+}
+
+// Holds a key that its owner removes.
+fn hold_and_remove(rt: &impl Abort, owner: &mut Shard<'_, Wide>, reader: &mut Pass<'_, Wide>) {
+    let key = owner.insert(&Value::from(7)).expect(rt, "a key");
+    let hold = reader.get(key).expect(rt, "a hold");
+    agree(rt, owner.remove(key), Ok(()));
+    agree(rt, owner.remove(key), Err(Refusal::Gone));
+    agree(rt, reader.get(key), Err(Refusal::Gone));
+    agree(rt, reader.read(hold), Ok(Value::from(7)));
+    agree(rt, reader.release(hold), Ok(()));
+}
+
+#[test]
+fn what_is_held_stays_readable_when_it_is_removed(rt: HostRuntime) {
+    let (heap, seats) = opened(&rt, rt.alloc(), 2);
+    let (mut owner, mut reader) = owner_and_reader(&rt, rt.alloc(), &heap, seats);
+    hold_and_remove(&rt, &mut owner, &mut reader);
 }

@@ -1,10 +1,9 @@
 use super::{PAGE, event, has_words, moves, opened, removes, skips};
 use sh_step::Action;
-use std::test::Fail;
 
 // The first free into an armed page rings, and the page stays armed until its ring is read.
 #[test]
-fn a_ring_tells_the_owner(rt: HostRuntime) -> Result<(), Fail> {
+fn a_ring_tells_the_owner(rt: HostRuntime) {
     let mut world = opened(rt.alloc(), 2, &rt);
     moves(&mut world, &[event(0, Action::Arm(PAGE))], &rt);
     has_words(&world, [(1, 1)], &rt);
@@ -33,12 +32,11 @@ fn a_ring_tells_the_owner(rt: HostRuntime) -> Result<(), Fail> {
         &rt,
     );
     has_words(&world, [(1, 1), (2, 0), (51, 1), (1561, 0)], &rt);
-    Ok(())
 }
 
 // A stack that is taken without its flag leaves the page armed.
 #[test]
-fn a_taken_stack_leaves_the_page_armed(rt: HostRuntime) -> Result<(), Fail> {
+fn a_taken_stack_leaves_the_page_armed(rt: HostRuntime) {
     let mut world = opened(rt.alloc(), 2, &rt);
     moves(&mut world, &[event(0, Action::Arm(PAGE))], &rt);
     removes(&mut world, 1, 4096, &rt);
@@ -59,5 +57,4 @@ fn a_taken_stack_leaves_the_page_armed(rt: HostRuntime) -> Result<(), Fail> {
     moves(&mut world, &[event(0, Action::FollowBell)], &rt);
     skips(&mut world, 0, Action::Arm(PAGE), &rt);
     has_words(&world, [(1, 0), (2, 0), (51, 1), (1561, 0)], &rt);
-    Ok(())
 }

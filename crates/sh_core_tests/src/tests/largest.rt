@@ -1,5 +1,7 @@
 //! What grows, as far as it may: the words of the largest heap, a long log, and all that a part may note.
-use super::{event, moves, replies, step, value};
+ghost use Rattle.std.specs.Prelude.{◌<◌};
+
+use super::{agree, event, has_words, moves, replies, skips, step, value};
 use sh_core::{Outcome, World};
 use sh_history::Entry;
 use sh_key::{Tiny, Wide};
@@ -7,35 +9,32 @@ use sh_shape::Shape;
 use sh_step::{Action, PageName, SlotName};
 use sh_value::Value;
 use std::process::Abort;
-use std::test::Fail;
 
 // 2,048 pages of 195 words, two words for each of two shards, and 64 passes.
 #[test]
-fn the_largest_heap_opens(rt: HostRuntime) -> Result<(), Fail> {
+fn the_largest_heap_opens(rt: HostRuntime) {
     let shape = Shape::new(2, 128, 64).expect(&rt, "256 segments and 64 passes are a shape");
     let world = World::<Wide>::new(rt.alloc(), shape).expect(&rt, "it fits wide");
-    assert_eq!(rt; world.words().len(), 399_364);
-    assert_eq!(rt; world.words()[195 * 2_047 + 50], 4294967296);
-    assert_eq!(rt; world.parts().len(), 64);
-    Ok(())
+    agree(world.words().len(), 399_364, &rt);
+    has_words(&world, [(195 * 2_047 + 50, 4294967296)], &rt);
+    agree(world.parts().len(), 64, &rt);
+}
+
+// Gets a key that was never issued.
+fn finds_nothing(world: &mut World<Tiny>, rt: &impl Abort) {
+    replies(world, 0, Action::EnterGet(4096), Entry::Gone(0, 4096), rt);
+    moves(world, &[event(0, Action::Drop)], rt);
 }
 
 // Each get of a key that was never issued adds an entry.
 #[test]
-fn a_log_has_room_for_many_entries(rt: HostRuntime) -> Result<(), Fail> {
+fn a_log_has_room_for_many_entries(rt: HostRuntime) {
     let shape = Shape::new(1, 1, 1).expect(&rt, "one shard of one segment is a shape");
     let mut world = World::<Tiny>::new(rt.alloc(), shape).expect(&rt, "it fits tiny");
-    let get = event(0, Action::EnterGet(4096));
-    let drop = event(0, Action::Drop);
     for _ in 0..70_000 {
-        assert_eq!(rt;
-            step(&mut world, &get, &rt),
-            Outcome::Replied(Entry::Gone(0, 4096))
-        );
-        assert_eq!(rt; step(&mut world, &drop, &rt), Outcome::Moved);
+        finds_nothing(&mut world, &rt);
     }
-    assert_eq!(rt; world.log().len(), 70_000);
-    Ok(())
+    agree(world.log().len(), 70_000, &rt);
 }
 
 // The words 1 to 16.
@@ -56,6 +55,29 @@ fn fills_all(world: &mut World<Tiny>, name: SlotName, key: u64, rt: &impl Abort)
         Entry::Insert(0, key, sixteen(rt)),
         rt,
     );
+}
+
+// Gives a page three slots, and fills them.
+fn fills_page(world: &mut World<Tiny>, page: u64, rt: &impl Abort)
+    requires { page < 16 }
+{
+    let name = PageName { shard: 0, page };
+    moves(
+        world,
+        &[
+            event(0, Action::ReadPage(name)),
+            event(0, Action::SetClass(name, 7)),
+        ],
+        rt,
+    );
+    for slot in 0..3u64 {
+        let name = SlotName {
+            shard: 0,
+            page,
+            slot,
+        };
+        fills_all(world, name, 4_096 + 64 * page + slot, rt);
+    }
 }
 
 // Gets the key, and reads its class, its length and its sixteen words.
@@ -83,39 +105,17 @@ fn reads_all(world: &mut World<Tiny>, key: u64, rt: &impl Abort) {
 // A pass has sixteen holds at most, and notes a class, a length and sixteen words of each. The shard has 16 pages of
 // three such values.
 #[test]
-fn a_part_notes_all_that_it_may_hold(rt: HostRuntime) -> Result<(), Fail> {
+fn a_part_notes_all_that_it_may_hold(rt: HostRuntime) {
     let shape = Shape::new(1, 2, 1).expect(&rt, "one shard of two segments is a shape");
     let mut world = World::<Tiny>::new(rt.alloc(), shape).expect(&rt, "it fits tiny");
     moves(&mut world, &[event(0, Action::Adopt(0))], &rt);
     for page in 0..16u64 {
-        let name = PageName { shard: 0, page };
-        moves(
-            &mut world,
-            &[
-                event(0, Action::ReadPage(name)),
-                event(0, Action::SetClass(name, 7)),
-            ],
-            &rt,
-        );
-        for slot in 0..3u64 {
-            let name = SlotName {
-                shard: 0,
-                page,
-                slot,
-            };
-            fills_all(&mut world, name, 4_096 + 64 * page + slot, &rt);
-        }
+        fills_page(&mut world, page, &rt);
     }
     for page in 0..16u64 {
         reads_all(&mut world, 4_096 + 64 * page, &rt);
     }
-    let Some(part) = world.parts().first() else {
-        return Err(Fail::from("a part"));
-    };
-    assert_eq!(rt; part.hold_count(), 16);
-    assert_eq!(rt;
-        step(&mut world, &event(0, Action::EnterGet(4_097)), &rt),
-        Outcome::Skipped
-    );
-    Ok(())
+    let holds = world.parts().first().map(|part| part.hold_count());
+    agree(holds, Some(16), &rt);
+    skips(&mut world, 0, Action::EnterGet(4_097), &rt);
 }

@@ -1,11 +1,10 @@
-use super::{PAGE, empty_world, event, has_words, moves, replies, slot, value};
+use super::{PAGE, agree, empty_world, event, has_words, moves, replies, slot, value};
 use sh_core::{Outcome, World};
 use sh_history::Entry;
 use sh_key::{KeyLayout, Tagged, Tiny, Wide};
 use sh_shape::Shape;
 use sh_step::{Action, PageName, SlotName};
 use std::process::Abort;
-use std::test::Fail;
 
 // A value is inserted under its first key, got, and removed while it is held.
 fn one_value<L: KeyLayout>(world: &mut World<L>, key: u64, rt: &impl Abort) {
@@ -55,32 +54,29 @@ fn one_value<L: KeyLayout>(world: &mut World<L>, key: u64, rt: &impl Abort) {
     replies(world, 1, Action::DropHold(key), Entry::Released(1, key), rt);
     moves(world, &[event(1, Action::Finish)], rt);
     has_words(world, [(3, 8589934592)], rt);
-    assert_eq!(rt; world.log().len(), 4);
+    agree(world.log().len(), 4, rt);
 }
 
 #[test]
-fn each_layout_has_its_keys(rt: HostRuntime) -> Result<(), Fail> {
+fn each_layout_has_its_keys(rt: HostRuntime) {
     let mut tiny = empty_world::<Tiny>(rt.alloc(), 2, &rt);
     one_value(&mut tiny, 4096, &rt);
     let mut wide = empty_world::<Wide>(rt.alloc(), 2, &rt);
     one_value(&mut wide, 16777216, &rt);
     let mut tagged = empty_world::<Tagged>(rt.alloc(), 2, &rt);
     one_value(&mut tagged, 1048576, &rt);
-    assert_eq!(rt; tiny.words(), wide.words());
-    assert_eq!(rt; tiny.words(), tagged.words());
-    assert_eq!(rt;
-        tiny.step(&event(0, Action::EnterGet(16777216))),
-        Ok(Outcome::Skipped)
-    );
-    Ok(())
+    agree(tiny.words(), wide.words(), &rt);
+    agree(tiny.words(), tagged.words(), &rt);
+    let answer = tiny.step(&event(0, Action::EnterGet(16777216)));
+    agree(answer, Ok(Outcome::Skipped), &rt);
 }
 
 // The pages of shard 1 follow those of shard 0, and the owners' words follow all pages.
 #[test]
-fn the_second_shard_has_its_own_words(rt: HostRuntime) -> Result<(), Fail> {
+fn the_second_shard_has_its_own_words(rt: HostRuntime) {
     let shape = Shape::new(2, 1, 1).expect(&rt, "two shards of one segment are a shape");
     let mut world = World::<Tiny>::new(rt.alloc(), shape).expect(&rt, "it fits tiny");
-    assert_eq!(rt; world.words().len(), 3124);
+    agree(world.words().len(), 3124, &rt);
     let page = PageName { shard: 1, page: 0 };
     let first = SlotName {
         shard: 1,
@@ -119,5 +115,4 @@ fn the_second_shard_has_its_own_words(rt: HostRuntime) -> Result<(), Fail> {
         ],
         &rt,
     );
-    Ok(())
 }

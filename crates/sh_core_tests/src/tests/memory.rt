@@ -1,6 +1,6 @@
 //! Refused memory. With `rt try --test --fail-alloc N` the N-th allocation of a test is refused; each of these survives
 //! that anywhere.
-use super::{PAGE, event, slot, value};
+use super::{PAGE, agree, event, has_words, slot, value};
 use crate::tests::same::assert_same;
 use sh_core::{Outcome, World, run};
 use sh_history::Entry;
@@ -10,7 +10,6 @@ use sh_step::{Action, Event};
 use sh_value::Refusal;
 use std::alloc::Global;
 use std::process::Abort;
-use std::test::Fail;
 
 fn small(rt: &impl Abort) -> Shape {
     Shape::new(1, 1, 3).expect(rt, "one shard of one segment is a shape")
@@ -21,7 +20,7 @@ fn open_with_memory(alloc: Global, rt: &impl Abort) -> World<Tiny> {
     match World::<Tiny>::new(alloc, small(rt)) {
         Ok(world) => world,
         Err(refusal) => {
-            assert_eq!(rt; refusal, Refusal::Memory);
+            agree(refusal, Refusal::Memory, rt);
             World::<Tiny>::new(alloc, small(rt)).expect(rt, "memory is given again")
         }
     }
@@ -45,9 +44,20 @@ fn new_pair(alloc: Global, rt: &impl Abort) -> Pair {
 fn step_with_memory(pair: &mut Pair, event: &Event, rt: &impl Abort) -> Result<Outcome, Refusal> {
     match pair.world.step(event) {
         Err(refusal) => {
-            assert_eq!(rt; refusal, Refusal::Memory);
+            agree(refusal, Refusal::Memory, rt);
             assert_same(&pair.world, &pair.twin, rt);
             pair.world.step(event)
+        }
+        answer => answer,
+    }
+}
+
+// Does the event on the twin, once more where memory was refused.
+fn step_twin(pair: &mut Pair, event: &Event, rt: &impl Abort) -> Result<Outcome, Refusal> {
+    match pair.twin.step(event) {
+        Err(refusal) => {
+            agree(refusal, Refusal::Memory, rt);
+            pair.twin.step(event)
         }
         answer => answer,
     }
@@ -56,15 +66,8 @@ fn step_with_memory(pair: &mut Pair, event: &Event, rt: &impl Abort) -> Result<O
 // Does the event on the world and on its twin, and this comes of it.
 fn both(pair: &mut Pair, event: &Event, outcome: Outcome, rt: &impl Abort) {
     let answer = step_with_memory(pair, event, rt);
-    let other = match pair.twin.step(event) {
-        Err(refusal) => {
-            assert_eq!(rt; refusal, Refusal::Memory);
-            pair.twin.step(event)
-        }
-        answer => answer,
-    };
-    assert_eq!(rt; answer, other);
-    assert_eq!(rt; answer, Ok(outcome));
+    agree(&answer, &step_twin(pair, event, rt), rt);
+    agree(answer, Ok(outcome), rt);
     assert_same(&pair.world, &pair.twin, rt);
 }
 
@@ -108,7 +111,7 @@ fn remove_both(pair: &mut Pair, pass: u32, rt: &impl Abort) {
 
 // Holds, and what is read of a held key, are noted; the log grows twice.
 #[test]
-fn a_read_refused_for_memory_changes_nothing(rt: HostRuntime) -> Result<(), Fail> {
+fn a_read_refused_for_memory_changes_nothing(rt: HostRuntime) {
     let pair = &mut new_pair(rt.alloc(), &rt);
     open_both(pair, &rt);
     for _ in 0..4 {
@@ -143,13 +146,12 @@ fn a_read_refused_for_memory_changes_nothing(rt: HostRuntime) -> Result<(), Fail
     }
     remove_both(pair, 1, &rt);
     both_reply(pair, 2, Action::EnterGet(4096), Entry::Gone(2, 4096), &rt);
-    assert_eq!(rt; pair.world.log().len(), 12);
-    Ok(())
+    agree(pair.world.log().len(), 12, &rt);
 }
 
 // The owner arms a page on which a slot was put: it notes the page and the slot whose link it is to follow.
 #[test]
-fn an_arm_refused_for_memory_changes_nothing(rt: HostRuntime) -> Result<(), Fail> {
+fn an_arm_refused_for_memory_changes_nothing(rt: HostRuntime) {
     let pair = &mut new_pair(rt.alloc(), &rt);
     open_both(pair, &rt);
     remove_both(pair, 1, &rt);
@@ -171,15 +173,13 @@ fn an_arm_refused_for_memory_changes_nothing(rt: HostRuntime) -> Result<(), Fail
         ],
         &rt,
     );
-    assert!(rt; pair.world.words().get(1) == Some(&2));
-    assert!(rt; pair.world.words().get(1561) == Some(&0));
-    Ok(())
+    has_words(&pair.world, [(1, 2), (1561, 0)], &rt);
 }
 
 // Each owner after the first has no room yet for slots of its own: one gets its first by the end of a removal, one by a
 // link.
 #[test]
-fn a_slot_refused_for_memory_changes_nothing(rt: HostRuntime) -> Result<(), Fail> {
+fn a_slot_refused_for_memory_changes_nothing(rt: HostRuntime) {
     let pair = &mut new_pair(rt.alloc(), &rt);
     open_both(pair, &rt);
     for number in [1, 2] {
@@ -217,34 +217,53 @@ fn a_slot_refused_for_memory_changes_nothing(rt: HostRuntime) -> Result<(), Fail
         ],
         &rt,
     );
-    assert!(rt; pair.world.words().get(0) == Some(&1));
-    Ok(())
+    has_words(&pair.world, [(0, 1)], &rt);
+}
+
+// How often memory was refused for a heap, which opens otherwise.
+fn opens_or_not(alloc: Global, rt: &impl Abort) -> u32 {
+    match World::<Tiny>::new(alloc, small(rt)) {
+        Ok(world) => {
+            agree(world.words().len(), 1562, rt);
+            has_words(&world, [(1558, 0)], rt);
+            agree(world.parts().len(), 3, rt);
+            0
+        }
+        Err(refusal) => {
+            agree(refusal, Refusal::Memory, rt);
+            1
+        }
+    }
 }
 
 // One of the heaps at most is refused, and the others open.
 #[test]
-fn a_heap_refused_for_memory_does_not_open(rt: HostRuntime) -> Result<(), Fail> {
-    let mut refused = false;
+fn a_heap_refused_for_memory_does_not_open(rt: HostRuntime) {
+    let mut refused = 0u32;
     for _ in 0..3 {
-        match World::<Tiny>::new(rt.alloc(), small(&rt)) {
-            Ok(world) => {
-                assert_eq!(rt; world.words().len(), 1562);
-                assert_eq!(rt; world.words().get(1558), Some(&0));
-                assert_eq!(rt; world.parts().len(), 3);
-            }
-            Err(refusal) => {
-                assert_eq!(rt; refusal, Refusal::Memory);
-                assert!(rt; !refused);
-                refused = true;
-            }
+        refused = refused.saturating_add(opens_or_not(rt.alloc(), &rt));
+    }
+    agree(refused.max(1), 1, &rt);
+}
+
+// How often memory was refused for a run of these, which ends with a value that is held otherwise.
+fn runs_or_not(alloc: Global, events: &[Event], rt: &impl Abort) -> u32 {
+    match run::<Tiny>(alloc, small(rt), events) {
+        Ok(world) => {
+            has_words(&world, [(3, 5368709121)], rt);
+            agree(world.log().len(), 2, rt);
+            0
+        }
+        Err(refusal) => {
+            agree(refusal, Refusal::Memory, rt);
+            1
         }
     }
-    Ok(())
 }
 
 // One of the runs at most is refused, and the others end as ever.
 #[test]
-fn a_run_refused_for_memory_is_refused(rt: HostRuntime) -> Result<(), Fail> {
+fn a_run_refused_for_memory_is_refused(rt: HostRuntime) {
     let events = [
         event(0, Action::Adopt(0)),
         event(0, Action::ReadPage(PAGE)),
@@ -256,19 +275,9 @@ fn a_run_refused_for_memory_is_refused(rt: HostRuntime) -> Result<(), Fail> {
         event(1, Action::ReadClass(4096)),
         event(0, Action::Arm(PAGE)),
     ];
-    let mut refused = false;
+    let mut refused = 0u32;
     for _ in 0..3 {
-        match run::<Tiny>(rt.alloc(), small(&rt), &events) {
-            Ok(world) => {
-                assert_eq!(rt; world.words().get(3), Some(&5368709121));
-                assert_eq!(rt; world.log().len(), 2);
-            }
-            Err(refusal) => {
-                assert_eq!(rt; refusal, Refusal::Memory);
-                assert!(rt; !refused);
-                refused = true;
-            }
-        }
+        refused = refused.saturating_add(runs_or_not(rt.alloc(), &events, &rt));
     }
-    Ok(())
+    agree(refused.max(1), 1, &rt);
 }

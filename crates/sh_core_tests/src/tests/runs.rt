@@ -1,14 +1,44 @@
-use super::{PAGE, event, has_log, opened, slot, value};
-use sh_core::run;
+use super::{PAGE, agree, event, has_log, has_words, opened, slot, value};
+use sh_core::{World, run};
 use sh_history::Entry;
 use sh_key::Tiny;
 use sh_shape::Shape;
-use sh_step::Action;
+use sh_step::{Action, Event};
 use sh_value::Refusal;
-use std::test::Fail;
+use std::alloc::Global;
+use std::process::Abort;
+
+// Runs these on a heap of this shape.
+fn ran(alloc: Global, shape: Shape, events: &[Event], rt: &impl Abort) -> World<Tiny> {
+    run::<Tiny>(alloc, shape, events).expect(rt, "it fits tiny")
+}
+
+// No event leaves the heap as it opens.
+fn none_run(alloc: Global, shape: Shape, rt: &impl Abort) {
+    let empty = ran(alloc, shape, &[], rt);
+    has_words(&empty, [(0, 0)], rt);
+    agree(empty.log().len(), 0, rt);
+}
+
+// The events of an insert do what their steps do.
+fn insert_runs(alloc: Global, shape: Shape, events: &[Event], rt: &impl Abort) {
+    let world = ran(alloc, shape, events, rt);
+    let stepped = opened(alloc, 2, rt);
+    agree(world.words(), stepped.words(), rt);
+    has_log(&world, [Entry::Insert(0, 4096, value(&[5], rt))], rt);
+    agree(world.shape(), shape, rt);
+}
+
+// Of two passes that remove the value the first to mark it does.
+fn removes_run(alloc: Global, shape: Shape, events: &[Event], rt: &impl Abort) {
+    let removed = ran(alloc, shape, events, rt);
+    let inserted = Entry::Insert(0, 4096, value(&[5], rt));
+    let log = [inserted, Entry::Removed(1, 4096), Entry::Gone(0, 4096)];
+    has_log(&removed, log, rt);
+}
 
 #[test]
-fn a_run_does_one_event_after_the_other(rt: HostRuntime) -> Result<(), Fail> {
+fn a_run_does_one_event_after_the_other(rt: HostRuntime) {
     let shape = Shape::new(1, 1, 2).expect(&rt, "one shard of one segment is a shape");
     let events = [
         event(0, Action::Adopt(0)),
@@ -22,29 +52,15 @@ fn a_run_does_one_event_after_the_other(rt: HostRuntime) -> Result<(), Fail> {
         event(1, Action::Mark),
         event(0, Action::Mark),
     ];
-    let empty = run::<Tiny>(rt.alloc(), shape, &events[..0]).expect(&rt, "it fits tiny");
-    assert_eq!(rt; empty.words().get(0), Some(&0));
-    assert_eq!(rt; empty.log().len(), 0);
-    let world = run::<Tiny>(rt.alloc(), shape, &events[..6]).expect(&rt, "it fits tiny");
-    let stepped = opened(rt.alloc(), 2, &rt);
-    assert_eq!(rt; world.words(), stepped.words());
-    has_log(&world, [Entry::Insert(0, 4096, value(&[5], &rt))], &rt);
-    assert_eq!(rt; world.shape(), shape);
-    // Of two passes that remove the value the first to mark it does.
-    let removed = run::<Tiny>(rt.alloc(), shape, &events).expect(&rt, "it fits tiny");
-    let inserted = Entry::Insert(0, 4096, value(&[5], &rt));
-    let log = [inserted, Entry::Removed(1, 4096), Entry::Gone(0, 4096)];
-    has_log(&removed, log, &rt);
-    Ok(())
+    none_run(rt.alloc(), shape, &rt);
+    insert_runs(rt.alloc(), shape, &events[..6], &rt);
+    removes_run(rt.alloc(), shape, &events, &rt);
 }
 
 #[test]
-fn a_run_wants_a_shape_that_fits(rt: HostRuntime) -> Result<(), Fail> {
+fn a_run_wants_a_shape_that_fits(rt: HostRuntime) {
     let shape = Shape::new(5, 1, 1).expect(&rt, "five shards are a shape");
     let events = [event(0, Action::Adopt(0))];
-    assert_eq!(rt;
-        run::<Tiny>(rt.alloc(), shape, &events).err(),
-        Some(Refusal::BadShape)
-    );
-    Ok(())
+    let why = run::<Tiny>(rt.alloc(), shape, &events).err();
+    agree(why, Some(Refusal::BadShape), &rt);
 }

@@ -1,36 +1,48 @@
+use super::agree;
 use sh_core::World;
 use sh_key::Tiny;
 use sh_slots::Spot;
 use sh_step::Part;
 use std::process::Abort;
 
+// What a part shows of a key.
+fn assert_same_key(part: &Part, twin: &Part, key: u64, rt: &impl Abort) {
+    agree(part.has_hold(key), twin.has_hold(key), rt);
+    agree(part.width_of(key), twin.width_of(key), rt);
+    agree(part.length_of(key), twin.length_of(key), rt);
+}
+
+// What a part shows of a page and of its slots.
+fn assert_same_page(part: &Part, twin: &Part, page: u64, rt: &impl Abort) {
+    agree(part.class_noted(page), twin.class_noted(page), rt);
+    agree(part.cursor(page), twin.cursor(page), rt);
+    agree(part.has_armed(page), twin.has_armed(page), rt);
+    for slot in 0..48 {
+        let spot = Spot { page, slot };
+        let (mine, other) = (part.has_mine(spot), twin.has_mine(spot));
+        agree((spot, mine), (spot, other), rt);
+    }
+}
+
 // What a part shows of itself, for the first two pages and the keys of a slot.
 fn assert_same_part(part: &Part, twin: &Part, rt: &impl Abort) {
-    assert_eq!(rt; part.hand(), twin.hand());
-    assert_eq!(rt; part.owned(), twin.owned());
-    assert_eq!(rt; part.bell_cursor(), twin.bell_cursor());
-    assert_eq!(rt; part.hold_count(), twin.hold_count());
+    agree(part.hand(), twin.hand(), rt);
+    agree(part.owned(), twin.owned(), rt);
+    agree(part.bell_cursor(), twin.bell_cursor(), rt);
+    agree(part.hold_count(), twin.hold_count(), rt);
     for key in [4096, 8192, 12288] {
-        assert_eq!(rt; part.has_hold(key), twin.has_hold(key));
-        assert_eq!(rt; part.width_of(key), twin.width_of(key));
-        assert_eq!(rt; part.length_of(key), twin.length_of(key));
+        assert_same_key(part, twin, key, rt);
     }
     for page in [0, 1] {
-        assert_eq!(rt; part.class_noted(page), twin.class_noted(page));
-        assert_eq!(rt; part.cursor(page), twin.cursor(page));
-        assert_eq!(rt; part.has_armed(page), twin.has_armed(page));
-        for slot in 0..48 {
-            let spot = Spot { page, slot };
-            assert_eq!(rt; part.has_mine(spot), twin.has_mine(spot), "{spot:?}");
-        }
+        assert_same_page(part, twin, page, rt);
     }
 }
 
 // The two worlds have the same words and log, and their parts show the same.
 pub fn assert_same(world: &World<Tiny>, twin: &World<Tiny>, rt: &impl Abort) {
-    assert_eq!(rt; world.words(), twin.words());
-    assert_eq!(rt; world.log(), twin.log());
-    assert_eq!(rt; world.parts().len(), twin.parts().len());
+    agree(world.words(), twin.words(), rt);
+    agree(world.log(), twin.log(), rt);
+    agree(world.parts().len(), twin.parts().len(), rt);
     for (part, other) in world.parts().iter().zip(twin.parts()) {
         assert_same_part(part, other, rt);
     }

@@ -1,16 +1,15 @@
-use super::{PAGE, empty_world, event, moves, opened, skips, slot, step, value};
+use super::{PAGE, agree, empty_world, event, moves, opened, skips, slot, step, value};
 use crate::tests::same::assert_same;
 use sh_core::{Outcome, World};
 use sh_key::Tiny;
 use sh_step::{Action, Event, PageName, SlotName};
 use std::process::Abort;
-use std::test::Fail;
 
 // The passes may do none of these, and nothing changes: the world stays as its twin, which did the same events but
 // these.
 fn skips_all(world: &mut World<Tiny>, twin: &World<Tiny>, events: &[Event], rt: &impl Abort) {
     for event in events {
-        assert_eq!(rt; step(world, event, rt), Outcome::Skipped);
+        agree(step(world, event, rt), Outcome::Skipped, rt);
         assert_same(world, twin, rt);
     }
 }
@@ -36,9 +35,14 @@ fn ends(pass: u32) -> [Event; 15] {
     ]
 }
 
+// A pass that has begun nothing has nothing to end.
+fn skips_ends(world: &mut World<Tiny>, twin: &World<Tiny>, pass: u32, rt: &impl Abort) {
+    skips_all(world, twin, &ends(pass), rt);
+}
+
 // Only passes that the shape has do something.
 #[test]
-fn a_pass_past_the_last_is_skipped(rt: HostRuntime) -> Result<(), Fail> {
+fn a_pass_past_the_last_is_skipped(rt: HostRuntime) {
     let mut world = opened(rt.alloc(), 2, &rt);
     let twin = opened(rt.alloc(), 2, &rt);
     for pass in [2, 3, 63, 64, 65, 4294967295] {
@@ -55,16 +59,15 @@ fn a_pass_past_the_last_is_skipped(rt: HostRuntime) -> Result<(), Fail> {
             &rt,
         );
     }
-    Ok(())
 }
 
 // A pass that has begun nothing has nothing to end, and one that owns no shard touches none.
 #[test]
-fn an_action_whose_condition_fails_is_skipped(rt: HostRuntime) -> Result<(), Fail> {
+fn an_action_whose_condition_fails_is_skipped(rt: HostRuntime) {
     let mut world = opened(rt.alloc(), 2, &rt);
     let twin = opened(rt.alloc(), 2, &rt);
-    skips_all(&mut world, &twin, &ends(0), &rt);
-    skips_all(&mut world, &twin, &ends(1), &rt);
+    skips_ends(&mut world, &twin, 0, &rt);
+    skips_ends(&mut world, &twin, 1, &rt);
     skips_all(
         &mut world,
         &twin,
@@ -80,12 +83,11 @@ fn an_action_whose_condition_fails_is_skipped(rt: HostRuntime) -> Result<(), Fai
         ],
         &rt,
     );
-    Ok(())
 }
 
 // An owner neither fills a slot that is not its own, nor leaves what it has, nor gives a page with a value a class.
 #[test]
-fn an_owner_keeps_to_what_is_its_own(rt: HostRuntime) -> Result<(), Fail> {
+fn an_owner_keeps_to_what_is_its_own(rt: HostRuntime) {
     let mut world = opened(rt.alloc(), 2, &rt);
     let twin = opened(rt.alloc(), 2, &rt);
     skips_all(
@@ -102,12 +104,11 @@ fn an_owner_keeps_to_what_is_its_own(rt: HostRuntime) -> Result<(), Fail> {
         ],
         &rt,
     );
-    Ok(())
 }
 
 // Numbers outside the shape or the layout name nothing.
 #[test]
-fn numbers_outside_the_shape_name_nothing(rt: HostRuntime) -> Result<(), Fail> {
+fn numbers_outside_the_shape_name_nothing(rt: HostRuntime) {
     let mut world = opened(rt.alloc(), 2, &rt);
     let twin = opened(rt.alloc(), 2, &rt);
     let other_page = PageName { shard: 0, page: 8 };
@@ -136,12 +137,11 @@ fn numbers_outside_the_shape_name_nothing(rt: HostRuntime) -> Result<(), Fail> {
         ],
         &rt,
     );
-    Ok(())
 }
 
 // A page gets its class only once it was read.
 #[test]
-fn an_adopter_reads_a_page_first(rt: HostRuntime) -> Result<(), Fail> {
+fn an_adopter_reads_a_page_first(rt: HostRuntime) {
     let mut world = empty_world::<Tiny>(rt.alloc(), 2, &rt);
     moves(&mut world, &[event(0, Action::Adopt(0))], &rt);
     moves(&mut world, &[event(1, Action::Adopt(0))], &rt);
@@ -149,5 +149,4 @@ fn an_adopter_reads_a_page_first(rt: HostRuntime) -> Result<(), Fail> {
     skips(&mut world, 1, Action::ReadPage(PAGE), &rt);
     moves(&mut world, &[event(0, Action::ReadPage(PAGE))], &rt);
     skips(&mut world, 0, Action::SetClass(PAGE, 8), &rt);
-    Ok(())
 }

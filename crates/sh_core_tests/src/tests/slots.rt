@@ -1,16 +1,15 @@
 use super::{
-    event, fills, has_log, has_words, moves, opened, removes, replies, skips, slot, value,
+    agree, event, fills, has_log, has_words, moves, opened, removes, replies, skips, slot, value,
     with_page,
 };
 use sh_history::Entry;
 use sh_step::Action;
-use std::test::Fail;
 
 // Class word, state, length, payload and owner.
 #[test]
-fn a_value_stands_in_its_slot(rt: HostRuntime) -> Result<(), Fail> {
+fn a_value_stands_in_its_slot(rt: HostRuntime) {
     let world = opened(rt.alloc(), 2, &rt);
-    assert_eq!(rt; world.words().len(), 1562);
+    agree(world.words().len(), 1562, &rt);
     has_words(
         &world,
         [
@@ -27,12 +26,11 @@ fn a_value_stands_in_its_slot(rt: HostRuntime) -> Result<(), Fail> {
         &rt,
     );
     has_log(&world, [Entry::Insert(0, 4096, value(&[5], &rt))], &rt);
-    Ok(())
 }
 
 // Of two passes that remove one key the first mark decides.
 #[test]
-fn the_first_mark_removes(rt: HostRuntime) -> Result<(), Fail> {
+fn the_first_mark_removes(rt: HostRuntime) {
     let mut world = opened(rt.alloc(), 2, &rt);
     moves(&mut world, &[event(0, Action::EnterRemove(4096))], &rt);
     moves(&mut world, &[event(1, Action::EnterRemove(4096))], &rt);
@@ -49,12 +47,11 @@ fn the_first_mark_removes(rt: HostRuntime) -> Result<(), Fail> {
         ],
         &rt,
     );
-    Ok(())
 }
 
 // A slot is used again while a pass leaves it: the old key stays gone, and the last to leave ends the removal.
 #[test]
-fn a_slot_is_used_again_under_a_pass(rt: HostRuntime) -> Result<(), Fail> {
+fn a_slot_is_used_again_under_a_pass(rt: HostRuntime) {
     let mut world = opened(rt.alloc(), 2, &rt);
     removes(&mut world, 0, 4096, &rt);
     fills(&mut world, 0, 6, &rt);
@@ -98,12 +95,11 @@ fn a_slot_is_used_again_under_a_pass(rt: HostRuntime) -> Result<(), Fail> {
         ],
         &rt,
     );
-    Ok(())
 }
 
 // An exchange that finds another pass on the slot changes no word; that pass ends the generation.
 #[test]
-fn a_late_finish_changes_nothing(rt: HostRuntime) -> Result<(), Fail> {
+fn a_late_finish_changes_nothing(rt: HostRuntime) {
     let mut world = opened(rt.alloc(), 2, &rt);
     moves(&mut world, &[event(0, Action::EnterRemove(4096))], &rt);
     replies(&mut world, 0, Action::Mark, Entry::Removed(0, 4096), &rt);
@@ -124,12 +120,11 @@ fn a_late_finish_changes_nothing(rt: HostRuntime) -> Result<(), Fail> {
         &rt,
     );
     has_words(&world, [(1, 0), (3, 8589934592)], &rt);
-    Ok(())
 }
 
 // A key of tiny has four holds at most, and each get gives the value.
 #[test]
-fn a_fifth_get_is_crowded(rt: HostRuntime) -> Result<(), Fail> {
+fn a_fifth_get_is_crowded(rt: HostRuntime) {
     let mut world = opened(rt.alloc(), 2, &rt);
     for _ in 0..4 {
         let got = Entry::Got(1, 4096, value(&[5], &rt));
@@ -152,13 +147,12 @@ fn a_fifth_get_is_crowded(rt: HostRuntime) -> Result<(), Fail> {
         &rt,
     );
     has_words(&world, [(3, 5368709123)], &rt);
-    assert_eq!(rt; world.log().len(), 7);
-    Ok(())
+    agree(world.log().len(), 7, &rt);
 }
 
 // A slot of tiny stores three values, one after the other.
 #[test]
-fn the_third_generation_is_the_last(rt: HostRuntime) -> Result<(), Fail> {
+fn the_third_generation_is_the_last(rt: HostRuntime) {
     let mut world = with_page(rt.alloc(), 1, &rt);
     for key in [4096, 8192, 12288] {
         moves(
@@ -182,5 +176,4 @@ fn the_third_generation_is_the_last(rt: HostRuntime) -> Result<(), Fail> {
         Action::FillSlot(slot(0), value(&[], &rt)),
         &rt,
     );
-    Ok(())
 }

@@ -7,7 +7,6 @@ use sh_key::Tiny;
 use sh_step::Action;
 use std::alloc::Global;
 use std::process::Abort;
-use std::test::Fail;
 
 // Two passes free a slot each, and the first of them does not store its link. The owner takes the stack and follows it.
 fn untied(alloc: Global, rt: &impl Abort) -> World<Tiny> {
@@ -44,7 +43,7 @@ fn untied(alloc: Global, rt: &impl Abort) -> World<Tiny> {
 }
 
 #[test]
-fn following_stops_at_a_link_that_is_not_written(rt: HostRuntime) -> Result<(), Fail> {
+fn following_stops_at_a_link_that_is_not_written(rt: HostRuntime) {
     let mut world = untied(rt.alloc(), &rt);
     has_words(&world, [(1, 0), (51, 0), (52, 0)], &rt);
     has_log(
@@ -62,12 +61,11 @@ fn following_stops_at_a_link_that_is_not_written(rt: HostRuntime) -> Result<(), 
     moves(&mut world, &[event(0, Action::Follow(PAGE))], &rt);
     has_words(&world, [(51, 0)], &rt);
     skips(&mut world, 0, Action::Follow(PAGE), &rt);
-    Ok(())
 }
 
 // An owner leaves only what it has put back, and the next one finds it.
 #[test]
-fn a_shard_goes_to_the_next_owner(rt: HostRuntime) -> Result<(), Fail> {
+fn a_shard_goes_to_the_next_owner(rt: HostRuntime) {
     let mut world = untied(rt.alloc(), &rt);
     skips(&mut world, 0, Action::Leave, &rt);
     moves(&mut world, &[event(1, Action::Tie)], &rt);
@@ -110,5 +108,4 @@ fn a_shard_goes_to_the_next_owner(rt: HostRuntime) -> Result<(), Fail> {
         [(0, 8), (1, 0), (4, 9663676416), (51, 1), (163, 9)],
         &rt,
     );
-    Ok(())
 }

@@ -1,4 +1,4 @@
-use super::{FIRST, GENERATION, SECOND, opened, three_passes, walked};
+use super::{FIRST, GENERATION, SECOND, are_some, has_orders, leads, opened, three_passes, walked};
 use crate::facts::Fact;
 use crate::steps::{PAGE, Steps, WIDEST, slot};
 use sh_shape::Shape;
@@ -18,13 +18,11 @@ const RUNG: u64 = 1;
 // orders of eight steps and six steps 2289 have the fifth one of the eight before the fifth one of the six.
 #[test]
 fn one_of_two_frees_rings(rt: HostRuntime) -> Result<(), Fail> {
-    let before = opened(rt.alloc(), 2)?.arms(0, PAGE, 0)?;
-    let then = Steps::new(rt.alloc())
-        .removes(1, FIRST)?
-        .removes(2, SECOND)?;
+    let before = opened(rt.alloc(), 2).arms(0, PAGE, 0);
+    let then = Steps::new(rt.alloc()).removes(1, FIRST).removes(2, SECOND);
     let walked = three_passes(&rt, rt.alloc(), before, then)?;
-    assert_eq!(rt; walked.orders(), 4578);
-    assert_eq!(rt; walked.orders_with(&[Fact::Word(BELL, RUNG)]), 4578);
+    has_orders(&rt, &walked, 4578);
+    leads(&rt, &walked, &[Fact::Word(BELL, RUNG)], 4578);
     Ok(())
 }
 
@@ -32,13 +30,13 @@ fn one_of_two_frees_rings(rt: HostRuntime) -> Result<(), Fail> {
 // following it twice finds the link once it is stored: in three of four orders.
 #[test]
 fn arming_beside_a_free(rt: HostRuntime) -> Result<(), Fail> {
-    let before = opened(rt.alloc(), 1)?.empties(1, FIRST)?;
-    let then = Steps::new(rt.alloc()).arms(0, PAGE, 2)?.gives_back(1)?;
+    let before = opened(rt.alloc(), 1).empties(1, FIRST);
+    let then = Steps::new(rt.alloc()).arms(0, PAGE, 2).gives_back(1);
     let walked = three_passes(&rt, rt.alloc(), before, then)?;
-    assert_eq!(rt; walked.orders(), 5);
-    assert_eq!(rt; walked.orders_with(&[Fact::Word(BELL, RUNG)]), 1);
-    assert_eq!(rt; walked.orders_with(&[Fact::Mine(0, 3)]), 3);
-    assert_eq!(rt; walked.orders_with(&[Fact::Cursor(0, Some(0))]), 1);
+    has_orders(&rt, &walked, 5);
+    leads(&rt, &walked, &[Fact::Word(BELL, RUNG)], 1);
+    leads(&rt, &walked, &[Fact::Mine(0, 3)], 3);
+    leads(&rt, &walked, &[Fact::Cursor(0, Some(0))], 1);
     Ok(())
 }
 
@@ -46,18 +44,18 @@ fn arming_beside_a_free(rt: HostRuntime) -> Result<(), Fail> {
 // with the ring or without it, and one that collects before the ring has the page armed until it answers the bell.
 #[test]
 fn a_removal_beside_an_owner_that_answers_and_collects(rt: HostRuntime) -> Result<(), Fail> {
-    let before = opened(rt.alloc(), 1)?.arms(0, PAGE, 0)?;
+    let before = opened(rt.alloc(), 1).arms(0, PAGE, 0);
     let then = Steps::new(rt.alloc())
-        .answers(0, 2)?
-        .collects(0, PAGE, 2)?
-        .removes(1, FIRST)?
-        .gets(2, FIRST)?
-        .releases(2, FIRST)?;
+        .answers(0, 2)
+        .collects(0, PAGE, 2)
+        .removes(1, FIRST)
+        .gets(2, FIRST)
+        .releases(2, FIRST);
     let walked = three_passes(&rt, rt.alloc(), before, then)?;
     let with_ring = walked.orders_with(&[Fact::Mine(0, 3), Fact::Armed(0, 0, false)]);
     let without_ring = walked.orders_with(&[Fact::Mine(0, 3), Fact::Armed(0, 0, true)]);
     let unseen = walked.orders_with(&[Fact::Mine(0, 2), Fact::Cursor(0, None)]);
-    assert!(rt; with_ring > 0 && without_ring > 0 && unseen > 0);
+    are_some(&rt, &[with_ring, without_ring, unseen]);
     Ok(())
 }
 
@@ -65,19 +63,19 @@ fn a_removal_beside_an_owner_that_answers_and_collects(rt: HostRuntime) -> Resul
 // come, since in each end the owner can leave once it has answered.
 #[test]
 fn two_frees_beside_an_owner_that_arms_again(rt: HostRuntime) -> Result<(), Fail> {
-    let before = opened(rt.alloc(), 2)?.arms(0, PAGE, 0)?;
+    let before = opened(rt.alloc(), 2).arms(0, PAGE, 0);
     let then = Steps::new(rt.alloc())
-        .answers(0, 1)?
-        .arms(0, PAGE, 2)?
-        .removes(1, FIRST)?
-        .removes(2, SECOND)?;
+        .answers(0, 1)
+        .arms(0, PAGE, 2)
+        .removes(1, FIRST)
+        .removes(2, SECOND);
     let walked = three_passes(&rt, rt.alloc(), before, then)?;
     let armed_again = [
         Fact::Armed(0, 0, true),
         Fact::Word(HEAD, 1),
         Fact::Mine(0, 3),
     ];
-    assert!(rt; walked.orders_with(&armed_again) > 0);
+    are_some(&rt, &[walked.orders_with(&armed_again)]);
     Ok(())
 }
 
@@ -89,19 +87,19 @@ const THERE: u64 = FIRST + 64;
 
 // The first slot of a page is filled and freed by a pass, which rings; the owner hears it, collects the slot, fills it
 // again and arms the page again.
-fn freed_once(before: Steps, pass: u32, page: PageName, key: u64) -> Result<Steps, Fail> {
+fn freed_once(before: Steps, pass: u32, page: PageName, key: u64) -> Steps {
     let slot = SlotName {
         shard: page.shard,
         page: page.page,
         slot: 0,
     };
     before
-        .inserts(0, slot, 5)?
-        .arms(0, page, 0)?
-        .removes(pass, key)?
-        .answers(0, 1)?
-        .collects(0, page, 1)?
-        .inserts(0, slot, 6)?
+        .inserts(0, slot, 5)
+        .arms(0, page, 0)
+        .removes(pass, key)
+        .answers(0, 1)
+        .collects(0, page, 1)
+        .inserts(0, slot, 6)
         .arms(0, page, 0)
 }
 
@@ -110,26 +108,26 @@ fn freed_once(before: Steps, pass: u32, page: PageName, key: u64) -> Result<Step
 #[test]
 fn two_rings_under_a_follow(rt: HostRuntime) -> Result<(), Fail> {
     let opened = Steps::new(rt.alloc())
-        .opens(0, 0, WIDEST)?
-        .does(0, Action::ReadPage(SECOND_PAGE))?
-        .does(0, Action::SetClass(SECOND_PAGE, WIDEST))?;
-    let once = freed_once(opened, 1, PAGE, FIRST)?;
-    let twice = freed_once(once, 2, SECOND_PAGE, THERE)?;
+        .opens(0, 0, WIDEST)
+        .does(0, Action::ReadPage(SECOND_PAGE))
+        .does(0, Action::SetClass(SECOND_PAGE, WIDEST));
+    let once = freed_once(opened, 1, PAGE, FIRST);
+    let twice = freed_once(once, 2, SECOND_PAGE, THERE);
     let before = twice
-        .empties(1, FIRST + GENERATION)?
-        .does(1, Action::Put)?
-        .does(1, Action::Tie)?
-        .empties(2, THERE + GENERATION)?
-        .does(2, Action::Put)?
-        .does(2, Action::Tie)?;
+        .empties(1, FIRST + GENERATION)
+        .does(1, Action::Put)
+        .does(1, Action::Tie)
+        .empties(2, THERE + GENERATION)
+        .does(2, Action::Put)
+        .does(2, Action::Tie);
     let then = Steps::new(rt.alloc())
-        .answers(0, 2)?
-        .gives_back(1)?
-        .gives_back(2)?;
+        .answers(0, 2)
+        .gives_back(1)
+        .gives_back(2);
     let walked = three_passes(&rt, rt.alloc(), before, then)?;
-    assert_eq!(rt; walked.orders(), 112);
+    has_orders(&rt, &walked, 112);
     let heard = [Fact::Armed(0, 0, false), Fact::Armed(0, 1, false)];
-    assert_eq!(rt; walked.orders_with(&heard), 20);
+    leads(&rt, &walked, &heard, 20);
     Ok(())
 }
 
@@ -146,24 +144,24 @@ fn two_owners_free_each_others_values(rt: HostRuntime) -> Result<(), Fail> {
     // The key of that slot: a shard more.
     let key = FIRST + 1024;
     let before = Steps::new(rt.alloc())
-        .opens(0, 0, WIDEST)?
-        .opens(1, 1, WIDEST)?
-        .inserts(0, slot(0), 5)?
-        .inserts(1, there, 6)?
-        .arms(0, PAGE, 0)?
-        .arms(1, other, 0)?;
+        .opens(0, 0, WIDEST)
+        .opens(1, 1, WIDEST)
+        .inserts(0, slot(0), 5)
+        .inserts(1, there, 6)
+        .arms(0, PAGE, 0)
+        .arms(1, other, 0);
     let then = Steps::new(rt.alloc())
-        .removes(0, key)?
-        .answers(0, 1)?
-        .collects(0, PAGE, 1)?
-        .removes(1, FIRST)?
-        .answers(1, 1)?
-        .collects(1, other, 1)?;
+        .removes(0, key)
+        .answers(0, 1)
+        .collects(0, PAGE, 1)
+        .removes(1, FIRST)
+        .answers(1, 1)
+        .collects(1, other, 1);
     let walked = walked(&rt, rt.alloc(), Shape::new(2, 1, 2)?, before, then)?;
-    assert!(rt; walked.orders_with(&[Fact::Mine(0, 3), Fact::Mine(1, 3)]) > 0);
-    assert_eq!(rt;
-        walked.orders_with(&[Fact::Mine(0, 2), Fact::Mine(1, 2)]),
-        0
+    are_some(
+        &rt,
+        &[walked.orders_with(&[Fact::Mine(0, 3), Fact::Mine(1, 3)])],
     );
+    leads(&rt, &walked, &[Fact::Mine(0, 2), Fact::Mine(1, 2)], 0);
     Ok(())
 }

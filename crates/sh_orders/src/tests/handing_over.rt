@@ -1,4 +1,4 @@
-use super::{FIRST, opened, three_passes};
+use super::{FIRST, agree, are_some, has_orders, leads, opened, three_passes};
 use crate::facts::Fact;
 use crate::steps::{PAGE, Steps, slot};
 use sh_step::Action;
@@ -9,19 +9,19 @@ use std::test::Fail;
 // takes the page before the put, and 26 in which it takes it later and follows three times.
 #[test]
 fn a_shard_changes_hands_between_put_and_tie(rt: HostRuntime) -> Result<(), Fail> {
-    let before = opened(rt.alloc(), 1)?
-        .puts(0, slot(1))?
-        .puts(0, slot(2))?
-        .empties(1, FIRST)?;
+    let before = opened(rt.alloc(), 1)
+        .puts(0, slot(1))
+        .puts(0, slot(2))
+        .empties(1, FIRST);
     let then = Steps::new(rt.alloc())
-        .does(0, Action::Leave)?
-        .gives_back(1)?
-        .adopts(2, 0)?
-        .collects(2, PAGE, 3)?;
+        .does(0, Action::Leave)
+        .gives_back(1)
+        .adopts(2, 0)
+        .collects(2, PAGE, 3);
     let walked = three_passes(&rt, rt.alloc(), before, then)?;
-    assert_eq!(rt; walked.orders(), 38);
-    assert_eq!(rt; walked.orders_with(&[Fact::Owns(2, 0)]), 32);
-    assert!(rt; walked.orders_with(&[Fact::Mine(0, 3)]) > 0);
+    has_orders(&rt, &walked, 38);
+    leads(&rt, &walked, &[Fact::Owns(2, 0)], 32);
+    are_some(&rt, &[walked.orders_with(&[Fact::Mine(0, 3)])]);
     Ok(())
 }
 
@@ -29,24 +29,21 @@ fn a_shard_changes_hands_between_put_and_tie(rt: HostRuntime) -> Result<(), Fail
 // owns the shard; in the others each is as often the owner.
 #[test]
 fn one_of_two_adopters_owns(rt: HostRuntime) -> Result<(), Fail> {
-    let before = opened(rt.alloc(), 0)?
-        .puts(0, slot(0))?
-        .puts(0, slot(1))?
-        .puts(0, slot(2))?;
+    let before = opened(rt.alloc(), 0)
+        .puts(0, slot(0))
+        .puts(0, slot(1))
+        .puts(0, slot(2));
     let then = Steps::new(rt.alloc())
-        .does(0, Action::Leave)?
-        .adopts(1, 0)?
-        .collects(1, PAGE, 0)?
-        .adopts(2, 0)?
-        .collects(2, PAGE, 0)?;
+        .does(0, Action::Leave)
+        .adopts(1, 0)
+        .collects(1, PAGE, 0)
+        .adopts(2, 0)
+        .collects(2, PAGE, 0);
     let walked = three_passes(&rt, rt.alloc(), before, then)?;
-    assert_eq!(rt; walked.orders(), 10);
-    assert_eq!(rt; walked.orders_with(&[Fact::Owns(1, 0)]), 4);
-    assert_eq!(rt; walked.orders_with(&[Fact::Owns(2, 0)]), 4);
-    assert_eq!(rt;
-        walked.orders_with(&[Fact::Owns(1, 0), Fact::Owns(2, 0)]),
-        0
-    );
+    has_orders(&rt, &walked, 10);
+    leads(&rt, &walked, &[Fact::Owns(1, 0)], 4);
+    leads(&rt, &walked, &[Fact::Owns(2, 0)], 4);
+    leads(&rt, &walked, &[Fact::Owns(1, 0), Fact::Owns(2, 0)], 0);
     Ok(())
 }
 
@@ -54,19 +51,19 @@ fn one_of_two_adopters_owns(rt: HostRuntime) -> Result<(), Fail> {
 // slot itself it has a slot of its own, and keeps the shard.
 #[test]
 fn an_owner_with_a_slot_of_its_own_stays(rt: HostRuntime) -> Result<(), Fail> {
-    let before = opened(rt.alloc(), 1)?.puts(0, slot(1))?.puts(0, slot(2))?;
+    let before = opened(rt.alloc(), 1).puts(0, slot(1)).puts(0, slot(2));
     let then = Steps::new(rt.alloc())
-        .removes(0, FIRST)?
-        .does(0, Action::Leave)?
-        .gets(1, FIRST)?
-        .releases(1, FIRST)?
-        .adopts(2, 0)?
-        .collects(2, PAGE, 3)?;
+        .removes(0, FIRST)
+        .does(0, Action::Leave)
+        .gets(1, FIRST)
+        .releases(1, FIRST)
+        .adopts(2, 0)
+        .collects(2, PAGE, 3);
     let walked = three_passes(&rt, rt.alloc(), before, then)?;
     let stayed = walked.orders_with(&[Fact::Owns(0, 0)]);
     let with_its_slot = walked.orders_with(&[Fact::Owns(0, 0), Fact::Mine(0, 1)]);
-    assert_eq!(rt; stayed, with_its_slot);
+    agree(&rt, stayed, with_its_slot);
     let left = walked.orders_with(&[Fact::Owns(2, 0)]);
-    assert!(rt; stayed > 0 && left > 0);
+    are_some(&rt, &[stayed, left]);
     Ok(())
 }

@@ -1,4 +1,4 @@
-use super::{FIRST, opened, three_passes};
+use super::{FIRST, agree, are_some, has_orders, leads, opened, three_passes};
 use crate::facts::Fact;
 use crate::steps::{PAGE, Steps, slot};
 use sh_history::Entry;
@@ -9,14 +9,12 @@ use std::test::Fail;
 // in the other three it is released before.
 #[test]
 fn a_last_hold_frees(rt: HostRuntime) -> Result<(), Fail> {
-    let before = opened(rt.alloc(), 1)?.gets(1, FIRST)?;
-    let then = Steps::new(rt.alloc())
-        .removes(0, FIRST)?
-        .releases(1, FIRST)?;
+    let before = opened(rt.alloc(), 1).gets(1, FIRST);
+    let then = Steps::new(rt.alloc()).removes(0, FIRST).releases(1, FIRST);
     let walked = three_passes(&rt, rt.alloc(), before, then)?;
-    assert_eq!(rt; walked.orders(), 4);
-    assert_eq!(rt; walked.orders_with(&[Fact::Mine(0, 3)]), 3);
-    assert_eq!(rt; walked.orders_with(&[Fact::Queued(0, 1)]), 1);
+    has_orders(&rt, &walked, 4);
+    leads(&rt, &walked, &[Fact::Mine(0, 3)], 3);
+    leads(&rt, &walked, &[Fact::Queued(0, 1)], 1);
     Ok(())
 }
 
@@ -25,19 +23,19 @@ fn a_last_hold_frees(rt: HostRuntime) -> Result<(), Fail> {
 // eight orders four have a crowded get.
 #[test]
 fn a_fifth_hold_is_crowded(rt: HostRuntime) -> Result<(), Fail> {
-    let before = opened(rt.alloc(), 1)?
-        .gets(0, FIRST)?
-        .gets(0, FIRST)?
-        .gets(0, FIRST)?;
+    let before = opened(rt.alloc(), 1)
+        .gets(0, FIRST)
+        .gets(0, FIRST)
+        .gets(0, FIRST);
     let then = Steps::new(rt.alloc())
-        .releases(0, FIRST)?
-        .gets(1, FIRST)?
-        .gets(2, FIRST)?;
+        .releases(0, FIRST)
+        .gets(1, FIRST)
+        .gets(2, FIRST);
     let walked = three_passes(&rt, rt.alloc(), before, then)?;
-    assert_eq!(rt; walked.orders(), 8);
+    has_orders(&rt, &walked, 8);
     for pass in [1, 2] {
         let crowded = Fact::Logged(Entry::Crowded(pass, FIRST));
-        assert_eq!(rt; walked.orders_with(&[crowded]), 2);
+        leads(&rt, &walked, &[crowded], 2);
     }
     Ok(())
 }
@@ -45,27 +43,36 @@ fn a_fifth_hold_is_crowded(rt: HostRuntime) -> Result<(), Fail> {
 // A get that is crowded is on the slot for a moment, and so may be the one that frees it.
 #[test]
 fn a_crowded_get_beside_a_removal(rt: HostRuntime) -> Result<(), Fail> {
-    let before = opened(rt.alloc(), 1)?
-        .gets(2, FIRST)?
-        .gets(2, FIRST)?
-        .gets(2, FIRST)?
-        .gets(2, FIRST)?;
+    let before = opened(rt.alloc(), 1)
+        .gets(2, FIRST)
+        .gets(2, FIRST)
+        .gets(2, FIRST)
+        .gets(2, FIRST);
     let then = Steps::new(rt.alloc())
-        .removes(0, FIRST)?
-        .gets(1, FIRST)?
-        .releases(1, FIRST)?
-        .releases(2, FIRST)?
-        .releases(2, FIRST)?
-        .releases(2, FIRST)?
-        .releases(2, FIRST)?;
+        .removes(0, FIRST)
+        .gets(1, FIRST)
+        .releases(1, FIRST)
+        .releases(2, FIRST)
+        .releases(2, FIRST)
+        .releases(2, FIRST)
+        .releases(2, FIRST);
     let walked = three_passes(&rt, rt.alloc(), before, then)?;
-    let value = Value::new(&[0])?;
-    assert!(rt; walked.orders_with(&[Fact::Logged(Entry::Got(1, FIRST, value))]) > 0);
-    assert!(rt; walked.orders_with(&[Fact::Logged(Entry::Crowded(1, FIRST))]) > 0);
-    assert!(rt; walked.orders_with(&[Fact::Logged(Entry::Gone(1, FIRST))]) > 0);
+    let value = Value::from(0);
+    are_some(
+        &rt,
+        &[walked.orders_with(&[Fact::Logged(Entry::Got(1, FIRST, value))])],
+    );
+    are_some(
+        &rt,
+        &[walked.orders_with(&[Fact::Logged(Entry::Crowded(1, FIRST))])],
+    );
+    are_some(
+        &rt,
+        &[walked.orders_with(&[Fact::Logged(Entry::Gone(1, FIRST))])],
+    );
     let mine = walked.orders_with(&[Fact::Mine(0, 3)]);
     let queued = walked.orders_with(&[Fact::Mine(0, 2), Fact::Queued(0, 1)]);
-    assert_eq!(rt; walked.orders(), mine.saturating_add(queued));
+    agree(&rt, walked.orders(), mine.saturating_add(queued));
     Ok(())
 }
 
@@ -73,20 +80,17 @@ fn a_crowded_get_beside_a_removal(rt: HostRuntime) -> Result<(), Fail> {
 // later: that makes nine orders, and one in which it enters last.
 #[test]
 fn a_get_beside_an_insert(rt: HostRuntime) -> Result<(), Fail> {
-    let before = opened(rt.alloc(), 0)?;
-    let then = Steps::new(rt.alloc())
-        .inserts(0, slot(0), 5)?
-        .gets(1, FIRST)?;
+    let before = opened(rt.alloc(), 0);
+    let then = Steps::new(rt.alloc()).inserts(0, slot(0), 5).gets(1, FIRST);
     let walked = three_passes(&rt, rt.alloc(), before, then)?;
-    assert_eq!(rt; walked.orders(), 10);
-    assert_eq!(rt;
-        walked.orders_with(&[Fact::Logged(Entry::Gone(1, FIRST))]),
-        9
-    );
-    let value = Value::new(&[5])?;
-    assert_eq!(rt;
-        walked.orders_with(&[Fact::Logged(Entry::Got(1, FIRST, value))]),
-        1
+    has_orders(&rt, &walked, 10);
+    leads(&rt, &walked, &[Fact::Logged(Entry::Gone(1, FIRST))], 9);
+    let value = Value::from(5);
+    leads(
+        &rt,
+        &walked,
+        &[Fact::Logged(Entry::Got(1, FIRST, value))],
+        1,
     );
     Ok(())
 }
@@ -94,17 +98,17 @@ fn a_get_beside_an_insert(rt: HostRuntime) -> Result<(), Fail> {
 // What is held and read stays, though it is removed and the owner uses again what it finds.
 #[test]
 fn a_held_value_is_read_beside_its_removal(rt: HostRuntime) -> Result<(), Fail> {
-    let before = opened(rt.alloc(), 1)?.gets(1, FIRST)?;
+    let before = opened(rt.alloc(), 1).gets(1, FIRST);
     let then = Steps::new(rt.alloc())
-        .collects(0, PAGE, 1)?
-        .inserts(0, slot(0), 9)?
-        .reads(1, FIRST)?
-        .releases(1, FIRST)?
-        .removes(2, FIRST)?;
+        .collects(0, PAGE, 1)
+        .inserts(0, slot(0), 9)
+        .reads(1, FIRST)
+        .releases(1, FIRST)
+        .removes(2, FIRST);
     let walked = three_passes(&rt, rt.alloc(), before, then)?;
     let used_again = walked.orders_with(&[Fact::Live(0, 1), Fact::Queued(0, 0)]);
     let queued = walked.orders_with(&[Fact::Live(0, 0), Fact::Queued(0, 1)]);
-    assert!(rt; used_again > 0 && queued > 0);
-    assert_eq!(rt; walked.orders(), used_again.saturating_add(queued));
+    are_some(&rt, &[used_again, queued]);
+    agree(&rt, walked.orders(), used_again.saturating_add(queued));
     Ok(())
 }

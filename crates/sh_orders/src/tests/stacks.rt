@@ -1,4 +1,4 @@
-use super::{FIRST, GENERATION, SECOND, opened, three_passes};
+use super::{FIRST, GENERATION, SECOND, has_orders, leads, opened, three_passes};
 use crate::facts::Fact;
 use crate::steps::{PAGE, Steps, slot};
 use std::test::Fail;
@@ -7,16 +7,11 @@ use std::test::Fail;
 // ordered in 924 ways.
 #[test]
 fn two_frees_do_not_wait_for_each_other(rt: HostRuntime) -> Result<(), Fail> {
-    let before = opened(rt.alloc(), 2)?;
-    let then = Steps::new(rt.alloc())
-        .removes(1, FIRST)?
-        .removes(2, SECOND)?;
+    let before = opened(rt.alloc(), 2);
+    let then = Steps::new(rt.alloc()).removes(1, FIRST).removes(2, SECOND);
     let walked = three_passes(&rt, rt.alloc(), before, then)?;
-    assert_eq!(rt; walked.orders(), 924);
-    assert_eq!(rt;
-        walked.orders_with(&[Fact::Mine(0, 1), Fact::Queued(0, 2)]),
-        924
-    );
+    has_orders(&rt, &walked, 924);
+    leads(&rt, &walked, &[Fact::Mine(0, 1), Fact::Queued(0, 2)], 924);
     Ok(())
 }
 
@@ -24,16 +19,14 @@ fn two_frees_do_not_wait_for_each_other(rt: HostRuntime) -> Result<(), Fail> {
 // both puts in 6 orders, between them in 58, after both in 48; and in 20 of those each link is stored as it is read.
 #[test]
 fn two_frees_under_a_follow(rt: HostRuntime) -> Result<(), Fail> {
-    let before = opened(rt.alloc(), 2)?
-        .empties(1, FIRST)?
-        .empties(2, SECOND)?;
+    let before = opened(rt.alloc(), 2).empties(1, FIRST).empties(2, SECOND);
     let then = Steps::new(rt.alloc())
-        .collects(0, PAGE, 2)?
-        .gives_back(1)?
-        .gives_back(2)?;
+        .collects(0, PAGE, 2)
+        .gives_back(1)
+        .gives_back(2);
     let walked = three_passes(&rt, rt.alloc(), before, then)?;
-    assert_eq!(rt; walked.orders(), 112);
-    assert_eq!(rt; walked.orders_with(&[Fact::Mine(0, 3)]), 20);
+    has_orders(&rt, &walked, 112);
+    leads(&rt, &walked, &[Fact::Mine(0, 3)], 20);
     Ok(())
 }
 
@@ -42,15 +35,15 @@ fn two_frees_under_a_follow(rt: HostRuntime) -> Result<(), Fail> {
 // four in which it takes later, two of which have the link stored before it is read first.
 #[test]
 fn a_slot_is_put_again_under_a_follow(rt: HostRuntime) -> Result<(), Fail> {
-    let before = opened(rt.alloc(), 2)?
-        .removes(1, FIRST)?
-        .collects(0, PAGE, 1)?
-        .inserts(0, slot(0), 6)?
-        .removes(2, SECOND)?
-        .empties(1, FIRST + GENERATION)?;
-    let then = Steps::new(rt.alloc()).collects(0, PAGE, 2)?.gives_back(1)?;
+    let before = opened(rt.alloc(), 2)
+        .removes(1, FIRST)
+        .collects(0, PAGE, 1)
+        .inserts(0, slot(0), 6)
+        .removes(2, SECOND)
+        .empties(1, FIRST + GENERATION);
+    let then = Steps::new(rt.alloc()).collects(0, PAGE, 2).gives_back(1);
     let walked = three_passes(&rt, rt.alloc(), before, then)?;
-    assert_eq!(rt; walked.orders(), 7);
-    assert_eq!(rt; walked.orders_with(&[Fact::Mine(0, 3)]), 2);
+    has_orders(&rt, &walked, 7);
+    leads(&rt, &walked, &[Fact::Mine(0, 3)], 2);
     Ok(())
 }

@@ -1,96 +1,74 @@
 //! Shards that are left and adopted, and pages that are prepared.
 use super::*;
 use sh_key::Tiny;
-use std::test::Fail;
 
 #[test]
-fn a_shard_has_one_owner(rt: HostRuntime) -> Result<(), Fail> {
+fn a_shard_has_one_owner(rt: HostRuntime) {
     let (heap, seats) = opened::<Tiny>(&rt, rt.alloc(), 1, 1, 2);
-    let (one, other) = two_passes(&rt, rt.alloc(), &heap, seats);
-    let shard = adopted(&rt, rt.alloc(), one, 0);
-    let (other, why) = not_adopted(&rt, rt.alloc(), other, 0);
-    assert_eq!(rt; why, Refusal::Taken);
-    let (other, why) = not_adopted(&rt, rt.alloc(), other, 4);
-    assert_eq!(rt; why, Refusal::NoShard);
+    let (shard, other) = owner_and_other(&rt, rt.alloc(), &heap, seats);
+    let other = not_adopted(&rt, rt.alloc(), other, 0, Refusal::Taken);
+    let other = not_adopted(&rt, rt.alloc(), other, 4, Refusal::NoShard);
     let _one = left(&rt, shard);
     let _shard = adopted(&rt, rt.alloc(), other, 0);
-    Ok(())
 }
 
 #[test]
-fn shards_change_hands(rt: HostRuntime) -> Result<(), Fail> {
+fn shards_change_hands(rt: HostRuntime) {
     let (heap, seats) = opened::<Tiny>(&rt, rt.alloc(), 1, 1, 2);
-    let (one, other) = two_passes(&rt, rt.alloc(), &heap, seats);
-    let mut shard = adopted(&rt, rt.alloc(), one, 0);
-    assert_eq!(rt; prepared(&mut shard, 7), Ok(0));
-    assert_eq!(rt; prepared(&mut shard, 0), Ok(1));
-    let (other, why) = not_adopted(&rt, rt.alloc(), other, 0);
-    assert_eq!(rt; why, Refusal::Taken);
-    let (other, why) = not_adopted(&rt, rt.alloc(), other, 4);
-    assert_eq!(rt; why, Refusal::NoShard);
+    let (mut shard, other) = owner_and_other(&rt, rt.alloc(), &heap, seats);
+    agree(&rt, prepared(&mut shard, 7), Ok(0));
+    agree(&rt, prepared(&mut shard, 0), Ok(1));
+    let other = not_adopted(&rt, rt.alloc(), other, 0, Refusal::Taken);
+    let other = not_adopted(&rt, rt.alloc(), other, 4, Refusal::NoShard);
     let one = left(&rt, shard);
     let mut shard = adopted(&rt, rt.alloc(), other, 0);
-    assert_eq!(rt; prepared(&mut shard, 7), Ok(2));
+    agree(&rt, prepared(&mut shard, 7), Ok(2));
     let other = left(&rt, shard);
-    assert!(rt; !one.is_whole());
-    assert!(rt; !other.is_whole());
-    Ok(())
+    agree(&rt, (one.is_whole(), other.is_whole()), (false, false));
+}
+
+// The second owner holds what the first one put, and puts more; the first one removes it all.
+fn find_and_hold(rt: &impl Abort, shard: &mut Shard<'_, Tiny>, one: &mut Pass<'_, Tiny>) {
+    let hold = shard.get(4_096).expect(rt, "a hold");
+    has_words(rt, shard.read(hold), &SIXTEEN);
+    put_each(rt, shard, &[4_098, 4_097, 4_160]);
+    other_removes(rt, one, &[4_096, 4_097, 4_098, 4_160]);
+    has_words(rt, shard.read(hold), &SIXTEEN);
+    done(rt, shard.release(hold));
 }
 
 // What the first owner left there, live and empty, the second one finds: what was put last is taken first.
 #[test]
-fn values_stay_when_their_shard_changes_hands(rt: HostRuntime) -> Result<(), Fail> {
+fn values_stay_when_their_shard_changes_hands(rt: HostRuntime) {
     let (heap, seats) = opened::<Tiny>(&rt, rt.alloc(), 1, 1, 2);
-    let (one, other) = two_passes(&rt, rt.alloc(), &heap, seats);
-    let mut shard = adopted(&rt, rt.alloc(), one, 0);
-    assert_eq!(rt; put(&mut shard, &sixteen(&rt)), Ok(4_096));
+    let (mut shard, other) = owner_and_other(&rt, rt.alloc(), &heap, seats);
+    put_sixteen(&rt, &mut shard, Ok(4_096));
     let mut one = left(&rt, shard);
     let mut shard = adopted(&rt, rt.alloc(), other, 0);
-    let hold = shard.get(4_096)?;
-    assert_eq!(rt; shard.read(hold), Ok(sixteen(&rt)));
-    for key in [4_098, 4_097, 4_160] {
-        assert_eq!(rt; put(&mut shard, &sixteen(&rt)), Ok(key));
-    }
-    for key in [4_096, 4_097, 4_098, 4_160] {
-        assert_eq!(rt; one.remove(key), Ok(()));
-    }
-    assert_eq!(rt; shard.read(hold), Ok(sixteen(&rt)));
-    assert_eq!(rt; shard.release(hold), Ok(()));
-    Ok(())
+    find_and_hold(&rt, &mut shard, &mut one);
 }
 
 #[test]
-fn a_shard_has_eight_pages_to_prepare(rt: HostRuntime) -> Result<(), Fail> {
+fn a_shard_has_eight_pages_to_prepare(rt: HostRuntime) {
     let (heap, seats) = opened::<Tiny>(&rt, rt.alloc(), 1, 1, 1);
-    let mut shard = adopted(&rt, rt.alloc(), one_pass(&rt, rt.alloc(), &heap, seats), 0);
+    let mut shard = owner(&rt, rt.alloc(), &heap, seats);
     for page in 0..8u32 {
-        assert_eq!(rt; prepared(&mut shard, 3), Ok(page));
+        agree(&rt, prepared(&mut shard, 3), Ok(page));
     }
-    assert_eq!(rt; prepared(&mut shard, 3), Err(Refusal::Full));
-    Ok(())
+    agree(&rt, prepared(&mut shard, 3), Err(Refusal::Full));
 }
 
 // Leaving waits for another who put a slot and has yet to tie it.
 #[test]
-fn leave_waits_for_a_tie(rt: HostRuntime) -> Result<(), Fail> {
+fn leave_waits_for_a_tie(rt: HostRuntime) {
     let (heap, seats) = opened::<Tiny>(&rt, rt.alloc(), 1, 1, 2);
-    let (one, other) = two_passes(&rt, rt.alloc(), &heap, seats);
-    let mut shard = adopted(&rt, rt.alloc(), one, 0);
-    for key in [4_096, 4_097, 4_098] {
-        assert_eq!(rt; put(&mut shard, &sixteen(&rt)), Ok(key));
-    }
+    let (mut shard, other) = owner_and_other(&rt, rt.alloc(), &heap, seats);
+    put_each(&rt, &mut shard, &[4_096, 4_097, 4_098]);
     let mut busy = stopped_at(&rt, other, 4_096, 5);
-    assert_eq!(rt; put(&mut shard, &sixteen(&rt)), Ok(4_160));
-    let Err((shard, why)) = shard.leave() else {
-        panic!(rt; "a slot is put and not tied")
-    };
-    assert_eq!(rt; why, Refusal::Waiting);
-    assert!(rt; busy.act(&Action::Tie));
+    put_sixteen(&rt, &mut shard, Ok(4_160));
+    let shard = not_left(&rt, shard);
+    agree(&rt, busy.act(&Action::Tie), true);
     let _one = left(&rt, shard);
-    let Ok(other) = busy.end() else {
-        panic!(rt; "its steps are done")
-    };
-    let mut shard = adopted(&rt, rt.alloc(), other, 0);
-    assert_eq!(rt; put(&mut shard, &sixteen(&rt)), Ok(8_192));
-    Ok(())
+    let mut shard = adopted(&rt, rt.alloc(), ended(&rt, busy), 0);
+    put_sixteen(&rt, &mut shard, Ok(8_192));
 }

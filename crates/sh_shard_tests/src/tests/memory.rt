@@ -1,7 +1,6 @@
 //! Refused memory: what stands after it, and that the same call with memory then answers.
 use super::*;
 use sh_key::Tiny;
-use std::test::Fail;
 
 // The shard, and how often memory was refused before it. After a refusal the shard is nobody's and the pass has come
 // back.
@@ -13,8 +12,8 @@ fn adopted_at_last<'a>(
     match Shard::adopt(alloc, pass, 0) {
         Ok(shard) => (shard, 0),
         Err((mut pass, why)) => {
-            assert_eq!(rt; why, Refusal::Memory);
-            assert_eq!(rt; pass.get(12_288), Err(Refusal::Gone));
+            agree(rt, why, Refusal::Memory);
+            agree(rt, pass.get(12_288), Err(Refusal::Gone));
             (adopted(rt, alloc, pass, 0), 1)
         }
     }
@@ -22,69 +21,71 @@ fn adopted_at_last<'a>(
 
 // A shard whose adoption was refused may be adopted by another, and by the same pass.
 #[test]
-fn an_adoption_refused_for_memory_leaves_the_shard(rt: HostRuntime) -> Result<(), Fail> {
+fn an_adoption_refused_for_memory_leaves_the_shard(rt: HostRuntime) {
     let (heap, seats) = opened::<Tiny>(&rt, rt.alloc(), 1, 1, 2);
     let (one, other) = two_passes(&rt, rt.alloc(), &heap, seats);
     let (mut shard, first) = adopted_at_last(&rt, rt.alloc(), one);
-    assert_eq!(rt; put(&mut shard, &sixteen(&rt)), Ok(4_096));
+    put_sixteen(&rt, &mut shard, Ok(4_096));
     let _one = left(&rt, shard);
     let (mut shard, second) = adopted_at_last(&rt, rt.alloc(), other);
-    assert!(rt; first == 0 || second == 0);
-    assert_eq!(rt; put(&mut shard, &sixteen(&rt)), Ok(4_098));
-    Ok(())
+    agree(&rt, first.min(second), 0);
+    put_sixteen(&rt, &mut shard, Ok(4_098));
+}
+
+// Inserts the words under this key, where another finds them. How often memory was refused before it, when the other
+// found nothing.
+fn inserted_at_last(
+    rt: &impl Abort,
+    shard: &mut Shard<'_, Tiny>,
+    other: &mut Pass<'_, Tiny>,
+    words: &Value,
+    key: u64,
+) -> u32 {
+    let refused = match shard.insert(words) {
+        Err(Refusal::Memory) => {
+            agree(rt, other.get(key), Err(Refusal::Gone));
+            agree(rt, shard.insert(words), Ok(key));
+            1
+        }
+        answer => {
+            agree(rt, answer, Ok(key));
+            0
+        }
+    };
+    let hold = other.get(key).expect(rt, "a hold");
+    has_words(rt, other.read(hold), &SIXTEEN);
+    refused
+}
+
+// Fills what is left of a segment after one insert.
+fn insert_more(rt: &impl Abort, shard: &mut Shard<'_, Tiny>, words: &Value) {
+    for _ in 0..23 {
+        agree(rt, shard.insert(words).is_ok(), true);
+    }
 }
 
 // Where a segment is refused, an insert changes nothing, and the same insert with memory answers the first key of the
 // segment. Another adopts both segments then.
 #[test]
-fn an_insert_refused_for_memory_changes_nothing(rt: HostRuntime) -> Result<(), Fail> {
+fn an_insert_refused_for_memory_changes_nothing(rt: HostRuntime) {
     let (heap, seats) = opened::<Tiny>(&rt, rt.alloc(), 1, 2, 2);
-    let (one, mut other) = two_passes(&rt, rt.alloc(), &heap, seats);
-    let mut shard = adopted(&rt, rt.alloc(), one, 0);
+    let (mut shard, mut other) = owner_and_other(&rt, rt.alloc(), &heap, seats);
     let words = sixteen(&rt);
-    let mut refused = 0u32;
-    for (key, more) in [(4_096, 23), (4_608, 0)] {
-        if let Err(why) = shard.insert(&words).and_then(|found| as_said(found, key)) {
-            assert_eq!(rt; why, Refusal::Memory);
-            refused = refused.saturating_add(1);
-            assert_eq!(rt; other.get(key), Err(Refusal::Gone));
-            assert_eq!(rt; shard.insert(&words), Ok(key));
-        }
-        let hold = other.get(key)?;
-        assert_eq!(rt; other.read(hold), Ok(sixteen(&rt)));
-        for _ in 0..more {
-            assert!(rt; shard.insert(&words).is_ok());
-        }
-    }
-    assert!(rt; refused <= 1);
+    let first = inserted_at_last(&rt, &mut shard, &mut other, &words, 4_096);
+    insert_more(&rt, &mut shard, &words);
+    let second = inserted_at_last(&rt, &mut shard, &mut other, &words, 4_608);
+    agree(&rt, first.min(second), 0);
     let _one = left(&rt, shard);
     let (mut shard, _) = adopted_at_last(&rt, rt.alloc(), other);
-    assert_eq!(rt; shard.insert(&words), Ok(4_610));
-    Ok(())
-}
-
-// The key, which is the one that is wanted.
-fn as_said(found: u64, wanted: u64) -> Result<u64, Refusal> {
-    if found == wanted {
-        Ok(found)
-    } else {
-        Err(Refusal::BadKey)
-    }
+    agree(&rt, shard.insert(&words), Ok(4_610));
 }
 
 #[test]
-fn a_page_refused_for_memory_is_not_prepared(rt: HostRuntime) -> Result<(), Fail> {
+fn a_page_refused_for_memory_is_not_prepared(rt: HostRuntime) {
     let (heap, seats) = opened::<Tiny>(&rt, rt.alloc(), 1, 2, 1);
-    let mut shard = adopted(&rt, rt.alloc(), one_pass(&rt, rt.alloc(), &heap, seats), 0);
+    let mut shard = owner(&rt, rt.alloc(), &heap, seats);
     for wanted in 0..16u32 {
-        match shard.prepare(3) {
-            Ok(page) => assert_eq!(rt; page, wanted),
-            Err(why) => {
-                assert_eq!(rt; why, Refusal::Memory);
-                assert_eq!(rt; shard.prepare(3), Ok(wanted));
-            }
-        }
+        agree(&rt, prepared(&mut shard, 3), Ok(wanted));
     }
-    assert_eq!(rt; shard.prepare(3), Err(Refusal::Full));
-    Ok(())
+    agree(&rt, shard.prepare(3), Err(Refusal::Full));
 }

@@ -5,7 +5,6 @@ use super::*;
 use sh_key::Tiny;
 use sh_typed::Typed;
 use sh_value::{Hold, Record};
-use std::test::Fail;
 
 // A record of kind 1 with two words.
 #[derive(Clone, Copy, Debug, PartialEq, Eq)]
@@ -70,20 +69,23 @@ impl Record for Count {
 
 // A record is stored as its kind and its words. To a view of another kind it is refused, and the hold goes back.
 #[test]
-fn typed_records_live_in_a_shard(rt: HostRuntime) -> Result<(), Fail> {
+fn typed_records_live_in_a_shard(rt: HostRuntime) {
     let (heap, seats) = opened::<Tiny>(&rt, rt.alloc(), 1, 1, 1);
-    let shard = adopted(&rt, rt.alloc(), one_pass(&rt, rt.alloc(), &heap, seats), 0);
+    let shard = owner(&rt, rt.alloc(), &heap, seats);
     let mut points = Typed::<_, Point>::new(shard);
-    assert_eq!(rt; points.insert(&Point { x: 5, y: 6 }), Ok(4_096));
+    agree(&rt, points.insert(&Point { x: 5, y: 6 }), Ok(4_096));
     let mut shard = points.into_store();
-    let hold = shard.get(4_096)?;
-    assert_eq!(rt; shard.read(hold), Ok(value(&rt, &[1, 5, 6])));
-    assert_eq!(rt; shard.release(hold), Ok(()));
+    let hold = shard.get(4_096).expect(&rt, "a hold");
+    has_words(&rt, shard.read(hold), &[1, 5, 6]);
+    done(&rt, shard.release(hold));
     let mut counts = Typed::<_, Count>::new(shard);
-    assert_eq!(rt; counts.get(4_096), Err(Refusal::WrongKind));
-    assert_eq!(rt; counts.release(Hold { key: 4_096 }), Err(Refusal::NotHeld));
+    agree(&rt, counts.get(4_096), Err(Refusal::WrongKind));
+    agree(
+        &rt,
+        counts.release(Hold { key: 4_096 }),
+        Err(Refusal::NotHeld),
+    );
     let mut points = Typed::<_, Point>::new(counts.into_store());
-    assert_eq!(rt; points.get(4_096), Ok((hold, Point { x: 5, y: 6 })));
+    agree(&rt, points.get(4_096), Ok((hold, Point { x: 5, y: 6 })));
     let _one = left(&rt, points.into_store());
-    Ok(())
 }

@@ -2,17 +2,13 @@
 use super::filling::fill;
 use super::*;
 use sh_key::Tiny;
-use std::test::Fail;
 
 // Inserts until the shard is full, and answers how many went in.
 fn put_until_full(rt: &impl Abort, shard: &mut Shard<'_, Tiny>) -> u32 {
     for count in 0..25u32 {
-        match put(shard, &sixteen(rt)) {
-            Ok(_) => {}
-            Err(why) => {
-                assert_eq!(rt; why, Refusal::Full);
-                return count;
-            }
+        if let Err(why) = put(shard, &sixteen(rt)) {
+            agree(rt, why, Refusal::Full);
+            return count;
         }
     }
     25
@@ -23,7 +19,7 @@ fn waits<'a>(rt: &impl Abort, shard: Shard<'a, Tiny>) -> Option<Shard<'a, Tiny>>
     match shard.leave() {
         Ok(_) => None,
         Err((shard, why)) => {
-            assert_eq!(rt; why, Refusal::Waiting);
+            agree(rt, why, Refusal::Waiting);
             Some(shard)
         }
     }
@@ -32,24 +28,20 @@ fn waits<'a>(rt: &impl Abort, shard: Shard<'a, Tiny>) -> Option<Shard<'a, Tiny>>
 // Another stops after so many steps of a removal from a page that is not armed.
 fn stopped_unarmed(rt: &impl Abort, alloc: Global, steps: usize, more: u32, waiting: bool) {
     let (heap, seats) = opened::<Tiny>(rt, alloc, 1, 1, 2);
-    let (one, other) = two_passes(rt, alloc, &heap, seats);
-    let mut shard = adopted(rt, alloc, one, 0);
-    for key in [4_096, 4_097, 4_098] {
-        assert_eq!(rt; put(&mut shard, &sixteen(rt)), Ok(key));
-    }
+    let (mut shard, other) = owner_and_other(rt, alloc, &heap, seats);
+    put_each(rt, &mut shard, &[4_096, 4_097, 4_098]);
     let _busy = stopped_at(rt, other, 4_096, steps);
-    assert_eq!(rt; put_until_full(rt, &mut shard), more);
-    assert_eq!(rt; waits(rt, shard).is_some(), waiting);
+    let found = put_until_full(rt, &mut shard);
+    agree(rt, (found, waits(rt, shard).is_some()), (more, waiting));
 }
 
 #[test]
-fn a_caller_stops_at_a_page_that_is_not_armed(rt: HostRuntime) -> Result<(), Fail> {
+fn a_caller_stops_at_a_page_that_is_not_armed(rt: HostRuntime) {
     for steps in 0..5usize {
         stopped_unarmed(&rt, rt.alloc(), steps, 21, false);
     }
     stopped_unarmed(&rt, rt.alloc(), 5, 21, true);
     stopped_unarmed(&rt, rt.alloc(), 6, 22, false);
-    Ok(())
 }
 
 // Another stops after so many steps of a removal from a shard that is full. Answers what an insert is answered then,
@@ -60,8 +52,7 @@ fn stopped_armed(
     steps: usize,
 ) -> (Result<u64, Refusal>, Option<Result<u64, Refusal>>) {
     let (heap, seats) = opened::<Tiny>(rt, alloc, 1, 1, 2);
-    let (one, other) = two_passes(rt, alloc, &heap, seats);
-    let mut shard = adopted(rt, alloc, one, 0);
+    let (mut shard, other) = owner_and_other(rt, alloc, &heap, seats);
     fill(rt, &mut shard);
     let _busy = stopped_at(rt, other, 4_096, steps);
     let first = put(&mut shard, &sixteen(rt));
@@ -72,59 +63,69 @@ fn stopped_armed(
 }
 
 #[test]
-fn a_caller_stops_at_a_page_that_is_armed(rt: HostRuntime) -> Result<(), Fail> {
+fn a_caller_stops_at_a_page_that_is_armed(rt: HostRuntime) {
     let full = Err(Refusal::Full);
     for steps in 0..5usize {
-        assert_eq!(rt; stopped_armed(&rt, rt.alloc(), steps), (full, None));
+        agree(&rt, stopped_armed(&rt, rt.alloc(), steps), (full, None));
     }
-    assert_eq!(rt; stopped_armed(&rt, rt.alloc(), 5), (full, Some(full)));
-    assert_eq!(rt; stopped_armed(&rt, rt.alloc(), 6), (full, Some(Ok(8_192))));
-    assert_eq!(rt; stopped_armed(&rt, rt.alloc(), 7), (full, Some(Ok(8_192))));
-    assert_eq!(rt; stopped_armed(&rt, rt.alloc(), 8), (Ok(8_192), None));
-    Ok(())
+    agree(&rt, stopped_armed(&rt, rt.alloc(), 5), (full, Some(full)));
+    agree(
+        &rt,
+        stopped_armed(&rt, rt.alloc(), 6),
+        (full, Some(Ok(8_192))),
+    );
+    agree(
+        &rt,
+        stopped_armed(&rt, rt.alloc(), 7),
+        (full, Some(Ok(8_192))),
+    );
+    agree(&rt, stopped_armed(&rt, rt.alloc(), 8), (Ok(8_192), None));
 }
 
 // A page that its owner freed a slot of stands in the queue of its class and is armed still. A search takes its stack,
 // so what another put there is found before that one rings.
 #[test]
-fn an_armed_page_in_the_queue_of_its_class_is_taken(rt: HostRuntime) -> Result<(), Fail> {
+fn an_armed_page_in_the_queue_of_its_class_is_taken(rt: HostRuntime) {
     let (heap, seats) = opened::<Tiny>(&rt, rt.alloc(), 1, 1, 2);
-    let (one, other) = two_passes(&rt, rt.alloc(), &heap, seats);
-    let mut shard = adopted(&rt, rt.alloc(), one, 0);
+    let (mut shard, other) = owner_and_other(&rt, rt.alloc(), &heap, seats);
     fill(&rt, &mut shard);
-    assert_eq!(rt; shard.remove(4_096), Ok(()));
-    assert_eq!(rt; put(&mut shard, &sixteen(&rt)), Ok(8_192));
+    done(&rt, shard.remove(4_096));
+    put_sixteen(&rt, &mut shard, Ok(8_192));
     let _busy = stopped_at(&rt, other, 4_097, 6);
-    assert_eq!(rt; put(&mut shard, &sixteen(&rt)), Ok(8_193));
-    Ok(())
+    put_sixteen(&rt, &mut shard, Ok(8_193));
 }
 
-// Two remove a key at the same time: both enter its slot, the owner marks it first, and the other, who marks it too, is
-// the one who finishes it.
-#[test]
-fn of_two_removers_the_last_one_finishes(rt: HostRuntime) -> Result<(), Fail> {
-    let (heap, seats) = opened::<Tiny>(&rt, rt.alloc(), 1, 1, 2);
-    let (one, other) = two_passes(&rt, rt.alloc(), &heap, seats);
-    let mut shard = adopted(&rt, rt.alloc(), one, 0);
-    assert_eq!(rt; put(&mut shard, &sixteen(&rt)), Ok(4_096));
-    let mut busy = other.begin();
-    assert!(rt; busy.act(&Action::EnterRemove(4_096)));
-    assert_eq!(rt; shard.remove(4_096), Ok(()));
-    assert_eq!(rt; shard.remove(4_096), Err(Refusal::Gone));
-    for action in [
+// The pass goes on with its removal, and finishes it. The page is not armed, so it rings nobody.
+fn finish(rt: &impl Abort, busy: &mut Busy<'_, Tiny>) {
+    let actions = [
         Action::Mark,
         Action::Drop,
         Action::Finish,
         Action::Put,
         Action::Tie,
-    ] {
-        assert!(rt; busy.act(&action));
-    }
-    assert!(rt; !busy.act(&Action::Ring));
-    let Ok(mut other) = busy.end() else {
-        panic!(rt; "the hand is idle")
-    };
-    assert_eq!(rt; other.get(4_096), Err(Refusal::Gone));
-    assert_eq!(rt; other.remove(4_096), Err(Refusal::Gone));
-    Ok(())
+    ];
+    act_each(rt, busy, &actions);
+    agree(rt, busy.act(&Action::Ring), false);
+}
+
+// Another enters the slot of a key, the owner removes the key, and the other goes on.
+fn both_remove(rt: &impl Abort, shard: &mut Shard<'_, Tiny>, busy: &mut Busy<'_, Tiny>) {
+    act_each(rt, busy, &[Action::EnterRemove(4_096)]);
+    done(rt, shard.remove(4_096));
+    agree(rt, shard.remove(4_096), Err(Refusal::Gone));
+    finish(rt, busy);
+}
+
+// Two remove a key at the same time: both enter its slot, the owner marks it first, and the other, who marks it too, is
+// the one who finishes it.
+#[test]
+fn of_two_removers_the_last_one_finishes(rt: HostRuntime) {
+    let (heap, seats) = opened::<Tiny>(&rt, rt.alloc(), 1, 1, 2);
+    let (mut shard, other) = owner_and_other(&rt, rt.alloc(), &heap, seats);
+    put_sixteen(&rt, &mut shard, Ok(4_096));
+    let mut busy = other.begin();
+    both_remove(&rt, &mut shard, &mut busy);
+    let mut other = ended(&rt, busy);
+    agree(&rt, other.get(4_096), Err(Refusal::Gone));
+    agree(&rt, other.remove(4_096), Err(Refusal::Gone));
 }

@@ -1,7 +1,6 @@
 //! An owner and another caller at the same time.
 use super::*;
 use sh_key::Wide;
-use std::test::Fail;
 use std::thread::join;
 
 const BATCH: usize = 12;
@@ -59,10 +58,9 @@ fn put_and_remove(shard: &mut Shard<'_, Wide>, value: &Value) -> u32 {
 // In each round the other removes what the owner stored, while the owner stores and removes more. All that was removed
 // can be used in the next round, as the two batches are all that the shard has room for.
 #[test]
-fn an_owner_and_another_step_at_the_same_time(rt: HostRuntime) -> Result<(), Fail> {
+fn an_owner_and_another_step_at_the_same_time(rt: HostRuntime) {
     let (heap, seats) = opened::<Wide>(&rt, rt.alloc(), 1, 1, 2);
-    let (one, mut other) = two_passes(&rt, rt.alloc(), &heap, seats);
-    let mut shard = adopted(&rt, rt.alloc(), one, 0);
+    let (mut shard, mut other) = owner_and_other(&rt, rt.alloc(), &heap, seats);
     for round in 0..50u64 {
         let keys = put_batch(&rt, &mut shard, round);
         let words = sixteen(&rt);
@@ -79,9 +77,7 @@ fn an_owner_and_another_step_at_the_same_time(rt: HostRuntime) -> Result<(), Fai
         );
         shard = back;
         other = back_too;
-        assert_eq!(rt; good, 12);
-        assert_eq!(rt; good_too, 12);
+        agree(&rt, (good, good_too), (12, 12));
     }
     let _one = left(&rt, shard);
-    Ok(())
 }

@@ -5,7 +5,6 @@ ghost use Rattle.sh_shape.specs.Places.{all_pages};
 use super::*;
 use sh_key::Tiny;
 use sh_shape::Place;
-use std::test::Fail;
 
 // The number of the first page over the whole heap.
 fn first_page(rt: &impl Abort, shape: &Shape) -> u64
@@ -32,27 +31,29 @@ fn head_word(rt: &impl Abort, pass: &mut Pass<'_, Tiny>) -> u64 {
     pass.load(Place::Head(page))
 }
 
+// Uses three slots of the first page, and the first of them three times.
+fn retire_first(rt: &impl Abort, shard: &mut Shard<'_, Tiny>) {
+    put_each(rt, shard, &[4_096, 4_097, 4_098]);
+    for key in [4_096, 8_192] {
+        done(rt, shard.remove(key));
+        put_sixteen(rt, shard, Ok(key + 4_096));
+    }
+    done(rt, shard.remove(12_288));
+    for key in [4_096, 8_192, 12_288] {
+        agree(rt, shard.get(key), Err(Refusal::Gone));
+    }
+}
+
 // After its third generation, the last of the layout, a slot is retired: its state word says so, and no owner puts it on
 // the page's stack, whose head stays empty. The slots beside it are live, in their first generation.
 #[test]
-fn a_retired_slot_has_its_word(rt: HostRuntime) -> Result<(), Fail> {
+fn a_retired_slot_has_its_word(rt: HostRuntime) {
     let (heap, seats) = opened::<Tiny>(&rt, rt.alloc(), 1, 1, 1);
-    let mut shard = adopted(&rt, rt.alloc(), one_pass(&rt, rt.alloc(), &heap, seats), 0);
-    for key in [4_096, 4_097, 4_098] {
-        assert_eq!(rt; put(&mut shard, &sixteen(&rt)), Ok(key));
-    }
-    for key in [4_096, 8_192] {
-        assert_eq!(rt; shard.remove(key), Ok(()));
-        assert_eq!(rt; put(&mut shard, &sixteen(&rt)), Ok(key + 4_096));
-    }
-    assert_eq!(rt; shard.remove(12_288), Ok(()));
-    for key in [4_096, 8_192, 12_288] {
-        assert_eq!(rt; shard.get(key), Err(Refusal::Gone));
-    }
+    let mut shard = owner(&rt, rt.alloc(), &heap, seats);
+    retire_first(&rt, &mut shard);
     let mut pass = left(&rt, shard);
-    assert_eq!(rt; state_word(&rt, &mut pass, 0), 15_032_385_536);
-    assert_eq!(rt; state_word(&rt, &mut pass, 1), 5_368_709_120);
-    assert_eq!(rt; state_word(&rt, &mut pass, 2), 5_368_709_120);
-    assert_eq!(rt; head_word(&rt, &mut pass), 0);
-    Ok(())
+    agree(&rt, state_word(&rt, &mut pass, 0), 15_032_385_536);
+    agree(&rt, state_word(&rt, &mut pass, 1), 5_368_709_120);
+    agree(&rt, state_word(&rt, &mut pass, 2), 5_368_709_120);
+    agree(&rt, head_word(&rt, &mut pass), 0);
 }
