@@ -3,6 +3,7 @@
 ghost use Rattle.std.specs.Prelude.{◌≡◌, ◌<◌};
 
 mod changing_hands;
+mod collecting;
 mod filling;
 mod guards;
 mod largest;
