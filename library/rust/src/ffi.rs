@@ -1,0 +1,202 @@
+//! The calls of the library, and handles as Rust uses them. All that is unsafe below a slab stands here.
+//!
+//! What the reasons below lean on. The declarations are those of `shardheap.h`. A handle begins as zeroed bytes, and
+//! nothing but the library writes it. It is never copied: it lies in a value that is neither `Copy` nor `Clone`, and to
+//! move that is to move the handle. No call calls back, so that a handle which one thread has is used by one call.
+use crate::error::{told, Error};
+use crate::key::Key;
+use crate::value::{Value, MAX_WORDS};
+use std::cell::UnsafeCell;
+use std::ffi::c_void;
+use std::sync::{Mutex, MutexGuard, PoisonError};
+use std::thread;
+
+/// What a handle is in memory. Zeroed, it is empty.
+#[repr(C)]
+#[derive(Debug)]
+struct Raw {
+    at: *mut c_void,
+    full: bool,
+}
+
+// SAFETY: a handle owns what it names, and may go to whatever thread: so the library has it of the handles of a heap
+// and of a pass.
+unsafe impl Send for Raw {}
+
+impl Raw {
+    const EMPTY: Raw = Raw {
+        at: std::ptr::null_mut(),
+        full: false,
+    };
+}
+
+extern "C" {
+    fn shardheap_raw_open(heap: *mut Raw, layout: u32, shards: u32, segments: u32, passes: u32) -> u32;
+    fn shardheap_raw_open_for(heap: *mut Raw, layout: u32, owners: u32, values: u64, words: u32, passes: u32) -> u32;
+    fn shardheap_raw_passes(heap: *mut Raw) -> u64;
+    fn shardheap_raw_take(heap: *mut Raw, pass: *mut Raw) -> u32;
+    fn shardheap_raw_close(heap: *mut Raw);
+    fn shardheap_raw_give(pass: *mut Raw) -> u32;
+    fn shardheap_raw_pass_close(pass: *mut Raw);
+    fn shardheap_raw_adopt(pass: *mut Raw, shard: u64) -> u32;
+    fn shardheap_raw_leave(pass: *mut Raw) -> u32;
+    fn shardheap_raw_prepare(pass: *mut Raw, words: u32, page: *mut u32) -> u32;
+    fn shardheap_raw_collect(pass: *mut Raw) -> u32;
+    fn shardheap_raw_insert(pass: *mut Raw, words: *const u64, count: usize, key: *mut u64) -> u32;
+    fn shardheap_raw_get(pass: *mut Raw, key: u64) -> u32;
+    fn shardheap_raw_release(pass: *mut Raw, key: u64) -> u32;
+    fn shardheap_raw_remove(pass: *mut Raw, key: u64) -> u32;
+    fn shardheap_raw_read(pass: *mut Raw, key: u64, words: *mut u64, room: usize, length: *mut u64) -> u32;
+    fn shardheap_raw_load(pass: *mut Raw, key: u64, words: *mut u64, room: usize, length: *mut u64) -> u32;
+}
+
+/// The handle of a heap, which one call at a time locks.
+#[derive(Debug)]
+pub(crate) struct HeapHandle {
+    raw: Mutex<Raw>,
+}
+
+impl HeapHandle {
+    pub(crate) fn open(layout: u32, shards: u32, segments: u32, passes: u32) -> Result<HeapHandle, Error> {
+        let mut raw = Raw::EMPTY;
+        // SAFETY: the handle is an empty one of this function.
+        told(unsafe { shardheap_raw_open(&mut raw, layout, shards, segments, passes) })?;
+        Ok(HeapHandle { raw: Mutex::new(raw) })
+    }
+
+    pub(crate) fn open_for(
+        layout: u32,
+        owners: u32,
+        values: u64,
+        words: u32,
+        passes: u32,
+    ) -> Result<HeapHandle, Error> {
+        let mut raw = Raw::EMPTY;
+        // SAFETY: the handle is an empty one of this function.
+        told(unsafe { shardheap_raw_open_for(&mut raw, layout, owners, values, words, passes) })?;
+        Ok(HeapHandle { raw: Mutex::new(raw) })
+    }
+
+    // Nothing panics while the lock is held, so that what it guards is whole even if it were poisoned.
+    fn lock(&self) -> MutexGuard<'_, Raw> {
+        self.raw.lock().unwrap_or_else(PoisonError::into_inner)
+    }
+
+    pub(crate) fn passes(&self) -> u64 {
+        // SAFETY: the lock gives the handle to this call alone.
+        unsafe { shardheap_raw_passes(&mut *self.lock()) }
+    }
+
+    pub(crate) fn take(&self) -> Result<PassHandle, Error> {
+        let mut pass = Raw::EMPTY;
+        // SAFETY: the lock gives the heap's handle to this call alone, and the pass's is an empty one of this function.
+        told(unsafe { shardheap_raw_take(&mut *self.lock(), &mut pass) })?;
+        Ok(PassHandle {
+            raw: UnsafeCell::new(pass),
+        })
+    }
+}
+
+impl Drop for HeapHandle {
+    fn drop(&mut self) {
+        let raw = self.raw.get_mut().unwrap_or_else(PoisonError::into_inner);
+        // SAFETY: `&mut` gives the handle to this call alone. It is empty afterwards.
+        unsafe { shardheap_raw_close(raw) }
+    }
+}
+
+/// The handle of a pass, which may own a shard. It is not `Sync`: the thread that has it makes one call at a time.
+#[derive(Debug)]
+pub(crate) struct PassHandle {
+    raw: UnsafeCell<Raw>,
+}
+
+/// How often the end of a pass tries to leave its shard, while others are in the middle of a free there.
+const LEAVE_TRIES: u32 = 1000;
+
+impl PassHandle {
+    #[inline]
+    pub(crate) fn get(&self, key: Key) -> Result<(), Error> {
+        // SAFETY: the handle is this thread's, and no other call uses it.
+        told(unsafe { shardheap_raw_get(self.raw.get(), key.into()) })
+    }
+
+    #[inline]
+    pub(crate) fn release(&self, key: Key) -> Result<(), Error> {
+        // SAFETY: as in `get`.
+        told(unsafe { shardheap_raw_release(self.raw.get(), key.into()) })
+    }
+
+    #[inline]
+    pub(crate) fn remove(&self, key: Key) -> Result<(), Error> {
+        // SAFETY: as in `get`.
+        told(unsafe { shardheap_raw_remove(self.raw.get(), key.into()) })
+    }
+
+    #[inline]
+    pub(crate) fn read(&self, key: Key) -> Result<Value, Error> {
+        Value::written(|words, length| {
+            // SAFETY: as in `get`, and `words` has the room that is told.
+            told(unsafe { shardheap_raw_read(self.raw.get(), key.into(), words.as_mut_ptr(), MAX_WORDS, length) })
+        })
+    }
+
+    #[inline]
+    pub(crate) fn load(&self, key: Key) -> Result<Value, Error> {
+        Value::written(|words, length| {
+            // SAFETY: as in `get`, and `words` has the room that is told.
+            told(unsafe { shardheap_raw_load(self.raw.get(), key.into(), words.as_mut_ptr(), MAX_WORDS, length) })
+        })
+    }
+
+    #[inline]
+    pub(crate) fn insert(&self, words: &[u64]) -> Result<Key, Error> {
+        let mut key = 0;
+        // SAFETY: as in `get`, and a slice has as many words as its length says.
+        told(unsafe { shardheap_raw_insert(self.raw.get(), words.as_ptr(), words.len(), &mut key) })?;
+        Ok(Key::from(key))
+    }
+
+    pub(crate) fn prepare(&self, words: u32) -> Result<u32, Error> {
+        let mut page = 0;
+        // SAFETY: as in `get`.
+        told(unsafe { shardheap_raw_prepare(self.raw.get(), words, &mut page) })?;
+        Ok(page)
+    }
+
+    pub(crate) fn collect(&self) -> Result<(), Error> {
+        // SAFETY: as in `get`.
+        told(unsafe { shardheap_raw_collect(self.raw.get()) })
+    }
+
+    pub(crate) fn adopt(&self, shard: u32) -> Result<(), Error> {
+        // SAFETY: as in `get`.
+        told(unsafe { shardheap_raw_adopt(self.raw.get(), shard.into()) })
+    }
+
+    pub(crate) fn leave(&self) -> Result<(), Error> {
+        // SAFETY: as in `get`.
+        told(unsafe { shardheap_raw_leave(self.raw.get()) })
+    }
+
+    fn give(&mut self) -> Result<(), Error> {
+        // SAFETY: `&mut` gives the handle to this call alone. It is empty where this is done, and else as it was.
+        told(unsafe { shardheap_raw_give(self.raw.get_mut()) })
+    }
+}
+
+impl Drop for PassHandle {
+    /// Brings the pass home, once it has left the shard that it may own.
+    fn drop(&mut self) {
+        for _ in 0..LEAVE_TRIES {
+            if self.give().is_ok() {
+                return;
+            }
+            if self.leave().is_err() {
+                thread::yield_now();
+            }
+        }
+        // SAFETY: `&mut` gives the handle to this call alone. It is empty afterwards.
+        unsafe { shardheap_raw_pass_close(self.raw.get_mut()) }
+    }
+}

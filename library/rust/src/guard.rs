@@ -1,0 +1,141 @@
+//! Guards.
+use crate::error::Error;
+use crate::ffi::PassHandle;
+use crate::key::Key;
+use crate::record::Record;
+use crate::value::Value;
+use std::cell::OnceCell;
+use std::fmt;
+use std::ops::Deref;
+
+/// A hold on a key, which is released when the guard is dropped. Until then the value stays readable and unchanged.
+///
+/// It derefs to the value's words, which it reads when it is first asked for them, and keeps. A guard that is forgotten
+/// (`std::mem::forget`) leaves its hold with the pass for good.
+///
+/// ```
+/// use gearlongan::{Error, Heap, Layout, Shape};
+///
+/// let heap = Heap::open(Layout::Wide, Shape { shards: 1, segments: 1, passes: 1 })?;
+/// let shard = heap.take()?.adopt(0)?;
+/// let guard = shard.get(shard.insert(&[7, 8])?)?;
+/// assert_eq!(guard.len(), 2);
+/// assert_eq!(guard[1], 8);
+/// # Ok::<(), Error>(())
+/// ```
+///
+/// It ends before its pass does:
+///
+/// ```compile_fail
+/// # use gearlongan::{Error, Heap, Layout, Shape};
+/// # let heap = Heap::open(Layout::Wide, Shape { shards: 1, segments: 1, passes: 1 })?;
+/// let shard = heap.take()?.adopt(0)?;
+/// let guard = shard.get(shard.insert(&[7, 8])?)?;
+/// drop(shard);
+/// assert_eq!(*guard, [7, 8]);
+/// # Ok::<(), Error>(())
+/// ```
+#[must_use = "a hold is released when its guard is dropped"]
+pub struct Guard<'p> {
+    pass: &'p PassHandle,
+    key: Key,
+    // What was read, once it was. It cannot change while it is held.
+    value: OnceCell<Value>,
+}
+
+impl<'p> Guard<'p> {
+    #[inline]
+    pub(crate) fn take(pass: &'p PassHandle, key: Key) -> Result<Guard<'p>, Error> {
+        pass.get(key)?;
+        Ok(Guard {
+            pass,
+            key,
+            value: OnceCell::new(),
+        })
+    }
+
+    /// The key that is held.
+    ///
+    /// ```
+    /// # use gearlongan::{Error, Heap, Layout, Shape};
+    /// # let heap = Heap::open(Layout::Wide, Shape { shards: 1, segments: 1, passes: 1 })?;
+    /// # let shard = heap.take()?.adopt(0)?;
+    /// let key = shard.insert(&[7, 8])?;
+    /// assert_eq!(shard.get(key)?.key(), key);
+    /// # Ok::<(), Error>(())
+    /// ```
+    #[inline]
+    pub fn key(&self) -> Key {
+        self.key
+    }
+
+    /// The value.
+    ///
+    /// ```
+    /// # use gearlongan::{Error, Heap, Layout, Shape};
+    /// # let heap = Heap::open(Layout::Wide, Shape { shards: 1, segments: 1, passes: 1 })?;
+    /// # let shard = heap.take()?.adopt(0)?;
+    /// let guard = shard.get(shard.insert(&[7, 8])?)?;
+    /// assert_eq!(*guard.value(), [7, 8]);
+    /// # Ok::<(), Error>(())
+    /// ```
+    #[inline]
+    pub fn value(&self) -> &Value {
+        self.value.get_or_init(|| match self.pass.read(self.key) {
+            Ok(value) => value,
+            Err(error) => unreachable!("a value that is held is read: {error}"),
+        })
+    }
+
+    /// The value as a record.
+    ///
+    /// # Errors
+    ///
+    /// [`Error::WrongKind`].
+    ///
+    /// ```
+    /// # use gearlongan::{Error, Heap, Layout, Shape};
+    /// # let heap = Heap::open(Layout::Wide, Shape { shards: 1, segments: 1, passes: 1 })?;
+    /// # let shard = heap.take()?.adopt(0)?;
+    /// let guard = shard.get(shard.insert_record(&(7, 8))?)?;
+    /// assert_eq!(guard.record(), Ok((7, 8)));
+    /// assert_eq!(guard.record::<[u64; 3]>(), Err(Error::WrongKind));
+    /// # Ok::<(), Error>(())
+    /// ```
+    #[inline]
+    pub fn record<R: Record>(&self) -> Result<R, Error> {
+        self.value().record()
+    }
+}
+
+impl Drop for Guard<'_> {
+    #[inline]
+    fn drop(&mut self) {
+        let released = self.pass.release(self.key);
+        debug_assert_eq!(released, Ok(()), "a guard has a hold");
+    }
+}
+
+impl Deref for Guard<'_> {
+    type Target = [u64];
+
+    #[inline]
+    fn deref(&self) -> &[u64] {
+        self.value()
+    }
+}
+
+impl AsRef<[u64]> for Guard<'_> {
+    fn as_ref(&self) -> &[u64] {
+        self
+    }
+}
+
+impl fmt::Debug for Guard<'_> {
+    fn fmt(&self, f: &mut fmt::Formatter<'_>) -> fmt::Result {
+        f.debug_struct("Guard")
+            .field("key", &self.key)
+            .field("value", self.value())
+            .finish()
+    }
+}

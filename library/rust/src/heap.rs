@@ -1,0 +1,152 @@
+//! Heaps.
+use crate::error::Error;
+use crate::ffi::HeapHandle;
+use crate::pass::Pass;
+
+/// How many shards and pages a heap may have, and so what its keys look like. A page has 48 slots for values of a word,
+/// and fewer for longer ones, down to 3 for 16 words; 8 pages are a segment.
+#[derive(Clone, Copy, Debug, Default, PartialEq, Eq, Hash)]
+#[non_exhaustive]
+pub enum Layout {
+    /// 256 shards of 1,024 pages each.
+    #[default]
+    Wide,
+    /// 64 shards of 256 pages; keys are below 2^52.
+    Tagged,
+    /// 64 shards of 1,048,576 pages; keys use all 64 bits.
+    Deep,
+    /// 4 shards of 16 pages, whose slots serve 3 values each and no more: for tests.
+    Tiny,
+}
+
+impl Layout {
+    fn number(self) -> u32 {
+        match self {
+            Layout::Wide => 0,
+            Layout::Tagged => 1,
+            Layout::Deep => 2,
+            Layout::Tiny => 3,
+        }
+    }
+}
+
+/// How many shards, segments and passes a heap has: at least one of each.
+#[derive(Clone, Copy, Debug, PartialEq, Eq, Hash)]
+pub struct Shape {
+    /// As many as the layout has, at most.
+    pub shards: u32,
+    /// Of each shard. A segment is 8 pages.
+    pub segments: u32,
+    /// At most 64.
+    pub passes: u32,
+}
+
+/// What a heap is to have room for.
+#[derive(Clone, Copy, Debug, PartialEq, Eq, Hash)]
+pub struct Room {
+    /// How many passes insert at the same time: each has a shard.
+    pub owners: u32,
+    /// How many values stand at the same time in the shard of each owner.
+    pub values: u64,
+    /// How long a value is: 0 to 16 words.
+    pub words: u32,
+    /// How many passes there are, owners among them: 1 to 64.
+    pub passes: u32,
+}
+
+/// A heap, with those of its passes that are at home.
+///
+/// Passes have a share of the heap: its memory goes with the last of them, and with the `Heap`, in whatever order.
+///
+/// A `Heap` is [`Sync`]: threads may share it, and take a pass each. Its calls lock a [`Mutex`](std::sync::Mutex) of
+/// the handle. No call of a pass or a shard locks anything.
+#[derive(Debug)]
+pub struct Heap {
+    handle: HeapHandle,
+}
+
+impl Heap {
+    /// Opens a heap of this shape.
+    ///
+    /// # Errors
+    ///
+    /// [`Error::BadShape`] where the numbers are outside the limits of the layout, and [`Error::Memory`].
+    ///
+    /// ```
+    /// use gearlongan::{Error, Heap, Layout, Shape};
+    ///
+    /// let heap = Heap::open(Layout::Wide, Shape { shards: 4, segments: 2, passes: 8 })?;
+    /// assert_eq!(heap.passes(), 8);
+    /// let refused = Heap::open(Layout::Wide, Shape { shards: 257, segments: 2, passes: 8 });
+    /// assert_eq!(refused.err(), Some(Error::BadShape));
+    /// # Ok::<(), Error>(())
+    /// ```
+    pub fn open(layout: Layout, shape: Shape) -> Result<Heap, Error> {
+        let Shape {
+            shards,
+            segments,
+            passes,
+        } = shape;
+        let handle = HeapHandle::open(layout.number(), shards, segments, passes)?;
+        Ok(Heap { handle })
+    }
+
+    /// Opens the least heap that has this room.
+    ///
+    /// # Errors
+    ///
+    /// [`Error::BadShape`] where no heap of the layout has the room, and [`Error::Memory`].
+    ///
+    /// ```
+    /// use gearlongan::{Error, Heap, Layout, Room};
+    ///
+    /// let room = Room { owners: 2, values: 20_000, words: 2, passes: 8 };
+    /// let heap = Heap::open_for(Layout::Wide, room)?;
+    /// assert_eq!(heap.passes(), 8);
+    /// let refused = Heap::open_for(Layout::Wide, Room { words: 17, ..room });
+    /// assert_eq!(refused.err(), Some(Error::BadShape));
+    /// # Ok::<(), Error>(())
+    /// ```
+    pub fn open_for(layout: Layout, room: Room) -> Result<Heap, Error> {
+        let Room {
+            owners,
+            values,
+            words,
+            passes,
+        } = room;
+        let handle = HeapHandle::open_for(layout.number(), owners, values, words, passes)?;
+        Ok(Heap { handle })
+    }
+
+    /// How many passes the heap has, at home or away.
+    ///
+    /// ```
+    /// # use gearlongan::{Error, Heap, Layout, Shape};
+    /// let heap = Heap::open(Layout::Wide, Shape { shards: 1, segments: 1, passes: 2 })?;
+    /// let _pass = heap.take()?;
+    /// assert_eq!(heap.passes(), 2);
+    /// # Ok::<(), Error>(())
+    /// ```
+    pub fn passes(&self) -> u64 {
+        self.handle.passes()
+    }
+
+    /// Takes a pass that is at home. It comes home again when it is dropped.
+    ///
+    /// # Errors
+    ///
+    /// [`Error::NoPass`] where none is at home, and [`Error::Memory`].
+    ///
+    /// ```
+    /// # use gearlongan::{Error, Heap, Layout, Shape};
+    /// let heap = Heap::open(Layout::Wide, Shape { shards: 1, segments: 1, passes: 1 })?;
+    /// let pass = heap.take()?;
+    /// assert_eq!(heap.take().err(), Some(Error::NoPass));
+    /// drop(pass);
+    /// assert!(heap.take().is_ok());
+    /// # Ok::<(), Error>(())
+    /// ```
+    pub fn take(&self) -> Result<Pass, Error> {
+        self.handle.take().map(Pass::of)
+    }
+}

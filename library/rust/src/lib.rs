@@ -1,0 +1,77 @@
+//! A map of small values that threads share, and whose keys are never used again.
+//!
+//! A heap has shards of pages. Each thread uses it by a pass of its own. Any pass may hold, read and remove any key; a
+//! pass that owns a shard also inserts there. A value is at most 16 words of 64 bits; its key is a number that no other
+//! value of the heap ever has, so that a key which is out of date finds nothing.
+//!
+//! - A [`Heap`] is opened with a number of passes, which threads [take](Heap::take).
+//! - A [`Pass`] goes home when it is dropped, for the next thread. It is [`Send`] and not [`Sync`].
+//! - A pass that [adopts](Pass::adopt) a shard is a [`Shard`] until it [leaves](Shard::leave): it also inserts.
+//! - A [`Guard`] keeps a value readable, removed or not, until it is dropped.
+//!
+//! No call of a pass or a shard waits or locks. Memory is taken by [`Heap::open`], [`Heap::take`], [`Pass::adopt`], and
+//! by an insert or a prepare that opens a segment; where it is refused they answer [`Error::Memory`].
+//!
+//! What the calls do is proved, in the library that this crate links. The crate itself is not proved: it is what makes
+//! of C's calls those of safe Rust.
+//!
+//! # Examples
+//!
+//! ```
+//! use gearlongan::{Error, Heap, Layout, Room};
+//!
+//! let heap = Heap::open_for(Layout::Wide, Room { owners: 1, values: 1000, words: 3, passes: 2 })?;
+//! let shard = heap.take()?.adopt(0)?;
+//! let pass = heap.take()?;
+//!
+//! let key = shard.insert(&[7, 8, 9])?;
+//! let guard = pass.get(key)?;
+//! shard.remove(key)?;
+//!
+//! // The key finds nothing any more, and the guard still has the value.
+//! assert_eq!(shard.get(key).err(), Some(Error::Gone));
+//! assert_eq!(*guard, [7, 8, 9]);
+//! # Ok::<(), Error>(())
+//! ```
+//!
+//! Threads have a pass each. The heap goes with the last of them:
+//!
+//! ```
+//! use gearlongan::{Error, Heap, Layout, Shape};
+//! use std::thread;
+//!
+//! let heap = Heap::open(Layout::Wide, Shape { shards: 2, segments: 1, passes: 2 })?;
+//! let (mine, other) = (heap.take()?.adopt(0)?, heap.take()?.adopt(1)?);
+//! drop(heap);
+//!
+//! let key = mine.insert(&[1])?;
+//! let theirs = thread::spawn(move || {
+//!     other.remove(key)?;
+//!     other.insert(&[2])
+//! });
+//! let theirs = theirs.join().expect("the thread ends well")?;
+//! assert_eq!(mine.load(theirs)?, [2]);
+//! assert_eq!(mine.load(key), Err(Error::Gone));
+//! # Ok::<(), Error>(())
+//! ```
+#![forbid(unsafe_op_in_unsafe_fn)]
+#![deny(missing_docs)]
+
+mod error;
+mod ffi;
+mod guard;
+mod heap;
+mod key;
+mod pass;
+mod record;
+mod shard;
+mod value;
+
+pub use error::{AdoptError, Error, LeaveError};
+pub use guard::Guard;
+pub use heap::{Heap, Layout, Room, Shape};
+pub use key::Key;
+pub use pass::Pass;
+pub use record::Record;
+pub use shard::Shard;
+pub use value::{Value, MAX_WORDS};

@@ -1,0 +1,155 @@
+//! Passes.
+use crate::error::{AdoptError, Error};
+use crate::ffi::PassHandle;
+use crate::guard::Guard;
+use crate::key::Key;
+use crate::record::Record;
+use crate::shard::Shard;
+use crate::value::Value;
+
+/// One thread's right to use a heap: [taken](crate::Heap::take) from it, and at home again when it is dropped.
+///
+/// It is [`Send`] and not [`Sync`]: each thread has its own.
+///
+/// ```compile_fail
+/// fn shared<T: Sync>() {}
+/// shared::<gearlongan::Pass>();
+/// ```
+///
+/// No call waits, and only [`adopt`](Pass::adopt) takes memory.
+#[derive(Debug)]
+#[must_use = "a pass goes home when it is dropped"]
+pub struct Pass {
+    pub(crate) handle: PassHandle,
+}
+
+impl Pass {
+    pub(crate) fn of(handle: PassHandle) -> Pass {
+        Pass { handle }
+    }
+
+    /// Takes a hold on a key: its value stays readable until the guard is dropped, removed or not. A pass has at most
+    /// 16 holds, also several on one key.
+    ///
+    /// # Errors
+    ///
+    /// [`Error::BadKey`], [`Error::HoldsFull`], [`Error::Gone`], [`Error::Crowded`].
+    ///
+    /// ```
+    /// # use gearlongan::{Error, Heap, Key, Layout, Shape};
+    /// # let heap = Heap::open(Layout::Wide, Shape { shards: 1, segments: 1, passes: 2 })?;
+    /// let (shard, pass) = (heap.take()?.adopt(0)?, heap.take()?);
+    /// let key = shard.insert(&[7, 8])?;
+    /// let guard = pass.get(key)?;
+    /// shard.remove(key)?;
+    /// assert_eq!(*guard, [7, 8]);
+    /// assert_eq!(pass.get(key).err(), Some(Error::Gone));
+    /// # Ok::<(), Error>(())
+    /// ```
+    #[inline]
+    pub fn get(&self, key: Key) -> Result<Guard<'_>, Error> {
+        Guard::take(&self.handle, key)
+    }
+
+    /// Reads a value and keeps no hold: a get, a read and a release in one.
+    ///
+    /// # Errors
+    ///
+    /// [`Error::BadKey`], [`Error::HoldsFull`], [`Error::Gone`], [`Error::Crowded`].
+    ///
+    /// ```
+    /// # use gearlongan::{Error, Heap, Layout, Shape};
+    /// # let heap = Heap::open(Layout::Wide, Shape { shards: 1, segments: 1, passes: 2 })?;
+    /// # let (shard, pass) = (heap.take()?.adopt(0)?, heap.take()?);
+    /// let key = shard.insert(&[7, 8])?;
+    /// assert_eq!(pass.load(key)?, [7, 8]);
+    /// # Ok::<(), Error>(())
+    /// ```
+    #[inline]
+    pub fn load(&self, key: Key) -> Result<Value, Error> {
+        self.handle.load(key)
+    }
+
+    /// The same, of a value that is a record.
+    ///
+    /// # Errors
+    ///
+    /// Those of [`load`](Pass::load), and [`Error::WrongKind`].
+    ///
+    /// ```
+    /// # use gearlongan::{Error, Heap, Layout, Shape};
+    /// # let heap = Heap::open(Layout::Wide, Shape { shards: 1, segments: 1, passes: 2 })?;
+    /// # let (shard, pass) = (heap.take()?.adopt(0)?, heap.take()?);
+    /// let key = shard.insert_record(&(7, 1000))?;
+    /// let (user, until): (u64, u64) = pass.load_record(key)?;
+    /// assert_eq!((user, until), (7, 1000));
+    /// # Ok::<(), Error>(())
+    /// ```
+    #[inline]
+    pub fn load_record<R: Record>(&self, key: Key) -> Result<R, Error> {
+        self.load(key)?.record()
+    }
+
+    /// Reads the value of a key that this pass has a guard of.
+    ///
+    /// # Errors
+    ///
+    /// [`Error::NotHeld`].
+    ///
+    /// ```
+    /// # use gearlongan::{Error, Heap, Layout, Shape};
+    /// # let heap = Heap::open(Layout::Wide, Shape { shards: 1, segments: 1, passes: 2 })?;
+    /// # let (shard, pass) = (heap.take()?.adopt(0)?, heap.take()?);
+    /// let key = shard.insert(&[7, 8])?;
+    /// assert_eq!(pass.read(key).err(), Some(Error::NotHeld));
+    /// let guard = pass.get(key)?;
+    /// assert_eq!(pass.read(guard.key())?, [7, 8]);
+    /// # Ok::<(), Error>(())
+    /// ```
+    #[inline]
+    pub fn read(&self, key: Key) -> Result<Value, Error> {
+        self.handle.read(key)
+    }
+
+    /// Removes a key: no later get finds it, and its value stays until its last hold goes.
+    ///
+    /// # Errors
+    ///
+    /// [`Error::BadKey`], [`Error::Gone`].
+    ///
+    /// ```
+    /// # use gearlongan::{Error, Heap, Layout, Shape};
+    /// # let heap = Heap::open(Layout::Wide, Shape { shards: 1, segments: 1, passes: 2 })?;
+    /// # let (shard, pass) = (heap.take()?.adopt(0)?, heap.take()?);
+    /// let key = shard.insert(&[7, 8])?;
+    /// pass.remove(key)?;
+    /// assert_eq!(shard.remove(key), Err(Error::Gone));
+    /// # Ok::<(), Error>(())
+    /// ```
+    #[inline]
+    pub fn remove(&self, key: Key) -> Result<(), Error> {
+        self.handle.remove(key)
+    }
+
+    /// Makes the pass the owner of a shard, by its number from 0.
+    ///
+    /// # Errors
+    ///
+    /// The pass, with [`Error::NoShard`], [`Error::Taken`] or [`Error::Memory`].
+    ///
+    /// ```
+    /// # use gearlongan::{Error, Heap, Layout, Shape};
+    /// # let heap = Heap::open(Layout::Wide, Shape { shards: 1, segments: 1, passes: 2 })?;
+    /// let shard = heap.take()?.adopt(0)?;
+    /// let refused = heap.take()?.adopt(0).expect_err("it has an owner");
+    /// assert_eq!(refused.error, Error::Taken);
+    /// let pass = refused.pass;
+    /// # Ok::<(), Error>(())
+    /// ```
+    pub fn adopt(self, shard: u32) -> Result<Shard, AdoptError> {
+        match self.handle.adopt(shard) {
+            Ok(()) => Ok(Shard::of(self)),
+            Err(error) => Err(AdoptError { pass: self, error }),
+        }
+    }
+}

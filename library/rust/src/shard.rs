@@ -1,0 +1,166 @@
+//! Shards.
+use crate::error::{Error, LeaveError};
+use crate::key::Key;
+use crate::pass::Pass;
+use crate::record::Record;
+use crate::value::Value;
+use std::ops::Deref;
+
+/// A shard that a pass owns: it inserts there, and derefs to its pass, whose calls it has.
+///
+/// A shard that is dropped is left, and its pass comes home. Where another pass is in the middle of a free there, this
+/// gives way to other threads for a while; if the free does not end, because its thread was stopped, the shard stays
+/// owned and its pass away, for good. Who wants to know [leaves](Shard::leave).
+#[derive(Debug)]
+#[must_use = "a shard is left when it is dropped"]
+pub struct Shard {
+    pass: Pass,
+}
+
+impl Shard {
+    // The pass owns a shard.
+    pub(crate) fn of(pass: Pass) -> Shard {
+        Shard { pass }
+    }
+
+    /// Stores a value of 0 to 16 words, and tells its key. Where the shard is full it collects, once, and tries again.
+    ///
+    /// # Errors
+    ///
+    /// [`Error::TooLong`], [`Error::Full`], and [`Error::Memory`] where a segment is to be opened.
+    ///
+    /// ```
+    /// # use gearlongan::{Error, Heap, Layout, Shape};
+    /// # let heap = Heap::open(Layout::Wide, Shape { shards: 1, segments: 1, passes: 1 })?;
+    /// let shard = heap.take()?.adopt(0)?;
+    /// let key = shard.insert(&[7, 8])?;
+    /// assert_eq!(shard.load(key)?, [7, 8]);
+    /// assert_eq!(shard.insert(&[0; 17]), Err(Error::TooLong));
+    /// # Ok::<(), Error>(())
+    /// ```
+    #[inline]
+    pub fn insert(&self, words: &[u64]) -> Result<Key, Error> {
+        match self.insert_once(words) {
+            Err(Error::Full) => {
+                self.collect()?;
+                self.insert_once(words)
+            }
+            answer => answer,
+        }
+    }
+
+    /// Stores a record, as [`insert`](Shard::insert) does.
+    ///
+    /// # Errors
+    ///
+    /// [`Error::Full`], and [`Error::Memory`] where a segment is to be opened.
+    ///
+    /// ```
+    /// # use gearlongan::{Error, Heap, Layout, Shape};
+    /// # let heap = Heap::open(Layout::Wide, Shape { shards: 1, segments: 1, passes: 1 })?;
+    /// # let shard = heap.take()?.adopt(0)?;
+    /// let key = shard.insert_record(&(7, 8, [9, 10]))?;
+    /// assert_eq!(shard.load(key)?, [7, 8, 9, 10]);
+    /// # Ok::<(), Error>(())
+    /// ```
+    #[inline]
+    pub fn insert_record<R: Record>(&self, record: &R) -> Result<Key, Error> {
+        self.insert(&Value::of(record))
+    }
+
+    /// Stores a value as [`insert`](Shard::insert) does, but does not collect.
+    ///
+    /// # Errors
+    ///
+    /// [`Error::TooLong`]; [`Error::Full`], where no page that the owner knows of has room: what others freed on pages
+    /// of other lengths it does not look at; and [`Error::Memory`] where a segment is to be opened.
+    ///
+    /// ```
+    /// # use gearlongan::{Error, Heap, Layout, Shape};
+    /// let heap = Heap::open(Layout::Wide, Shape { shards: 1, segments: 1, passes: 2 })?;
+    /// let (shard, pass) = (heap.take()?.adopt(0)?, heap.take()?);
+    /// let keys: Vec<_> = std::iter::from_fn(|| shard.insert_once(&[1]).ok()).collect();
+    /// keys.into_iter().try_for_each(|key| pass.remove(key))?;
+    /// assert_eq!(shard.insert_once(&[1; 16]), Err(Error::Full));
+    /// assert!(shard.insert(&[1; 16]).is_ok());
+    /// # Ok::<(), Error>(())
+    /// ```
+    #[inline]
+    pub fn insert_once(&self, words: &[u64]) -> Result<Key, Error> {
+        self.pass.handle.insert(words)
+    }
+
+    /// Gives a page of the shard to values of so many words, 0 to 16, so that the next 48 of a word, or 3 of 16 words,
+    /// need not look for one. Tells the page's number.
+    ///
+    /// # Errors
+    ///
+    /// [`Error::TooLong`], [`Error::Full`], and [`Error::Memory`] where a segment is to be opened.
+    ///
+    /// ```
+    /// # use gearlongan::{Error, Heap, Layout, Shape};
+    /// # let heap = Heap::open(Layout::Wide, Shape { shards: 1, segments: 1, passes: 1 })?;
+    /// # let shard = heap.take()?.adopt(0)?;
+    /// assert_eq!(shard.prepare(16)?, 0);
+    /// assert_eq!(shard.prepare(17), Err(Error::TooLong));
+    /// # Ok::<(), Error>(())
+    /// ```
+    pub fn prepare(&self, words: usize) -> Result<u32, Error> {
+        let words = u32::try_from(words).map_err(|_| Error::TooLong)?;
+        self.pass.handle.prepare(words)
+    }
+
+    /// Collects what others freed on all pages of the shard, so that pages of which nothing is used may take values of
+    /// another length.
+    ///
+    /// # Errors
+    ///
+    /// None is known.
+    ///
+    /// ```
+    /// # use gearlongan::{Error, Heap, Layout, Shape};
+    /// let heap = Heap::open(Layout::Wide, Shape { shards: 1, segments: 1, passes: 2 })?;
+    /// let (shard, pass) = (heap.take()?.adopt(0)?, heap.take()?);
+    /// let keys: Vec<_> = std::iter::from_fn(|| shard.insert_once(&[1]).ok()).collect();
+    /// keys.into_iter().try_for_each(|key| pass.remove(key))?;
+    /// assert_eq!(shard.insert_once(&[1; 16]), Err(Error::Full));
+    /// shard.collect()?;
+    /// assert!(shard.insert_once(&[1; 16]).is_ok());
+    /// # Ok::<(), Error>(())
+    /// ```
+    pub fn collect(&self) -> Result<(), Error> {
+        self.pass.handle.collect()
+    }
+
+    /// Leaves the shard, with all that is in it, to whoever adopts it next, and gets the pass back.
+    ///
+    /// # Errors
+    ///
+    /// The shard, with [`Error::Waiting`], where another pass is in the middle of a free there.
+    ///
+    /// ```
+    /// # use gearlongan::{Error, Heap, Layout, Shape};
+    /// let heap = Heap::open(Layout::Wide, Shape { shards: 1, segments: 1, passes: 2 })?;
+    /// let (shard, other) = (heap.take()?.adopt(0)?, heap.take()?);
+    /// let key = shard.insert(&[7, 8])?;
+    /// let pass = shard.leave()?;
+    /// let shard = other.adopt(0)?;
+    /// assert_eq!(shard.load(key)?, [7, 8]);
+    /// # Ok::<(), Error>(())
+    /// ```
+    pub fn leave(self) -> Result<Pass, LeaveError> {
+        match self.pass.handle.leave() {
+            Ok(()) => Ok(self.pass),
+            Err(error) => Err(LeaveError { shard: self, error }),
+        }
+    }
+}
+
+impl Deref for Shard {
+    type Target = Pass;
+
+    #[inline]
+    fn deref(&self) -> &Pass {
+        &self.pass
+    }
+}

@@ -1,0 +1,147 @@
+//! Values.
+use crate::error::Error;
+use crate::record::Record;
+use std::fmt;
+use std::hash::{Hash, Hasher};
+use std::ops::Deref;
+
+/// How many words a value may have.
+pub const MAX_WORDS: usize = 16;
+
+/// A value: 0 to 16 words, in place. It derefs to them.
+///
+/// ```
+/// use gearlongan::{Error, Value};
+///
+/// let value = Value::new(&[7, 8])?;
+/// assert_eq!(value, [7, 8]);
+/// assert_eq!(value.iter().sum::<u64>(), 15);
+/// assert_eq!(Value::new(&[0; 17]), Err(Error::TooLong));
+/// # Ok::<(), Error>(())
+/// ```
+#[derive(Clone, Copy)]
+pub struct Value {
+    // At most 16.
+    length: usize,
+    words: [u64; MAX_WORDS],
+}
+
+impl Value {
+    /// The value of these words.
+    ///
+    /// # Errors
+    ///
+    /// [`Error::TooLong`] where they are more than 16.
+    pub fn new(words: &[u64]) -> Result<Value, Error> {
+        let mut value = Value {
+            length: words.len(),
+            words: [0; MAX_WORDS],
+        };
+        value
+            .words
+            .get_mut(..words.len())
+            .ok_or(Error::TooLong)?
+            .copy_from_slice(words);
+        Ok(value)
+    }
+
+    /// The value that a record is stored as.
+    ///
+    /// ```
+    /// use gearlongan::Value;
+    ///
+    /// assert_eq!(Value::of(&(7, [8, 9])), [7, 8, 9]);
+    /// ```
+    pub fn of<R: Record>(record: &R) -> Value {
+        const { assert!(R::WORDS <= MAX_WORDS, "a record has at most 16 words") };
+        let mut value = Value {
+            length: R::WORDS,
+            words: [0; MAX_WORDS],
+        };
+        record.write(&mut value.words[..R::WORDS]);
+        value
+    }
+
+    /// The record that is stored as this value.
+    ///
+    /// # Errors
+    ///
+    /// [`Error::WrongKind`] where it has not as many words as the record, or they are none of its words.
+    ///
+    /// ```
+    /// use gearlongan::{Error, Value};
+    ///
+    /// let value = Value::new(&[7, 8, 9])?;
+    /// assert_eq!(value.record(), Ok((7, [8, 9])));
+    /// assert_eq!(value.record::<u64>(), Err(Error::WrongKind));
+    /// # Ok::<(), Error>(())
+    /// ```
+    pub fn record<R: Record>(&self) -> Result<R, Error> {
+        if self.length != R::WORDS {
+            return Err(Error::WrongKind);
+        }
+        R::read(self).ok_or(Error::WrongKind)
+    }
+
+    /// What `write` writes: words into the room that it is given, and how many they are.
+    #[inline]
+    pub(crate) fn written(
+        write: impl FnOnce(&mut [u64; MAX_WORDS], &mut u64) -> Result<(), Error>,
+    ) -> Result<Value, Error> {
+        let mut value = Value {
+            length: 0,
+            words: [0; MAX_WORDS],
+        };
+        let mut length = 0;
+        write(&mut value.words, &mut length)?;
+        value.length = (length as usize).min(MAX_WORDS);
+        Ok(value)
+    }
+}
+
+impl Deref for Value {
+    type Target = [u64];
+
+    #[inline]
+    fn deref(&self) -> &[u64] {
+        &self.words[..self.length]
+    }
+}
+
+impl AsRef<[u64]> for Value {
+    fn as_ref(&self) -> &[u64] {
+        self
+    }
+}
+
+impl fmt::Debug for Value {
+    fn fmt(&self, f: &mut fmt::Formatter<'_>) -> fmt::Result {
+        (**self).fmt(f)
+    }
+}
+
+impl Hash for Value {
+    fn hash<H: Hasher>(&self, state: &mut H) {
+        (**self).hash(state);
+    }
+}
+
+impl PartialEq for Value {
+    fn eq(&self, other: &Value) -> bool {
+        **self == **other
+    }
+}
+
+impl Eq for Value {}
+
+impl PartialEq<[u64]> for Value {
+    fn eq(&self, other: &[u64]) -> bool {
+        **self == *other
+    }
+}
+
+impl<const N: usize> PartialEq<[u64; N]> for Value {
+    fn eq(&self, other: &[u64; N]) -> bool {
+        **self == *other
+    }
+}
