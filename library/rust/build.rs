@@ -7,11 +7,7 @@ fn link(name: &str, variable: &str, usual: &Path) {
     println!("cargo:rerun-if-env-changed={variable}");
     let folder = env::var_os(variable).map_or_else(|| usual.to_path_buf(), PathBuf::from);
     let archive = folder.join(format!("lib{name}.a"));
-    assert!(
-        archive.is_file(),
-        "there is no {}: {variable} names the folder where it is",
-        archive.display()
-    );
+    assert!(archive.is_file(), "there is no {}: {variable} names the folder where it is", archive.display());
     println!("cargo:rerun-if-changed={}", archive.display());
     println!("cargo:rustc-link-search=native={}", folder.display());
     println!("cargo:rustc-link-lib=static={name}");

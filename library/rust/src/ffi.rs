@@ -24,10 +24,7 @@ struct Raw {
 unsafe impl Send for Raw {}
 
 impl Raw {
-    const EMPTY: Raw = Raw {
-        at: std::ptr::null_mut(),
-        full: false,
-    };
+    const EMPTY: Raw = Raw { at: std::ptr::null_mut(), full: false };
 }
 
 extern "C" {
@@ -91,9 +88,7 @@ impl HeapHandle {
         let mut pass = Raw::EMPTY;
         // SAFETY: the lock gives the heap's handle to this call alone, and the pass's is an empty one of this function.
         told(unsafe { shardheap_raw_take(&mut *self.lock(), &mut pass) })?;
-        Ok(PassHandle {
-            raw: UnsafeCell::new(pass),
-        })
+        Ok(PassHandle { raw: UnsafeCell::new(pass) })
     }
 }
 

@@ -47,11 +47,7 @@ impl<'p> Guard<'p> {
     #[inline]
     pub(crate) fn take(pass: &'p PassHandle, key: Key) -> Result<Guard<'p>, Error> {
         pass.get(key)?;
-        Ok(Guard {
-            pass,
-            key,
-            value: OnceCell::new(),
-        })
+        Ok(Guard { pass, key, value: OnceCell::new() })
     }
 
     /// The key that is held.
@@ -133,9 +129,6 @@ impl AsRef<[u64]> for Guard<'_> {
 
 impl fmt::Debug for Guard<'_> {
     fn fmt(&self, f: &mut fmt::Formatter<'_>) -> fmt::Result {
-        f.debug_struct("Guard")
-            .field("key", &self.key)
-            .field("value", self.value())
-            .finish()
+        f.debug_struct("Guard").field("key", &self.key).field("value", self.value()).finish()
     }
 }

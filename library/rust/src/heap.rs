@@ -82,11 +82,7 @@ impl Heap {
     /// # Ok::<(), Error>(())
     /// ```
     pub fn open(layout: Layout, shape: Shape) -> Result<Heap, Error> {
-        let Shape {
-            shards,
-            segments,
-            passes,
-        } = shape;
+        let Shape { shards, segments, passes } = shape;
         let handle = HeapHandle::open(layout.number(), shards, segments, passes)?;
         Ok(Heap { handle })
     }
@@ -108,12 +104,7 @@ impl Heap {
     /// # Ok::<(), Error>(())
     /// ```
     pub fn open_for(layout: Layout, room: Room) -> Result<Heap, Error> {
-        let Room {
-            owners,
-            values,
-            words,
-            passes,
-        } = room;
+        let Room { owners, values, words, passes } = room;
         let handle = HeapHandle::open_for(layout.number(), owners, values, words, passes)?;
         Ok(Heap { handle })
     }

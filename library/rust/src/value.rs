@@ -33,15 +33,8 @@ impl Value {
     ///
     /// [`Error::TooLong`] where they are more than 16.
     pub fn new(words: &[u64]) -> Result<Value, Error> {
-        let mut value = Value {
-            length: words.len(),
-            words: [0; MAX_WORDS],
-        };
-        value
-            .words
-            .get_mut(..words.len())
-            .ok_or(Error::TooLong)?
-            .copy_from_slice(words);
+        let mut value = Value { length: words.len(), words: [0; MAX_WORDS] };
+        value.words.get_mut(..words.len()).ok_or(Error::TooLong)?.copy_from_slice(words);
         Ok(value)
     }
 
@@ -54,10 +47,7 @@ impl Value {
     /// ```
     pub fn of<R: Record>(record: &R) -> Value {
         const { assert!(R::WORDS <= MAX_WORDS, "a record has at most 16 words") };
-        let mut value = Value {
-            length: R::WORDS,
-            words: [0; MAX_WORDS],
-        };
+        let mut value = Value { length: R::WORDS, words: [0; MAX_WORDS] };
         record.write(&mut value.words[..R::WORDS]);
         value
     }
@@ -88,10 +78,7 @@ impl Value {
     pub(crate) fn written(
         write: impl FnOnce(&mut [u64; MAX_WORDS], &mut u64) -> Result<(), Error>,
     ) -> Result<Value, Error> {
-        let mut value = Value {
-            length: 0,
-            words: [0; MAX_WORDS],
-        };
+        let mut value = Value { length: 0, words: [0; MAX_WORDS] };
         let mut length = 0;
         write(&mut value.words, &mut length)?;
         value.length = (length as usize).min(MAX_WORDS);

@@ -1,0 +1,45 @@
+//! Memory that is refused: the process may have no more. (`library/c/memory.c` refuses each allocation in turn.)
+#![cfg(all(target_os = "linux", target_pointer_width = "64"))]
+use gearlongan::{Error, Heap, Layout, Room};
+
+#[repr(C)]
+#[derive(Clone, Copy)]
+struct Limit {
+    soft: u64,
+    hard: u64,
+}
+
+extern "C" {
+    fn getrlimit(resource: i32, limit: *mut Limit) -> i32;
+    fn setrlimit(resource: i32, limit: *const Limit) -> i32;
+}
+
+const ADDRESS_SPACE: i32 = 9;
+
+/// Runs it while the process may have no more memory than it has.
+fn without_memory<T>(act: impl FnOnce() -> T) -> T {
+    let mut usual = Limit { soft: 0, hard: 0 };
+    // SAFETY: C's own calls, with a limit of this function.
+    assert_eq!(unsafe { getrlimit(ADDRESS_SPACE, &mut usual) }, 0);
+    let none = Limit { soft: 1, ..usual };
+    // SAFETY: as above.
+    assert_eq!(unsafe { setrlimit(ADDRESS_SPACE, &none) }, 0);
+    let result = act();
+    // SAFETY: as above.
+    assert_eq!(unsafe { setrlimit(ADDRESS_SPACE, &usual) }, 0);
+    result
+}
+
+#[test]
+fn refused_memory_is_an_answer() {
+    let room = Room { owners: 1, values: 1, words: 1, passes: 64 };
+    let heap = Heap::open_for(Layout::Wide, room).expect("it opens");
+    let large = Room { owners: 4, values: 1_000_000, words: 16, passes: 1 };
+    let (opened, passes) = without_memory(|| (Heap::open_for(Layout::Deep, large), [heap.take(), heap.take()]));
+    assert_eq!(opened.err(), Some(Error::Memory));
+    // What is small may have been granted from what the process had; nothing is lost where it was not.
+    assert!(passes.iter().all(|pass| pass.is_ok() || matches!(pass, Err(Error::Memory))));
+    drop(passes);
+    let all: Vec<_> = std::iter::from_fn(|| heap.take().ok()).collect();
+    assert_eq!(all.len(), 64);
+}
