@@ -9,6 +9,8 @@
 //! - A pass that [adopts](Pass::adopt) a shard is a [`Shard`] until it [leaves](Shard::leave): it also inserts.
 //! - A [`Guard`] keeps a value readable, removed or not, until it is dropped.
 //!
+//! [`slab::Slab`] stores values of any type over a heap.
+//!
 //! No call of a pass or a shard waits or locks. Memory is taken by [`Heap::open`], [`Heap::take`], [`Pass::adopt`], and
 //! by an insert or a prepare that opens a segment; where it is refused they answer [`Error::Memory`].
 //!
@@ -65,6 +67,8 @@ mod key;
 mod pass;
 mod record;
 mod shard;
+#[cfg(target_pointer_width = "64")]
+pub mod slab;
 mod value;
 
 pub use error::{AdoptError, Error, LeaveError};
