@@ -1,8 +1,8 @@
 //! A slab of values of any type over a heap, with the interface of the crate `sharded-slab`.
 //!
 //! A value lies in a node of its own, and the heap has the node's address as a value of one word. So what is proved of
-//! the heap's keys is true of the slab's: none is used again, and none finds what was stored under another. That a value
-//! is dropped once, and by the last that uses it, is **not proved**: it stands in this module, in Rust.
+//! the heap's keys is true of the slab's: none is used again, and none finds what was stored under another. That a
+//! value is dropped once, and by the last that uses it, is **not proved**: it stands in this module, in Rust.
 //!
 //! ```
 //! use gearlongan::slab::Slab;
@@ -19,9 +19,9 @@
 //! ```
 //!
 //! Whoever removes a value that others use leaves it to the last of them. Inserts and removals lock a list of nodes for
-//! a moment; to get a value does not, where the thread has a pass: 63 threads have one at the same time, and 15 of them a
-//! shard. The others use one together, behind a lock. A node's memory goes with the slab, and that of the heap once no
-//! thread has a pass of it any more: when it ends, or comes to use another slab.
+//! a moment; to get a value does not, where the thread has a pass: 63 threads have one at the same time, and 15 of them
+//! a shard. The others use one together, behind a lock. A node's memory goes with the slab, and that of the heap once
+//! no thread has a pass of it any more: when it ends, or comes to use another slab.
 mod members;
 mod nodes;
 
@@ -204,6 +204,22 @@ impl<T> Slab<T> {
     /// ```
     pub fn contains(&self, key: usize) -> bool {
         self.get(key).is_some()
+    }
+
+    /// All values, in no order.
+    ///
+    /// ```
+    /// # use gearlongan::slab::Slab;
+    /// let mut slab = Slab::new();
+    /// let (one, _other) = (slab.insert(7), slab.insert(8));
+    /// assert_eq!(slab.unique_iter().sum::<i32>(), 15);
+    /// assert!(one.is_some_and(|key| slab.remove(key)));
+    /// assert_eq!(slab.unique_iter().collect::<Vec<_>>(), [&8]);
+    /// ```
+    pub fn unique_iter(&mut self) -> impl Iterator<Item = &T> + '_ {
+        let members = &self.members;
+        // (An entry that was forgotten has a value whose key is gone.)
+        self.nodes.values().filter(|(key, _)| members.load(*key).is_some()).map(|(_, value)| value)
     }
 }
 

@@ -76,6 +76,20 @@ impl<T> Nodes<T> {
         Vacant { nodes: self, node }
     }
 
+    /// All values that are used, each with its key.
+    pub(super) fn values(&mut self) -> impl Iterator<Item = (Key, &T)> + '_ {
+        let lists = self.lists.get_mut().unwrap_or_else(PoisonError::into_inner);
+        lists.all.iter().filter_map(|node| {
+            // SAFETY: the memory of nodes stays as long as `self`, which the items borrow.
+            let node = unsafe { node.as_ref() };
+            if node.users.load(Acquire) == 0 {
+                return None;
+            }
+            // SAFETY: it has users, and none goes while `self` is borrowed.
+            Some((Key::from(node.key.load(Relaxed)), unsafe { node.value() }))
+        })
+    }
+
     /// Becomes a user of a key's value: None where it is not there any more, or not yet.
     ///
     /// # Safety
