@@ -11,7 +11,8 @@ use Rattle.sh_handles.specs.Members.{AnyDoes}
 use Rattle.sh_c.specs.Told.{Asked, AskedNumber, ReadBy, ReadTold, code_of, number_told}
 
 pub asked : {V A : Type 0} (does : V → Result A Refusal → V → Type 0) (code : ℕ) (a b : Option V) (v w : V)
-    (answer : Result A Refusal) → a ≡ Some v → b ≡ Some w → code ≡ code_of answer → does v answer w → Asked does code a b
+    (answer : Result A Refusal) → a ≡ Some v → b ≡ Some w → code ≡ code_of answer → does v answer w
+    → Asked does code a b
 asked does code a b v w answer is was e d = subst (λ o. Asked does code o b) (sym is) (w, was, (answer, e, d))
 
 pub asked_number : {V : Type 0} (does : V → Result ℕ Refusal → V → Type 0) (code old new : ℕ) (a b : Option V)

@@ -22,8 +22,8 @@ HeapPut (Err why) code after = (code ≡ refusal_number why) × (after ≡ None)
 
 -- an opening of the layout of this number by code: a full handle stays as it was, and so does an empty one where there
 -- is no such layout
-abbrev pub OpenTold : (Layout → Result AnyHeap Refusal → Type 0) → (number code : ℕ) → Option AnyHeap → Option AnyHeap
-    → Type 0
+abbrev pub OpenTold : (Layout → Result AnyHeap Refusal → Type 0) → (number code : ℕ) → Option AnyHeap
+    → Option AnyHeap → Type 0
 OpenTold opens number code (Some heap) after = (code ≡ 15) × (after ≡ Some heap)
 OpenTold opens number code None after = ((3 < number) × (code ≡ 19) × (after ≡ None))
     ⊎ ((name : LayoutName) × (layout_number name ≡ number) × PutOpened (opens (layout_named name)) code after)
@@ -37,8 +37,8 @@ PassesTold told (Some heap) after = (told ≡ (heap_of heap).shape.passes) × (a
 abbrev pub HasBegun : AnyHeap → Option AnyMember → Type 0
 HasBegun heap o = (m : AnyMember) × (o ≡ Some m) × AnyBegins heap m
 
--- what an empty handle of a pass has after a take from this heap: a pass that was at home, or nothing where none was, or
--- memory was refused
+-- what an empty handle of a pass has after a take from this heap: a pass that was at home, or nothing where none was,
+-- or memory was refused
 abbrev pub TakesPass : AnyHeap → ℕ → Option AnyMember → Type 0
 TakesPass heap code (Some m) = (code ≡ 0) × AnyBegins heap m
 TakesPass heap code None = (code ≡ 16) ⊎ (code ≡ 8)

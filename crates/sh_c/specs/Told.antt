@@ -19,8 +19,8 @@ code_of (Err refusal) = refusal_number refusal
 abbrev pub empty_code : ℕ
 empty_code = 14
 
--- what a call does that the value behind a handle is asked: where there is none the code is 14 and nothing is done; else
--- there is an answer with this code, and the value did what that answer says
+-- what a call does that the value behind a handle is asked: where there is none the code is 14 and nothing is done;
+-- else there is an answer with this code, and the value did what that answer says
 abbrev pub Asked : {V A : Type 0} → (V → Result A Refusal → V → Type 0) → ℕ → Option V → Option V → Type 0
 Asked does code None after = (code ≡ empty_code) × (after ≡ None)
 Asked {V} {A} does code (Some v) after = (w : V) × (after ≡ Some w)

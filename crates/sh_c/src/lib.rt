@@ -1,7 +1,7 @@
 //! The heap for C: a static library.
 //!
-//! A handle holds a heap, a pass or nothing, and each call asks whether it does. The answers are codes: 0, the number of
-//! a refusal, or one of those in `codes`. No pointer may be null: the header `shardheap.h` has a call beside each of
+//! A handle holds a heap, a pass or nothing, and each call asks whether it does. The answers are codes: 0, the number
+//! of a refusal, or one of those in `codes`. No pointer may be null: the header `shardheap.h` has a call beside each of
 //! these that looks.
 #![tactic(auto)]
 

@@ -4,17 +4,13 @@ ghost use Rattle.sh_handles.specs.Heaps.{OpensShaped, OpensFor};
 ghost use Rattle.sh_c.specs.Opened.{OpenTold, HeapPut};
 
 use crate::codes::{BAD_LAYOUT, OCCUPIED, OK};
-use sh_handles::{AnyHeap, HeapHandle};
 use sh_handles::heap::LayoutName;
+use sh_handles::{AnyHeap, HeapHandle};
 use sh_value::Refusal;
 use std::alloc::Global;
 
 // Puts what was opened into an empty handle.
-fn put_opened(
-    alloc: Global,
-    heap: &mut HeapHandle,
-    opened: Result<AnyHeap, Refusal>,
-) -> u32
+fn put_opened(alloc: Global, heap: &mut HeapHandle, opened: Result<AnyHeap, Refusal>) -> u32
     requires { heap.old.slot.value ≡ None }
     ensures { HeapPut opened result heap.new.slot.value }
 {

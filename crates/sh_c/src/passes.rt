@@ -23,7 +23,8 @@ pub extern "C" fn shardheap_raw_passes(alloc: Global, heap: &mut HeapHandle) -> 
 
 // A pass that is at home, in a box.
 fn next_pass(alloc: Global, heap: &AnyHeap) -> Result<Option<PassHandle>, Refusal>
-    ensures { MatchResult result (λ taken. IfSome taken (λ pass. HasBegun heap.now pass.slot.value)) (λ why. why ≡ Memory) }
+    ensures { MatchResult result (λ taken. IfSome taken (λ pass. HasBegun heap.now pass.slot.value))
+        (λ why. why ≡ Memory) }
 {
     let Some(member) = heap.take() else {
         return Ok(None);

@@ -3,7 +3,8 @@ ghost use Rattle.std.specs.Prelude.{◌≡◌, ◌<◌, IfSome, MatchOption, Mat
 ghost use Rattle.sh_shape.specs.Rooms.{IsLeastRoomy, NoneRoomy};
 ghost use Rattle.sh_value.specs.declared.refusal.Refusal.TheVariants.{BadShape};
 ghost use Rattle.sh_pool.specs.Berths.{OpensPool};
-ghost use Rattle.sh_handles.specs.Heaps.{AnyOpens, OpensShaped, OpensFor, AnyBegins, heap_of, layout_named, layout_number};
+ghost use Rattle.sh_handles.specs.Heaps.{AnyOpens, OpensShaped, OpensFor, AnyBegins};
+ghost use Rattle.sh_handles.specs.Heaps.{heap_of, layout_named, layout_number};
 ghost use Rattle.sh_handles.specs.Members.{Begins};
 
 use crate::member::AnyMember;
