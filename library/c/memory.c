@@ -1,5 +1,5 @@
-/* Each allocation refused in turn: a call that takes memory answers MEMORY and leaves all as it was, and in the end no
-   block is left over. It is linked with --wrap=malloc, --wrap=realloc and --wrap=free, so that what the library asks for is
+/* Each allocation refused in turn: a call that takes memory answers MEMORY and leaves all as it was, so that it may be
+   tried again, and in the end no block is left over. It is linked with --wrap=malloc, --wrap=realloc and --wrap=free, so that what the library asks for is
    counted here. */
 #include "check.h"
 
@@ -38,45 +38,70 @@ void __wrap_free(void *at) {
 
 static uint64_t words[16] = {1, 2, 3};
 
-/* A heap's whole life. Answers whether it came to its end, or was refused memory on the way. */
-static int lives(void) {
+/* A call that was refused memory, or not. A refused one is tried again with memory, and then it does what it does. */
+static int refused;
+#define TRY(call, stands)                \
+    do {                                 \
+        uint32_t code = (call);          \
+        if (code == SHARDHEAP_MEMORY) {  \
+            refused++;                   \
+            TRUE(stands);                \
+            budget = -1;                 \
+            code = (call);               \
+        }                                \
+        same_code(code, SHARDHEAP_OK, #call, __FILE__, __LINE__); \
+    } while (0)
+
+/* An owner of a shard inserts, prepares a page in a further segment and leaves; another reads and removes. */
+static void owns(shardheap_pass *one, shardheap_pass *two) {
+    uint64_t key = 77, room[16], length, other = 77;
+    uint32_t page = 55;
+    TRY(shardheap_adopt(one, 0), shardheap_leave(one) == SHARDHEAP_NO_SHARD);
+    TRY(shardheap_insert(one, words, 3, &key), key == 77);
+    for (int n = 0; n < 7; n++) IS(shardheap_prepare(one, 16, &page), SHARDHEAP_OK);
+    page = 55;
+    TRY(shardheap_prepare(one, 16, &page), page == 55);
+    TRY(shardheap_insert(one, words, 1, &other), other == 77);
+    IS(shardheap_load(two, key, room, 16, &length), SHARDHEAP_OK);
+    TRUE(length == 3 && room[2] == 3);
+    IS(shardheap_remove(two, key), SHARDHEAP_OK);
+    IS(shardheap_leave(one), SHARDHEAP_OK);
+}
+
+/* A heap's whole life. */
+static void lives(uint32_t layout) {
     shardheap heap = SHARDHEAP_INIT;
     shardheap_pass one = SHARDHEAP_INIT, two = SHARDHEAP_INIT;
-    uint64_t key, room[16], length;
-    uint32_t code = shardheap_open(&heap, SHARDHEAP_WIDE, 2, 2, 2);
-    if (code == SHARDHEAP_OK) code = shardheap_take(&heap, &one);
-    if (code == SHARDHEAP_OK) code = shardheap_take(&heap, &two);
-    if (code == SHARDHEAP_OK) code = shardheap_adopt(&one, 0);
-    if (code == SHARDHEAP_OK) code = shardheap_insert(&one, words, 3, &key);
-    if (code == SHARDHEAP_OK) {
-        IS(shardheap_load(&two, key, room, 16, &length), SHARDHEAP_OK);
-        TRUE(length == 3 && room[2] == 3);
-        IS(shardheap_remove(&two, key), SHARDHEAP_OK);
-        IS(shardheap_leave(&one), SHARDHEAP_OK);
-    } else {
-        IS(code, SHARDHEAP_MEMORY);
-        if (one.full) shardheap_leave(&one);
-    }
-    if (one.full) IS(shardheap_give(&one), SHARDHEAP_OK);
-    if (two.full) IS(shardheap_give(&two), SHARDHEAP_OK);
+    TRY(shardheap_open(&heap, layout, 2, 2, 2), !heap.full);
+    TRY(shardheap_take(&heap, &one), !one.full && heap.full);
+    TRY(shardheap_take(&heap, &two), !two.full && heap.full);
+    owns(&one, &two);
+    IS(shardheap_give(&one), SHARDHEAP_OK);
+    IS(shardheap_give(&two), SHARDHEAP_OK);
     shardheap_close(&heap);
-    return code == SHARDHEAP_OK;
+    TRUE(blocks == 0);
+}
+
+/* How many allocations a life in this layout takes, each of which is refused in turn. */
+static long refuses_each(uint32_t layout) {
+    granted = 0;
+    lives(layout);
+    long all = granted;
+    TRUE(refused == 0);
+    for (long n = 0; n < all; n++) {
+        budget = n;
+        refused = 0;
+        lives(layout);
+        TRUE(refused == 1);
+    }
+    budget = -1;
+    refused = 0;
+    return all;
 }
 
 int main(void) {
-    long refused = 0;
-    TRUE(lives());
-    TRUE(blocks == 0);
-    long all = granted;
-    for (long n = 0; n < all; n++) {
-        budget = n;
-        TRUE(!lives());
-        TRUE(blocks == 0);
-        refused++;
-    }
-    budget = -1;
-    TRUE(lives());
-    TRUE(blocks == 0);
-    printf("memory: each of %ld allocations refused in turn, and no block is left over\n", refused);
+    long all = 0;
+    for (uint32_t layout = 0; layout < 4; layout++) all += refuses_each(layout);
+    printf("memory: each of %ld allocations refused in turn, and no block is left over\n", all);
     return 0;
 }
