@@ -1,6 +1,6 @@
 -- What bells and the links of pages name are pages of the heap, so their words are small.
 use Rattle.std.proofs.Common.{◌≡◌, ℕ, zero, suc, ◌+◌, ◌-◌, ◌*◌, ◌<◌, ◌≤◌, ◌==◌, Bool, true, false, cond, List, [], ◌∷◌}
-use Rattle.std.proofs.Common.{refl, ap, ◌∙◌, subst, arith}
+use Rattle.std.proofs.Common.{refl, ap, ◌∙◌, subst, arith, eqb-true, eq-eqb}
 use Rattle.std.specs.Prelude.{not, nat_lt}
 use Rattle.sh_step.specs.Collections.{total, if1}
 use Rattle.sh_step.specs.Plans.{Plan, Lawful, heap_pages, home, page_number, over_heap}
@@ -12,7 +12,8 @@ use Rattle.sh_core.specs.Knows.{AllKnow}
 use Rattle.sh_core.specs.Within.{AllWithin, BellsAreSmall}
 use Rattle.sh_core.proofs.PageNumbers.{over_some}
 use Rattle.sh_core.proofs.PlacesWithin.{belled}
-use Rattle.sh_core.proofs.StackSteps.{page_same, same_page, times_cons}
+use Rattle.sh_core.proofs.Tests.{if1_self}
+use Rattle.sh_core.proofs.ListCounts.{times_cons}
 
 -- an item of a chain links to what stands behind it
 chained_at : (word owed : ℕ → ℕ) (q : ℕ) (xs : List ℕ) → Chained word owed xs → 0 < times q xs → (rest : List ℕ)
@@ -23,7 +24,7 @@ chained_at word owed q (x ∷ xs) h some = go (x == q) refl some (λ k. chained_
   go : (b : Bool) → (x == q) ≡ b → 0 < if1 b + times q xs → (0 < times q xs → (rest : List ℕ)
       × (word q + owed q ≡ link_to rest) × ((s : ℕ) → times s rest ≤ times s xs)) → (rest : List ℕ)
       × (word q + owed q ≡ link_to rest) × ((s : ℕ) → times s rest ≤ times s (x ∷ xs))
-  go true e some rest = let i = same_page x q e in let P : ℕ → Type 0 = λ k. word k + owed k ≡ link_to xs
+  go true e some rest = let i = eqb-true x q e in let P : ℕ → Type 0 = λ k. word k + owed k ≡ link_to xs
       in (xs, subst P i h.0, λ s. let t = times_cons s x xs in omega arith)
   go false e some rest = let r = rest (omega arith) in (
     r.0,
@@ -42,20 +43,20 @@ over_small plan n k m = go (nat_lt m k) refl where
 
 module _ (plan : Plan) (w : World) (l : PutLists) (laws : Lawful plan) (all : All plan w l) (know : AllKnow plan w)
     (within : AllWithin plan w) where
-  listed : (n : ℕ) (xs : List ℕ) → ((s : ℕ) → times s xs ≤ times s (l.bells n) + times s (l.bell_chain n))
+  names_small : (n : ℕ) (xs : List ℕ) → ((s : ℕ) → times s xs ≤ times s (l.bells n) + times s (l.bell_chain n))
       → (top xs ≤ heap_pages plan) × (link_to xs ≤ heap_pages plan + 1)
-  listed n [] few = (omega arith, omega arith)
-  listed n (s ∷ xs) few =
+  names_small n [] few = (omega arith, omega arith)
+  names_small n (s ∷ xs) few =
       let f = few s in
       let t = times_cons s s xs in
-      let one : if1 (s == s) ≡ 1 = rw (page_same s) refl in
+      let one = if1_self s in
       let b = belled plan w l laws all know within n s (omega arith) in (omega arith, omega arith)
 
   bell_small : (n : ℕ) → w.words.bell_at n ≤ heap_pages plan
   bell_small n =
       let t = all.rest.bells.tops n in
       let s = over_small plan n 1 (w.words.bell_at n) in
-      let f = (listed n (l.bells n) (λ s. omega arith)).0 in omega arith
+      let f = (names_small n (l.bells n) (λ s. omega arith)).0 in omega arith
 
   link_small : (q : ℕ) → w.words.page_link_at q ≤ heap_pages plan + 1
   link_small q = go (w.words.page_link_at q == 0) refl where
@@ -69,19 +70,19 @@ module _ (plan : Plan) (w : World) (l : PutLists) (laws : Lawful plan) (all : Al
     owed k = total (ring_tying plan n k) w.parts
 
     here : word q ≡ over_heap plan n 2 (w.words.page_link_at q)
-    here = rw (page_same (home plan q)) refl
+    here = rw (eq-eqb (home plan q) (home plan q) refl) refl
 
     ends : (xs : List ℕ) → Chained word owed xs → ((s : ℕ) → times s xs ≤ times s (l.bells n) + times s
         (l.bell_chain n)) → 0 < times q xs → w.words.page_link_at q ≤ heap_pages plan + 1
     ends xs c few some =
         let r = chained_at word owed q xs c some in
-        let f = (listed n r.0 (λ s. let a = r.2 s in let b = few s in omega arith)).1 in
+        let f = (names_small n r.0 (λ s. let a = r.2 s in let b = few s in omega arith)).1 in
         let s = over_small plan n 2 (w.words.page_link_at q) in
         let h = here in
         let e = r.1 in omega arith
 
     go : (b : Bool) → (w.words.page_link_at q == 0) ≡ b → w.words.page_link_at q ≤ heap_pages plan + 1
-    go true e = let i = same_page (w.words.page_link_at q) 0 e in omega arith
+    go true e = let i = eqb-true (w.words.page_link_at q) 0 e in omega arith
     go false e =
         let z : (word q == 0) ≡ false = ap (λ (k : ℕ). k == 0) here ∙ over_some plan n (w.words.page_link_at q) e in
         let y : if1 (not (word q == 0)) ≡ 1 = rw z refl in

@@ -1,7 +1,7 @@
 -- A change of a page's class, and what keeps the words sound.
 use Rattle.std.proofs.Common.{◌≡◌, ◌≢◌, ℕ, zero, suc, ◌+◌, ◌-◌, ◌*◌, ◌<◌, ◌≤◌, ◌==◌, ◌&&◌, ◌||◌, ◌⊎◌, inl, inr, Bool}
-use Rattle.std.proofs.Common.{true, false, cond, List, length, set, take, sym, refl, ap, ◌∙◌, subst, arith, Some, None}
-use Rattle.std.proofs.Common.{slice_get}
+use Rattle.std.proofs.Common.{true, false, cond, set, sym, refl, ap, ◌∙◌, subst, arith, Some, None, slice_get, eqb-true}
+use Rattle.std.proofs.Common.{eq-eqb, ltb-true}
 use Rattle.std.specs.Prelude.{not, nat_lt}
 use Rattle.std.proofs.lemmas.Bool.Decides.{nat_tests}
 use Rattle.sh_slots.specs.declared.hand.Spot.{Spot}
@@ -18,21 +18,20 @@ use Rattle.sh_step.specs.declared.body.Body.{Body}
 use Rattle.sh_core.specs.Lists.{PutLists, mine_at, in_hand}
 use Rattle.sh_core.specs.Stacks.{spot}
 use Rattle.sh_core.specs.Placed.{SoundOf}
-use Rattle.sh_step.specs.Rows.{class_word_noted, all_mine}
+use Rattle.sh_step.specs.Rows.{all_mine}
 use Rattle.sh_core.specs.Worlds.{World, value_at, words_from}
 use Rattle.sh_core.specs.Tallies.{room, queued, SlotsFine}
 use Rattle.sh_core.specs.Good.{Good, FillFine}
-use Rattle.sh_step.proofs.Truths.{lt_of}
-use Rattle.sh_core.proofs.Totals.{total_set, total_at, total_without, total_append}
-use Rattle.sh_core.proofs.StateWords.{put2_same, put2_other}
-use Rattle.sh_core.proofs.Slots.{tally_set, same_spot-refl, same_spot-true}
+use Rattle.sh_core.proofs.Totals.{total_set, total_at, total_append}
+use Rattle.sh_core.proofs.Slots.{tally_set, same_spot-true, if1_same_spot}
 use Rattle.sh_core.proofs.GoodStep.{good_at}
-use Rattle.sh_core.proofs.SlotGood.{no_or}
 use Rattle.sh_core.proofs.FillGood.{keys_value}
 use Rattle.sh_core.proofs.More.{spots_total}
-use Rattle.sh_core.proofs.StackSteps.{put_same, put_other, same_page, page_same}
 use Rattle.sh_core.proofs.OwnerKinds.{times_drop, classed}
 use Rattle.sh_core.proofs.GoodKinds.{with}
+use Rattle.sh_core.proofs.Tests.{if1_neither}
+use Rattle.sh_core.proofs.ListCounts.{has_some}
+use Rattle.sh_core.proofs.Writes.{put2_same, put2_other, put_same, put_other}
 
 every_spots : (f : Spot → Bool) (q s m : ℕ) → every f (spots q s m) ≡ true → (t : ℕ) → s ≤ t → t < s + m → f (spot q t)
     ≡ true
@@ -43,13 +42,10 @@ every_spots f q s (suc m) h t a b = go (f (spot q s)) refl h (t == s) refl (λ g
     go : (b : Bool) → f (spot q s) ≡ b → (b && every f (spots q (s + 1) m)) ≡ true → (c : Bool) → (t == s) ≡ c
         → (every f (spots q (s + 1) m) ≡ true → s + 1 ≤ t → t < s + 1 + m → f (spot q t) ≡ true) → f (spot q t) ≡ true
     go false e h c d rest = absurd (let z : false ≡ true = h in cc)
-    go true e h true d rest = let i = same_page t s d in rw i e
-    go true e h false d rest = rest h (let n : s ≢ t = (λ x. let z : (t == s) ≡ true = rw x (page_same t) in let y : true
+    go true e h true d rest = let i = eqb-true t s d in rw i e
+    go true e h false d rest = rest h (let n : s ≢ t = (λ x. let z : (t == s) ≡ true = rw x (eq-eqb t t refl)
+        in let y : true
         ≡ false = sym z ∙ d in cc) in grind arith) (omega arith)
-
-has_some : (x : Spot) (xs : List Spot) → has (same_spot x) xs ≡ true → 0 < total (λ y. if1 (same_spot x y)) xs
-has_some x xs h = let t = total_without (λ y. if1 (same_spot x y)) (same_spot x) 1 (λ y e. rw e refl) xs h
-    in omega arith
 
 -- what SetClass asks of a page with a class: each slot of its class is in `mine`
 pub room_mine : (w : Words) (p : Body) (q n : ℕ) → w.class_at q ≡ n → ((n == 0) || all_mine p q n) ≡ true → (s : ℕ)
@@ -57,9 +53,10 @@ pub room_mine : (w : Words) (p : Body) (q n : ℕ) → w.class_at q ≡ n → ((
 room_mine w p q n is h s = rw is (go (nat_lt 0 n) (nat_lt s (slots (n - 1))) refl refl) where
   some : (b : Bool) → (n == 0) ≡ b → nat_lt 0 n ≡ true → nat_lt s (slots (n - 1)) ≡ true → (b || all_mine p q n) ≡ true
       → 1 ≤ mine_at (spot q s) p
-  some true e a b h = absurd (let i = same_page n 0 e in let z : 0 < n = grind (arith, nat_tests) in omega arith)
-  some false e a b h = has_some (spot q s) p.mine (every_spots (λ x. has (same_spot x) p.mine) q 0 (slots (n - 1)) h s
-      (omega arith) (let z : s < slots (n - 1) = lt_of s (slots (n - 1)) b in omega arith))
+  some true e a b h = absurd (let i = eqb-true n 0 e in let z : 0 < n = grind (arith, nat_tests) in omega arith)
+  some false e a b h = has_some (same_spot (spot q s)) p.mine
+      (every_spots (λ x. has (same_spot x) p.mine) q 0 (slots (n - 1)) h s (omega arith)
+      (let z : s < slots (n - 1) = ltb-true s (slots (n - 1)) b in omega arith))
 
   go : (a b : Bool) → nat_lt 0 n ≡ a → nat_lt s (slots (n - 1)) ≡ b → cond (a && b) 1 0 ≤ mine_at (spot q s) p
   go true true a b = some (n == 0) refl a b h
@@ -68,11 +65,11 @@ room_mine w p q n is h s = rw is (go (nat_lt 0 n) (nat_lt s (slots (n - 1))) ref
 
 module _ (plan : Plan) (w : World) (l : PutLists) (a : ℕ) (p : Body) (q c : ℕ) (g : Good plan w l)
     (at : slice_get w.parts a ≡ Some p) (all : (s : ℕ) → room w.words (spot q s) ≤ mine_at (spot q s) p) where
-  abbrev W : Words
-  W = write w.words (Class q) (c + 1)
+  abbrev class_words : Words
+  class_words = write w.words (Class q) (c + 1)
 
-  abbrev p' : Body
-  p' = classed p q c
+  abbrev class_part : Body
+  class_part = classed p q c
 
   -- of the page's slots all is in `mine`
   pub empty_page : (x : Spot) → x.page ≡ q → (if1 ((fields_of (w.words.state_at x.page x.slot)).present ||
@@ -85,17 +82,19 @@ module _ (plan : Plan) (w : World) (l : PutLists) (a : ℕ) (p : Body) (q c : �
       (spot k x.slot) p in subst P (sym e) (all x.slot)) in
       (omega arith, omega arith, omega arith, omega arith)
 
-  class_slots : SlotsFine plan W (set w.parts a p') l
+  class_slots : SlotsFine plan class_words (set w.parts a class_part) l
   class_slots x = record {
     kinds = kinds (x.page == q) refl;
-    counts = let m = tally_set plan x st w.parts a p p' at in let f = g.slots x in omega arith;
-    none_lost = let m = tally_set plan x st w.parts a p p' at in let f = g.slots x in omega arith;
-    owed = λ b d e. let m = tally_set plan x st w.parts a p p' at in let f = (g.slots x).owed b d e in omega arith;
+    counts = let m = tally_set plan x st w.parts a p class_part at in let f = g.slots x in omega arith;
+    none_lost = let m = tally_set plan x st w.parts a p class_part at in let f = g.slots x in omega arith;
+    owed = λ b d e. let m = tally_set plan x st w.parts a p class_part at in let f = (g.slots x).owed b d e
+        in omega arith;
   } where
     st : Fields
     st = fields_of (w.words.state_at x.page x.slot)
 
-    mine_new : mine_at x p' ≡ if1 ((x.page == q) && nat_lt x.slot (slots c)) + cond (x.page == q) 0 (mine_at x p)
+    mine_new : mine_at x class_part ≡ if1 ((x.page == q) && nat_lt x.slot (slots c)) +
+        cond (x.page == q) 0 (mine_at x p)
     mine_new =
         let u = total_append (λ y. if1 (same_spot x y)) (spots q 0 (slots c)) (off (λ y. y.page == q) p.mine) in
         let t = times_drop x q p.mine in
@@ -107,61 +106,68 @@ module _ (plan : Plan) (w : World) (l : PutLists) (a : ℕ) (p : Body) (q c : �
           above true = grind (arith, nat_tests)
           above false = refl
 
-    kinds : (b : Bool) → (x.page == q) ≡ b → if1 (st.present || st.marked) + total (mine_at x) (set w.parts a p') +
-        total (in_hand x) (set w.parts a p') + queued l x ≡ room W x
+    kinds : (b : Bool) → (x.page == q) ≡ b → if1 (st.present || st.marked) +
+        total (mine_at x) (set w.parts a class_part) + total (in_hand x) (set w.parts a class_part) + queued l x
+        ≡ room class_words x
     kinds true e =
-        let i = same_page x.page q e in
+        let i = eqb-true x.page q e in
         let f = empty_page x i in
         let f0 = f.0 in
         let f1 = f.1 in
         let f2 = f.2 in
         let f3 = f.3 in
         let m = mine_new in
-        let t = total_set (mine_at x) w.parts a p p' at in
-        let h = total_set (in_hand x) w.parts a p p' at in
+        let t = total_set (mine_at x) w.parts a p class_part at in
+        let h = total_set (in_hand x) w.parts a p class_part at in
         let u : if1 ((x.page == q) && nat_lt x.slot (slots c)) ≡ if1 (nat_lt x.slot (slots c)) = rw e refl in
         let v : cond (x.page == q) 0 (mine_at x p) ≡ 0 = rw e refl in
         let d : c + 1 - 1 ≡ c = omega arith in
         let y : nat_lt 0 (c + 1) ≡ true = grind (arith, nat_tests) in
-        let r : room W x ≡ if1 (nat_lt x.slot (slots c)) = rw (i, put_same w.words.class_at q (c + 1), y, d) refl
+        let r : room class_words x ≡ if1 (nat_lt x.slot (slots c)) =
+        rw (i, put_same w.words.class_at q (c + 1), y, d) refl
         in omega arith
     kinds false e =
         let f = g.slots x in
         let m = mine_new in
-        let t = total_set (mine_at x) w.parts a p p' at in
-        let h = total_set (in_hand x) w.parts a p p' at in
+        let t = total_set (mine_at x) w.parts a p class_part at in
+        let h = total_set (in_hand x) w.parts a p class_part at in
         let u : if1 ((x.page == q) && nat_lt x.slot (slots c)) ≡ 0 = rw e refl in
         let v : cond (x.page == q) 0 (mine_at x p) ≡ mine_at x p = rw e refl in
-        let r : room W x ≡ room w.words x = rw (put_other w.words.class_at q x.page (c + 1) e) refl in omega arith
+        let r : room class_words x ≡ room w.words x = rw (put_other w.words.class_at q x.page (c + 1) e) refl
+        in omega arith
 
-  pub good_set_class : FillFine W p' p'.hand → Good plan (with w W a p') l
+  pub good_set_class : FillFine class_words class_part class_part.hand → Good plan (with w class_words a class_part) l
   unfolding value_at
-  good_set_class fill = good_at plan w l l a p p' W None g at class_slots
-      (keys_value plan w.words W w.log g.keys (λ k s. refl) (λ y. value (y.page == q) y refl)) tt (λ k. refl)
+  good_set_class fill = good_at plan w l l a p class_part class_words None g at class_slots
+      (keys_value plan w.words class_words w.log g.keys (λ k s. refl) (λ y. value (y.page == q) y refl)) tt (λ k. refl)
       ((g.parts a p at).0, fill) (λ b u n h f. others b u h u.hand refl f) where
-        value : (b : Bool) (y : Spot) → (y.page == q) ≡ b → (value_at W y.page y.slot ≡ value_at w.words y.page y.slot)
+        value : (b : Bool) (y : Spot) → (y.page == q) ≡ b
+            → (value_at class_words y.page y.slot ≡ value_at w.words y.page y.slot)
             ⊎ (((fields_of (w.words.state_at y.page y.slot)).present ≡ false)
             × ((fields_of (w.words.state_at y.page y.slot)).marked ≡ false))
-        value true y e = inr (no_or (fields_of (w.words.state_at y.page y.slot)).present
-            (fields_of (w.words.state_at y.page y.slot)).marked (empty_page y (same_page y.page q e)).0)
+        value true y e = inr (if1_neither (fields_of (w.words.state_at y.page y.slot)).present
+            (fields_of (w.words.state_at y.page y.slot)).marked (empty_page y (eqb-true y.page q e)).0)
         value false y e = inl (ap (λ (k : ℕ). words_from (w.words.payload_at y.page) (y.slot * width (k - 1))
             (w.words.length_at y.page y.slot)) (put_other w.words.class_at q y.page (c + 1) e))
 
         others : (b : ℕ) (u : Body) → slice_get w.parts b ≡ Some u → (h : Hand) → u.hand ≡ h → FillFine w.words u h
-            → FillFine W u h
+            → FillFine class_words u h
         others b u at' (Filling y v i) e f = go (y.page == q) refl where
-          go : (d : Bool) → (y.page == q) ≡ d → FillFine W u (Filling y v i)
+          go : (d : Bool) → (y.page == q) ≡ d → FillFine class_words u (Filling y v i)
           go true d =
-              let t = (empty_page y (same_page y.page q d)).1 in
+              let t = (empty_page y (eqb-true y.page q d)).1 in
               let k : in_hand y u ≡ if1 (same_spot y y) = rw e refl in
-              let r = same_spot-refl y in
-              let one : if1 (same_spot y y) ≡ 1 = rw r refl in
+              let one = if1_same_spot y in
               let m = total_at (in_hand y) w.parts b u at' in absurd (omega arith)
           go false d =
-              let P : ℕ → Type 0 = λ k. (w.words.length_at y.page y.slot ≡ length v) × (i ≤ length v)
-              × (length v ≤ width (k - 1)) × (words_from (w.words.payload_at y.page) (y.slot * width (k - 1)) i
-              ≡ take i v) × (class_word_noted u y.page ≡ k) in
-              subst P (sym (put_other w.words.class_at q y.page (c + 1) d)) f
+              let same = put_other w.words.class_at q y.page (c + 1) d in
+              record {
+                length_is = f.length_is;
+                begun = f.begun;
+                fits = rw same f.fits;
+                so_far = rw same f.so_far;
+                class_is = f.class_is ∙ sym same;
+              }
         others b u at' _ e f = f
 
 -- the words stay sound
@@ -239,7 +245,7 @@ sound_class plan w q c old small page none = record {
 } where
   cls : (k : ℕ) (b : Bool) → (k == q) ≡ b → (put w.class_at q (c + 1) k ≤ 8)
       × (0 < put w.class_at q (c + 1) k → k < heap_pages plan)
-  cls k true e = let i = same_page k q e in let j : put w.class_at q (c + 1) k
+  cls k true e = let i = eqb-true k q e in let j : put w.class_at q (c + 1) k
       ≡ c + 1 = rw i (put_same w.class_at q (c + 1)) in (omega arith, λ _. rw i page)
   cls k false e = let P : ℕ → Type 0 = λ m. (m ≤ 8) × (0 < m → k < heap_pages plan)
       in subst P (sym (put_other w.class_at q k (c + 1) e)) (old.classes k)
@@ -247,7 +253,7 @@ sound_class plan w q c old small page none = record {
   lens : (k s : ℕ) (b : Bool) → (k == q) ≡ b → ((fields_of (w.state_at k s)).present ||
       (fields_of (w.state_at k s)).marked) ≡ true → w.length_at k s ≤ width (put w.class_at q (c + 1) k - 1)
   lens k s true e h =
-      let i = same_page k q e in
+      let i = eqb-true k q e in
       let n = none s in
       let j : if1 ((fields_of (w.state_at k s)).present || (fields_of (w.state_at k s)).marked)
       ≡ 0 = ap (λ (m : ℕ). if1 ((fields_of (w.state_at m s)).present || (fields_of (w.state_at m s)).marked)) i

@@ -1,6 +1,5 @@
 -- An event that decides a call replies, and no other does.
-use Rattle.std.proofs.Common.{◌≡◌, ℕ, Bool, true, false, List, refl, sym, subst, ap, Option, Some, None}
-use Rattle.std.proofs.Common.{slice_get}
+use Rattle.std.proofs.Common.{◌≡◌, ℕ, Bool, true, false, List, refl, sym, subst, ap, Option, Some, None, slice_get}
 use Rattle.std.specs.Prelude.{is_some}
 use Rattle.sh_slots.specs.declared.reply.Reply.{Reply}
 use Rattle.sh_step.specs.declared.action.Event.{Event}
@@ -30,15 +29,16 @@ deciding_events plan w e m is = go (slice_get w.parts e.pass) refl is where
   v : List ℕ
   v = value_at_place w.words m.place
 
-  n : ℕ
-  n = read w.words m.place
+  found : ℕ
+  found = read w.words m.place
 
   go : (o : Option Body) → slice_get w.parts e.pass ≡ o
       → (elim o as (λ _. Option Row) [ Some p ↦ row plan p e.action | None ↦ None ]) ≡ Some m
-      → IsTold (decides plan e.action n) w (step plan w e) e (outcome_of plan w e)
+      → IsTold (decides plan e.action found) w (step plan w e) e (outcome_of plan w e)
   go None at h = absurd (let z : None ≡ Some m = h in cc)
   go (Some p) at h =
-      let P : Outcome → Type 0 = λ u. IsTold (decides plan e.action n) w (step plan w e) e u in
+      let P : Outcome → Type 0 = λ u. IsTold (decides plan e.action found) w (step plan w e) e u in
       subst P (sym (outcome_done plan w e m is))
-      (told w e v (m.reply n) (decides plan e.action n) (step plan w e) (deciding_replies plan p e.action m n h)
+      (told w e v (m.reply found) (decides plan e.action found) (step plan w e)
+      (deciding_replies plan p e.action m found h)
       (ap (λ (u : World). u.log) (step_moves plan w e p m at h)))

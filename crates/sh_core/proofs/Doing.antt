@@ -95,8 +95,8 @@ module _ (layout : Layout) (k k' : KeptWorld) (e : Event) (p : Body) (r : Row) (
   abbrev plan : Plan
   plan = plan_of layout k.shape
 
-  row_here : (w : World) → StandsFor k w → row_of_event plan w e ≡ Some r
-  row_here w s = let here : slice_get w.parts e.pass ≡ Some p = rw (← s.parts) at in row_of_at plan w e p here ∙ is
+  event_row : (w : World) → StandsFor k w → row_of_event plan w e ≡ Some r
+  event_row w s = let here : slice_get w.parts e.pass ≡ Some p = rw (← s.parts) at in row_of_at plan w e p here ∙ is
 
   world_done : Done k k' e r came → (w : World) → StandsFor k w → StandsFor k' (step plan w e)
   world_done d w s =
@@ -116,7 +116,7 @@ module _ (layout : Layout) (k k' : KeptWorld) (e : Event) (p : Body) (r : Row) (
       let n : word_at k.shape k.words r.place ≡ read w.words r.place = s.words.at r.place ready.row.place in
       d.does.outcome ∙ (ap done (new_same layout k w e.pass r s ready)
       ∙ (ap (λ (m : ℕ). done (entry_of e.pass (value_at_place w.words r.place) (r.reply m))) n
-      ∙ sym (outcome_done plan w e r (row_here w s))))
+      ∙ sym (outcome_done plan w e r (event_row w s))))
 
   pub steps_done : Done k k' e r came → StepsWorld layout k e came k'
   steps_done d = record { shape = d.shape; world = world_done d; outcome_is = outcome_is d }
@@ -125,7 +125,7 @@ module _ (layout : Layout) (k k' : KeptWorld) (e : Event) (p : Body) (r : Row) (
   reached_done d = reached_on layout k k' e reached d.shape (world_done d)
 
   pub is_done : IsDone layout k e
-  is_done w s = outcome_not_skipped plan w e r (row_here w s)
+  is_done w s = outcome_not_skipped plan w e r (event_row w s)
 
 -- nothing changed where there is no such pass, or the condition does not hold
 pub steps_past : (layout : Layout) (k : KeptWorld) (e : Event) → slice_get k.parts e.pass ≡ None
@@ -158,36 +158,37 @@ module _ (layout : Layout) (k : KeptWorld) (e : Event) (p : Body) (r : Row) (rea
     (at : slice_get k.parts e.pass ≡ Some p) (is : row (plan_of layout k.shape) p e.action ≡ Some r)
     (ready : IsReady layout k.shape k.words r) (res : Result Outcome Refusal) (words' : List ℕ) (part' : Body)
     (log' : List Entry) (ok : IfOk res (λ came. DoesRow k.shape e.pass r k.words k.log came words' part' log')) where
-  abbrev after : KeptWorld
-  after = record { shape = k.shape; words = words'; parts = set k.parts e.pass part'; log = log' }
+  abbrev world_after : KeptWorld
+  world_after = record { shape = k.shape; words = words'; parts = set k.parts e.pass part'; log = log' }
 
-  done_with : (came : Outcome) → DoesRow k.shape e.pass r k.words k.log came words' part' log' → Done k after e r came
+  done_with : (came : Outcome) → DoesRow k.shape e.pass r k.words k.log came words' part' log'
+      → Done k world_after e r came
   done_with came d = record { part = part'; does = d; shape = refl; parts = refl }
 
   pub reached_after : OnErr res (words' ≡ k.words) → OnErr res (part' ≡ p) → OnErr res (log' ≡ k.log)
-      → FromEvents layout after
+      → FromEvents layout world_after
   reached_after a b c = go res ok a b c where
     go : (s : Result Outcome Refusal) → IfOk s (λ came. DoesRow k.shape e.pass r k.words k.log came words' part' log')
-        → OnErr s (words' ≡ k.words) → OnErr s (part' ≡ p) → OnErr s (log' ≡ k.log) → FromEvents layout after
-    go (Ok came) d a b c = reached_done layout k after e p r came reached at is ready (done_with came d)
+        → OnErr s (words' ≡ k.words) → OnErr s (part' ≡ p) → OnErr s (log' ≡ k.log) → FromEvents layout world_after
+    go (Ok came) d a b c = reached_done layout k world_after e p r came reached at is ready (done_with came d)
     go (Err x) d a b c =
         let parts : set k.parts e.pass part' ≡ k.parts = ap (λ (u : Body). set k.parts e.pass u) b
         ∙ set_here k.parts e.pass p at in
-        let same : after ≡ k = λ i. record { shape = k.shape; words = a i; parts = parts i; log = c i } in
+        let same : world_after ≡ k = λ i. record { shape = k.shape; words = a i; parts = parts i; log = c i } in
         subst (FromEvents layout) (sym same) reached
 
-  pub steps_after : IfOk res (λ came. StepsWorld layout k e came after)
+  pub steps_after : IfOk res (λ came. StepsWorld layout k e came world_after)
   steps_after = go res ok where
     go : (s : Result Outcome Refusal) → IfOk s (λ came. DoesRow k.shape e.pass r k.words k.log came words' part' log')
-        → IfOk s (λ came. StepsWorld layout k e came after)
-    go (Ok came) d = steps_done layout k after e p r came reached at is ready (done_with came d)
+        → IfOk s (λ came. StepsWorld layout k e came world_after)
+    go (Ok came) d = steps_done layout k world_after e p r came reached at is ready (done_with came d)
     go (Err x) d = tt
 
   pub done_after : OnErr res (IsDone layout k e)
   done_after = go res where
     go : (s : Result Outcome Refusal) → OnErr s (IsDone layout k e)
     go (Ok came) = tt
-    go (Err x) = is_done layout k after e p r Skipped reached at is ready
+    go (Err x) = is_done layout k world_after e p r Skipped reached at is ready
 
 -- where its memory is refused, the event asked for some
 pub needs_after : (layout : Layout) (k : KeptWorld) (e : Event) (p : Body) (r : Row) → slice_get k.parts e.pass ≡ Some p

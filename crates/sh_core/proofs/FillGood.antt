@@ -1,13 +1,13 @@
 -- All that holds, over the kinds that store a value: Fill of a slot, Fill of a word.
 use Rattle.std.proofs.Common.{◌≡◌, ◌≢◌, ℕ, ◌+◌, ◌-◌, ◌*◌, ◌<◌, ◌≤◌, ◌==◌, ◌&&◌, ◌||◌, ◌⊎◌, inl, inr, ⊎_elim, Bool, true}
 use Rattle.std.proofs.Common.{false, List, length, get_or, sym, refl, ap, ◌∙◌, subst, arith, Some, None, slice_get}
-use Rattle.std.specs.Prelude.{nat_lt}
+use Rattle.std.proofs.Common.{eqb-true}
 use Rattle.std.proofs.lemmas.Bool.Decides.{nat_tests}
 use Rattle.sh_history.specs.declared.entry.Entry.{Entry}
 use Rattle.sh_slots.specs.declared.hand.Spot.{Spot}
 use Rattle.sh_slots.specs.declared.hand.Hand.{Hand}
 use Rattle.sh_slots.specs.declared.hand.Hand.TheVariants.{Idle, Filling}
-use Rattle.sh_core.specs.Words.{Words, write}
+use Rattle.sh_core.specs.Words.{Words, write, put, put2}
 use Rattle.sh_shape.specs.declared.places.Place.TheVariants.{Length, Payload}
 use Rattle.sh_word.specs.Fields.{Fields, fields_of}
 use Rattle.sh_step.specs.Plans.{Plan}
@@ -18,20 +18,20 @@ use Rattle.sh_step.specs.declared.body.Body.{Body}
 use Rattle.sh_step.specs.Rows.{hand, class_word_noted, fill_slot, fill}
 use Rattle.sh_core.specs.Worlds.{World, apply, value_at, words_from}
 use Rattle.sh_core.specs.Lists.{PutLists, mine_at, in_hand}
-use Rattle.sh_core.specs.Tallies.{due, room}
+use Rattle.sh_core.specs.Tallies.{due}
 use Rattle.sh_core.specs.Stories.{values, removals, KeysFine}
 use Rattle.sh_core.specs.Good.{Good, FillFine}
 use Rattle.sh_core.specs.Placed.{SoundOf}
 use Rattle.sh_core.proofs.Totals.{total_at, total_without, total_two}
-use Rattle.sh_core.proofs.StateWords.{put2_same, put2_other}
-use Rattle.sh_core.proofs.Slots.{tally_same, slots_part, same_spot-refl, same_spot-true, tally_ext}
+use Rattle.sh_core.proofs.Slots.{tally_same, slots_part, same_spot-refl, same_spot-true, tally_ext, if1_same_spot}
 use Rattle.sh_core.proofs.SlotSteps.{fill_fine}
 use Rattle.sh_core.proofs.Logs.{story_fill}
 use Rattle.sh_core.proofs.GoodStep.{good_at}
-use Rattle.sh_core.proofs.SlotGood.{no_or, room_few}
-use Rattle.sh_core.specs.Words.{put, put2}
-use Rattle.sh_core.proofs.StackSteps.{put_same, put_other, same_page}
+use Rattle.sh_core.proofs.SlotGood.{room_few}
 use Rattle.sh_core.proofs.Payload.{rows_apart, words_other, fill_words}
+use Rattle.sh_core.proofs.Tests.{if1_neither}
+use Rattle.sh_core.proofs.ListCounts.{has_some}
+use Rattle.sh_core.proofs.Writes.{put2_same, put2_other, put_same, put_other}
 
 -- a step that changes value words of Empty slots alone
 pub keys_value : (plan : Plan) (w W : Words) (log : List Entry) → KeysFine plan w log
@@ -67,7 +67,7 @@ not_mine plan w l a b p q x y u i g at is at' e = go (same_spot y x) refl where
       let s : y ≡ x = same_spot-true x y h in
       let f = g.slots x in
       let r = room_few w.words x in
-      let some = total_without (λ z. if1 (same_spot x z)) (same_spot x) 1 (λ z t. rw t refl) p.mine is in
+      let some = has_some (same_spot x) p.mine is in
       let mine = total_at (mine_at x) w.parts a p at in
       let hands = total_at (in_hand x) w.parts b q at' in
       let k : in_hand x q ≡ if1 (same_spot x y) = rw e refl in
@@ -81,12 +81,11 @@ pub good_fill_slot : (plan : Plan) (w : World) (l : PutLists) (a : ℕ) (p : Bod
 unfolding apply value_at
 good_fill_slot plan w l a p x v g at is class fits =
     let f = g.slots x in
-    let e = same_spot-refl x in
-    let one : if1 (same_spot x x) ≡ 1 = rw e refl in
-    let some = total_without (λ y. if1 (same_spot x y)) (same_spot x) 1 (λ y h. rw h refl) p.mine is in
+    let one = if1_same_spot x in
+    let some = has_some (same_spot x) p.mine is in
     let mine = total_at (mine_at x) w.parts a (hand p Idle) at in
     let r = room_few w.words x in
-    let none = no_or (fields_of (w.words.state_at x.page x.slot)).present
+    let none = if1_neither (fields_of (w.words.state_at x.page x.slot)).present
     (fields_of (w.words.state_at x.page x.slot)).marked (omega arith) in
     good_at plan w l l a (hand p Idle) (hand (record p { mine = without (same_spot x) p.mine }) (Filling x v 0))
     (write w.words (Length x.page x.slot) (length v)) None g at
@@ -97,25 +96,25 @@ good_fill_slot plan w l a p x v g at is class fits =
     (λ y. apart y none (same_spot y x) refl))
     tt (λ j. refl) (
       (g.parts a (hand p Idle) at).0,
-      (
-        put2_same w.words.length_at x.page x.slot (length v),
-        omega arith,
-        fits,
-        refl,
-        class,
-      ),
+      record {
+        length_is = put2_same w.words.length_at x.page x.slot (length v);
+        begun = omega arith;
+        fits = fits;
+        so_far = refl;
+        class_is = class;
+      },
     )
     (λ b q n at' h. others b q n at' (q.hand) refl h) where
       others : (b : ℕ) (q : Body) → b ≢ a → slice_get w.parts b ≡ Some q → (h : Hand) → q.hand ≡ h
           → FillFine w.words q h → FillFine (write w.words (Length x.page x.slot) (length v)) q h
-      others b q n at' (Filling y u i) e h = (
-        put2_other w.words.length_at x.page x.slot (length v) y.page y.slot
-            (not_mine plan w l a b (hand p Idle) q x y u i g at is at' e) ∙ h.0,
-        h.1,
-        h.2,
-        h.3,
-        h.4,
-      )
+      others b q n at' (Filling y u i) e h = record {
+        length_is = put2_other w.words.length_at x.page x.slot (length v) y.page y.slot
+            (not_mine plan w l a b (hand p Idle) q x y u i g at is at' e) ∙ h.length_is;
+        begun = h.begun;
+        fits = h.fits;
+        so_far = h.so_far;
+        class_is = h.class_is;
+      }
       others b q n at' _ e h = h
 
       apart : (y : Spot) → ((fields_of (w.words.state_at x.page x.slot)).present ≡ false)
@@ -143,9 +142,8 @@ not_hand plan w l a b p q x y v u i j g n at d at' e = go (same_spot y x) refl w
       let k : in_hand x q ≡ if1 (same_spot x y) = rw e refl in
       let m : in_hand x p ≡ if1 (same_spot x x) = rw d refl in
       let t : same_spot x y ≡ true = ap (same_spot x) s ∙ same_spot-refl x in
-      let o = same_spot-refl x in
       let one : if1 (same_spot x y) ≡ 1 = rw t refl in
-      let two : if1 (same_spot x x) ≡ 1 = rw o refl in absurd (omega arith)
+      let two = if1_same_spot x in absurd (omega arith)
 
 -- the words of another slot are other words
 row_other : (w : Words) (x y : Spot) (k v n W : ℕ) → same_spot y x ≡ false → k < W → n ≤ W
@@ -158,7 +156,7 @@ row_other w x y k v n W h a b = go (y.page == x.page) refl where
   go false e = ap (λ (f : ℕ → ℕ). words_from f (y.slot * W) n)
       (put_other w.payload_at x.page y.page (put (w.payload_at x.page) (x.slot * W + k) v) e)
   go true e =
-      let i = same_page y.page x.page e in
+      let i = eqb-true y.page x.page e in
       let s : (y.slot == x.slot) ≡ false = (let t : (true && (y.slot == x.slot)) ≡ false = rw e at h in t) in
       let d : y.slot ≢ x.slot = λ c. let t : (y.slot == x.slot) ≡ true = grind (arith, nat_tests) in cc in
       ap (λ (f : ℕ → ℕ). words_from f (y.slot * W) n) (ap (put w.payload_at x.page
@@ -178,20 +176,14 @@ row_any w x y k v n C D h a page = go (y.page == x.page) refl where
       y.page) (y.slot * D) n ≡ words_from (w.payload_at y.page) (y.slot * D) n
   go false e = ap (λ (f : ℕ → ℕ). words_from f (y.slot * D) n)
       (put_other w.payload_at x.page y.page (put (w.payload_at x.page) (x.slot * C + k) v) e)
-  go true e = let q = page (same_page y.page x.page e) in let P : ℕ
+  go true e = let q = page (eqb-true y.page x.page e) in let P : ℕ
       → Type 0 = λ d. words_from ((write w (Payload x.page (x.slot * C + k)) v).payload_at y.page) (y.slot * d) n
       ≡ words_from (w.payload_at y.page) (y.slot * d) n in
       subst P (sym q.0) (row_other w x y k v n C h a q.1)
 
-row_here : (w : Words) (q k v : ℕ) → (write w (Payload q k) v).payload_at q ≡ put (w.payload_at q) k v
+payload_here : (w : Words) (q k v : ℕ) → (write w (Payload q k) v).payload_at q ≡ put (w.payload_at q) k v
 unfolding put2
-row_here w q k v = put_same w.payload_at q (put (w.payload_at q) k v)
-
-has_class : (w : Words) (x : Spot) → 0 < room w x → 0 < w.class_at x.page
-has_class w x h = go (nat_lt 0 (w.class_at x.page)) refl where
-  go : (b : Bool) → nat_lt 0 (w.class_at x.page) ≡ b → 0 < w.class_at x.page
-  go true e = grind (arith, nat_tests)
-  go false e = absurd (let r : room w x ≡ 0 = rw e refl in omega arith)
+payload_here w q k v = put_same w.payload_at q (put (w.payload_at q) k v)
 
 pub good_fill : (plan : Plan) (w : World) (l : PutLists) (a : ℕ) (p : Body) (x : Spot) (v : List ℕ) (i : ℕ)
     → Good plan w l → SoundOf plan w.words → slice_get w.parts a ≡ Some (hand p (Filling x v i)) → i < length v
@@ -199,18 +191,16 @@ pub good_fill : (plan : Plan) (w : World) (l : PutLists) (a : ℕ) (p : Body) (x
 unfolding apply value_at
 good_fill plan w l a p x v i g sound at less =
     let f = g.slots x in
-    let e = same_spot-refl x in
-    let one : if1 (same_spot x x) ≡ 1 = rw e refl in
+    let one = if1_same_spot x in
     let hands = total_at (in_hand x) w.parts a (hand p (Filling x v i)) at in
     let r = room_few w.words x in
-    let none = no_or (fields_of (w.words.state_at x.page x.slot)).present
+    let none = if1_neither (fields_of (w.words.state_at x.page x.slot)).present
     (fields_of (w.words.state_at x.page x.slot)).marked (omega arith) in
     let fm = (g.parts a (hand p (Filling x v i)) at).1 in
-    let here = fm.0 in
-    let fits = fm.2 in
+    let fits = fm.fits in
     let due_same = tally_same plan x (fields_of (w.words.state_at x.page x.slot)) w.parts a (hand p (Filling x v i))
     (hand p (Filling x v (i + 1))) at refl in
-    rw fm.4 (good_at plan w l l a (hand p (Filling x v i)) (hand p (Filling x v (i + 1))) W None g at
+    rw fm.class_is (good_at plan w l l a (hand p (Filling x v i)) (hand p (Filling x v (i + 1))) W None g at
     (slots_part plan w.words w.parts l l a (hand p (Filling x v i)) (hand p (Filling x v (i + 1))) x g.slots at
     (λ y st h. refl) (λ y h. refl) (rw due_same f))
     (keys_value plan w.words W w.log g.keys (λ q s. refl) (λ y. apart y none (omega arith) (same_spot y x)
@@ -218,17 +208,17 @@ good_fill plan w l a p x v i g sound at less =
     refl refl))
     tt (λ j. refl) (
       (g.parts a (hand p (Filling x v i)) at).0,
-      (
-        here,
-        omega arith,
-        fits,
-        ap
-            (λ (f : ℕ → ℕ). words_from f (x.slot * C) (i + 1)) (row_here w.words x.page (x.slot * C + i) (get_or v i 0))
-            ∙ fill_words (w.words.payload_at x.page) x.slot C i v fm.3 less,
-        fm.4,
-      ),
+      record {
+        length_is = fm.length_is;
+        begun = omega arith;
+        fits = fits;
+        so_far = ap (λ (f : ℕ → ℕ). words_from f (x.slot * C) (i + 1))
+            (payload_here w.words x.page (x.slot * C + i) (get_or v i 0))
+            ∙ fill_words (w.words.payload_at x.page) x.slot C i v fm.so_far less;
+        class_is = fm.class_is;
+      },
     )
-    (λ b q n at' h. kept b q n at' q.hand refl h (omega arith))) where
+    (λ b q n at' h. stays b q n at' q.hand refl h (omega arith))) where
       C : ℕ
       C = width (w.words.class_at x.page - 1)
 
@@ -249,24 +239,24 @@ good_fill plan w l a p x v i g sound at less =
           ⊎ (((fields_of (w.words.state_at y.page y.slot)).present ≡ false)
           × ((fields_of (w.words.state_at y.page y.slot)).marked ≡ false))
       apart y none c true d h k = let e = same_spot-true x y h in inr (rw e none)
-      apart y none c false false h k = inr (no_or (fields_of (w.words.state_at y.page y.slot)).present
+      apart y none c false false h k = inr (if1_neither (fields_of (w.words.state_at y.page y.slot)).present
           (fields_of (w.words.state_at y.page y.slot)).marked (rw k refl))
       apart y none c false true h k = inl (row_any w.words x y i (get_or v i 0) (w.words.length_at y.page y.slot) C
           (width (w.words.class_at y.page - 1)) h c
           (λ e. (ap (λ (q : ℕ). width (w.words.class_at q - 1)) e, within y k e)))
 
-      kept : (b : ℕ) (q : Body) → b ≢ a → slice_get w.parts b ≡ Some q → (h : Hand) → q.hand ≡ h → FillFine w.words q h
+      stays : (b : ℕ) (q : Body) → b ≢ a → slice_get w.parts b ≡ Some q → (h : Hand) → q.hand ≡ h → FillFine w.words q h
           → i < C → FillFine W q h
-      kept b q n at' (Filling y u j) e h c = (
-        h.0,
-        h.1,
-        h.2,
-        row_any w.words x y i (get_or v i 0) j C
-            (width (w.words.class_at y.page - 1)) (not_hand plan w l a b (hand p (Filling x v i)) q x y v u i j g n at
-            refl at' e) c (λ d. (ap (λ (q : ℕ). width (w.words.class_at q - 1)) d, small y u j h d)) ∙ h.3,
-        h.4,
-      ) where
-        small : (y : Spot) (u : List ℕ) (j : ℕ) → FillFine w.words q (Filling y u j) → y.page ≡ x.page → j ≤ C
-        small y u j h d = let a = h.1 in let b = h.2 in let P : ℕ → Type 0 = λ k. length u ≤ width
-            (w.words.class_at k - 1) in let t : length u ≤ C = subst P d b in omega arith
-      kept b q n at' _ e h c = h
+      stays b q n at' (Filling y u j) e h c = record {
+        length_is = h.length_is;
+        begun = h.begun;
+        fits = h.fits;
+        so_far = row_any w.words x y i (get_or v i 0) j C (width (w.words.class_at y.page - 1))
+            (not_hand plan w l a b (hand p (Filling x v i)) q x y v u i j g n at refl at' e) c
+            (λ d. (ap (λ (q : ℕ). width (w.words.class_at q - 1)) d, small d)) ∙ h.so_far;
+        class_is = h.class_is;
+      } where
+        small : y.page ≡ x.page → j ≤ C
+        small d = let some = h.begun in let P : ℕ → Type 0 = λ k. length u ≤ width (w.words.class_at k - 1)
+            in let t : length u ≤ C = subst P d h.fits in omega arith
+      stays b q n at' _ e h c = h

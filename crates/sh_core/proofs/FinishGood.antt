@@ -1,6 +1,6 @@
 -- All that holds, over Finish, Enter remove and Drop of a hold.
-use Rattle.std.proofs.Common.{◌≡◌, ℕ, suc, ◌+◌, ◌-◌, ◌<◌, ◌≤◌, ◌==◌, ◌&&◌, Bool, true, false, cond, List, [], ◌∷◌}
-use Rattle.std.proofs.Common.{length, refl, ap, subst, arith, Option, Some, None, slice_get}
+use Rattle.std.proofs.Common.{◌≡◌, ℕ, ◌+◌, ◌-◌, ◌<◌, ◌==◌, ◌&&◌, Bool, true, false, cond, List, [], ◌∷◌, refl, ap}
+use Rattle.std.proofs.Common.{subst, arith, Option, Some, None, slice_get}
 use Rattle.std.proofs.lemmas.Bool.Decides.{nat_tests}
 use Rattle.sh_history.specs.declared.entry.Entry.{Entry}
 use Rattle.sh_history.specs.declared.entry.Entry.TheVariants.{Released}
@@ -12,23 +12,25 @@ use Rattle.sh_shape.specs.declared.places.Place.TheVariants.{State}
 use Rattle.sh_word.specs.Fields.{Fields, fields_of, word_of}
 use Rattle.sh_step.specs.Plans.{Plan, Lawful}
 use Rattle.sh_slots.specs.Slots.{same_spot, spot_of, live_at, after_drop, marked_word}
-use Rattle.sh_step.specs.Collections.{if1, has, without}
+use Rattle.sh_step.specs.Collections.{if1, has}
 use Rattle.sh_step.specs.declared.body.Body.{Body}
 use Rattle.sh_step.specs.Rows.{hand, freed, drop_key, enter_remove, finish, own}
 use Rattle.sh_core.specs.Worlds.{World, apply, value_at}
-use Rattle.sh_core.specs.Lists.{PutLists, times}
+use Rattle.sh_core.specs.Lists.{PutLists}
 use Rattle.sh_core.specs.Tallies.{Fine, tally, due, held, room, queued, at_spot, current, stale}
 use Rattle.sh_core.specs.Stories.{values, removals, removed_in, Story, KeysFine}
 use Rattle.sh_core.proofs.Permits.{Permits}
 use Rattle.sh_core.specs.Good.{Good, FillFine}
 use Rattle.sh_core.proofs.Totals.{total_at, total_without}
-use Rattle.sh_core.proofs.StateWords.{fields_of-entered}
 use Rattle.sh_word.proofs.Words.{fields_of-sub, fields_of-word_of}
 use Rattle.sh_core.proofs.Slots.{slots_state, same_spot-refl, tally_ext}
-use Rattle.sh_core.proofs.SlotSteps.{finish_hand, reused, remove_fine, remove_due, drop_key_fine}
+use Rattle.sh_core.proofs.SlotSteps.{finish_hand, reused_fields, remove_fine, remove_due, drop_key_fine}
+use Rattle.sh_core.proofs.SlotSteps.{fields_of-entered}
 use Rattle.sh_core.proofs.Logs.{keys_state, keys_quiet, story_finish, live_parts}
 use Rattle.sh_core.proofs.GoodStep.{good_at}
 use Rattle.sh_core.proofs.SlotGood.{keys_still, room_to_enter}
+use Rattle.sh_core.proofs.ListCounts.{times_without, has_some, without_shorter}
+use Rattle.sh_core.proofs.Tests.{cond_either}
 
 -- the word that Finish looks for is that state
 pub found_marked : (n g : ℕ) → (n == marked_word g) ≡ true → fields_of n
@@ -61,14 +63,15 @@ good_enter_remove plan w l a p k y laws g at name live =
 
 pub finish_keys : (plan : Plan) (w : Words) (log : List Entry) (x : Spot) (g : ℕ) → KeysFine plan w log
     → fields_of (w.state_at x.page x.slot) ≡ record { generation = g; marked = true; present = true; count = 0 }
-    → KeysFine plan (write w (State x.page x.slot) (word_of (reused g))) log
-finish_keys plan w log x g old is = keys_state plan w log log x (word_of (reused g)) old (λ k z name h. (refl, refl))
+    → KeysFine plan (write w (State x.page x.slot) (word_of (reused_fields g))) log
+finish_keys plan w log x g old is = keys_state plan w log log x (word_of (reused_fields g)) old
+    (λ k z name h. (refl, refl))
     (λ k z name h.
     let P : Spot → Type 0 = λ y. Story (fields_of (w.state_at y.page y.slot)) z.generation (values k log)
     (removals k log) (value_at w y.page y.slot) in
     let s = subst P h (old k z name) in
     let Q : Fields → Type 0 = λ t. Story t z.generation (values k log) (removals k log) (value_at w x.page x.slot) in
-    rw (fields_of-word_of (reused g) (omega arith)) (story_finish
+    rw (fields_of-word_of (reused_fields g) (omega arith)) (story_finish
     (record { generation = g; marked = true; present = true; count = 0 }) z.generation (values k log)
     (removals k log) (value_at w x.page x.slot) (value_at w x.page x.slot) (subst Q is s) refl refl))
 
@@ -85,9 +88,10 @@ good_finish_hand plan w l a p x g good at is more other =
     let P : Fields → Type 0 = λ s. Fine (room w.words x) (queued l x) s (tally plan x s w.parts)
     in subst P m (good.slots x) in
     rw (is, more, other) (good_at plan w l l a (hand p (Finishing x g)) (hand p (ToPut x))
-    (write w.words (State x.page x.slot) (word_of (reused g))) None good at
-    (slots_state plan w.words w.parts l a (hand p (Finishing x g)) (hand p (ToPut x)) x (word_of (reused g)) good.slots
-    at (λ y st h. rw h refl) (rw (fields_of-word_of (reused g) (omega arith))
+    (write w.words (State x.page x.slot) (word_of (reused_fields g))) None good at
+    (slots_state plan w.words w.parts l a (hand p (Finishing x g)) (hand p (ToPut x)) x (word_of (reused_fields g))
+    good.slots at (λ y st h. rw h refl)
+    (rw (fields_of-word_of (reused_fields g) (omega arith))
     (finish_hand _ _ (record { generation = g; marked = true; present = true; count = 0 }) plan w.parts a p x g refl
     refl at f)))
     (finish_keys plan w.words w.log x g good.keys m) tt (λ j. refl) ((good.parts a (hand p (Finishing x g)) at).0, tt)
@@ -108,14 +112,11 @@ drop_key_due b g plan p k z name is y st h =
     p.holds is in
     let v = total_without (λ j. stale st y (plan.keys.unpack j)) (λ j. j == k) 0 (one (stale st y) c) p.holds is in
     let fin : if1 (same_spot y (spot_of z) && (g == st.generation)) ≡ 0 = rw h refl in
-    first_case b (tally_ext (due plan y st (hand (freed p k) (Finishing (spot_of z) g))) (due plan y st (hand p Idle))
-    refl refl (omega arith) refl (omega arith) fin) (tally_ext (due plan y st (hand (freed p k) Idle))
-    (due plan y st (hand p Idle)) refl refl (omega arith) refl (omega arith) refl) where
-      first_case : (b : Bool) → due plan y st (hand (freed p k) (Finishing (spot_of z) g)) ≡ due plan y st (hand p Idle)
-          → due plan y st (hand (freed p k) Idle) ≡ due plan y st (hand p Idle)
-          → due plan y st (hand (freed p k) (cond b (Finishing (spot_of z) g) Idle)) ≡ due plan y st (hand p Idle)
-      first_case true h i = h
-      first_case false h i = i
+    cond_either (λ u. due plan y st (hand (freed p k) u) ≡ due plan y st (hand p Idle)) b (Finishing (spot_of z) g) Idle
+    (tally_ext (due plan y st (hand (freed p k) (Finishing (spot_of z) g))) (due plan y st (hand p Idle)) refl refl
+    (omega arith) refl (omega arith) fin)
+    (tally_ext (due plan y st (hand (freed p k) Idle)) (due plan y st (hand p Idle)) refl refl (omega arith) refl
+    (omega arith) refl)
 
 none_released : (a k j : ℕ) → (values j (Released a k ∷ []) ≡ []) × (removed_in j (Released a k) ≡ 0)
 unfolding values
@@ -126,25 +127,7 @@ pub released_permitted : (plan : Plan) (w : World) (l : PutLists) (a : ℕ) (p :
     → slice_get w.parts a ≡ Some p → has (λ j. j == k) p.holds ≡ true → Permits plan w.log (Released a k)
 released_permitted plan w l a p k g at is =
     let h = g.holds a p at k in
-    let t = total_without (λ j. if1 (j == k)) (λ j. j == k) 1 (λ j e. rw e refl) p.holds is in omega arith
-
-times_without : (k j : ℕ) (xs : List ℕ) → has (λ i. i == k) xs ≡ true
-    → if1 (k == j) + times j (without (λ i. i == k) xs) ≡ times j xs
-times_without k j xs is = let t = total_without (λ y. if1 (y == j)) (λ i. i == k) (if1 (k == j))
-    (λ i e. let s : i ≡ k = grind (arith, nat_tests) in ap (λ m. if1 (m == j)) s) xs is in omega arith
-
-shorter : (k : ℕ) (xs : List ℕ) → length (without (λ i. i == k) xs) ≤ length xs
-unfolding without
-shorter k [] = omega arith
-shorter k (x ∷ xs) = go (x == k) (shorter k xs) where
-  go : (b : Bool) → length (without (λ i. i == k) xs) ≤ length xs → length (cond b xs (x ∷ without (λ i. i == k) xs)) ≤
-      suc (length xs)
-  go true h = omega arith
-  go false h = omega arith
-
-fill_after : (w : Words) (p : Body) (b : Bool) (x : Spot) (g : ℕ) → FillFine w p (cond b (Finishing x g) Idle)
-fill_after w p true x g = tt
-fill_after w p false x g = tt
+    let t = has_some (λ j. j == k) p.holds is in omega arith
 
 pub good_drop_key : (plan : Plan) (w : World) (l : PutLists) (a : ℕ) (p : Body) (k : ℕ) (y : Name) → Good plan w l
     → slice_get w.parts a ≡ Some (hand p Idle) → plan.keys.unpack k ≡ Some y → has (λ j. j == k) p.holds ≡ true
@@ -160,7 +143,7 @@ good_drop_key plan w l a p k y g at name is =
     let h = total_at (held plan x) w.parts a (hand p Idle) at in
     let some : 0 < (fields_of n).count = omega arith in
     let sub = fields_of-sub n some in
-    let sp = shorter k p.holds in
+    let sp = without_shorter (λ i. i == k) p.holds in
     let fw = (g.parts a (hand p Idle) at).0 in
     good_at plan w l l a (hand p Idle) (hand (freed p k) (after_drop x n)) (write w.words (State y.page y.slot) (n - 1))
     (Some (Released a k)) g at
@@ -176,8 +159,8 @@ good_drop_key plan w l a p k y g at name is =
           in omega arith,
     ) (
       omega arith,
-      fill_after (write w.words (State y.page y.slot) (n - 1)) (hand (freed p k) (after_drop x n)) b x
-          (fields_of n).generation,
+      cond_either (FillFine (write w.words (State y.page y.slot) (n - 1)) (hand (freed p k) (after_drop x n))) b
+          (Finishing x (fields_of n).generation) Idle tt tt,
     ) (λ c q _ _ h. h) where
       n : ℕ
       n = w.words.state_at y.page y.slot

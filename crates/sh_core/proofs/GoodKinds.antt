@@ -1,6 +1,6 @@
 -- All that holds of slots and keys, over the kinds that put, take, follow, and those that change neither.
 use Rattle.std.proofs.Common.{◌≡◌, ℕ, ◌+◌, ◌<◌, ◌==◌, ◌&&◌, Bool, true, false, [], ◌∷◌, set, drop, sym, refl, ap, ◌∙◌}
-use Rattle.std.proofs.Common.{subst, arith, Some, None, slice_get}
+use Rattle.std.proofs.Common.{subst, arith, Some, None, slice_get, eqb-true}
 use Rattle.std.specs.Prelude.{nat_lt}
 use Rattle.std.proofs.lemmas.Bool.Decides.{nat_tests}
 use Rattle.sh_slots.specs.declared.hand.Spot.{Spot}
@@ -22,16 +22,17 @@ use Rattle.sh_core.specs.Tallies.{Fine, Tally, tally, due, held, visits, lost, f
 use Rattle.sh_core.specs.Stories.{values, removals, removed_in, Story, KeysFine}
 use Rattle.sh_core.specs.Good.{Good, FillFine}
 use Rattle.sh_core.proofs.Totals.{total_set}
-use Rattle.sh_core.proofs.StateWords.{fields_of-entered}
 use Rattle.sh_word.proofs.Words.{fields_of-word_of, word_of-fields_of}
 use Rattle.sh_core.proofs.Slots.{tally_same, tally_set, tally_ext, slots_state, same_spot-refl, lost_le}
-use Rattle.sh_core.proofs.SlotSteps.{finish_mine, reused, enter_slots}
+use Rattle.sh_core.proofs.SlotSteps.{finish_mine, enter_slots, reused_fields, fields_of-entered}
 use Rattle.sh_core.proofs.Logs.{keys_state, keys_quiet, story_retire, gone_permitted}
 use Rattle.sh_core.proofs.GoodStep.{good_at}
-use Rattle.sh_core.proofs.SlotGood.{keys_still, room_to_enter}
+use Rattle.sh_core.proofs.SlotGood.{keys_still, room_to_enter, none_gone}
 use Rattle.sh_core.proofs.FinishGood.{found_marked, finish_keys}
 use Rattle.sh_core.proofs.More.{crowded_permitted}
-use Rattle.sh_core.proofs.StackSteps.{put_same, put_other, same_page, eq_sym, times_cons, times_none}
+use Rattle.sh_core.proofs.Tests.{eqb-comm}
+use Rattle.sh_core.proofs.ListCounts.{times_cons, times_none}
+use Rattle.sh_core.proofs.Writes.{put_same, put_other}
 
 -- other words than those that slots and keys read
 abbrev pub beside : Words → (ℕ → ℕ) → (ℕ → ℕ) → (ℕ → ℕ → ℕ) → (ℕ → ℕ) → (ℕ → ℕ) → Words
@@ -61,9 +62,9 @@ unfolding total
 queued_push l x y = go (y.page == x.page) refl where
   go : (b : Bool) → (y.page == x.page) ≡ b → queued (pushed l x) y ≡ queued l y + if1 (b && (y.slot == x.slot))
   go true e =
-      let i = same_page y.page x.page e in
+      let i = eqb-true y.page x.page e in
       let j = put_same l.stack x.page (x.slot ∷ l.stack x.page) in
-      let k : if1 (x.slot == y.slot) ≡ if1 (y.slot == x.slot) = ap if1 (eq_sym x.slot y.slot) in
+      let k : if1 (x.slot == y.slot) ≡ if1 (y.slot == x.slot) = ap if1 (eqb-comm x.slot y.slot) in
       rw (i, j) (omega arith)
   go false e = rw (put_other l.stack x.page y.page (x.slot ∷ l.stack x.page) e) (omega arith)
 
@@ -107,7 +108,7 @@ pub queued_taken : (l : PutLists) (q : ℕ) → l.chain q ≡ [] → (y : Spot) 
 queued_taken l q none y = go (y.page == q) refl where
   go : (b : Bool) → (y.page == q) ≡ b → queued (taken l q) y ≡ queued l y
   go true e =
-      let i = same_page y.page q e in
+      let i = eqb-true y.page q e in
       let z = times_none y.slot in rw (i, put_same l.stack q [], put_same l.chain q (l.stack q), none) (omega arith)
   go false e = rw (put_other l.stack q y.page [] e, put_other l.chain q y.page (l.stack q) e) refl
 
@@ -149,10 +150,10 @@ good_follow plan w l a p p' q s li g at is moves holds fill = good_at plan w l L
         go : (b : Bool) → (y.page == q) ≡ b → times y.slot (l.stack y.page) + times y.slot
             (put l.chain q (drop 1 (l.chain q)) y.page) + if1 (b && (y.slot == s)) ≡ queued l y
         go true e =
-            let i = same_page y.page q e in
+            let i = eqb-true y.page q e in
             let c : times y.slot (l.chain q) ≡ if1 (s == y.slot) + times y.slot (drop 1 (l.chain q)) = ap (times y.slot)
             is ∙ times_cons y.slot s (drop 1 (l.chain q)) in
-            let k : if1 (s == y.slot) ≡ if1 (y.slot == s) = ap if1 (eq_sym s y.slot) in
+            let k : if1 (s == y.slot) ≡ if1 (y.slot == s) = ap if1 (eqb-comm s y.slot) in
             rw (i, put_same l.chain q (drop 1 (l.chain q))) (omega arith)
         go false e = rw (put_other l.chain q y.page (drop 1 (l.chain q)) e) (omega arith)
 
@@ -201,10 +202,10 @@ good_finish_fail plan w l a p x g good at fails =
             go b c d true e o =
                 let k : (g == st.generation) ≡ true = (let t : (true && (g == st.generation))
                 ≡ true = rw (same_spot-refl x) at e in t) in
-                absurd (back (sym (same_page g st.generation k)) b c d)
+                absurd (back (sym (eqb-true g st.generation k)) b c d)
 
-abbrev pub retired : ℕ → Fields
-retired g = record { generation = g; marked = true; present = false; count = 0 }
+abbrev pub retired_fields : ℕ → Fields
+retired_fields g = record { generation = g; marked = true; present = false; count = 0 }
 
 module _ (plan : Plan) (w : World) (l : PutLists) (a : ℕ) (p : Body) (x : Spot) (g : ℕ) (good : Good plan w l)
     (at : slice_get w.parts a ≡ Some (hand p (Finishing x g)))
@@ -224,13 +225,14 @@ module _ (plan : Plan) (w : World) (l : PutLists) (a : ℕ) (p : Body) (x : Spot
       → Good plan (apply w a (finish plan (hand p (Finishing x g)) x g)) l
   unfolding apply total
   good_finish_mine more mine = rw (is, more, mine) (good_at plan w l l a (hand p (Finishing x g))
-      (hand (record p { mine = x ∷ p.mine }) Idle) (write w.words (State x.page x.slot) (word_of (reused g))) None good
-      at
+      (hand (record p { mine = x ∷ p.mine }) Idle) (write w.words (State x.page x.slot) (word_of (reused_fields g)))
+      None good at
       (slots_state plan w.words w.parts l a (hand p (Finishing x g)) (hand (record p { mine = x ∷ p.mine }) Idle) x
-      (word_of (reused g)) good.slots at
+      (word_of (reused_fields g)) good.slots at
       (λ y st h. let z : if1 (same_spot y x) ≡ 0 = rw h refl in let f : if1 (same_spot y x && (g == st.generation))
       ≡ 0 = rw h refl in tally_ext _ _ (omega arith) refl refl refl refl (sym f))
-      (rw (fields_of-word_of (reused g) (omega arith)) (finish_mine _ _ st0 plan w.parts a p x g refl refl at fine0)))
+      (rw (fields_of-word_of (reused_fields g) (omega arith))
+      (finish_mine _ _ st0 plan w.parts a p x g refl refl at fine0)))
       (finish_keys plan w.words w.log x g good.keys found_is) tt (λ j. refl)
       ((good.parts a (hand p (Finishing x g)) at).0, tt) (λ b q _ _ h. h))
 
@@ -239,32 +241,30 @@ module _ (plan : Plan) (w : World) (l : PutLists) (a : ℕ) (p : Body) (x : Spot
       (apply w a (finish plan (hand p (Finishing x g)) x g)) l
   unfolding apply
   good_finish_last last = rw (is, last) (good_at plan w l l a (hand p (Finishing x g)) (hand p Idle)
-      (write w.words (State x.page x.slot) (word_of (retired g))) None good at
-      (slots_state plan w.words w.parts l a (hand p (Finishing x g)) (hand p Idle) x (word_of (retired g)) good.slots at
-      (λ y st h. rw h refl) (rw (fields_of-word_of (retired g) (omega arith)) here))
-      keys tt (λ j. refl) ((good.parts a (hand p (Finishing x g)) at).0, tt) (λ b q _ _ h. h)) where
-        here : Fine (room w.words x) (queued l x) (retired g) (tally plan x (retired g) (set w.parts a (hand p Idle)))
+      (write w.words (State x.page x.slot) (word_of (retired_fields g))) None good at
+      (slots_state plan w.words w.parts l a (hand p (Finishing x g)) (hand p Idle) x (word_of (retired_fields g))
+      good.slots at (λ y st h. rw h refl)
+      (rw (fields_of-word_of (retired_fields g) (omega arith)) here)) keys tt (λ j. refl)
+      ((good.parts a (hand p (Finishing x g)) at).0, tt) (λ b q _ _ h. h)) where
+        here : Fine (room w.words x) (queued l x) (retired_fields g)
+            (tally plan x (retired_fields g) (set w.parts a (hand p Idle)))
         here =
             let f = fine0 in
-            let m = tally_set plan x (retired g) w.parts a (hand p (Finishing x g)) (hand p Idle) at in
-            let few = lost_le plan x (retired g) (set w.parts a (hand p Idle)) in
+            let m = tally_set plan x (retired_fields g) w.parts a (hand p (Finishing x g)) (hand p Idle) at in
+            let few = lost_le plan x (retired_fields g) (set w.parts a (hand p Idle)) in
             record { kinds = omega arith; counts = omega arith; none_lost = omega arith; owed = λ c d n. cc }
 
-        keys : KeysFine plan (write w.words (State x.page x.slot) (word_of (retired g))) w.log
-        keys = keys_state plan w.words w.log w.log x (word_of (retired g)) good.keys (λ k z name h. (refl, refl))
+        keys : KeysFine plan (write w.words (State x.page x.slot) (word_of (retired_fields g))) w.log
+        keys = keys_state plan w.words w.log w.log x (word_of (retired_fields g)) good.keys (λ k z name h. (refl, refl))
             (λ k z name h.
             let P : Spot → Type 0 = λ y. Story (fields_of (w.words.state_at y.page y.slot)) z.generation
             (values k w.log) (removals k w.log) (value_at w.words y.page y.slot) in
             let s = subst P h (good.keys k z name) in
             let Q : Fields → Type 0 = λ t. Story t z.generation (values k w.log) (removals k w.log)
             (value_at w.words x.page x.slot) in
-            rw (fields_of-word_of (retired g) (omega arith))
+            rw (fields_of-word_of (retired_fields g) (omega arith))
             (story_retire st0 z.generation (values k w.log) (removals k w.log) (value_at w.words x.page x.slot)
             (subst Q found_is s) refl refl))
-
-none_gone : (a k j : ℕ) → (values j (Gone a k ∷ []) ≡ []) × (removed_in j (Gone a k) ≡ 0)
-unfolding values
-none_gone a k j = (refl, refl)
 
 none_crowded : (a k j : ℕ) → (values j (Crowded a k ∷ []) ≡ []) × (removed_in j (Crowded a k) ≡ 0)
 unfolding values

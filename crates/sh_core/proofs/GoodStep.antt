@@ -1,8 +1,7 @@
 -- What a kind owes, so that all that holds goes on.
-use Rattle.std.proofs.Common.{◌≡◌, ◌≢◌, ℕ, ◌+◌, ◌≤◌, ◌==◌, ⊎_elim, true, false, List, [], ◌∷◌, ◌++◌, length, set, refl}
-use Rattle.std.proofs.Common.{◌∙◌, subst, arith, Option, Some, None, slice_get}
+use Rattle.std.proofs.Common.{◌≡◌, ◌≢◌, ℕ, ◌+◌, ◌≤◌, ⊎_elim, List, [], ◌∷◌, ◌++◌, length, set, refl, ◌∙◌, subst, arith}
+use Rattle.std.proofs.Common.{Option, Some, None, slice_get, eq-eqb, ne_eqb, sym}
 use Rattle.std.proofs.lemmas.List.{length-set}
-use Rattle.std.proofs.lemmas.Bool.Decides.{nat_tests}
 use Rattle.sh_history.specs.declared.entry.Entry.{Entry}
 use Rattle.sh_history.specs.declared.entry.Entry.TheVariants.{Got, Released}
 use Rattle.sh_core.specs.Words.{Words}
@@ -15,10 +14,9 @@ use Rattle.sh_core.specs.Tallies.{SlotsFine}
 use Rattle.sh_core.specs.Stories.{got_in, released_in, got_by, released_by, KeysFine, HoldsFine, AllHoldsFine}
 use Rattle.sh_history.specs.History.{Legal}
 use Rattle.sh_history.specs.Log.{pass_of}
-use Rattle.sh_core.proofs.Permits.{Permits}
+use Rattle.sh_core.proofs.Permits.{Permits, legal_snoc, permits_allowed}
 use Rattle.sh_core.specs.Good.{Good, FillFine}
 use Rattle.sh_core.proofs.Totals.{total_append, total_set, get_set}
-use Rattle.sh_core.proofs.Permits.{legal_snoc, permits_allowed}
 use Rattle.sh_core.proofs.Logs.{holds_step}
 
 -- the entry pays for the change of the pass's holds
@@ -30,20 +28,14 @@ abbrev pub PermitsNext : Plan → List Entry → Option Entry → Type 0
 PermitsNext plan log None = Unit {0}
 PermitsNext plan log (Some e) = Permits plan log e
 
-one_test : (b : ℕ) → (b == b) ≡ true
-one_test b = grind (arith, nat_tests)
-
-no_test : (a b : ℕ) → b ≢ a → (a == b) ≡ false
-no_test a b h = grind (arith, nat_tests)
-
 by_own : (e : Entry) (a k : ℕ) → pass_of e ≡ a → (got_by a k e ≡ got_in k e) × (released_by a k e ≡ released_in k e)
-by_own (Got b j v) a k h = let t = one_test a in (rw (h, t) refl, refl)
-by_own (Released b j) a k h = let t = one_test a in (refl, rw (h, t) refl)
+by_own (Got b j v) a k h = let t = eq-eqb a a refl in (rw (h, t) refl, refl)
+by_own (Released b j) a k h = let t = eq-eqb a a refl in (refl, rw (h, t) refl)
 by_own _ a k h = (refl, refl)
 
 by_other : (e : Entry) (a b k : ℕ) → pass_of e ≡ a → b ≢ a → (got_by b k e ≡ 0) × (released_by b k e ≡ 0)
-by_other (Got c j v) a b k h n = let t = no_test a b n in (rw (h, t) refl, refl)
-by_other (Released c j) a b k h n = let t = no_test a b n in (refl, rw (h, t) refl)
+by_other (Got c j v) a b k h n = let t = ne_eqb a b (λ e. n (sym e)) in (rw (h, t) refl, refl)
+by_other (Released c j) a b k h n = let t = ne_eqb a b (λ e. n (sym e)) in (refl, rw (h, t) refl)
 by_other _ a b k h n = (refl, refl)
 
 paid_holds : (ps : List Body) (log : List Entry) (a : ℕ) (p p' : Body) (e : Option Entry) → HoldsFine ps log

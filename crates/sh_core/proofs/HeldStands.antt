@@ -1,36 +1,24 @@
 -- What is held stands, and what may be read of it lies within its slot.
-use Rattle.std.proofs.Common.{◌≡◌, ℕ, ◌+◌, ◌-◌, ◌*◌, ◌<◌, ◌||◌, Bool, true, false, sym, refl, subst, arith}
-use Rattle.std.specs.Prelude.{nat_lt}
+use Rattle.std.proofs.Common.{◌≡◌, ℕ, ◌+◌, ◌-◌, ◌*◌, ◌<◌, ◌||◌, true, sym, refl, subst, arith}
 use Rattle.sh_slots.specs.declared.hand.Spot.{Spot}
-use Rattle.sh_core.specs.Words.{Words}
 use Rattle.sh_word.specs.Fields.{Fields, fields_of}
 use Rattle.sh_step.specs.Plans.{Plan}
-use Rattle.sh_shape.specs.Classes.{width, slots}
+use Rattle.sh_shape.specs.Classes.{width}
 use Rattle.sh_shape.proofs.ClassLaws.{slot_words_fit_page}
 use Rattle.sh_slots.specs.Slots.{spot_of}
 use Rattle.sh_step.specs.Collections.{if1}
 use Rattle.sh_core.specs.Lists.{PutLists}
 use Rattle.sh_core.specs.Placed.{All}
 use Rattle.sh_core.specs.Worlds.{World, value_at}
-use Rattle.sh_core.specs.Tallies.{room}
 use Rattle.sh_core.specs.Knows.{AllKnow}
 use Rattle.sh_core.specs.Refines.{HeldStands, ReadsWithin}
 use Rattle.sh_core.proofs.Permits.{value_one}
-use Rattle.sh_step.proofs.Truths.{lt_of}
 use Rattle.sh_core.proofs.RunRefines.{held_stands}
-
-pub has_room : (w : Words) (x : Spot) → 0 < room w x → (0 < w.class_at x.page)
-    × (x.slot < slots (w.class_at x.page - 1))
-has_room w x h = go (nat_lt 0 (w.class_at x.page)) (nat_lt x.slot (slots (w.class_at x.page - 1))) refl refl where
-  go : (b c : Bool) → nat_lt 0 (w.class_at x.page) ≡ b → nat_lt x.slot (slots (w.class_at x.page - 1)) ≡ c
-      → (0 < w.class_at x.page) × (x.slot < slots (w.class_at x.page - 1))
-  go true true e f = (lt_of 0 (w.class_at x.page) e, lt_of x.slot (slots (w.class_at x.page - 1)) f)
-  go true false e f = absurd (let z : room w x ≡ 0 = rw (e, f) refl in omega arith)
-  go false c e f = absurd (let z : room w x ≡ 0 = rw e refl in omega arith)
+use Rattle.sh_core.proofs.ClassSlots.{class_room}
 
 module _ (plan : Plan) (w : World) (l : PutLists) (all : All plan w l) (know : AllKnow plan w) where
-  pub held : HeldStands plan w
-  held a p k at some =
+  pub held_keys : HeldStands plan w
+  held_keys a p k at some =
       let n = (know a p at).named k some in
       let h = held_stands plan w l all a p k n.0 at some n.1 in
       record {
@@ -54,7 +42,7 @@ module _ (plan : Plan) (w : World) (l : PutLists) (all : All plan w l) (know : A
       let there : (st.present || st.marked) ≡ true = rw h.0 refl in
       let f = all.good.slots x in
       let one : if1 (st.present || st.marked) ≡ 1 = rw there refl in
-      let r = has_room w.words x (omega arith) in
+      let r = class_room w.words x (omega arith) in
       let len = all.sound.lengths n.page n.slot there in
       let cls = (all.sound.classes n.page).0 in
       let ce = u.1 n name in

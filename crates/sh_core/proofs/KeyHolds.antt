@@ -1,6 +1,6 @@
 -- The holds on a key are holds on the slot that it names, so they are as few.
 use Rattle.std.proofs.Common.{◌≡◌, ℕ, zero, suc, ◌≤◌, ◌==◌, Bool, true, false, refl, sym, ◌∙◌, arith, Option, Some}
-use Rattle.std.proofs.Common.{None}
+use Rattle.std.proofs.Common.{None, eqb-true}
 use Rattle.sh_slots.specs.declared.hand.Name.{Name}
 use Rattle.sh_slots.specs.Slots.{spot_of}
 use Rattle.sh_step.specs.declared.body.Body.{Body}
@@ -11,10 +11,8 @@ use Rattle.sh_core.specs.Lists.{times}
 use Rattle.sh_core.specs.Tallies.{held, at_spot}
 use Rattle.sh_core.specs.Knows.{AllKnow}
 use Rattle.sh_core.specs.Refines.{HoldsAreFew}
-use Rattle.sh_core.proofs.Totals.{total_le}
+use Rattle.sh_core.proofs.Totals.{total_le, some_part}
 use Rattle.sh_core.proofs.Slots.{same_spot-refl}
-use Rattle.sh_core.proofs.StackSteps.{same_page}
-use Rattle.sh_core.proofs.PlacesWithin.{some_part}
 use Rattle.sh_core.proofs.FewHolds.{FewHolds}
 
 pub holds_few : (plan : Plan) (w : World) → AllKnow plan w → FewHolds plan w → HoldsAreFew plan w
@@ -23,14 +21,14 @@ holds_few plan w know few k = go (plan.keys.unpack k) refl where
       → if1 b ≤ if1 (at_spot (spot_of n) (plan.keys.unpack j))
   on_slot n name j false e = omega arith
   on_slot n name j true e =
-      let i = same_page j k e in
+      let i = eqb-true j k e in
       let here : if1 (at_spot (spot_of n) (plan.keys.unpack j)) ≡ 1 = rw (i, name, same_spot-refl (spot_of n)) refl
       in omega arith
 
-  none : plan.keys.unpack k ≡ None → (m : ℕ) → total (λ (p : Body). times k p.holds) w.parts ≡ m
+  held_by_none : plan.keys.unpack k ≡ None → (m : ℕ) → total (λ (p : Body). times k p.holds) w.parts ≡ m
       → m ≤ plan.keys.guard_max
-  none name zero e = omega arith
-  none name (suc m) e =
+  held_by_none name zero e = omega arith
+  held_by_none name (suc m) e =
       let s = some_part (λ (p : Body). times k p.holds) w.parts (omega arith) in
       let n = (know s.0 s.1 s.2).named k s.3 in
       absurd (let z : None ≡ Some n.0 = sym name ∙ n.1 in cc)
@@ -41,4 +39,4 @@ holds_few plan w know few k = go (plan.keys.unpack k) refl where
       (λ j. if1 (at_spot (spot_of n) (plan.keys.unpack j))) (λ j. on_slot n name j (j == k) refl) p.holds in
       let t = total_le (λ (p : Body). times k p.holds) (held plan (spot_of n)) one w.parts in
       let f = few (spot_of n) in omega arith
-  go None name = none name (total (λ (p : Body). times k p.holds) w.parts) refl
+  go None name = held_by_none name (total (λ (p : Body). times k p.holds) w.parts) refl

@@ -1,8 +1,7 @@
 -- Each layout keeps the laws on which the core rests, over each shape that fits it.
 use Rattle.std.proofs.Common.{◌≡◌, ℕ, ◌+◌, ◌*◌, ◌/◌, ◌%◌, ◌^◌, ◌<◌, ◌≤◌, Bool, true, false, cond, sym, ap, ◌∙◌, refl}
-use Rattle.std.proofs.Common.{arith, Option, Some, None}
+use Rattle.std.proofs.Common.{arith, Option, Some, None, lt-ltb, ltb-true}
 use Rattle.std.specs.Prelude.{nat_lt, ◌&&◌}
-use Rattle.std.proofs.lemmas.Bool.Decides.{nat_tests}
 use Rattle.std.proofs.lemmas.Nat.{div-mul-add, mod-mul-add, div-add-mod'}
 use Rattle.std.proofs.Math.Nat.{mod-lt, div-lt_iff_lt-mul}
 use Rattle.sh_key.specs.declared.parts.Parts.{Parts}
@@ -12,12 +11,6 @@ use Rattle.sh_shape.specs.Shape.{Numbers, IsShape, Fits, segment_pages}
 use Rattle.sh_shape.proofs.PlaceLaws.{few_pages}
 use Rattle.sh_slots.specs.declared.hand.Name.{Name}
 use Rattle.sh_step.specs.Plans.{name_in, keys_of, plan_of, Lawful}
-
-lt_to : (a b : ℕ) → a < b → nat_lt a b ≡ true
-lt_to a b h = grind (arith, nat_tests)
-
-lt_from : (a b : ℕ) → nat_lt a b ≡ true → a < b
-lt_from a b h = grind (arith, nat_tests)
 
 name_is : (m n : Name) → m.page ≡ n.page → m.slot ≡ n.slot → m.generation ≡ n.generation → m ≡ n
 name_is m n a b c = λ i. record { page = a i; slot = b i; generation = c i }
@@ -33,7 +26,7 @@ names shards pages p n h = go (nat_lt p.shard shards) (nat_lt p.page pages) refl
   go : (a b : Bool) → nat_lt p.shard shards ≡ a → nat_lt p.page pages ≡ b
       → cond (a && b) (Some (record { page = p.shard * pages + p.page; slot = p.slot; generation = p.generation })) None
       ≡ Some n → Names shards pages p n
-  go true true i j h = record { shard = lt_from p.shard shards i; page = lt_from p.page pages j; is = cc }
+  go true true i j h = record { shard = ltb-true p.shard shards i; page = ltb-true p.page pages j; is = cc }
   go true false i j h = absurd (let z : None ≡ Some n = h in cc)
   go false b i j h = absurd (let z : None ≡ Some n = h in cc)
 
@@ -85,7 +78,7 @@ unpacks layout shards pages n some few_shards few_pages low high page slot =
     } in
     ap (λ (o : Option Parts). elim o as (λ _. Option Name) [ Some p ↦ name_in shards pages p | None ↦ None ])
     (unpacked-packed layout p r)
-    ∙ rw (lt_to (n.page / pages) shards s, lt_to (n.page % pages) pages q, div-add-mod' n.page pages) refl
+    ∙ rw (lt-ltb (n.page / pages) shards s, lt-ltb (n.page % pages) pages q, div-add-mod' n.page pages) refl
 
 pub plan_lawful : (layout : Layout) (n : Numbers) → IsLayout layout → IsShape n → Fits layout n
     → Lawful (plan_of layout n)

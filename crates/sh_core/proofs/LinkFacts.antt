@@ -1,6 +1,5 @@
 -- What the links of stacks, chains and bells say, from the sums that are kept.
-use Rattle.std.proofs.Common.{◌≡◌, ℕ, zero, suc, ◌+◌, ◌<◌, ◌==◌, ◌⊎◌, inl, inr, Bool, true, false, List, [], ◌∷◌, refl}
-use Rattle.std.proofs.Common.{sym, ap, arith}
+use Rattle.std.proofs.Common.{◌≡◌, ℕ, zero, suc, ◌+◌, ◌<◌, ◌==◌, ◌⊎◌, inl, inr, false, List, [], ◌∷◌, refl, ap, arith}
 use Rattle.std.specs.Prelude.{not}
 use Rattle.std.proofs.lemmas.Bool.Decides.{nat_tests}
 use Rattle.sh_step.specs.Collections.{total, if1}
@@ -12,11 +11,12 @@ use Rattle.sh_core.specs.Placed.{All}
 use Rattle.sh_core.specs.Stacks.{Chained, spot, link_to, ties_of, ring_ties, bell_link}
 use Rattle.sh_core.specs.Within.{AllWithin}
 use Rattle.sh_core.specs.Worlds.{World}
-use Rattle.sh_core.proofs.BellKinds.{ties_home}
 use Rattle.sh_core.proofs.PlacesWithin.{belled}
 use Rattle.sh_core.proofs.RestSteps.{no_ties, no_ring_ties}
 use Rattle.sh_core.proofs.SlotGood.{room_few}
-use Rattle.sh_core.proofs.StackSteps.{same_page, page_same, times_cons}
+use Rattle.sh_core.proofs.Tests.{if1_self}
+use Rattle.sh_core.proofs.ListCounts.{times_cons}
+use Rattle.sh_core.proofs.BellTakes.{bell_home}
 
 -- one item's link: with its pass it adds up to what names the rest, and it has one of the two
 one_link : (n owed tied next : ℕ) → n + owed ≡ next → if1 (not (n == 0)) + tied ≡ 1 → (tied ≡ 0 → owed ≡ 0)
@@ -34,7 +34,7 @@ links_on : (link owed tied : ℕ → ℕ) (xs : List ℕ) → Chained link owed 
     → LinksOn link tied xs
 links_on link owed tied [] chained one none = tt
 links_on link owed tied (s ∷ xs) chained one none =
-    let first : if1 (s == s) ≡ 1 = rw (page_same s) refl in
+    let first = if1_self s in
     let here = times_cons s s xs in (
       one_link (link s) (owed s) (tied s) (link_to xs) chained.0 (one s (omega arith)) (none s),
       links_on link owed tied
@@ -51,22 +51,11 @@ module _ (plan : Plan) (w : World) (l : PutLists) (laws : Lawful plan) (all : Al
       let few = room_few w.words (spot q s) in
       let ties = all.rest.stacks.ties q s in omega arith
 
-  -- a page that stands on a bell or its chain is of that shard
-  pub homed : (n q : ℕ) → 0 < times q (l.bells n) + times q (l.bell_chain n) → home plan q ≡ n
-  homed n q some = go (n == home plan q) refl where
-    go : (b : Bool) → (n == home plan q) ≡ b → home plan q ≡ n
-    go true e = sym (same_page n (home plan q) e)
-    go false e = absurd (
-        let ties = all.rest.bells.ties n q in
-        let nobody = ties_home plan n q e w.parts in
-        let unwritten : if1 (not (bell_link plan w.words.page_link_at n q == 0)) ≡ 0 = rw e refl in omega arith
-        )
-
-  -- and stands there once at most
+  -- and a page on its bell or that bell's chain
   page_link : (n q : ℕ) → 0 < times q (l.bells n) + times q (l.bell_chain n)
       → if1 (not (bell_link plan w.words.page_link_at n q == 0)) + total (ring_ties plan n q) w.parts ≡ 1
   page_link n q some =
-      let at : home plan q ≡ n = homed n q some in
+      let at = bell_home plan w.words w.parts l n q all.rest some in
       let duty = all.rest.duty q in
       let duty0 = duty.0 in
       let duty1 = duty.1 in
@@ -85,5 +74,8 @@ module _ (plan : Plan) (w : World) (l : PutLists) (laws : Lawful plan) (all : Al
         (λ q. no_ring_ties plan n q w.parts);
     bell_chain = λ n. links_on _ _ _ (l.bell_chain n) (all.rest.bells.chains n) (λ q some. page_link n q (omega arith))
         (λ q. no_ring_ties plan n q w.parts);
-    home_pages = λ n q some. (homed n q some, belled plan w l laws all know within n q some);
+    home_pages = λ n q some. (
+      bell_home plan w.words w.parts l n q all.rest some,
+      belled plan w l laws all know within n q some,
+    );
   }

@@ -1,9 +1,9 @@
 -- What the log says of keys, over one more entry, and that it stays legal.
 use Rattle.std.proofs.Common.{◌≡◌, ◌≢◌, ℕ, ◌+◌, ◌<◌, ◌≤◌, ◌==◌, ◌&&◌, ◌||◌, ◌⊎◌, inl, inr, Bool, true, false, cond}
 use Rattle.std.proofs.Common.{List, [], ◌∷◌, ◌++◌, length, set, sym, refl, ap, ◌∙◌, subst, arith, Some, slice_get}
+use Rattle.std.proofs.Common.{⊎_elim, eq-or-lt_of_le}
 use Rattle.std.specs.Prelude.{not}
 use Rattle.std.proofs.lemmas.List.{append-nil}
-use Rattle.std.proofs.Common.{⊎_elim}
 use Rattle.std.proofs.lemmas.Bool.{cases_lt}
 use Rattle.std.proofs.lemmas.Bool.Decides.{nat_tests}
 use Rattle.sh_history.specs.declared.entry.Entry.{Entry}
@@ -18,13 +18,12 @@ use Rattle.sh_slots.specs.Slots.{same_spot, spot_of, live_at}
 use Rattle.sh_step.specs.Collections.{total, if1}
 use Rattle.sh_step.specs.declared.body.Body.{Body}
 use Rattle.sh_core.specs.Worlds.{value_at}
-use Rattle.sh_core.specs.Stories.{values, removals, removed_in, got_in, released_in, gots_by, releases_by, got_by}
-use Rattle.sh_core.specs.Stories.{released_by, Story, KeysFine, HoldsFine, AllHoldsFine}
+use Rattle.sh_core.specs.Stories.{values, removals, removed_in, gots_by, releases_by, Story, KeysFine, HoldsFine}
 use Rattle.sh_core.proofs.Permits.{Permits}
 use Rattle.sh_core.specs.Lists.{times}
-use Rattle.sh_core.proofs.Totals.{total_append, total_same, get_set}
+use Rattle.sh_core.proofs.Totals.{total_append, get_set}
 use Rattle.sh_core.proofs.Slots.{same_spot-true}
-use Rattle.sh_core.proofs.StateWords.{put2_same, put2_other}
+use Rattle.sh_core.proofs.Writes.{put2_same, put2_other}
 
 pub values_append : (k : ℕ) (es fs : List Entry) → values k (es ++ fs) ≡ values k es ++ values k fs
 unfolding values
@@ -40,22 +39,18 @@ pub removals_snoc : (k : ℕ) (es : List Entry) (e : Entry) → removals k (es +
 unfolding total
 removals_snoc k es e = omega (arith, total_append (removed_in k) es (e ∷ []))
 
-later_or_same : (g h : ℕ) → h ≤ g → (h < g) ⊎ (g ≡ h)
-later_or_same g h l = grind arith
-
 story_gone : (st : Fields) (g : ℕ) (vs : List (List ℕ)) (gone : ℕ) (now : List ℕ) → Story st g vs gone now
     → (st.present && not st.marked && (st.generation == g)) ≡ false → (vs ≡ []) ⊎ (0 < gone)
 story_gone st g vs gone now s h = go (cases_lt g st.generation) where
-  same : (p m : Bool) → st.present ≡ p → st.marked ≡ m → g ≡ st.generation → (vs ≡ []) ⊎ (0 < gone)
-  same p true a b e = let k = s.mark e in let one : if1 st.marked ≡ 1 = rw b refl in inr (omega arith)
-  same true false a b e = let k : (st.generation == g) ≡ true = grind (arith, nat_tests)
+  of_now : (p m : Bool) → st.present ≡ p → st.marked ≡ m → g ≡ st.generation → (vs ≡ []) ⊎ (0 < gone)
+  of_now p true a b e = let k = s.mark e in let one : if1 st.marked ≡ 1 = rw b refl in inr (omega arith)
+  of_now true false a b e = let k : (st.generation == g) ≡ true = grind (arith, nat_tests)
       in absurd (let z : true ≡ false = rw (a, b, k) at h in cc)
-  same false false a b e = inl (s.fresh e (rw (a, b) refl))
+  of_now false false a b e = inl (s.fresh e (rw (a, b) refl))
 
   go : (g < st.generation) ⊎ (st.generation ≤ g) → (vs ≡ []) ⊎ (0 < gone)
   go (inl c) = let k = (s.before c).1 in inr (omega arith)
-  go (inr c) = ⊎_elim (λ d. inl (s.later d).0) (λ d. same st.present st.marked refl refl d)
-      (later_or_same g st.generation c)
+  go (inr c) = ⊎_elim (λ d. of_now st.present st.marked refl refl (sym d)) (λ d. inl (s.later d).0) (eq-or-lt_of_le c)
 
 -- Gone: the slot says that k is not Live in it
 pub gone_permitted : (plan : Plan) (log : List Entry) (a k : ℕ) (y : Name) (n : ℕ) (now : List ℕ)
@@ -191,24 +186,6 @@ holds_step ps log log' a p p' old at mine others b u e k = ⊎_elim
     let m = mine k in
     let g : P a p' = omega arith in subst (λ (c : ℕ × Body). P c.0 c.1) (λ i. (sym h.0 i, h.1 i)) g)
     (λ h. let o = others b k h.0 in let f = old b u h.1 k in omega arith) (get_set ps a b p' u e)
-
--- an entry that neither gets nor releases
-pub quiet_gots : (log : List Entry) (e : Entry) → ((b k : ℕ) → (got_by b k e ≡ 0) × (released_by b k e ≡ 0)) → (b k : ℕ)
-    → (gots_by b k (log ++ e ∷ []) ≡ gots_by b k log) × (releases_by b k (log ++ e ∷ []) ≡ releases_by b k log)
-unfolding total
-quiet_gots log e h b k = let q = h b k in (
-  omega (arith, total_append (got_by b k) log (e ∷ [])),
-  omega
-      (arith, total_append (released_by b k) log (e ∷ [])),
-)
-
-pub all_holds_quiet : (ps : List Body) (log : List Entry) (a : ℕ) (p p' : Body) (e : Entry) → AllHoldsFine ps log
-    → slice_get ps a ≡ Some p → p'.holds ≡ p.holds → ((k : ℕ) → (got_in k e ≡ 0) × (released_in k e ≡ 0))
-    → AllHoldsFine (set ps a p') (log ++ e ∷ [])
-unfolding total
-all_holds_quiet ps log a p p' e old at same h k = let q = h k in let o = old k in
-    let t = total_same (λ (u : Body). times k u.holds) ps a p p' at (ap (times k) same) in
-    omega (arith, total_append (got_in k) log (e ∷ []), total_append (released_in k) log (e ∷ []))
 
 pub story_same : (st st' : Fields) (g : ℕ) (vs : List (List ℕ)) (gone : ℕ) (now : List ℕ) → st'.generation
     ≡ st.generation → st'.marked ≡ st.marked → st'.present ≡ st.present → Story st g vs gone now

@@ -1,6 +1,6 @@
 -- The whole of what is kept, over one kind: Mark.
-use Rattle.std.proofs.Common.{◌≡◌, ◌≢◌, ℕ, ◌^◌, ◌≤◌, ◌==◌, ◌&&◌, inr, ⊎_elim, Bool, true, false, cond, List, [], ◌∷◌}
-use Rattle.std.proofs.Common.{◌++◌, length, set, sym, refl, ap, ◌∙◌, subst, arith, Some, slice_get}
+use Rattle.std.proofs.Common.{◌≡◌, ◌≢◌, ℕ, ◌^◌, ◌==◌, ◌&&◌, inr, Bool, true, false, cond, List, [], ◌∷◌, ◌++◌, set, sym}
+use Rattle.std.proofs.Common.{refl, ap, ◌∙◌, subst, arith, Some, slice_get}
 use Rattle.std.specs.Prelude.{not, bit_or}
 use Rattle.std.proofs.lemmas.Bool.Decides.{nat_tests}
 use Rattle.sh_history.specs.declared.entry.Entry.{Entry}
@@ -21,8 +21,8 @@ use Rattle.sh_core.specs.Lists.{PutLists}
 use Rattle.sh_core.specs.Tallies.{Fine, tally, lost, SlotsFine, stale}
 use Rattle.sh_core.specs.Stories.{values, removals, Story, KeysFine}
 use Rattle.sh_core.proofs.Permits.{Permits}
-use Rattle.sh_core.specs.Good.{Good, PartsFine, FillFine}
-use Rattle.sh_core.proofs.Totals.{total_at, get_set}
+use Rattle.sh_core.specs.Good.{Good}
+use Rattle.sh_core.proofs.Totals.{total_at}
 use Rattle.sh_word.proofs.Words.{fields_of-or_mark}
 use Rattle.sh_core.proofs.GoodStep.{good_at}
 use Rattle.sh_core.proofs.Slots.{slots_state, same_spot-refl}
@@ -44,11 +44,6 @@ is_current r q st plan ps a p k y name at f = parts st.present y.generation st.g
   parts : (b : Bool) (g h : ℕ) → if1 (not (b && (g == h))) ≡ 0 → (b ≡ true) × (g ≡ h)
   parts true g h c = (refl, grind (arith, nat_tests))
   parts false g h c = absurd (omega arith)
-
-pub parts_step : (w : Words) (ps : List Body) (a : ℕ) (p' : Body) → PartsFine w ps → (length p'.holds ≤ 16)
-    × FillFine w p' p'.hand → PartsFine w (set ps a p')
-parts_step w ps a p' old mine b u e = ⊎_elim (λ h. let P : Body → Type 0 = λ q. (length q.holds ≤ 16)
-    × FillFine w q q.hand in subst P h.1 mine) (λ h. old b u h.1) (get_set ps a b p' u e)
 
 pub other_key : (plan : Plan) (k j : ℕ) (y z : Name) → plan.keys.unpack k ≡ Some y → plan.keys.unpack j ≡ Some z
     → same_spot (spot_of z) (spot_of y) ≡ false → (k == j) ≡ false

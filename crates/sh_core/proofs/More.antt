@@ -1,6 +1,6 @@
 -- SetClass on the slots, and Crowded.
 use Rattle.std.proofs.Common.{◌≡◌, ℕ, zero, suc, ◌+◌, ◌-◌, ◌<◌, ◌≤◌, ◌==◌, ◌&&◌, ◌||◌, Bool, true, false, cond, List}
-use Rattle.std.proofs.Common.{[], ◌∷◌, length, sym, refl, ap, ◌∙◌, arith, Option, Some, None, slice_get}
+use Rattle.std.proofs.Common.{[], ◌∷◌, length, sym, refl, ap, ◌∙◌, arith, Option, Some, None, slice_get, eqb-true}
 use Rattle.std.specs.Prelude.{not, nat_lt}
 use Rattle.std.proofs.lemmas.Bool.Decides.{nat_tests}
 use Rattle.sh_history.specs.declared.entry.Entry.TheVariants.{Crowded}
@@ -21,12 +21,11 @@ use Rattle.sh_core.specs.Tallies.{held, visits, lost, room, SlotsFine, at_spot, 
 use Rattle.sh_core.specs.Stories.{values}
 use Rattle.sh_core.proofs.Permits.{Permits}
 use Rattle.sh_core.specs.Good.{Good}
-use Rattle.sh_core.proofs.Totals.{total_le, total_plus}
+use Rattle.sh_core.proofs.Totals.{total_le, total_plus, total_length}
 use Rattle.sh_core.proofs.Slots.{same_spot-true}
-use Rattle.sh_core.proofs.StackSteps.{same_page}
 use Rattle.sh_core.proofs.Logs.{live_parts}
 use Rattle.sh_core.proofs.MarkStep.{same_key}
-use Rattle.sh_core.proofs.SlotGood.{total_length, visits_few}
+use Rattle.sh_core.proofs.SlotGood.{visits_few}
 
 -- how often a slot is among the n slots of page q from s on
 pub spots_total : (x : Spot) (q s n : ℕ) → total (λ y. if1 (same_spot x y)) (spots q s n)
@@ -66,7 +65,7 @@ on_key plan st k y laws name gen j = go (plan.keys.unpack j) refl where
         → if1 b ≤ if1 (j == k) + cond b (if1 (not (c && d))) 0
     by true true true h f =
         let s : spot_of z ≡ spot_of y = sym (same_spot-true (spot_of z) (spot_of y) h) in
-        let g : z.generation ≡ y.generation = same_page z.generation st.generation f ∙ sym gen in
+        let g : z.generation ≡ y.generation = eqb-true z.generation st.generation f ∙ sym gen in
         let t = same_key plan j k z y laws e name (sym s) (sym g) in omega arith
     by true true false h f = omega arith
     by true false d h f = omega arith
@@ -105,14 +104,6 @@ crowded_permitted plan w l a p k y laws g at name live under =
           in omega arith
 
 -- Six kinds fill a page: each slot of the class is one of them
-abbrev six : World → PutLists → Spot → ℕ
-six w l x =
-    if1 ((state_of w x).present && not (state_of w x).marked)
-    + (if1 ((state_of w x).present && (state_of w x).marked)
-    + (if1 (not (state_of w x).present && (state_of w x).marked) +
-    (total (mine_at x) w.parts + (total (in_hand x) w.parts +
-    (times x.slot (l.stack x.page) + times x.slot (l.chain x.page))))))
-
 pub three : (p m : Bool) → if1 (p && not m) + (if1 (p && m) + if1 (not p && m)) ≡ if1 (p || m)
 three true true = refl
 three true false = refl

@@ -33,7 +33,9 @@ stuck plan p q is Fill m e = let h = (meets plan p Fill m e).3 in cc
 stuck plan p q is Publish m e = let h = (meets plan p Publish m e).3 in cc
 stuck plan p q is (ReadClass k) m e = let h = (meets plan p (ReadClass k) m e).2 in cc
 stuck plan p q is (ReadLength k) m e = let h = (meets plan p (ReadLength k) m e).2 in cc
-stuck plan p q is (ReadWord k i) m e = let h = (meets plan p (ReadWord k i) m e).6 in cc
+stuck plan p q is (ReadWord k i) m e = go (meets plan p (ReadWord k i) m e) where
+  go : Meets plan p (ReadWord k i) m → ⊥
+  go (x, c, n, named, width_is, length_is, idle, held, inside, row) = cc
 stuck plan p q is (ReadPage y) m e = let h = (meets plan p (ReadPage y) m e).1 in cc
 stuck plan p q is (SetClass y c) m e = let h = (meets plan p (SetClass y c) m e).3 in cc
 stuck plan p q is (Take y) m e = let h = (meets plan p (Take y) m e).1 in cc

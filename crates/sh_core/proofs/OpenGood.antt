@@ -11,7 +11,7 @@ use Rattle.sh_step.specs.Parts.{newcomer}
 use Rattle.sh_core.specs.Lists.{no_lists, mine_at, in_hand, times}
 use Rattle.sh_core.specs.Tallies.{held, visits, lost}
 use Rattle.sh_core.specs.Stories.{values}
-use Rattle.sh_core.specs.Good.{Good}
+use Rattle.sh_core.specs.Good.{Good, FillFine}
 
 pub none_new : (f : Body → ℕ) (n : ℕ) → f newcomer ≡ 0 → total f (replicate n newcomer) ≡ 0
 unfolding total
@@ -46,6 +46,6 @@ good_open plan laws = record {
       in subst P e (omega arith);
   all_holds = λ k. let z = none_new (λ p. times k p.holds) plan.passes refl in omega arith;
   parts = λ a p h. let e = part_new plan.passes a p h in let P : Body → Type 0 = λ q. (length q.holds ≤ 16)
-      × Rattle.sh_core.specs.Good.FillFine (open_world plan).words q q.hand in subst P e (omega arith, tt);
+      × FillFine (open_world plan).words q q.hand in subst P e (omega arith, tt);
   passes = length-replicate plan.passes newcomer;
 }

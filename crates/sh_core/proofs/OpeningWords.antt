@@ -1,6 +1,6 @@
 -- The opening list has, at each place, the word with which the place opens.
 use Rattle.std.proofs.Common.{◌≡◌, ℕ, zero, suc, ◌+◌, ◌-◌, ◌*◌, ◌%◌, ◌^◌, ◌<◌, ◌≤◌, ◌&&◌, Bool, true, false, cond, []}
-use Rattle.std.proofs.Common.{◌∷◌, ◌++◌, length, get_or, refl, ◌∙◌, arith, length-append}
+use Rattle.std.proofs.Common.{◌∷◌, ◌++◌, length, get_or, refl, ◌∙◌, arith, length-append, lt-ltb, le-ltb, le-leb}
 use Rattle.std.specs.Prelude.{nat_lt, nat_le}
 use Rattle.std.proofs.lemmas.Bool.Decides.{nat_tests}
 use Rattle.std.proofs.lemmas.List.{get_or_append_left, get_or-append_right}
@@ -13,6 +13,7 @@ use Rattle.sh_shape.proofs.PlaceLaws.{places_are_words}
 use Rattle.sh_core.specs.Words.{opening, read}
 use Rattle.sh_core.specs.Opening.{opening_word, opening_words}
 use Rattle.sh_core.specs.Kept.{HoldsWords}
+use Rattle.std.proofs.lemmas.Bool.{lt-leb}
 
 pub opening_none : (pages : ℕ) → opening_words pages 0 ≡ []
 unfolding opening_words
@@ -49,27 +50,15 @@ opening_at pages (suc n) i h = go (nat_lt i n) refl (λ k. opening_at pages n i 
         zero_is,
       ) refl
 
-lt_is : (a b : ℕ) → a < b → nat_lt a b ≡ true
-lt_is a b h = grind (arith, nat_tests)
-
-not_lt : (a b : ℕ) → b ≤ a → nat_lt a b ≡ false
-not_lt a b h = grind (arith, nat_tests)
-
-le_is : (a b : ℕ) → a ≤ b → nat_le a b ≡ true
-le_is a b h = grind (arith, nat_tests)
-
-not_le : (a b : ℕ) → b < a → nat_le a b ≡ false
-not_le a b h = grind (arith, nat_tests)
-
 -- a word that is no state word
 early : (pages n : ℕ) → n % page_words < 3 → opening_word pages n ≡ 0
-early pages n h = rw (not_le 3 (n % page_words) h) (go (nat_lt n (page_words * pages))) where
+early pages n h = rw (lt-leb 3 (n % page_words) h) (go (nat_lt n (page_words * pages))) where
   go : (b : Bool) → cond (b && false) (2 ^ 32) 0 ≡ 0
   go true = refl
   go false = refl
 
 late : (pages n : ℕ) → 51 ≤ n % page_words → opening_word pages n ≡ 0
-late pages n h = rw (not_lt (n % page_words) 51 h) (go (nat_lt n (page_words * pages)) (nat_le 3 (n % page_words)))
+late pages n h = rw (le-ltb (n % page_words) 51 h) (go (nat_lt n (page_words * pages)) (nat_le 3 (n % page_words)))
   where
     go : (b c : Bool) → cond (b && (c && false)) (2 ^ 32) 0 ≡ 0
     go true true = refl
@@ -77,12 +66,15 @@ late pages n h = rw (not_lt (n % page_words) 51 h) (go (nat_lt n (page_words * p
     go false c = refl
 
 behind : (pages n : ℕ) → page_words * pages ≤ n → opening_word pages n ≡ 0
-behind pages n h = rw (not_lt n (page_words * pages) h) refl
+behind pages n h = rw (le-ltb n (page_words * pages) h) refl
 
 state_word : (pages n : ℕ) → n < page_words * pages → 3 ≤ n % page_words → n % page_words < 51 → opening_word pages n
     ≡ 2 ^ 32
-state_word pages n a b c = rw (lt_is n (page_words * pages) a, le_is 3 (n % page_words) b, lt_is (n % page_words) 51 c)
-    refl
+state_word pages n a b c = rw (
+  lt-ltb n (page_words * pages) a,
+  le-leb 3 (n % page_words) b,
+  lt-ltb (n % page_words) 51 c,
+) refl
 
 opening_reads : (shape : Numbers) (p : Place) → IsPlace shape p → opening_word (all_pages shape) (number shape p)
     ≡ read opening p

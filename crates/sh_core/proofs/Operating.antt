@@ -25,6 +25,6 @@ fits_room (Store m) n h f = tt
 fits_room (CompareExchange a b) n h f = tt
 fits_room Load n h f = tt
 
-pub has_room : (o o' : Operation) (n n' : ℕ) → o ≡ o' → n ≡ n' → n < 2 ^ 64 → CountFits o' n' → HasRoom o n
-has_room o o' n n' e f h c = fits_room o n h (let P : Operation → Type 0 = λ x. CountFits x n
+pub operation_has_room : (o o' : Operation) (n n' : ℕ) → o ≡ o' → n ≡ n' → n < 2 ^ 64 → CountFits o' n' → HasRoom o n
+operation_has_room o o' n n' e f h c = fits_room o n h (let P : Operation → Type 0 = λ x. CountFits x n
     in subst P (sym e) (let Q : ℕ → Type 0 = λ x. CountFits o' x in subst Q (sym f) c))

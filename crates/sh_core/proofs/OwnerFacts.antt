@@ -1,6 +1,6 @@
 -- What a pass owns: one owner a shard, and what it has lies within its shard.
 use Rattle.std.proofs.Common.{◌≡◌, ◌≢◌, ℕ, ◌%◌, ◌<◌, ◌≤◌, ◌==◌, Bool, true, false, refl, sym, ap, ◌∙◌, arith, Option}
-use Rattle.std.proofs.Common.{Some, None, slice_get}
+use Rattle.std.proofs.Common.{Some, None, slice_get, eq-eqb, eqb-true}
 use Rattle.std.proofs.lemmas.Bool.Decides.{nat_tests}
 use Rattle.sh_slots.specs.declared.hand.Spot.{Spot}
 use Rattle.sh_step.specs.Collections.{total, if1, noted}
@@ -16,28 +16,22 @@ use Rattle.sh_core.specs.Stacks.{spot, cursor_at, bell_cursor_at, is_at, first_i
 use Rattle.sh_core.specs.Tallies.{room}
 use Rattle.sh_core.specs.Within.{AllWithin}
 use Rattle.sh_core.specs.Worlds.{World}
-use Rattle.sh_core.proofs.BellKinds.{owned_at}
-use Rattle.sh_core.proofs.ClassSlots.{room_under}
-use Rattle.sh_core.proofs.LinkFacts.{homed}
+use Rattle.sh_core.proofs.ClassSlots.{room_under, room_placed}
 use Rattle.sh_core.proofs.ListCounts.{once_only, no_spots, no_numbers, no_notes, none_noted, noted_once, times_noted}
-use Rattle.sh_core.proofs.ListCounts.{first_few, first_one, first_times}
-use Rattle.sh_core.proofs.PlacesWithin.{noted_at}
+use Rattle.sh_core.proofs.ListCounts.{first_few, first_one, first_times, noted_at}
 use Rattle.sh_core.proofs.RestSteps.{alone_armed}
 use Rattle.sh_core.proofs.SlotGood.{room_few}
-use Rattle.sh_core.proofs.StackSteps.{page_same}
 use Rattle.sh_core.proofs.Totals.{total_at, total_two, some_part}
+use Rattle.sh_core.proofs.Tests.{if1_some}
+use Rattle.sh_core.proofs.BellTakes.{owned_at, bell_home}
 
 owns_here : (n : ℕ) (p : Body) → p.owned ≡ Some n → owns n p ≡ 1
-owns_here n p e = rw (e, page_same n) refl
+owns_here n p e = rw (e, eq-eqb n n refl) refl
 
 owns_is : (n : ℕ) (p : Body) → 0 < owns n p → p.owned ≡ Some n
 owns_is n p some = go p.owned refl some where
-  at : (k : ℕ) (b : Bool) → (k == n) ≡ b → 0 < if1 b → k ≡ n
-  at k true e h = grind (arith, nat_tests)
-  at k false e h = absurd (omega arith)
-
   go : (o : Option ℕ) → p.owned ≡ o → 0 < (elim o as (λ _. ℕ) [ Some k ↦ if1 (k == n) | None ↦ 0 ]) → p.owned ≡ Some n
-  go (Some k) e h = e ∙ ap (λ (m : ℕ). Some m) (at k (k == n) refl h)
+  go (Some k) e h = e ∙ ap (λ (m : ℕ). Some m) (eqb-true k n (if1_some (k == n) h))
   go None e h = absurd (omega arith)
 
 -- ---- one owner a shard
@@ -92,7 +86,7 @@ module _ (plan : Plan) (w : World) (l : PutLists) (laws : Lawful plan) (all : Al
   -- a slot that has room is one of a page of the heap
   placed : (x : Spot) → 0 < room w.words x → (x.page < heap_pages plan)
       × (x.slot < slots_under (w.words.class_at x.page))
-  placed x some = let r = room_under w.words x some in let c = all.sound.classes x.page in (c.1 r.0, r.1)
+  placed x some = ((room_placed plan w.words x all.sound some).0, room_under w.words x some)
 
   own_mine : (x : Spot) → 0 < mine_at x p → (mine_at x p ≡ 1) × (own plan p x.page ≡ true) × (x.page < heap_pages plan)
       × (x.slot < slots_under (w.words.class_at x.page))
@@ -108,14 +102,15 @@ module _ (plan : Plan) (w : World) (l : PutLists) (laws : Lawful plan) (all : Al
       )
 
   -- a cursor is at the first of the chain
-  first : (q s : ℕ) → cursor_at q s p ≤ first_is (l.chain q) s
-  first q s = let t = total_at (cursor_at q s) w.parts a p at in let c = all.rest.stacks.cursors q s in omega arith
+  cursor_first : (q s : ℕ) → cursor_at q s p ≤ first_is (l.chain q) s
+  cursor_first q s = let t = total_at (cursor_at q s) w.parts a p at in let c = all.rest.stacks.cursors q s
+      in omega arith
 
   own_cursor : (q s : ℕ) → noted q p.cursors ≡ Some s → (own plan p q ≡ true) × (q < heap_pages plan)
       × (s < slots_under (w.words.class_at q)) × (mine_at (spot q s) p ≡ 0)
   own_cursor q s is =
       let here = noted_at q s p.cursors is in
-      let f = first q s in
+      let f = cursor_first q s in
       let t = first_times (l.chain q) s in
       let fine = all.good.slots (spot q s) in
       let few = room_few w.words (spot q s) in
@@ -131,14 +126,14 @@ module _ (plan : Plan) (w : World) (l : PutLists) (laws : Lawful plan) (all : Al
   one_cursor : (q : ℕ) → noted q (unpoint q p.cursors) ≡ None
   one_cursor q =
       let once : times_noted q p.cursors ≤ 1 = noted_once q p.cursors
-      (λ s. let f = first q s in let few = first_few (l.chain q) s in omega arith)
-      (λ s t h k. let f = first q s in let g = first q t in first_one (l.chain q) s t (omega arith) (omega arith)) in
+      (λ s. let f = cursor_first q s in let few = first_few (l.chain q) s in omega arith)
+      (λ s t h k. let f = cursor_first q s in let g = cursor_first q t
+      in first_one (l.chain q) s t (omega arith) (omega arith)) in
       none_noted q (unpoint q p.cursors) (once_only (λ x. x.0 == q) p.cursors once)
 
   -- who owns the shard has armed what is armed there
   armed_here : (q : ℕ) → own plan p q ≡ true → total (armed_at q) w.parts ≡ times q p.armed
-  armed_here q mine = alone_armed plan w.words.class_at w.words.head_at w.words.page_link_at w.words.bell_at
-      w.words.owner_at w.words.link_at w.parts l a p all.rest at q mine
+  armed_here q mine = alone_armed plan w.words w.parts l a p all.rest at q mine
 
   own_armed : (q : ℕ) → 0 < times q p.armed → (times q p.armed ≡ 1) × (own plan p q ≡ true) × (q < heap_pages plan)
   own_armed q some =
@@ -158,15 +153,15 @@ module _ (plan : Plan) (w : World) (l : PutLists) (laws : Lawful plan) (all : Al
     go None none = absurd (let z : None ≡ Some q = sym ((all.rest.homed a p at).bell none) ∙ is in cc)
     go (Some n) owned =
         let here : bell_cursor_at n q p ≡ 1 = owned_at n n p.owned (is_at p.bell_cursor q) owned
-        ∙ rw (page_same n, is, page_same q) refl in
+        ∙ rw (eq-eqb n n refl, is, eq-eqb q q refl) refl in
         let t = total_at (bell_cursor_at n q) w.parts a p at in
         let c = all.rest.bells.cursors n q in
         let f = first_times (l.bell_chain n) q in
-        let at_home : home plan q ≡ n = homed plan w l laws all know within n q (omega arith) in
+        let at_home = bell_home plan w.words w.parts l n q all.rest (omega arith) in
         let chain : times q (l.bell_chain (home plan q)) ≡ times q (l.bell_chain n) = ap
         (λ (k : ℕ). times q (l.bell_chain k)) at_home in
         let mine : own plan p q ≡ true = ap (λ (o : Option ℕ). owned_by plan o q) owned ∙ ap (λ (k : ℕ). n == k) at_home
-        ∙ page_same n in
+        ∙ eq-eqb n n refl in
         let duty = (all.rest.duty q).0 in
         let armed = armed_here q mine in
         let o = own_armed q (omega arith) in (mine, o.2, o.0)

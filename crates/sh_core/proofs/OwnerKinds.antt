@@ -1,6 +1,7 @@
 -- What is kept of lists, bells, duties and owners, over Adopt, Leave, ReadPage, and a change of a page's class.
 use Rattle.std.proofs.Common.{◌≡◌, ◌≢◌, ℕ, zero, suc, ◌+◌, ◌<◌, ◌≤◌, ◌==◌, ⊎_elim, Bool, true, false, cond, List, []}
-use Rattle.std.proofs.Common.{◌∷◌, ◌++◌, length, set, sym, refl, ap, ◌∙◌, subst, arith, Option, Some, None, slice_get}
+use Rattle.std.proofs.Common.{◌∷◌, ◌++◌, set, sym, refl, ap, ◌∙◌, subst, arith, Option, Some, None, slice_get, eqb-true}
+use Rattle.std.proofs.Common.{eq-eqb}
 use Rattle.std.proofs.lemmas.Bool.Decides.{nat_tests}
 use Rattle.sh_slots.specs.declared.hand.Spot.{Spot}
 use Rattle.sh_core.specs.Words.{Words, write, put}
@@ -16,8 +17,11 @@ use Rattle.sh_core.specs.Bells.{rings, armed_at, owns}
 use Rattle.sh_core.specs.Placed.{HomedPart, RestOf}
 use Rattle.sh_step.specs.Rows.{own, owned_by}
 use Rattle.sh_core.proofs.Totals.{total_same, total_set, total_at, total_append, get_set}
-use Rattle.sh_core.proofs.StackSteps.{put_same, put_other, same_page, page_same, eq_sym, chains_same}
+use Rattle.sh_core.proofs.StackSteps.{chains_same}
 use Rattle.sh_core.proofs.RestSteps.{homed_set, rest_frame, other_owner}
+use Rattle.sh_core.proofs.Tests.{eqb-comm}
+use Rattle.sh_core.proofs.Writes.{put_same, put_other}
+use Rattle.sh_core.proofs.StackKinds.{apart_pages}
 
 -- the owner changes, and with it what it has
 pub rest_owner : (plan : Plan) (w : Words) (ps : List Body) (l : PutLists) (a : ℕ) (p p' : Body) (n m : ℕ)
@@ -85,38 +89,31 @@ adopt_rest plan w ps l a p n r at none free =
       go : (k : ℕ) → owns k p ≡ 0 → w.owner_at k ≤ 1 → (b : Bool) → (k == n) ≡ b
           → (put w.owner_at n 1 k + owns k p ≡ w.owner_at k + if1 (n == k)) × (put w.owner_at n 1 k ≤ 1)
       go k z d true e =
-          let i = same_page k n e in
+          let i = eqb-true k n e in
           let x : put w.owner_at n 1 k ≡ 1 = rw i (put_same w.owner_at n 1) in
           let y : w.owner_at k ≡ 0 = rw i free in
-          let v : if1 (n == k) ≡ 1 = rw (i, page_same n) refl in (omega arith, omega arith)
+          let v : if1 (n == k) ≡ 1 = rw (i, eq-eqb n n refl) refl in (omega arith, omega arith)
       go k z d false e =
           let x = put_other w.owner_at n k 1 e in
-          let v : if1 (n == k) ≡ 0 = rw (eq_sym n k, e) refl in (omega arith, omega arith)
+          let v : if1 (n == k) ≡ 0 = rw (eqb-comm n k, e) refl in (omega arith, omega arith)
 
 abbrev pub left : Body → Body
 left p = record p { owned = None }
 
-nil_of : {A : Type 0} (xs : List A) → (length xs == 0) ≡ true → xs ≡ []
-nil_of [] h = refl
-nil_of (x ∷ xs) h = absurd (let z : suc (length xs) ≡ 0 = grind (arith, nat_tests) in omega arith)
-
 pub leave_rest : (plan : Plan) (w : Words) (ps : List Body) (l : PutLists) (a : ℕ) (p : Body) (n : ℕ)
-    → RestOf plan w ps l → slice_get ps a ≡ Some p → p.owned ≡ Some n → (length p.mine == 0) ≡ true
-    → (length p.cursors == 0) ≡ true → (length p.armed == 0) ≡ true → p.bell_cursor ≡ None
+    → RestOf plan w ps l → slice_get ps a ≡ Some p → p.owned ≡ Some n → p.mine ≡ [] → p.cursors ≡ []
+    → p.armed ≡ [] → p.bell_cursor ≡ None
     → RestOf plan (write w (Owner n) 0) (set ps a (left p)) l
 unfolding total
 leave_rest plan w ps l a p n r at mine no_mine no_cursors no_armed no_bell =
-    let e1 = nil_of p.mine no_mine in
-    let e2 = nil_of p.cursors no_cursors in
-    let e3 = nil_of p.armed no_armed in
     rest_owner plan w ps l a p (left p) n 0 r at refl (λ q s. refl)
     (λ k q. sym (bell_none k q p.owned p.bell_cursor no_bell)) (λ q. refl)
     (λ k. let d = r.owned k in let d0 = d.0 in let d1 = d.1 in let t = total_at (owns k) ps a p at
     in go k d1 (owns_is k p.owned mine) (omega arith) (k == n) refl)
     (record {
-      mines = λ x e. rw e1 refl;
-      points = λ q s e. rw e2 refl;
-      arms = λ q e. rw e3 refl;
+      mines = λ x e. rw no_mine refl;
+      points = λ q s e. rw no_cursors refl;
+      arms = λ q e. rw no_armed refl;
       bell = λ e. no_bell;
       notes = λ q c e h. absurd (let z : false ≡ true = e in cc);
     }) where
@@ -127,12 +124,12 @@ leave_rest plan w ps l a p n r at mine no_mine no_cursors no_armed no_bell =
       go : (k : ℕ) → w.owner_at k ≤ 1 → owns k p ≡ if1 (n == k) → owns k p ≤ w.owner_at k → (b : Bool) → (k == n) ≡ b
           → (put w.owner_at n 0 k + owns k p ≡ w.owner_at k + 0) × (put w.owner_at n 0 k ≤ 1)
       go k d z m true e =
-          let i = same_page k n e in
+          let i = eqb-true k n e in
           let x : put w.owner_at n 0 k ≡ 0 = rw i (put_same w.owner_at n 0) in
-          let v : if1 (n == k) ≡ 1 = rw (i, page_same n) refl in (omega arith, omega arith)
+          let v : if1 (n == k) ≡ 1 = rw (i, eq-eqb n n refl) refl in (omega arith, omega arith)
       go k d z m false e =
           let x = put_other w.owner_at n k 0 e in
-          let v : if1 (n == k) ≡ 0 = rw (eq_sym n k, e) refl in (omega arith, omega arith)
+          let v : if1 (n == k) ≡ 0 = rw (eqb-comm n k, e) refl in (omega arith, omega arith)
 
 -- Adopt that finds the shard taken
 pub taken_rest_owner : (plan : Plan) (w : Words) (ps : List Body) (l : PutLists) (a : ℕ) (p : Body) (n : ℕ)
@@ -143,7 +140,7 @@ taken_rest_owner plan w ps l a p n r at some = rest_owner plan w ps l a p p n 1 
       go : (k : ℕ) → w.owner_at k ≤ 1 → (b : Bool) → (k == n) ≡ b →
           (put w.owner_at n 1 k + owns k p ≡ w.owner_at k + owns k p) × (put w.owner_at n 1 k ≤ 1)
       go k d true e =
-          let i = same_page k n e in
+          let i = eqb-true k n e in
           let x : put w.owner_at n 1 k ≡ 1 = rw i (put_same w.owner_at n 1) in
           let f : (w.owner_at k == 0) ≡ false = rw i some in
           let y : 0 < w.owner_at k = grind (arith, nat_tests) in (omega arith, omega arith)
@@ -156,7 +153,7 @@ pub read_page_rest : (plan : Plan) (w : Words) (ps : List Body) (l : PutLists) (
 unfolding noted
 read_page_rest plan w ps l a p q r at small =
     let o = r.homed a p at in
-    rest_frame plan _ _ _ _ _ _ ps l a p (record p { classes = (q, w.class_at q) ∷ p.classes }) r at refl
+    rest_frame plan w ps l a p (record p { classes = (q, w.class_at q) ∷ p.classes }) r at refl
     (record {
       mines = o.mines;
       points = o.points;
@@ -167,7 +164,7 @@ read_page_rest plan w ps l a p q r at small =
     }) where
       go : (k c : ℕ) → own plan p k ≡ true → (b : Bool) → (q == k) ≡ b
           → cond b (Some (w.class_at q)) (noted k p.classes) ≡ Some c → (w.class_at k ≡ c) × (k < heap_pages plan)
-      go k c e true f h = let i = same_page q k f in let z : w.class_at q ≡ c = cc
+      go k c e true f h = let i = eqb-true q k f in let z : w.class_at q ≡ c = cc
           in (ap w.class_at (sym i) ∙ z, omega arith)
       go k c e false f h = (r.homed a p at).notes k c e h
 
@@ -180,10 +177,10 @@ times_drop x q [] = go (x.page == q) where
   go false = refl
 times_drop x q (y ∷ ys) = go (y.page == q) (x.page == q) refl refl (times_drop x q ys) where
   apart : (x.page == q) ≡ false → (y.page == q) ≡ true → same_spot x y ≡ false
-  apart a b = let i = same_page y.page q b in let z : (x.page == y.page) ≡ false = rw i a in rw z refl
+  apart a b = let i = eqb-true y.page q b in let z : (x.page == y.page) ≡ false = rw i a in rw z refl
 
   apart2 : (x.page == q) ≡ true → (y.page == q) ≡ false → same_spot x y ≡ false
-  apart2 a b = let i = same_page x.page q a in let z : (x.page == y.page) ≡ false = rw (eq_sym x.page y.page, i) b
+  apart2 a b = let i = eqb-true x.page q a in let z : (x.page == y.page) ≡ false = rw (eqb-comm x.page y.page, i) b
       in rw z refl
 
   go : (b c : Bool) → (y.page == q) ≡ b → (x.page == q) ≡ c → total (λ y. if1 (same_spot x y))
@@ -241,8 +238,7 @@ set_class_rest plan w ps l a p q c r at mine small =
       here : HomedPart plan (put w.class_at q (c + 1)) p'
       here = record {
         mines = λ x e.
-            let k : (x.page == q) ≡ false = eq_sym x.page q ∙ Rattle.sh_core.proofs.StackKinds.apart_pages plan p.owned
-            q x.page mine e in
+            let k : (x.page == q) ≡ false = eqb-comm x.page q ∙ apart_pages plan p.owned q x.page mine e in
             let m : total (λ y. if1 (same_spot x y)) (off (λ y. y.page == q) p.mine)
             ≡ total (λ y. if1 (same_spot x y)) p.mine = times_drop x q p.mine
             ∙ ap (λ (b : Bool). cond b 0 (total (λ y. if1 (same_spot x y)) p.mine)) k in
@@ -257,21 +253,21 @@ set_class_rest plan w ps l a p q c r at mine small =
       } where
         go : (k d : ℕ) → own plan p k ≡ true → (b : Bool) → (q == k) ≡ b → cond b (Some (c + 1)) (noted k p.classes)
             ≡ Some d → (put w.class_at q (c + 1) k ≡ d) × (k < heap_pages plan)
-        go k d e true f h = let i = same_page q k f in let z : c + 1 ≡ d = cc
+        go k d e true f h = let i = eqb-true q k f in let z : c + 1 ≡ d = cc
             in (rw (← i) (put_same w.class_at q (c + 1)) ∙ z, omega arith)
-        go k d e false f h = let n = o.notes k d e h in (put_other w.class_at q k (c + 1) (eq_sym k q ∙ f) ∙ n.0, n.1)
+        go k d e false f h = let n = o.notes k d e h in (put_other w.class_at q k (c + 1) (eqb-comm k q ∙ f) ∙ n.0, n.1)
 
       others : (b : ℕ) (u : Body) → b ≢ a → slice_get ps b ≡ Some u → HomedPart plan (put w.class_at q (c + 1)) u
       others b u n h =
           let v = r.homed b u h in
-          let lone = other_owner plan _ _ _ _ _ _ ps l a p r at b q u n h mine in
+          let lone = other_owner plan w ps l a p r at b q u n h mine in
           record {
             mines = v.mines;
             points = v.points;
             arms = v.arms;
             bell = v.bell;
             notes = λ k d e m. let t = v.notes
-                k d e m in (put_other w.class_at q k (c + 1) (eq_sym k q ∙ away k u e lone) ∙ t.0, t.1);
+                k d e m in (put_other w.class_at q k (c + 1) (eqb-comm k q ∙ away k u e lone) ∙ t.0, t.1);
           } where
             away : (k : ℕ) (u : Body) → own plan u k ≡ true → own plan u q ≡ false → (q == k) ≡ false
-            away k u e lone = eq_sym q k ∙ Rattle.sh_core.proofs.StackKinds.apart_pages plan u.owned k q e lone
+            away k u e lone = eqb-comm q k ∙ apart_pages plan u.owned k q e lone

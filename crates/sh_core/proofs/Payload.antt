@@ -7,7 +7,7 @@ use Rattle.std.proofs.lemmas.List.{take_more}
 use Rattle.std.proofs.lemmas.Bool.Decides.{nat_tests}
 use Rattle.sh_core.specs.Words.{put}
 use Rattle.sh_core.specs.Worlds.{words_from}
-use Rattle.sh_core.proofs.StackSteps.{put_same, put_other}
+use Rattle.sh_core.proofs.Writes.{put_same, put_other}
 
 -- rows of one width do not meet
 pub rows_apart : (s t w i j : ℕ) → s ≢ t → i < w → j < w → s * w + i ≢ t * w + j

@@ -1,6 +1,6 @@
 -- What allows an entry, counted in sums, and that the history then stays legal.
 use Rattle.std.proofs.Common.{◌≡◌, ℕ, ◌+◌, ◌<◌, ◌==◌, ◌||◌, ◌⊎◌, inl, inr, Bool, true, false, cond, List, [], ◌∷◌, ◌++◌}
-use Rattle.std.proofs.Common.{length, sym, refl, ap, ◌∙◌, subst, arith, Option, Some, None, append_assoc}
+use Rattle.std.proofs.Common.{length, sym, refl, ap, ◌∙◌, subst, arith, Some, None, append_assoc, slice_get}
 use Rattle.std.specs.Prelude.{IsSome, count_by}
 use Rattle.std.proofs.lemmas.List.{append-nil}
 use Rattle.sh_history.specs.declared.entry.Entry.{Entry}
@@ -26,16 +26,12 @@ Permits plan F (Released a k) = releases_by a k F < gots_by a k F
 
 -- ---- the sums are what the history says
 
-pub first : List (List ℕ) → Option (List ℕ)
-first [] = None
-first (v ∷ vs) = Some v
-
-pub value_first : (k : ℕ) (es : List Entry) → value_of es k ≡ first (values k es)
-unfolding values first
+pub value_first : (k : ℕ) (es : List Entry) → value_of es k ≡ slice_get (values k es) 0
+unfolding values
 value_first k [] = refl
 value_first k (Insert a j v ∷ es) = go (j == k) (value_first k es) where
-  go : (b : Bool) → value_of es k ≡ first (values k es) → cond b (Some v) (value_of es k)
-      ≡ first (cond b (v ∷ values k es) (values k es))
+  go : (b : Bool) → value_of es k ≡ slice_get (values k es) 0 → cond b (Some v) (value_of es k)
+      ≡ slice_get (cond b (v ∷ values k es) (values k es)) 0
   go true rest = refl
   go false rest = rest
 value_first k (Got a j v ∷ es) = value_first k es
@@ -45,17 +41,14 @@ value_first k (Removed a j ∷ es) = value_first k es
 value_first k (Released a j ∷ es) = value_first k es
 
 pub value_none : (k : ℕ) (es : List Entry) → values k es ≡ [] → value_of es k ≡ None
-unfolding first
-value_none k es h = value_first k es ∙ ap first h
+value_none k es h = value_first k es ∙ ap (λ vs. slice_get vs 0) h
 
 pub value_one : (k : ℕ) (es : List Entry) (v : List ℕ) → values k es ≡ v ∷ [] → value_of es k ≡ Some v
-unfolding first
-value_one k es v h = value_first k es ∙ ap first h
+value_one k es v h = value_first k es ∙ ap (λ vs. slice_get vs 0) h
 
 pub value_some : (k : ℕ) (es : List Entry) → 0 < length (values k es) → IsSome (value_of es k)
-unfolding first
 value_some k es h = go (values k es) h (value_first k es) where
-  go : (vs : List (List ℕ)) → 0 < length vs → value_of es k ≡ first vs → IsSome (value_of es k)
+  go : (vs : List (List ℕ)) → 0 < length vs → value_of es k ≡ slice_get vs 0 → IsSome (value_of es k)
   go (v ∷ vs) h e = rw e refl
   go [] h e = absurd (omega arith)
 
@@ -78,11 +71,11 @@ removed_by k (e ∷ es) = go (is_removal_of k e) (removal_is k e) (removed_by k 
   go true i rest = (λ h. absurd (omega arith), λ h. refl)
   go false i rest = (λ h. rest.0 (omega arith), λ h. rest.1 (omega arith))
 
-counted : {A : Type 0} (p : A → Bool) (f : A → ℕ) → ((x : A) → f x ≡ if1 (p x)) → (xs : List A) → count_by p xs
+count_total : {A : Type 0} (p : A → Bool) (f : A → ℕ) → ((x : A) → f x ≡ if1 (p x)) → (xs : List A) → count_by p xs
     ≡ total f xs
 unfolding total
-counted p f same [] = refl
-counted p f same (x ∷ xs) = let c = count_by-cons p x xs in let e = same x in let rest = counted p f same xs
+count_total p f same [] = refl
+count_total p f same (x ∷ xs) = let c = count_by-cons p x xs in let e = same x in let rest = count_total p f same xs
     in omega arith
 
 got_is : (k : ℕ) (e : Entry) → got_in k e ≡ if1 (is_got_of k e)
@@ -118,16 +111,16 @@ release_by_is a k (Removed b j) = refl
 release_by_is a k (Released b j) = refl
 
 pub gots_are : (k : ℕ) (es : List Entry) → got_count es k ≡ gots k es
-gots_are k es = counted (is_got_of k) (got_in k) (got_is k) es
+gots_are k es = count_total (is_got_of k) (got_in k) (got_is k) es
 
 pub releases_are : (k : ℕ) (es : List Entry) → released_count es k ≡ releases k es
-releases_are k es = counted (is_release_of k) (released_in k) (release_is k) es
+releases_are k es = count_total (is_release_of k) (released_in k) (release_is k) es
 
 pub gots_by_are : (a k : ℕ) (es : List Entry) → got_count_by es a k ≡ gots_by a k es
-gots_by_are a k es = counted (is_got_by a k) (got_by a k) (got_by_is a k) es
+gots_by_are a k es = count_total (is_got_by a k) (got_by a k) (got_by_is a k) es
 
 pub releases_by_are : (a k : ℕ) (es : List Entry) → released_count_by es a k ≡ releases_by a k es
-releases_by_are a k es = counted (is_release_by a k) (released_by a k) (release_by_is a k) es
+releases_by_are a k es = count_total (is_release_by a k) (released_by a k) (release_by_is a k) es
 
 -- ---- so what is permitted is allowed
 

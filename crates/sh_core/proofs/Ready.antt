@@ -1,51 +1,48 @@
 -- A step on the words that are kept: what is read there, and that a row may be done.
 use Rattle.std.proofs.Common.{◌≡◌, ℕ, ◌-◌, ◌<◌, ◌==◌, Bool, true, false, cond, List, refl, sym, ap, ◌∙◌, subst, arith}
-use Rattle.std.proofs.Common.{Option, Some, None, slice_get}
+use Rattle.std.proofs.Common.{Option, Some, None, slice_get, ◌≤◌}
 use Rattle.std.specs.Prelude.{not, nat_lt}
 use Rattle.sh_key.specs.Layout.{Layout}
 use Rattle.sh_word.specs.Fields.{fields_of}
 use Rattle.sh_shape.specs.declared.places.Place.{Place}
 use Rattle.sh_shape.specs.declared.places.Place.TheVariants.{Class, Head, PageLink, State, Link, Length, Payload, Owner}
 use Rattle.sh_shape.specs.declared.places.Place.TheVariants.{Bell}
-use Rattle.sh_shape.specs.Shape.{Numbers}
 use Rattle.sh_shape.specs.Places.{IsPlace}
-use Rattle.sh_slots.specs.declared.hand.Name.{Name}
 use Rattle.sh_slots.specs.declared.reply.Reply.{Reply}
 use Rattle.sh_slots.specs.declared.reply.Reply.TheVariants as reply
 use Rattle.sh_slots.specs.Slots.{live_at}
 use Rattle.sh_step.specs.declared.action.Action.{Action}
-use Rattle.sh_step.specs.declared.action.Action.TheVariants.{EnterGet, EnterRemove, Mark, Drop, DropHold, Finish}
-use Rattle.sh_step.specs.declared.action.Action.TheVariants.{FillSlot, Fill, Publish, ReadClass, ReadLength, ReadWord}
-use Rattle.sh_step.specs.declared.action.Action.TheVariants.{ReadPage, SetClass, Take, Follow, Put, PutSlot, Tie, Adopt}
-use Rattle.sh_step.specs.declared.action.Action.TheVariants.{Leave, Arm, Ring, RingTie, TakeBell, FollowBell}
 use Rattle.sh_step.specs.declared.body.Body.{Body}
 use Rattle.sh_step.specs.Fits.{WordFits}
-use Rattle.sh_step.specs.Plans.{Plan, plan_of}
-use Rattle.sh_step.specs.Rows.{Row, row, enter_get}
+use Rattle.sh_step.specs.Plans.{Plan, plan_of, heap_pages}
 use Rattle.sh_core.specs.Words.{read}
 use Rattle.sh_core.specs.Worlds.{World, run}
 use Rattle.sh_core.specs.Lists.{lists_of}
 use Rattle.sh_core.specs.Refines.{Refines}
 use Rattle.sh_core.specs.Within.{PlansHaveShapesPlaces, CountFits, BellsAreSmall, ValuesFit}
 use Rattle.sh_core.specs.Kept.{KeptWorld, StandsFor, FromEvents, IsReady, SlotHasValue, KeepsValue, word_at}
-use Rattle.sh_step.specs.Conditions.{Meets}
-use Rattle.sh_step.proofs.ConditionLaws.{meets}
 use Rattle.sh_step.proofs.Truths.{and3}
 use Rattle.sh_shape.proofs.ClassLaws.{slots_few}
 use Rattle.sh_core.proofs.RunTheorem.{theorem}
+use Rattle.sh_step.specs.declared.moves.Move.{Move}
+use Rattle.sh_step.specs.declared.moves.Move.TheVariants.{EnterGet, EnterRemove, Mark}
+use Rattle.sh_step.specs.Moves.{row_of}
+use Rattle.sh_step.specs.Rows.{Row, row}
+use Rattle.sh_core.proofs.ByMove.{by_move}
+use Rattle.sh_shape.specs.Classes.{slots, width}
 
 -- a key is got
 abbrev gets_key : Option Reply → Bool
 gets_key (Some (reply.Got k)) = true
 gets_key _ = false
 
-removing : (k : ℕ) (a : Bool) → gets_key (cond a None (Some (reply.Gone k))) ≡ false
-removing k true = refl
-removing k false = refl
+remove_gets_none : (k : ℕ) (a : Bool) → gets_key (cond a None (Some (reply.Gone k))) ≡ false
+remove_gets_none k true = refl
+remove_gets_none k false = refl
 
-marks : (k : ℕ) (a : Bool) → gets_key (Some (cond a (reply.Gone k) (reply.Removed k))) ≡ false
-marks k true = refl
-marks k false = refl
+mark_gets_none : (k : ℕ) (a : Bool) → gets_key (Some (cond a (reply.Gone k) (reply.Removed k))) ≡ false
+mark_gets_none k true = refl
+mark_gets_none k false = refl
 
 -- only where the value is there
 got_live : (k j : ℕ) (a b : Bool) → Some (cond a (cond b (reply.Got k) (reply.Crowded k)) (reply.Gone k))
@@ -58,51 +55,17 @@ abbrev pub Live : Row → ℕ → Type 0
 Live r n = (q : ℕ) × (s : ℕ) × (r.place ≡ State q s) × ((fields_of n).present ≡ true)
 
 module _ (plan : Plan) (p : Body) where
-  no_get : {A : Type 0} (r m : Row) (j n : ℕ) → m ≡ r → gets_key (r.reply n) ≡ false → m.reply n ≡ Some (reply.Got j)
-      → A
-  no_get r m j n e none some =
-      let here : m.reply n ≡ r.reply n = ap (λ (u : Row). u.reply n) e in
-      let z : true ≡ false = sym (ap gets_key some) ∙ (ap gets_key here ∙ none)
-      in absurd (let y : true ≡ false = z in cc)
+  no_get : {A : Type 0} (o : Option Reply) (j : ℕ) → gets_key o ≡ false → o ≡ Some (reply.Got j) → A
+  no_get o j none some = absurd (let z : true ≡ false = sym (ap gets_key some) ∙ none in cc)
 
-  got_at : (k : ℕ) (x : Name) (m : Row) (j n : ℕ) → m ≡ enter_get plan p k x → m.reply n ≡ Some (reply.Got j) → Live m n
-  got_at k x m j n e g =
-      let here : m.reply n ≡ (enter_get plan p k x).reply n = ap (λ (u : Row). u.reply n) e in
-      let live = got_live k j (live_at x.generation n) (nat_lt (fields_of n).count plan.keys.guard_max) (sym here ∙ g)
-      in
+  pub gets : (m : Move) (j n : ℕ) → (row_of plan p m).reply n ≡ Some (reply.Got j) → Live (row_of plan p m) n
+  gets (EnterGet k x) j n g =
+      let live = got_live k j (live_at x.generation n) (nat_lt (fields_of n).count plan.keys.guard_max) g in
       let there = and3 (fields_of n).present (not (fields_of n).marked) ((fields_of n).generation == x.generation) live
-      in
-      (x.page, x.slot, ap (λ (u : Row). u.place) e, there.0)
-
-  pub gets : (x : Action) (m : Row) (j n : ℕ) → row plan p x ≡ Some m → m.reply n ≡ Some (reply.Got j) → Live m n
-  unfolding Meets
-  gets (EnterGet k) m j n e g = let h = meets plan p (EnterGet k) m e in got_at k h.0 m j n h.4 g
-  gets (EnterRemove k) m j n e g = let h = meets plan p (EnterRemove k) m e
-      in no_get _ m j n h.3 (removing k (live_at h.0.generation n)) g
-  gets Mark m j n e g = let h = meets plan p Mark m e in no_get _ m j n h.4 (marks h.0 (fields_of n).marked) g
-  gets Drop m j n e g = let h = meets plan p Drop m e in no_get _ m j n h.2 refl g
-  gets (DropHold k) m j n e g = let h = meets plan p (DropHold k) m e in no_get _ m j n h.4 refl g
-  gets Finish m j n e g = let h = meets plan p Finish m e in no_get _ m j n h.3 refl g
-  gets (FillSlot y v) m j n e g = let h = meets plan p (FillSlot y v) m e in no_get _ m j n h.7 refl g
-  gets Fill m j n e g = let h = meets plan p Fill m e in no_get _ m j n h.5 refl g
-  gets Publish m j n e g = let h = meets plan p Publish m e in no_get _ m j n h.5 refl g
-  gets (ReadClass k) m j n e g = let h = meets plan p (ReadClass k) m e in no_get _ m j n h.4 refl g
-  gets (ReadLength k) m j n e g = let h = meets plan p (ReadLength k) m e in no_get _ m j n h.4 refl g
-  gets (ReadWord k i) m j n e g = let h = meets plan p (ReadWord k i) m e in no_get _ m j n h.9 refl g
-  gets (ReadPage y) m j n e g = let h = meets plan p (ReadPage y) m e in no_get _ m j n h.3 refl g
-  gets (SetClass y c) m j n e g = let h = meets plan p (SetClass y c) m e in no_get _ m j n h.7 refl g
-  gets (Take y) m j n e g = let h = meets plan p (Take y) m e in no_get _ m j n h.5 refl g
-  gets (Follow y) m j n e g = let h = meets plan p (Follow y) m e in no_get _ m j n h.5 refl g
-  gets Put m j n e g = let h = meets plan p Put m e in no_get _ m j n h.2 refl g
-  gets (PutSlot y) m j n e g = let h = meets plan p (PutSlot y) m e in no_get _ m j n h.5 refl g
-  gets Tie m j n e g = let h = meets plan p Tie m e in no_get _ m j n h.4 refl g
-  gets (Adopt a) m j n e g = let h = meets plan p (Adopt a) m e in no_get _ m j n h.3 refl g
-  gets Leave m j n e g = let h = meets plan p Leave m e in no_get _ m j n h.7 refl g
-  gets (Arm y) m j n e g = let h = meets plan p (Arm y) m e in no_get _ m j n h.6 refl g
-  gets Ring m j n e g = let h = meets plan p Ring m e in no_get _ m j n h.2 refl g
-  gets RingTie m j n e g = let h = meets plan p RingTie m e in no_get _ m j n h.3 refl g
-  gets TakeBell m j n e g = let h = meets plan p TakeBell m e in no_get _ m j n h.4 refl g
-  gets FollowBell m j n e g = let h = meets plan p FollowBell m e in no_get _ m j n h.3 refl g
+      in (x.page, x.slot, refl, there.0)
+  gets (EnterRemove k x) j n g = no_get _ j (remove_gets_none k (live_at x.generation n)) g
+  gets (Mark k x) j n g = no_get _ j (mark_gets_none k (fields_of n).marked) g
+  gets m j n g = no_get ((row_of plan p m).reply n) j refl g
 
 -- a place of the plan is one of the shape
 pub is_place : PlansHaveShapesPlaces
@@ -124,19 +87,22 @@ word_fits plan w h _ = tt
 -- where a slot has a value in the world, one stands in the list
 keeps : (layout : Layout) (k : KeptWorld) (w : World) (q s : ℕ) → StandsFor k w → ValuesFit (plan_of layout k.shape) w
     → (fields_of (w.words.state_at q s)).present ≡ true → SlotHasValue k.shape k.words (record { page = q; slot = s })
-keeps layout k w q s st fits there =
-    let v = fits (record { page = q; slot = s }) (rw there refl) in
-    let c : word_at k.shape k.words (Class q) ≡ w.words.class_at q = st.words.at (Class q) v.2 in
-    let few = slots_few (w.words.class_at q - 1) in
-    let low : s < 48 = let a = v.3 in omega arith in
-    let l : word_at k.shape k.words (Length q s) ≡ w.words.length_at q s = st.words.at (Length q s) (v.2, low) in
-    record {
-      page = v.2;
-      has_class = rw c v.0;
-      is_class = rw c v.1;
-      slot = rw c v.3;
-      length = rw (c, l) v.4;
-    }
+keeps layout k w q s st fits there = go (fits (record { page = q; slot = s }) (rw there refl)) where
+  go : (0 < w.words.class_at q) × (w.words.class_at q ≤ 8) × (q < heap_pages (plan_of layout k.shape))
+      × (s < slots (w.words.class_at q - 1)) × (w.words.length_at q s ≤ width (w.words.class_at q - 1))
+      → SlotHasValue k.shape k.words (record { page = q; slot = s })
+  go (some, known, page, slot, wide) =
+      let c : word_at k.shape k.words (Class q) ≡ w.words.class_at q = st.words.at (Class q) page in
+      let few = slots_few (w.words.class_at q - 1) in
+      let low : s < 48 = omega arith in
+      let l : word_at k.shape k.words (Length q s) ≡ w.words.length_at q s = st.words.at (Length q s) (page, low) in
+      record {
+        page = page;
+        has_class = rw c some;
+        is_class = rw c known;
+        slot = rw c slot;
+        length = rw (c, l) wide;
+      }
 
 -- where the condition of an action holds, its row may be done
 pub ready : (layout : Layout) (k : KeptWorld) (a : ℕ) (p : Body) (x : Action) (r : Row) → FromEvents layout k
@@ -163,7 +129,9 @@ ready layout k a p x r reached at e =
       };
       counts = subst (CountFits r.operation) (sym n) (f.counts a p x r here e);
       gets = λ j g.
-          let live = gets plan p x r j (word_at k.shape k.words r.place) e g in
+          let found : ℕ = word_at k.shape k.words r.place in
+          let live = by_move plan p x r (λ u. u.reply found ≡ Some (reply.Got j) → Live u found) e
+          (λ m may. gets plan p m j found) g in
           let P : Place → Type 0 = KeepsValue k.shape k.words in
           let Q : Place → Type 0 = λ q. (fields_of (read w.words q)).present ≡ true in
           let R : ℕ → Type 0 = λ m. (fields_of m).present ≡ true in

@@ -1,24 +1,26 @@
 -- What is kept of lists, bells, duties and owners: what stays where a part keeps its face, and what an owner alone has.
-use Rattle.std.proofs.Common.{◌≡◌, ◌≢◌, ℕ, zero, suc, ◌+◌, ◌-◌, ◌<◌, ◌≤◌, ◌==◌, ◌&&◌, ⊎_elim, Bool, true, false, cond}
-use Rattle.std.proofs.Common.{List, [], ◌∷◌, set, drop, sym, refl, ap, ◌∙◌, subst, arith, Option, Some, None, slice_get}
+use Rattle.std.proofs.Common.{◌≡◌, ◌≢◌, ℕ, ◌+◌, ◌-◌, ◌≤◌, ◌==◌, ◌&&◌, ⊎_elim, Bool, true, false, cond, List, [], ◌∷◌}
+use Rattle.std.proofs.Common.{set, sym, refl, ap, ◌∙◌, subst, arith, Option, Some, None, slice_get, eq-eqb}
 use Rattle.std.specs.Prelude.{nat_lt}
 use Rattle.std.proofs.lemmas.Bool.Decides.{nat_tests}
 use Rattle.sh_slots.specs.declared.hand.Spot.{Spot}
 use Rattle.sh_slots.specs.declared.hand.Hand.{Hand}
 use Rattle.sh_slots.specs.declared.hand.Hand.TheVariants.{Tying, RingTying}
-use Rattle.sh_step.specs.Plans.{Plan, home}
+use Rattle.sh_step.specs.Plans.{Plan, home, over_heap}
 use Rattle.sh_slots.specs.Slots.{same_spot}
-use Rattle.sh_step.specs.Collections.{total, if1, without, noted}
+use Rattle.sh_step.specs.Collections.{total, if1}
 use Rattle.sh_step.specs.declared.body.Body.{Body}
 use Rattle.sh_core.specs.Lists.{PutLists}
-use Rattle.sh_step.specs.Plans.{over_heap}
 use Rattle.sh_core.specs.Stacks.{spot, top, link_to, first_is, tying, ties_of, cursor_at, ring_tying, ring_ties, is_at}
 use Rattle.sh_core.specs.Stacks.{bell_cursor_at}
 use Rattle.sh_core.specs.Bells.{rings, armed_at, owns}
-use Rattle.sh_core.specs.Placed.{HomedPart, Rest}
-use Rattle.sh_step.specs.Rows.{hand, own, owned_by, point, unpoint}
-use Rattle.sh_core.proofs.Totals.{total_same, total_set, total_at, total_without, get_set}
-use Rattle.sh_core.proofs.StackSteps.{same_page, page_same, chains_same}
+use Rattle.sh_core.specs.Placed.{HomedPart, RestOf}
+use Rattle.sh_step.specs.Rows.{hand, own, owned_by, point}
+use Rattle.sh_core.proofs.Totals.{total_same, get_set, total_alone, total_two}
+use Rattle.sh_core.proofs.StackSteps.{chains_same}
+use Rattle.sh_core.proofs.Tests.{if1_none}
+use Rattle.sh_core.proofs.ListCounts.{times_noted_as}
+use Rattle.sh_core.specs.Words.{Words}
 
 -- What a part shows of lists, bells, duties and owners
 pub record Face : Type 0 where
@@ -51,11 +53,10 @@ pub homed_set : (plan : Plan) (class : ℕ → ℕ) (ps : List Body) (a : ℕ) (
 homed_set plan class ps a p' old new b u at = ⊎_elim (λ h. let P : Body → Type 0 = λ v. HomedPart plan class v
     in subst P h.1 new) (λ h. old b u h.1) (get_set ps a b p' u at)
 
-pub rest_frame : (plan : Plan) (class head page_link bell owner : ℕ → ℕ) (link : ℕ → ℕ → ℕ) (ps : List Body)
-    (l : PutLists) (a : ℕ) (p p' : Body) → Rest plan class head page_link bell owner link ps l → slice_get ps a ≡ Some p
-    → face plan p' ≡ face plan p → HomedPart plan class p'
-    → Rest plan class head page_link bell owner link (set ps a p') l
-rest_frame plan class head page_link bell owner link ps l a p p' r at same mine = record {
+pub rest_frame : (plan : Plan) (w : Words) (ps : List Body) (l : PutLists) (a : ℕ) (p p' : Body) → RestOf plan w ps l
+    → slice_get ps a ≡ Some p → face plan p' ≡ face plan p → HomedPart plan w.class_at p'
+    → RestOf plan w (set ps a p') l
+rest_frame plan w ps l a p p' r at same mine = record {
   stacks = chains_same _ _ _ _ _ _ _ _ _ _ _ _ _ _ r.stacks (λ q. refl) (λ q s. refl)
       (λ q s. total_same (tying (spot q s)) ps a p p' at (ap (λ (f : Face). f.owed q s) same))
       (λ q s. total_same (ties_of (spot q s)) ps a p p' at (ap (λ (f : Face). f.tied q s) same))
@@ -73,31 +74,8 @@ rest_frame plan class head page_link bell owner link ps l a p p' r at same mine 
       let d1 = d.1 in (omega arith, omega arith);
   owned = λ n. let x = total_same (owns n) ps a p p' at (ap (λ (f : Face). f.owning n) same) in let d = r.owned n
       in (d.0 ∙ sym x, d.1);
-  homed = homed_set plan class ps a p' r.homed mine;
+  homed = homed_set plan w.class_at ps a p' r.homed mine;
 }
-
--- where only those who own have something and there is one owner, what all have is what it has
-pub zero_all : {A : Type 0} (f g : A → ℕ) → (xs : List A) → ((j : ℕ) (x : A) → slice_get xs j ≡ Some x → g x ≡ 0 → f x
-    ≡ 0) → total g xs ≡ 0 → total f xs ≡ 0
-unfolding total
-zero_all f g [] h e = refl
-zero_all f g (x ∷ xs) h e = let a = h 0 x refl (omega arith) in let b = zero_all f g xs (λ j y at. h (suc j) y at)
-    (omega arith) in omega arith
-
-pub total_alone : {A : Type 0} (f g : A → ℕ) (xs : List A) (i : ℕ) (v : A)
-    → ((j : ℕ) (x : A) → slice_get xs j ≡ Some x → g x ≡ 0 → f x ≡ 0) → slice_get xs i ≡ Some v → total g xs ≤ 1
-    → 0 < g v → total f xs ≡ f v
-unfolding total
-total_alone f g [] i v h e one some = absurd (let z : None ≡ Some v = e in cc)
-total_alone f g (x ∷ xs) zero v h e one some =
-    let s : x ≡ v = cc in
-    let t : g x ≡ g v = ap g s in
-    let u : f x ≡ f v = ap f s in
-    let r = zero_all f g xs (λ j y at. h (suc j) y at) (omega arith) in omega arith
-total_alone f g (x ∷ xs) (suc i) v h e one some =
-    let at = total_at g xs i v e in
-    let r = total_alone f g xs i v (λ j y at. h (suc j) y at) e (omega arith) some in
-    let z = h 0 x refl (omega arith) in omega arith
 
 abbrev owns_by : ℕ → Option ℕ → ℕ
 owns_by n o = elim o [ Some k ↦ if1 (k == n) | None ↦ 0 ]
@@ -107,31 +85,28 @@ owns_one plan (Some k) q h = rw h refl
 owns_one plan None q h = absurd (let z : false ≡ true = h in cc)
 
 pub owns_none : (plan : Plan) (o : Option ℕ) (q : ℕ) → owns_by (home plan q) o ≡ 0 → owned_by plan o q ≡ false
-owns_none plan (Some k) q h = go (k == home plan q) h where
-  go : (b : Bool) → if1 b ≡ 0 → b ≡ false
-  go true e = absurd (omega arith)
-  go false e = refl
+owns_none plan (Some k) q h = if1_none (k == home plan q) h
 owns_none plan None q h = refl
 
-module _ (plan : Plan) (class head page_link bell owner : ℕ → ℕ) (link : ℕ → ℕ → ℕ) (ps : List Body) (l : PutLists)
-    (a : ℕ) (p : Body) (r : Rest plan class head page_link bell owner link ps l) (at : slice_get ps a ≡ Some p) where
-  one_owner : (n : ℕ) → total (owns n) ps ≤ 1
-  one_owner n = let d = r.owned n in let d0 = d.0 in let d1 = d.1 in omega arith
+module _ (plan : Plan) (w : Words) (ps : List Body) (l : PutLists) (a : ℕ) (p : Body) (r : RestOf plan w ps l)
+    (at : slice_get ps a ≡ Some p) where
+  few_owners : (n : ℕ) → total (owns n) ps ≤ 1
+  few_owners n = let d = r.owned n in let d0 = d.0 in let d1 = d.1 in omega arith
 
   pub alone_cursor : (q s : ℕ) → own plan p q ≡ true → total (cursor_at q s) ps ≡ cursor_at q s p
-  alone_cursor q s mine = let o = owns_one plan p.owned q mine in let f = one_owner (home plan q) in
+  alone_cursor q s mine = let o = owns_one plan p.owned q mine in let f = few_owners (home plan q) in
       total_alone (cursor_at q s) (owns (home plan q)) ps a p
       (λ j u h z. (r.homed j u h).points q s (owns_none plan u.owned q z)) at f (omega arith)
 
   pub alone_armed : (q : ℕ) → own plan p q ≡ true → total (armed_at q) ps ≡ armed_at q p
-  alone_armed q mine = let o = owns_one plan p.owned q mine in let f = one_owner (home plan q) in
+  alone_armed q mine = let o = owns_one plan p.owned q mine in let f = few_owners (home plan q) in
       total_alone (armed_at q) (owns (home plan q)) ps a p (λ j u h z. (r.homed j u h).arms q
       (owns_none plan u.owned q z)) at f (omega arith)
 
   pub alone_bell : (n q : ℕ) → p.owned ≡ Some n → total (bell_cursor_at n q) ps ≡ bell_cursor_at n q p
-  alone_bell n q mine = let f = one_owner n in
+  alone_bell n q mine = let f = few_owners n in
       total_alone (bell_cursor_at n q) (owns n) ps a p (λ j u h z. none u.owned u.bell_cursor z) at f
-      (let o : owns n p ≡ 1 = rw (mine, page_same n) refl in omega arith) where
+      (let o : owns n p ≡ 1 = rw (mine, eq-eqb n n refl) refl in omega arith) where
         none : (o b : Option ℕ) → owns_by n o ≡ 0 → (elim o as (λ _. ℕ)
             [ Some k ↦ cond (k == n) (is_at b q) 0 | None ↦ 0 ]) ≡ 0
         none (Some k) b z = go (k == n) z where
@@ -143,9 +118,9 @@ module _ (plan : Plan) (class head page_link bell owner : ℕ → ℕ) (link : �
   -- another pass does not own what p does
   pub other_owner : (b q : ℕ) (u : Body) → b ≢ a → slice_get ps b ≡ Some u → own plan p q ≡ true → own plan u q ≡ false
   other_owner b q u n h mine =
-      let f = one_owner (home plan q) in
+      let f = few_owners (home plan q) in
       let o = owns_one plan p.owned q mine in
-      let t = Rattle.sh_core.proofs.Totals.total_two (owns (home plan q)) ps b a u p n h at in
+      let t = total_two (owns (home plan q)) ps b a u p n h at in
       owns_none plan u.owned q (omega arith)
 
 -- who ties nothing has no link to store
@@ -174,71 +149,34 @@ no_ring_ties plan n q (p ∷ ps) h = let one = each (p.hand) in let rest = no_ri
         go false c = refl
       each _ e = refl
 
-abbrev pub cursor_test : ℕ → ℕ → ℕ × ℕ → ℕ
-cursor_test k t c = if1 ((c.0 == k) && (c.1 == t))
-
 -- a cursor made from the number of a list's top
-pub point_total : (q k t : ℕ) (xs : List ℕ) (cs : List (ℕ × ℕ)) → total (cursor_test k t) (point 1 q (top xs) cs)
-    ≡ total (cursor_test k t) cs + cond (q == k) (first_is xs t) 0
+pub point_total : (q k t : ℕ) (xs : List ℕ) (cs : List (ℕ × ℕ)) → times_noted_as k t (point 1 q (top xs) cs)
+    ≡ times_noted_as k t cs + cond (q == k) (first_is xs t) 0
 unfolding total
 point_total q k t [] cs = go (q == k) where
-  go : (b : Bool) → total (cursor_test k t) cs ≡ total (cursor_test k t) cs + cond b 0 0
+  go : (b : Bool) → times_noted_as k t cs ≡ times_noted_as k t cs + cond b 0 0
   go true = omega arith
   go false = omega arith
 point_total q k t (s ∷ xs) cs =
     let e : nat_lt (s + 1) 1 ≡ false = grind (arith, nat_tests) in
     let d : s + 1 - 1 ≡ s = omega arith in
     rw (e, d) (go (q == k) (s == t)) where
-      go : (b c : Bool) → if1 (b && c) + total (cursor_test k t) cs ≡ total (cursor_test k t) cs + cond b (if1 c) 0
+      go : (b c : Bool) → if1 (b && c) + times_noted_as k t cs ≡ times_noted_as k t cs + cond b (if1 c) 0
       go true c = omega arith
       go false c = omega arith
 
 -- the same from the link word of the item above it
-pub point_link : (q k t : ℕ) (xs : List ℕ) (cs : List (ℕ × ℕ)) → total (cursor_test k t) (point 2 q (link_to xs) cs)
-    ≡ total (cursor_test k t) cs + cond (q == k) (first_is xs t) 0
+pub point_link : (q k t : ℕ) (xs : List ℕ) (cs : List (ℕ × ℕ)) → times_noted_as k t (point 2 q (link_to xs) cs)
+    ≡ times_noted_as k t cs + cond (q == k) (first_is xs t) 0
 unfolding total
 point_link q k t [] cs = go (q == k) where
-  go : (b : Bool) → total (cursor_test k t) cs ≡ total (cursor_test k t) cs + cond b 0 0
+  go : (b : Bool) → times_noted_as k t cs ≡ times_noted_as k t cs + cond b 0 0
   go true = omega arith
   go false = omega arith
 point_link q k t (s ∷ xs) cs =
     let e : nat_lt (s + 2) 2 ≡ false = grind (arith, nat_tests) in
     let d : s + 2 - 2 ≡ s = omega arith in
     rw (e, d) (go (q == k) (s == t)) where
-      go : (b c : Bool) → if1 (b && c) + total (cursor_test k t) cs ≡ total (cursor_test k t) cs + cond b (if1 c) 0
+      go : (b c : Bool) → if1 (b && c) + times_noted_as k t cs ≡ times_noted_as k t cs + cond b (if1 c) 0
       go true c = omega arith
       go false c = omega arith
-
-pub unpoint_total : (f : ℕ × ℕ → ℕ) (q s : ℕ) (cs : List (ℕ × ℕ)) → noted q cs ≡ Some s
-    → total f (unpoint q cs) + f (q, s) ≡ total f cs
-unfolding total noted without
-unpoint_total f q s [] e = absurd (let z : None ≡ Some s = e in cc)
-unpoint_total f q s (c ∷ cs) e = go (c.0 == q) refl e (λ h. unpoint_total f q s cs h) where
-  go : (b : Bool) → (c.0 == q) ≡ b → cond b (Some c.1) (noted q cs) ≡ Some s
-      → (noted q cs ≡ Some s → total f (unpoint q cs) + f (q, s) ≡ total f cs)
-      → total f (cond b cs (c ∷ unpoint q cs)) + f (q, s) ≡ f c + total f cs
-  go true i h rest =
-      let a : c.0 ≡ q = same_page c.0 q i in
-      let b : c.1 ≡ s = cc in
-      let d : f (c.0, c.1) ≡ f (q, s) = ap f (λ j. (a j, b j)) in omega arith
-  go false i h rest = let r = rest h in omega arith
-
-pub no_point : (q s : ℕ) (cs : List (ℕ × ℕ)) → noted q cs ≡ None → total (cursor_test q s) cs ≡ 0
-unfolding total noted
-no_point q s [] e = refl
-no_point q s (c ∷ cs) e = go (c.0 == q) refl e (λ h. no_point q s cs h) where
-  go : (b : Bool) → (c.0 == q) ≡ b → cond b (Some c.1) (noted q cs) ≡ None
-      → (noted q cs ≡ None → total (cursor_test q s) cs ≡ 0) → if1 (b && (c.1 == s)) + total (cursor_test q s) cs ≡ 0
-  go true i h rest = absurd (let z : Some c.1 ≡ None = h in cc)
-  go false i h rest = let r = rest h in omega arith
-
-pub no_first : (xs : List ℕ) → ((s : ℕ) → first_is xs s ≡ 0) → xs ≡ []
-no_first [] h = refl
-no_first (t ∷ xs) h = absurd (let a = h t in let b : if1 (t == t) ≡ 1 = rw (page_same t) refl in omega arith)
-
-pub a_first : (xs : List ℕ) (s : ℕ) → 0 < first_is xs s → xs ≡ s ∷ drop 1 xs
-a_first [] s h = absurd (omega arith)
-a_first (t ∷ xs) s h = go (t == s) refl h where
-  go : (b : Bool) → (t == s) ≡ b → 0 < if1 b → t ∷ xs ≡ s ∷ drop 1 (t ∷ xs)
-  go true e i = ap (λ (k : ℕ). k ∷ xs) (same_page t s e)
-  go false e i = absurd (omega arith)

@@ -1,6 +1,6 @@
 -- The clauses of the theorem, from what is kept.
 use Rattle.std.proofs.Common.{◌≡◌, ℕ, ◌+◌, ◌-◌, ◌<◌, ◌≤◌, ◌==◌, ◌&&◌, Bool, true, false, cond, List, [], ◌∷◌, sym, refl}
-use Rattle.std.proofs.Common.{◌∙◌, subst, arith, Option, Some, None, slice_get}
+use Rattle.std.proofs.Common.{◌∙◌, subst, arith, Option, Some, None, slice_get, eqb-true, lt-ltb, le-ltb}
 use Rattle.std.specs.Prelude.{not, nat_lt}
 use Rattle.std.proofs.lemmas.Bool.Decides.{nat_tests}
 use Rattle.sh_slots.specs.declared.hand.Spot.{Spot}
@@ -10,26 +10,22 @@ use Rattle.sh_step.specs.Plans.{Plan, home, Lawful, over_heap}
 use Rattle.sh_slots.specs.Slots.{spot_of, spots}
 use Rattle.sh_step.specs.Collections.{total, if1}
 use Rattle.sh_step.specs.declared.body.Body.{Body}
-use Rattle.sh_core.specs.Lists.{PutLists, times, mine_at}
+use Rattle.sh_core.specs.Lists.{PutLists, times, mine_at, no_lists, state_of, accounts, slots_under}
 use Rattle.sh_core.specs.Stacks.{spot, ties_of, cursor_at, ring_ties, bell_cursor_at}
 use Rattle.sh_core.specs.Bells.{rings, armed_at, owns}
 use Rattle.sh_core.specs.Placed.{HomedPart, All}
-use Rattle.std.proofs.lemmas.Bool.{lt-ltb}
 use Rattle.sh_step.specs.Rows.{owned_by}
 use Rattle.sh_core.specs.Worlds.{World, open_world, value_at}
-use Rattle.sh_core.specs.Lists.{no_lists, state_of, accounts, slots_under}
 use Rattle.sh_core.specs.Tallies.{held, lost, at_spot, current, stale}
 use Rattle.sh_core.specs.Stories.{values}
 use Rattle.sh_core.specs.Refines.{OneKind, KindsAddUp, Filled, Counted, holds_now, LeftEmpty}
-use Rattle.sh_core.proofs.Totals.{total_at, total_plus}
+use Rattle.sh_core.proofs.Totals.{total_at, total_plus, zero_all, total_le}
 use Rattle.sh_core.proofs.Slots.{same_spot-refl}
-use Rattle.sh_core.proofs.StackSteps.{same_page}
 use Rattle.sh_core.proofs.More.{three, accounts_fill}
 use Rattle.sh_core.proofs.ClassSlots.{under_class, under_class_word, room_is}
 use Rattle.sh_core.proofs.OpenGood.{good_open, none_new, part_new}
-use Rattle.sh_step.specs.Plans.{Plan, home, Lawful}
 use Rattle.sh_core.proofs.PageNumbers.{over_none}
-use Rattle.sh_core.proofs.RestSteps.{zero_all, owns_none}
+use Rattle.sh_core.proofs.RestSteps.{owns_none}
 
 pub all_open : (plan : Plan) → Lawful plan → All plan (open_world plan) no_lists
 unfolding total fields_of
@@ -94,24 +90,16 @@ module _ (plan : Plan) (w : World) (l : PutLists) (all : All plan w l) where
   pub one_kind : OneKind w l
   one_kind x c is = (
     λ small. let sum = kinds_add_up x in let one : if1 (nat_lt x.slot (slots_under (w.words.class_at x.page)))
-        ≡ 1 = rw (is, below (c + 1) x.slot (rw (under_class c) small)) refl in omega arith,
+        ≡ 1 = rw (is, lt-ltb x.slot (slots_under (c + 1)) (rw (under_class c) small)) refl in omega arith,
     λ big. let sum = kinds_add_up x in let none : if1 (nat_lt x.slot (slots_under (w.words.class_at x.page)))
-        ≡ 0 = rw (is, above (c + 1) x.slot (rw (under_class c) big)) refl in omega arith,
-  ) where
-    below : (n t : ℕ) → t < slots_under n → nat_lt t (slots_under n) ≡ true
-    below n t small = lt-ltb t (slots_under n) small
-
-    past : (a b : ℕ) → b ≤ a → nat_lt a b ≡ false
-    past a b h = grind (arith, nat_tests)
-
-    above : (n t : ℕ) → slots_under n ≤ t → nat_lt t (slots_under n) ≡ false
-    above n t big = past t (slots_under n) big
+        ≡ 0 = rw (is, le-ltb x.slot (slots_under (c + 1)) (rw (under_class c) big)) refl in omega arith,
+  )
 
   pub filled : Filled w l
   filled q = go (w.words.class_at q == 0) refl where
     go : (b : Bool) → (w.words.class_at q == 0) ≡ b → let a = accounts w l q
         in a.live + (a.marked + (a.retired + (a.mine + (a.hand + a.queued)))) ≡ slots_under (w.words.class_at q)
-    go true e = blank_fills w l q (same_page (w.words.class_at q) 0 e)
+    go true e = blank_fills w l q (eqb-true (w.words.class_at q) 0 e)
     go false e =
         let some : w.words.class_at q ≡ w.words.class_at q - 1 + 1 = grind (arith, nat_tests) in
         accounts_fill plan w l q (w.words.class_at q - 1) all.good.slots some
@@ -140,11 +128,11 @@ module _ (plan : Plan) (w : World) (l : PutLists) (all : All plan w l) where
       at_key : (b : Bool) → (j == k) ≡ b → if1 b ≡ 0
       at_key false e = refl
       at_key true e =
-          let i = same_page j k e in
+          let i = eqb-true j k e in
           let s : stale st x (plan.keys.unpack j) ≡ 1 = rw (i, name, same_spot-refl x, c) refl in absurd (omega arith)
 
     parts : (b : Bool) (g h : ℕ) → (b && (g == h)) ≡ true → (b ≡ true) × (h ≡ g)
-    parts true g h e = (refl, sym (same_page g h e))
+    parts true g h e = (refl, sym (eqb-true g h e))
     parts false g h e = absurd (let z : false ≡ true = e in cc)
 
     go : (b : Bool) → current st (Some n) ≡ b → (st.present ≡ true) × (st.generation ≡ n.generation)
@@ -160,10 +148,10 @@ module _ (plan : Plan) (w : World) (l : PutLists) (all : All plan w l) where
       let f = all.good.slots x in
       let st : Fields = state_of w x in
       let t : total (held plan x) w.parts ≤ total (λ p. holds_now plan x st p + lost plan x st p) w.parts =
-      Rattle.sh_core.proofs.Totals.total_le (held plan x) (λ p. holds_now plan x st p + lost plan x st p)
+      total_le (held plan x) (λ p. holds_now plan x st p + lost plan x st p)
       (λ p. each p) w.parts in
       let u = total_plus (holds_now plan x st) (lost plan x st) w.parts in
-      let v = Rattle.sh_core.proofs.Totals.total_le (holds_now plan x st) (held plan x) (λ p. fewer p) w.parts
+      let v = total_le (holds_now plan x st) (held plan x) (λ p. fewer p) w.parts
       in omega arith where
         split : (b c : Bool) → cond b 1 0 ≡ cond (b && c) 1 0 + cond b (cond (not c) 1 0) 0
         split true true = refl
@@ -173,7 +161,7 @@ module _ (plan : Plan) (w : World) (l : PutLists) (all : All plan w l) where
         each : (p : Body) → held plan x p ≤ holds_now plan x (state_of w x) p + lost plan x (state_of w x) p
         each p =
             let st : Fields = state_of w x in
-            let t = Rattle.sh_core.proofs.Totals.total_le (λ k. if1 (at_spot x (plan.keys.unpack k)))
+            let t = total_le (λ k. if1 (at_spot x (plan.keys.unpack k)))
             (λ k. if1 (at_spot x (plan.keys.unpack k) && current st (plan.keys.unpack k)) + stale st x
             (plan.keys.unpack k))
             (λ k. let s = split (at_spot x (plan.keys.unpack k)) (current st (plan.keys.unpack k)) in omega arith)
@@ -182,7 +170,7 @@ module _ (plan : Plan) (w : World) (l : PutLists) (all : All plan w l) where
             (λ k. stale st x (plan.keys.unpack k)) p.holds in omega arith
 
         fewer : (p : Body) → holds_now plan x (state_of w x) p ≤ held plan x p
-        fewer p = let st : Fields = state_of w x in Rattle.sh_core.proofs.Totals.total_le
+        fewer p = let st : Fields = state_of w x in total_le
             (λ k. if1 (at_spot x (plan.keys.unpack k) && current st (plan.keys.unpack k)))
             (λ k. if1 (at_spot x (plan.keys.unpack k)))
             (λ k. let s = split (at_spot x (plan.keys.unpack k)) (current st (plan.keys.unpack k)) in omega arith)

@@ -1,45 +1,50 @@
 -- The theorem: what is kept along a run, and each clause of it.
-use Rattle.std.proofs.Common.{◌||◌, ◌≡◌, ℕ, zero, suc, ◌<◌, ◌≤◌, List, [], ◌∷◌, refl, subst, arith, Some, None}
+use Rattle.std.proofs.Common.{◌||◌, ◌≡◌, ℕ, zero, suc, ◌<◌, ◌≤◌, List, refl, subst, arith, Some, None, slice_get}
 use Rattle.sh_slots.specs.declared.hand.Hand.{Hand}
 use Rattle.sh_slots.specs.declared.hand.Hand.TheVariants.{Removing, Filling}
 use Rattle.sh_history.specs.History.{Legal}
-use Rattle.sh_step.specs.Plans.{Plan, Lawful, keys_of}
+use Rattle.sh_step.specs.Plans.{Plan, Lawful, keys_of, plan_of, heap_pages}
 use Rattle.sh_step.specs.Collections.{total, if1, noted}
+use Rattle.sh_step.specs.declared.moves.Move.{Move}
 use Rattle.sh_step.specs.Ends.{HandNames}
+use Rattle.sh_step.specs.Moves.{row_of}
+use Rattle.sh_step.specs.Rows.{Row}
 use Rattle.sh_step.proofs.EndLaws.{steps_come_nearer, steps_go_on}
 use Rattle.sh_step.specs.declared.body.Body.{Body}
-use Rattle.sh_core.specs.Lists.{PutLists}
+use Rattle.sh_core.specs.Lists.{PutLists, lists_of, no_lists, state_of}
 use Rattle.sh_core.specs.Placed.{All}
 use Rattle.sh_step.specs.declared.action.Event.{Event}
-use Rattle.sh_core.specs.Worlds.{World, step, run, run_from, open_world}
-use Rattle.sh_core.specs.Lists.{lists_of, lists_from, list_step, no_lists, state_of}
+use Rattle.sh_core.specs.Worlds.{World, apply, run, open_world}
+use Rattle.sh_core.specs.Words.{read}
 use Rattle.sh_core.specs.Knows.{KnowsPart, AllKnow}
 use Rattle.sh_core.proofs.OpenGood.{part_new}
-use Rattle.sh_core.proofs.RunAll.{all_step}
-use Rattle.sh_core.proofs.KnowKinds.{know_step}
+use Rattle.sh_core.proofs.ByMove.{May, lists_after, run_keeps}
+use Rattle.sh_core.proofs.RunAll.{all_move}
+use Rattle.sh_core.proofs.KnowKinds.{know_move}
 use Rattle.sh_core.proofs.RunRefines.{all_open, one_kind, kinds_add_up, filled, counted, left_empty}
 use Rattle.sh_core.proofs.KeyFacts.{past, keys_told, holds_told}
-use Rattle.sh_core.proofs.LastGenerations.{Beside, beside_step, beside_open}
+use Rattle.sh_core.proofs.LastGenerations.{Beside, beside_move, beside_open}
 use Rattle.sh_core.proofs.LinkFacts.{each_linked}
 use Rattle.sh_core.proofs.OwnerFacts.{one_owner, shardless, own_stands}
 use Rattle.sh_key.specs.Layout.{Layout, IsLayout}
 use Rattle.sh_shape.specs.Shape.{Numbers, IsShape, Fits}
 use Rattle.sh_slots.specs.Slots.{name_at}
-use Rattle.sh_step.specs.Plans.{plan_of, heap_pages}
 use Rattle.sh_core.specs.Refines.{ClassesAreKnown, FillsAreKeys, KeysInHandName, Refines, CountIsFew}
-use Rattle.sh_core.specs.Within.{AllWithin, ValuesFit}
+use Rattle.sh_core.specs.Within.{AllWithin, ValuesFit, HandWithin}
 use Rattle.sh_core.proofs.BellWords.{bells_are_small}
 use Rattle.sh_core.proofs.RowsFit.{stores_words, issues_keys}
 use Rattle.sh_core.specs.Tallies.{visits}
 use Rattle.sh_core.proofs.LayoutLaws.{plan_lawful}
-use Rattle.sh_core.proofs.HeldStands.{has_room, held as held_keys, reads}
-use Rattle.sh_core.proofs.StaysWithin.{within_step, within_open}
-use Rattle.sh_core.proofs.PlacesWithin.{steps_within, counts_fit}
-use Rattle.sh_core.proofs.SlotGood.{total_length, visits_few}
-use Rattle.sh_core.proofs.FewHolds.{FewHolds, few_step, few_open}
+use Rattle.sh_core.proofs.HeldStands.{held_keys, reads}
+use Rattle.sh_core.proofs.StaysWithin.{within_move, within_open, hand_within}
+use Rattle.sh_core.proofs.PlacesWithin.{steps_within, counts_fit, moves_count}
+use Rattle.sh_core.proofs.SlotGood.{visits_few}
+use Rattle.sh_core.proofs.FewHolds.{FewHolds, few_move, few_open}
 use Rattle.sh_core.proofs.KeyHolds.{holds_few}
-use Rattle.sh_core.proofs.Flags.{FlagsAlone, flags_step, flags_open, flagged_empty}
-use Rattle.sh_core.proofs.KeyNotes.{AllTold, told_step, told_open, notes}
+use Rattle.sh_core.proofs.Flags.{FlagsAlone, flags_move, flags_open, flagged_empty}
+use Rattle.sh_core.proofs.KeyNotes.{AllTold, told_move, told_open, notes}
+use Rattle.sh_core.proofs.Totals.{total_length}
+use Rattle.sh_core.proofs.ClassSlots.{class_room}
 
 know_open : (plan : Plan) → AllKnow plan (open_world plan)
 unfolding total noted
@@ -54,7 +59,7 @@ know_open plan a p at =
     })
 
 -- all seven are kept along a run
-pub record Kept (plan : Plan) (w : World) (l : PutLists) : Type 0 where
+pub record Invariant (plan : Plan) (w : World) (l : PutLists) : Type 0 where
   pub all : All plan w l
   pub know : AllKnow plan w
   pub within : AllWithin plan w
@@ -63,25 +68,21 @@ pub record Kept (plan : Plan) (w : World) (l : PutLists) : Type 0 where
   pub beside : Beside plan w
   pub flags : FlagsAlone w
 
-kept_from : (plan : Plan) (w : World) (l : PutLists) (es : List Event) → Lawful plan → Kept plan w l
-    → Kept plan (run_from plan w es) (lists_from plan w l es)
-unfolding run_from lists_from
-kept_from plan w l [] laws k = k
-kept_from plan w l (e ∷ es) laws k = kept_from plan (step plan w e) (list_step plan w e l) es laws
-    (record {
-      all = all_step plan w l e laws k.all;
-      know = know_step plan w l e k.all k.know;
-      within = within_step plan
-          w e (λ q s. (k.all.sound.generations q s).1) k.within;
-      few = few_step plan w l e k.all.good k.few;
-      told = told_step
-          plan w l e k.all k.know k.told;
-      beside = beside_step plan w l e k.all
-          (counts_fit plan w l laws k.all k.know k.within) k.beside;
-      flags = flags_step plan w e k.flags;
-    })
+-- the induction: each move keeps them
+invariant_move : (plan : Plan) → Lawful plan → (w : World) (l : PutLists) (a : ℕ) (p : Body) (m : Move)
+    → Invariant plan w l → slice_get w.parts a ≡ Some p → May plan p m
+    → (let r : Row = row_of plan p m in Invariant plan (apply w a r) (lists_after plan p m (read w.words r.place) l))
+invariant_move plan laws w l a p m k at may = record {
+  all = all_move plan w l a p laws k.all at m may;
+  know = know_move plan w l a p m k.all k.know at may;
+  within = within_move plan w a p m (λ q s. (k.all.sound.generations q s).1) at may k.within;
+  few = few_move plan w l a p m k.all.good at may k.few;
+  told = told_move plan w l a p m k.all k.know at may k.told;
+  beside = beside_move plan w l a p m k.all (moves_count plan w l laws k.all k.know k.within a p at) at may k.beside;
+  flags = flags_move plan w a p m k.flags;
+}
 
-module _ (plan : Plan) (w : World) (l : PutLists) (laws : Lawful plan) (kept : Kept plan w l) where
+module _ (plan : Plan) (w : World) (l : PutLists) (laws : Lawful plan) (kept : Invariant plan w l) where
   abbrev all : All plan w l
   all = kept.all
 
@@ -105,22 +106,21 @@ module _ (plan : Plan) (w : World) (l : PutLists) (laws : Lawful plan) (kept : K
   values_fit x there =
       let f = all.good.slots x in
       let one : if1 ((state_of w x).present || (state_of w x).marked) ≡ 1 = rw there refl in
-      let r = has_room w.words x (omega arith) in
+      let r = class_room w.words x (omega arith) in
       let c = all.sound.classes x.page in (r.0, c.0, c.1 r.0, r.1, all.sound.lengths x.page x.slot there)
 
   fills : FillsAreKeys plan w
   fills a p x v i at is =
-      let P : Hand → Type 0 = λ h. Rattle.sh_core.specs.Within.HandWithin plan h in
-      let h : Rattle.sh_core.specs.Within.HandWithin plan (Filling x v i) = subst P is (kept.within a p at).hand in
+      let h = hand_within plan p (Filling x v i) (kept.within a p at) is in
       let g = all.sound.generations x.page x.slot in laws.names (name_at x (state_of w x).generation) g.0 g.1 h.0 h.1
 
   -- a key in hand names a slot
-  names : (h : Hand) → Rattle.sh_core.specs.Within.HandWithin plan h → HandNames plan h
-  names (Removing k) is = is
-  names _ is = tt
+  hand_names : (h : Hand) → HandWithin plan h → HandNames plan h
+  hand_names (Removing k) is = is
+  hand_names _ is = tt
 
   hands : KeysInHandName plan w
-  hands a p at = names p.hand (kept.within a p at).hand
+  hands a p at = hand_names p.hand (kept.within a p at).hand
 
   pub refines : Refines plan w l
   refines = record {
@@ -169,7 +169,7 @@ pub theorem : (layout : Layout) (shape : Numbers) → IsLayout layout → IsShap
 theorem layout shape a b c es =
     let plan : Plan = plan_of layout shape in
     let laws : Lawful plan = plan_lawful layout shape a b c in
-    refines plan (run plan es) (lists_of plan es) laws (kept_from plan (open_world plan) no_lists es laws
+    refines plan (run plan es) (lists_of plan es) laws (run_keeps plan (Invariant plan) (open_world plan) no_lists es
     (record {
       all = all_open plan laws;
       know = know_open plan;
@@ -178,7 +178,7 @@ theorem layout shape a b c es =
       told = told_open plan;
       beside = beside_open plan;
       flags = flags_open plan;
-    }))
+    }) (invariant_move plan laws))
 
 -- its log, in the layout's own number of holds
 pub legal_of : (layout : Layout) (shape : Numbers) → IsLayout layout → IsShape shape → Fits layout shape

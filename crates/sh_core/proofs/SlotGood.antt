@@ -1,6 +1,6 @@
 -- All that holds, over the kinds that step on a state word.
-use Rattle.std.proofs.Common.{◌≡◌, ℕ, suc, ◌+◌, ◌-◌, ◌*◌, ◌^◌, ◌<◌, ◌≤◌, ◌==◌, ◌&&◌, ◌||◌, Bool, true, false, cond}
-use Rattle.std.proofs.Common.{List, [], ◌∷◌, ◌++◌, length, sym, refl, ap, ◌∙◌, subst, arith, Some, None, slice_get}
+use Rattle.std.proofs.Common.{◌≡◌, ℕ, ◌+◌, ◌-◌, ◌*◌, ◌^◌, ◌<◌, ◌≤◌, ◌==◌, ◌&&◌, true, false, List, [], ◌∷◌, ◌++◌}
+use Rattle.std.proofs.Common.{length, sym, refl, ap, ◌∙◌, subst, arith, Some, None, slice_get}
 use Rattle.std.specs.Prelude.{nat_lt, bit_or}
 use Rattle.std.proofs.lemmas.List.{take_all}
 use Rattle.std.proofs.lemmas.Bool.Decides.{nat_tests}
@@ -24,15 +24,16 @@ use Rattle.sh_core.specs.Lists.{PutLists, in_hand}
 use Rattle.sh_core.specs.Tallies.{Fine, tally, due, held, visits, room, queued, at_spot, current}
 use Rattle.sh_core.specs.Stories.{values, removals, removed_in, Story, KeysFine}
 use Rattle.sh_core.specs.Good.{Good, FillFine}
-use Rattle.sh_core.proofs.Totals.{total_at}
-use Rattle.sh_core.proofs.StateWords.{fields_of-entered}
+use Rattle.sh_core.proofs.Totals.{total_at, total_few, total_length}
 use Rattle.sh_word.proofs.Words.{fields_of-sub, fields_of-or_present}
-use Rattle.sh_core.proofs.Slots.{slots_state, same_spot-refl}
+use Rattle.sh_core.proofs.Slots.{slots_state, if1_same_spot}
 use Rattle.sh_core.proofs.SlotSteps.{drop_slots, leaving, enter_slots, get_fine, get_due, holding, publish_fine}
+use Rattle.sh_core.proofs.SlotSteps.{fields_of-entered}
 use Rattle.sh_core.proofs.Logs.{keys_state, keys_quiet, story_same, story_publish, gone_permitted, got_permitted}
 use Rattle.sh_core.proofs.Logs.{values_append, values_none, removals_snoc, live_parts}
 use Rattle.sh_core.proofs.MarkStep.{same_key, apart_key, other_key}
 use Rattle.sh_core.proofs.GoodStep.{good_at}
+use Rattle.sh_core.proofs.Tests.{if1_few, if1_one, if1_none, if1_neither, cond_either}
 
 -- a step that leaves generation, M and P, with no entry
 pub keys_still : (plan : Plan) (w : Words) (log : List Entry) (x : Spot) (n : ℕ) → KeysFine plan w log
@@ -46,10 +47,6 @@ keys_still plan w log x n old a b c =
     (removals k log) (value_at w y.page y.slot) in
     story_same (fields_of (w.state_at x.page x.slot)) (fields_of n) z.generation (values k log) (removals k log)
     (value_at w x.page x.slot) a b c (subst P h (old k z name)))
-
-fill_none : (w : Words) (p : Body) (b : Bool) (x : Spot) (g : ℕ) → FillFine w p (cond b (Finishing x g) Idle)
-fill_none w p true x g = tt
-fill_none w p false x g = tt
 
 -- Drop of a visit
 pub good_drop : (plan : Plan) (w : World) (l : PutLists) (a : ℕ) (p : Body) (x : Spot) → Good plan w l
@@ -66,28 +63,12 @@ good_drop plan w l a p x g at =
     (ap (λ (t : Fields). t.marked) (fields_of-sub n some)) (ap (λ (t : Fields). t.present) (fields_of-sub n some)))
     tt (λ k. refl) (
       (g.parts a (hand p (Leaving x)) at).0,
-      fill_none (write w.words (State x.page x.slot) (n - 1))
-          (hand p (after_drop x n)) ((fields_of n).present && (fields_of n).marked && ((fields_of n).count == 1)) x
-          (fields_of n).generation,
+      cond_either (FillFine (write w.words (State x.page x.slot) (n - 1)) (hand p (after_drop x n)))
+          ((fields_of n).present && (fields_of n).marked && ((fields_of n).count == 1))
+          (Finishing x (fields_of n).generation) Idle tt tt,
     ) (λ b q _ _ h. h) where
       n : ℕ
       n = w.words.state_at x.page x.slot
-
--- few enough passes and holds that a count has room
-pub total_few : {A : Type 0} (f : A → ℕ) (m : ℕ) (xs : List A) → ((a : ℕ) (x : A) → slice_get xs a ≡ Some x → f x ≤ m)
-    → total f xs ≤ length xs * m
-unfolding total
-total_few f m [] h = omega arith
-total_few f m (x ∷ xs) h = let one = h 0 x refl in let rest = total_few f m xs (λ a y e. h (suc a) y e) in omega arith
-
-pub if1_few : (b : Bool) → if1 b ≤ 1
-if1_few true = omega arith
-if1_few false = omega arith
-
-pub total_length : {A : Type 0} (f : A → ℕ) → ((x : A) → f x ≤ 1) → (xs : List A) → total f xs ≤ length xs
-unfolding total
-total_length f h [] = omega arith
-total_length f h (x ∷ xs) = let one = h x in let rest = total_length f h xs in omega arith
 
 pub visits_few : (plan : Plan) (x : Spot) (p : Body) (h : Hand) → visits plan x (hand p h) ≤ 1
 visits_few plan x p (Removing k) = if1_few (at_spot x (plan.keys.unpack k))
@@ -105,7 +86,7 @@ room_to_enter plan w l x laws g =
     let n = g.passes in
     let m = laws.passes in omega arith
 
-none_gone : (a k j : ℕ) → (values j (Gone a k ∷ []) ≡ []) × (removed_in j (Gone a k) ≡ 0)
+pub none_gone : (a k j : ℕ) → (values j (Gone a k ∷ []) ≡ []) × (removed_in j (Gone a k) ≡ 0)
 unfolding values
 none_gone a k j = (refl, refl)
 
@@ -160,19 +141,14 @@ good_got plan w l a p k y laws g at name fewer live under =
       n = w.words.state_at y.page y.slot
 
 -- Publish: the value that was filled is inserted under a key that was never issued
-filled : (w : Words) (p : Body) (x : Spot) (v : List ℕ) (i : ℕ) → FillFine w p (Filling x v i) → length v ≤ i
+filled_value : (w : Words) (p : Body) (x : Spot) (v : List ℕ) (i : ℕ) → FillFine w p (Filling x v i) → length v ≤ i
     → value_at w x.page x.slot ≡ v
 unfolding value_at
-filled w p x v i f all =
-    let same : i ≡ length v = let b = f.1 in omega arith in
-    let t : words_from (w.payload_at x.page) (x.slot * width (w.class_at x.page - 1)) i ≡ v = f.3
+filled_value w p x v i f all =
+    let same : i ≡ length v = let b = f.begun in omega arith in
+    let t : words_from (w.payload_at x.page) (x.slot * width (w.class_at x.page - 1)) i ≡ v = f.so_far
     ∙ take_all i v (omega arith) in
-    rw (f.0, ← same) t
-
-pub no_or : (b c : Bool) → if1 (b || c) ≡ 0 → (b ≡ false) × (c ≡ false)
-no_or true c h = absurd (omega arith)
-no_or false true h = absurd (omega arith)
-no_or false false h = (refl, refl)
+    rw (f.length_is, ← same) t
 
 pub room_few : (w : Words) (x : Spot) → room w x ≤ 1
 room_few w x = if1_few (nat_lt 0 (w.class_at x.page) && nat_lt x.slot (slots (w.class_at x.page - 1)))
@@ -182,10 +158,9 @@ empty : (plan : Plan) (ps : List Body) (a : ℕ) (p : Body) (x : Spot) (v : List
     → slice_get ps a ≡ Some (hand p (Filling x v i)) → Fine r q st (tally plan x st ps) → r ≤ 1 → (st.present ≡ false)
     × (st.marked ≡ false)
 empty plan ps a p x v i r q st at f small =
-    let e = same_spot-refl x in
-    let one : if1 (same_spot x x) ≡ 1 = rw e refl in
+    let one = if1_same_spot x in
     let t = total_at (in_hand x) ps a (hand p (Filling x v i)) at in
-    no_or st.present st.marked (omega arith)
+    if1_neither st.present st.marked (omega arith)
 
 publish_due : (plan : Plan) (p : Body) (x y : Spot) (v : List ℕ) (i : ℕ) (st : Fields) → same_spot y x ≡ false
     → due plan y st (hand p Idle) ≡ due plan y st (hand p (Filling x v i))
@@ -198,18 +173,6 @@ values_one a k v j e = rw e refl
 values_zero : (a k : ℕ) (v : List ℕ) (j : ℕ) → (k == j) ≡ false → values j (Insert a k v ∷ []) ≡ []
 unfolding values
 values_zero a k v j e = rw e refl
-
-same_tests : (k j : ℕ) → if1 (k == j) ≡ 1 → (k == j) ≡ true
-same_tests k j h = go (k == j) h where
-  go : (b : Bool) → if1 b ≡ 1 → b ≡ true
-  go true h = refl
-  go false h = absurd (omega arith)
-
-apart_tests : (k j : ℕ) → if1 (k == j) ≡ 0 → (k == j) ≡ false
-apart_tests k j h = go (k == j) h where
-  go : (b : Bool) → if1 b ≡ 0 → b ≡ false
-  go true h = absurd (omega arith)
-  go false h = refl
 
 publish_keys : (plan : Plan) (w : Words) (log : List Entry) (a k : ℕ) (v : List ℕ) (x : Spot) (y : Name) → Lawful plan
     → plan.keys.unpack k ≡ Some y → KeysFine plan w log → spot_of y ≡ x → y.generation
@@ -236,8 +199,8 @@ publish_keys plan w log a k v x y laws name old is gen m p now =
     rw (fields_of-or_present n, r, values_append j log (Insert a k v ∷ []))
     (story_publish (fields_of n) z.generation (values j log) (values j (Insert a k v ∷ [])) (removals j log)
     (value_at w x.page x.slot) t m p
-    (λ e. rw now (values_one a k v j (same_tests k j (same_key plan k j y z laws name u (h ∙ sym is) (e ∙ sym gen)))))
-    (λ e. values_zero a k v j (apart_tests k j (apart_key plan k j y z name u (λ c. e (sym c ∙ gen)))))))
+    (λ e. rw now (values_one a k v j (if1_one (k == j) (same_key plan k j y z laws name u (h ∙ sym is) (e ∙ sym gen)))))
+    (λ e. values_zero a k v j (if1_none (k == j) (apart_key plan k j y z name u (λ c. e (sym c ∙ gen)))))))
 
 pub good_publish : (plan : Plan) (w : World) (l : PutLists) (a : ℕ) (p : Body) (x : Spot) (v : List ℕ) (i : ℕ)
     → Lawful plan → Good plan w l → slice_get w.parts a ≡ Some (hand p (Filling x v i)) → length v ≤ i
@@ -249,7 +212,7 @@ good_publish plan w l a p x v i laws g at all name =
     let f = g.slots x in
     let pub_at = fields_of-or_present n in
     let c = empty plan w.parts a p x v i (room w.words x) (queued l x) (fields_of n) at f (room_few w.words x) in
-    let now : value_at w.words x.page x.slot ≡ v = filled w.words (hand p (Filling x v i)) x v i
+    let now : value_at w.words x.page x.slot ≡ v = filled_value w.words (hand p (Filling x v i)) x v i
     (g.parts a (hand p (Filling x v i)) at).1 all in
     good_at plan w l l a (hand p (Filling x v i)) (hand p Idle)
     (write w.words (State x.page x.slot) (bit_or n (2 ^ 30))) (Some (Insert a k v)) g at

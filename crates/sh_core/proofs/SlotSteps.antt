@@ -16,9 +16,13 @@ use Rattle.sh_core.specs.Lists.{PutLists, in_hand}
 use Rattle.sh_step.specs.Rows.{hand, freed}
 use Rattle.sh_core.specs.Tallies.{Fine, tally, due, visits, SlotsFine, at_spot, current, stale}
 use Rattle.sh_core.proofs.Totals.{total_at, total_without}
-use Rattle.sh_core.proofs.StateWords.{fields_of-entered}
-use Rattle.sh_word.proofs.Words.{fields_of-sub}
-use Rattle.sh_core.proofs.Slots.{tally_set, slots_state, same_spot-refl, tally_ext, lost_le, lost_most}
+use Rattle.sh_word.proofs.Words.{fields_of-sub, fields_of-add}
+use Rattle.sh_core.proofs.Slots.{tally_set, slots_state, same_spot-refl, tally_ext, lost_le, lost_most, if1_same_spot}
+use Rattle.sh_core.proofs.Tests.{if1_neither}
+
+pub fields_of-entered : (n : ℕ) → (fields_of n).count + 1 < 2 ^ 30 → fields_of (n + 1)
+    ≡ record (fields_of n) { count = (fields_of n).count + 1 }
+fields_of-entered n h = fields_of-add n (omega arith)
 
 was_last : (p m : Bool) (n : ℕ) → p ≡ true → m ≡ true → 0 < n → n - 1 ≡ 0 → (p && m && (n == 1)) ≡ false → ⊥
 was_last true true n _ _ c d e = grind (arith, nat_tests)
@@ -32,14 +36,12 @@ pub drop_fine : (b : Bool) (r q : ℕ) (st : Fields) (plan : Plan) (ps : List Bo
     (set ps a (hand p (cond b (Finishing x st.generation) Idle))))
 drop_fine true r q st plan ps a p x at f some is =
     let m = tally_set plan x st ps a (hand p (Leaving x)) (hand p (Finishing x st.generation)) at in
-    let e = same_spot-refl x in
-    let here : if1 (same_spot x x) ≡ 1 = rw e refl in
+    let here = if1_same_spot x in
     let there : if1 (same_spot x x && (st.generation == st.generation)) ≡ 1 = grind (arith, nat_tests) in
     record { kinds = omega arith; counts = omega arith; none_lost = omega arith; owed = λ _ _ _. omega arith }
 drop_fine false r q st plan ps a p x at f some is =
     let m = tally_set plan x st ps a (hand p (Leaving x)) (hand p Idle) at in
-    let e = same_spot-refl x in
-    let here : if1 (same_spot x x) ≡ 1 = rw e refl in
+    let here = if1_same_spot x in
     record {
       kinds = omega arith;
       counts = omega arith;
@@ -56,7 +58,7 @@ drop_due false g plan p x y st h = rw h refl
 -- a pass that leaves a slot is one of its visitors
 pub leaving : (plan : Plan) (ps : List Body) (a : ℕ) (p : Body) (x : Spot) → slice_get ps a ≡ Some (hand p (Leaving x))
     → 0 < total (visits plan x) ps
-leaving plan ps a p x at = let e = same_spot-refl x in let here : if1 (same_spot x x) ≡ 1 = rw e refl
+leaving plan ps a p x at = let here = if1_same_spot x
     in let t = total_at (visits plan x) ps a (hand p (Leaving x)) at in omega arith
 
 pub drop_slots : (plan : Plan) (w : Words) (ps : List Body) (l : PutLists) (a : ℕ) (p : Body) (x : Spot)
@@ -81,8 +83,7 @@ pub enter_fine : (r q : ℕ) (st : Fields) (plan : Plan) (ps : List Body) (a : �
     (set ps a (hand p (Leaving x))))
 enter_fine r q st plan ps a p x at f =
     let m = tally_set plan x st ps a (hand p Idle) (hand p (Leaving x)) at in
-    let e = same_spot-refl x in
-    let here : if1 (same_spot x x) ≡ 1 = rw e refl in
+    let here = if1_same_spot x in
     record { kinds = omega arith; counts = omega arith; none_lost = omega arith; owed = λ c d n. absurd (omega arith) }
 
 pub enter_slots : (plan : Plan) (w : Words) (ps : List Body) (l : PutLists) (a : ℕ) (p : Body) (x : Spot)
@@ -131,7 +132,7 @@ mark_fine r q st plan ps a p k y name there at f =
     let x : Spot = spot_of y in
     let m = tally_set plan x st ps a (hand p (Removing k)) (hand p (Leaving x)) at in
     let e = same_spot-refl x in
-    let one : if1 (same_spot x x) ≡ 1 = rw e refl in
+    let one = if1_same_spot x in
     let was : if1 (at_spot x (plan.keys.unpack k)) ≡ 1 = rw (name, e) refl in
     let k1 : if1 (st.present || st.marked) ≡ 1 = rw there refl in
     let k2 : if1 (st.present || true) ≡ 1 = rw there refl in
@@ -162,33 +163,33 @@ remove_fine r q st plan ps a p k y name now at f =
     record { kinds = omega arith; counts = omega arith; none_lost = omega arith; owed = λ c d n. absurd (omega arith) }
 
 -- Finish that succeeds: nobody is there; the slot is the finisher's, or retired
-abbrev pub reused : ℕ → Fields
-reused g = record { generation = g + 1; marked = false; present = false; count = 0 }
+abbrev pub reused_fields : ℕ → Fields
+reused_fields g = record { generation = g + 1; marked = false; present = false; count = 0 }
 
 pub finish_mine : (r q : ℕ) (st : Fields) (plan : Plan) (ps : List Body) (a : ℕ) (p : Body) (x : Spot) (g : ℕ)
     → st.present ≡ true → st.count ≡ 0
     → slice_get ps a ≡ Some (hand p (Finishing x g)) → Fine r q st (tally plan x st ps)
-    → Fine r q (reused g) (tally plan x (reused g) (set ps a (hand (record p { mine = x ∷ p.mine }) Idle)))
+    → Fine r q (reused_fields g) (tally plan x (reused_fields g)
+    (set ps a (hand (record p { mine = x ∷ p.mine }) Idle)))
 unfolding total
 finish_mine r q st plan ps a p x g there none at f =
-    let m = tally_set plan x (reused g) ps a (hand p (Finishing x g)) (hand (record p { mine = x ∷ p.mine }) Idle) at in
-    let e = same_spot-refl x in
-    let one : if1 (same_spot x x) ≡ 1 = rw e refl in
+    let m = tally_set plan x (reused_fields g) ps a (hand p (Finishing x g))
+    (hand (record p { mine = x ∷ p.mine }) Idle) at in
+    let one = if1_same_spot x in
     let k1 : if1 (st.present || st.marked) ≡ 1 = rw there refl in
-    let few = lost_le plan x (reused g) (set ps a (hand (record p { mine = x ∷ p.mine }) Idle)) in
+    let few = lost_le plan x (reused_fields g) (set ps a (hand (record p { mine = x ∷ p.mine }) Idle)) in
     record { kinds = omega arith; counts = omega arith; none_lost = omega arith; owed = λ c d n. cc }
 
 pub finish_hand : (r q : ℕ) (st : Fields) (plan : Plan) (ps : List Body) (a : ℕ) (p : Body) (x : Spot) (g : ℕ)
     → st.present ≡ true → st.count ≡ 0
     → slice_get ps a ≡ Some (hand p (Finishing x g)) → Fine r q st (tally plan x st ps)
-    → Fine r q (reused g) (tally plan x (reused g) (set ps a (hand p (ToPut x))))
+    → Fine r q (reused_fields g) (tally plan x (reused_fields g) (set ps a (hand p (ToPut x))))
 unfolding total
 finish_hand r q st plan ps a p x g there none at f =
-    let m = tally_set plan x (reused g) ps a (hand p (Finishing x g)) (hand p (ToPut x)) at in
-    let e = same_spot-refl x in
-    let one : if1 (same_spot x x) ≡ 1 = rw e refl in
+    let m = tally_set plan x (reused_fields g) ps a (hand p (Finishing x g)) (hand p (ToPut x)) at in
+    let one = if1_same_spot x in
     let k1 : if1 (st.present || st.marked) ≡ 1 = rw there refl in
-    let few = lost_le plan x (reused g) (set ps a (hand p (ToPut x))) in
+    let few = lost_le plan x (reused_fields g) (set ps a (hand p (ToPut x))) in
     record { kinds = omega arith; counts = omega arith; none_lost = omega arith; owed = λ c d n. cc }
 
 -- Publish: the slot in the hand is Empty, and is Live then
@@ -199,22 +200,12 @@ pub publish_fine : (r q : ℕ) (st : Fields) (plan : Plan) (ps : List Body) (a :
 publish_fine r q st plan ps a p x v i small at f =
     let st' : Fields = record st { present = true } in
     let m = tally_set plan x st' ps a (hand p (Filling x v i)) (hand p Idle) at in
-    let e = same_spot-refl x in
-    let one : if1 (same_spot x x) ≡ 1 = rw e refl in
+    let one = if1_same_spot x in
     let mineless = total_at (in_hand x) ps a (hand p (Filling x v i)) at in
     let empty : if1 (st.present || st.marked) ≡ 0 = omega arith in
-    let q1 : st.present ≡ false = no_or1 st.present st.marked empty in
-    let q2 : st.marked ≡ false = no_or2 st.present st.marked empty in
-    let few = lost_most plan x st st' ps q1 in
-    record { kinds = omega arith; counts = omega arith; none_lost = omega arith; owed = λ c d n. cc } where
-      no_or1 : (b c : Bool) → if1 (b || c) ≡ 0 → b ≡ false
-      no_or1 true c h = absurd (omega arith)
-      no_or1 false c h = refl
-
-      no_or2 : (b c : Bool) → if1 (b || c) ≡ 0 → c ≡ false
-      no_or2 true c h = absurd (omega arith)
-      no_or2 false true h = absurd (omega arith)
-      no_or2 false false h = refl
+    let neither = if1_neither st.present st.marked empty in
+    let few = lost_most plan x st st' ps neither.0 in
+    record { kinds = omega arith; counts = omega arith; none_lost = omega arith; owed = λ c d n. cc }
 
 -- Fill of a slot of `mine`
 pub fill_fine : (r q : ℕ) (st : Fields) (plan : Plan) (ps : List Body) (a : ℕ) (p : Body) (x : Spot) (v : List ℕ)
@@ -224,8 +215,7 @@ pub fill_fine : (r q : ℕ) (st : Fields) (plan : Plan) (ps : List Body) (a : �
 fill_fine r q st plan ps a p x v is at f =
     let m = tally_set plan x st ps a (hand p Idle) (hand (record p { mine = without (same_spot x) p.mine })
     (Filling x v 0)) at in
-    let e = same_spot-refl x in
-    let one : if1 (same_spot x x) ≡ 1 = rw e refl in
+    let one = if1_same_spot x in
     let less = total_without (λ y. if1 (same_spot x y)) (same_spot x) 1 (λ y h. rw h refl) p.mine is in
     record {
       kinds = omega arith;

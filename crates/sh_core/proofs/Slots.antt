@@ -12,14 +12,14 @@ use Rattle.sh_step.specs.Collections.{total, if1}
 use Rattle.sh_step.specs.declared.body.Body.{Body}
 use Rattle.sh_core.specs.Lists.{PutLists, mine_at, in_hand}
 use Rattle.sh_core.specs.Tallies.{Fine, Tally, tally, due, held, visits, lost, finishing, room, queued, SlotsFine}
+use Rattle.sh_core.specs.Tallies.{at_spot, current, stale}
 use Rattle.sh_slots.specs.declared.hand.Hand.{Hand}
 use Rattle.sh_slots.specs.declared.hand.Hand.TheVariants.{Removing}
 use Rattle.sh_slots.specs.declared.hand.Name.{Name}
-use Rattle.sh_core.specs.Tallies.{at_spot, current, stale}
 use Rattle.sh_step.specs.Rows.{hand}
 use Rattle.std.specs.Prelude.{not}
 use Rattle.sh_core.proofs.Totals.{total_same, total_set, total_le, total_plus}
-use Rattle.sh_core.proofs.StateWords.{put2_same, put2_other}
+use Rattle.sh_core.proofs.Writes.{put2_same, put2_other}
 
 pub tally_same : (plan : Plan) (x : Spot) (st : Fields) (ps : List Body) (a : ℕ) (p p' : Body) → slice_get ps a ≡ Some p
     → due plan x st p' ≡ due plan x st p → tally plan x st (set ps a p') ≡ tally plan x st ps
@@ -44,7 +44,7 @@ tally_ext t u a b c d e f = λ i. record {
 }
 
 -- the sums before and after a change of one pass
-pub record Moved (t t' d d' : Tally) : Type 0 where
+pub record SumsChange (t t' d d' : Tally) : Type 0 where
   pub mine : t'.mine + d.mine ≡ t.mine + d'.mine
   pub hand : t'.hand + d.hand ≡ t.hand + d'.hand
   pub held : t'.held + d.held ≡ t.held + d'.held
@@ -53,7 +53,7 @@ pub record Moved (t t' d d' : Tally) : Type 0 where
   pub finishing : t'.finishing + d.finishing ≡ t.finishing + d'.finishing
 
 pub tally_set : (plan : Plan) (x : Spot) (st : Fields) (ps : List Body) (a : ℕ) (p p' : Body) → slice_get ps a ≡ Some p
-    → Moved (tally plan x st ps) (tally plan x st (set ps a p')) (due plan x st p) (due plan x st p')
+    → SumsChange (tally plan x st ps) (tally plan x st (set ps a p')) (due plan x st p) (due plan x st p')
 tally_set plan x st ps a p p' at = record {
   mine = total_set (mine_at x) ps a p p' at;
   hand = total_set (in_hand x) ps a p p' at;
@@ -71,6 +71,9 @@ same_spot-true x y h =
 
 pub same_spot-refl : (x : Spot) → same_spot x x ≡ true
 same_spot-refl x = grind (arith, nat_tests)
+
+pub if1_same_spot : (x : Spot) → if1 (same_spot x x) ≡ 1
+if1_same_spot x = rw (same_spot-refl x) refl
 
 stale_le : (st : Fields) (x : Spot) (o : Option Name) → stale st x o ≤ if1 (at_spot x o)
 stale_le st x o = one (at_spot x o) (current st o) where
@@ -125,11 +128,11 @@ pub slots_state : (plan : Plan) (w : Words) (ps : List Body) (l : PutLists) (a :
     → Fine (room w x) (queued l x) (fields_of n) (tally plan x (fields_of n) (set ps a p'))
     → SlotsFine plan (write w (State x.page x.slot) n) (set ps a p') l
 slots_state plan w ps l a p p' x n old at others this y = go (same_spot y x) refl where
-  W : Words
-  W = write w (State x.page x.slot) n
+  written : Words
+  written = write w (State x.page x.slot) n
 
-  go : (b : Bool) → same_spot y x ≡ b → Fine (room W y) (queued l y) (fields_of (W.state_at y.page y.slot))
-      (tally plan y (fields_of (W.state_at y.page y.slot)) (set ps a p'))
+  go : (b : Bool) → same_spot y x ≡ b → Fine (room written y) (queued l y) (fields_of (written.state_at y.page y.slot))
+      (tally plan y (fields_of (written.state_at y.page y.slot)) (set ps a p'))
   go true h = let e : y ≡ x = same_spot-true x y h in rw (e, put2_same w.state_at x.page x.slot n) this
   go false h = rw (
     put2_other w.state_at x.page x.slot n y.page y.slot h,

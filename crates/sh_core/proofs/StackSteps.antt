@@ -1,34 +1,15 @@
 -- The stacks and chains of numbered items, over a push, a tie, a take and a follow.
 use Rattle.std.proofs.Common.{◌≡◌, ℕ, zero, suc, ◌+◌, ◌<◌, ◌≤◌, ◌==◌, ◌&&◌, Bool, true, false, List, [], ◌∷◌, refl, ap}
-use Rattle.std.proofs.Common.{◌∙◌, arith}
+use Rattle.std.proofs.Common.{◌∙◌, arith, eqb-true, eq-eqb}
 use Rattle.std.specs.Prelude.{not}
 use Rattle.std.proofs.lemmas.Bool.Decides.{nat_tests}
 use Rattle.sh_core.specs.Words.{put}
 use Rattle.sh_step.specs.Collections.{total, if1}
 use Rattle.sh_core.specs.Lists.{times}
 use Rattle.sh_core.specs.Stacks.{link_to, top, first_is, Chained, Chains}
-
-pub put_same : {A : Type 0} (f : ℕ → A) (i : ℕ) (x : A) → put f i x i ≡ x
-unfolding put
-put_same f i x = let e : (i == i) ≡ true = grind (arith, nat_tests) in rw e refl
-
-pub put_other : {A : Type 0} (f : ℕ → A) (i j : ℕ) (x : A) → (j == i) ≡ false → put f i x j ≡ f j
-unfolding put
-put_other f i j x e = rw e refl
-
-pub same_page : (q i : ℕ) → (q == i) ≡ true → q ≡ i
-same_page q i e = grind (arith, nat_tests)
-
-pub page_same : (q : ℕ) → (q == q) ≡ true
-page_same q = grind (arith, nat_tests)
-
-pub eq_sym : (a b : ℕ) → (a == b) ≡ (b == a)
-eq_sym a b = go (a == b) (b == a) refl refl where
-  go : (c d : Bool) → (a == b) ≡ c → (b == a) ≡ d → c ≡ d
-  go true true e f = refl
-  go true false e f = absurd (let i = same_page a b e in let z : (b == a) ≡ true = grind (arith, nat_tests) in cc)
-  go false true e f = absurd (let i = same_page b a f in let z : (a == b) ≡ true = grind (arith, nat_tests) in cc)
-  go false false e f = refl
+use Rattle.sh_core.proofs.Tests.{eqb-comm, if1_self, if1_zero}
+use Rattle.sh_core.proofs.ListCounts.{times_cons, times_none, apart_item}
+use Rattle.sh_core.proofs.Writes.{put_same, put_other}
 
 -- a list whose items' links and debts add up to what they did
 pub chained_same : (word word' owed owed' : ℕ → ℕ) (xs : List ℕ) → Chained word owed xs
@@ -36,31 +17,12 @@ pub chained_same : (word word' owed owed' : ℕ → ℕ) (xs : List ℕ) → Cha
 unfolding total
 chained_same word word' owed owed' [] old same = tt
 chained_same word word' owed owed' (s ∷ xs) old same =
-    let e : (s == s) ≡ true = page_same s in
+    let e : (s == s) ≡ true = eq-eqb s s refl in
     (same s (rw e (omega arith)) ∙ old.0, chained_same word word' owed owed' xs old.1 (λ t h. same t (omega arith)))
 
 pub link_to_top : (xs : List ℕ) → link_to xs ≡ top xs + 1
 link_to_top [] = refl
 link_to_top (s ∷ xs) = omega arith
-
-pub times_cons : (s t : ℕ) (xs : List ℕ) → times s (t ∷ xs) ≡ if1 (t == s) + times s xs
-unfolding total
-times_cons s t xs = refl
-
-pub times_none : (s : ℕ) → times s [] ≡ 0
-unfolding total
-times_none s = refl
-
--- what stands in a list from which an item is missing is not that item
-pub apart_item : (s i : ℕ) (xs : List ℕ) → times s xs ≡ 0 → 0 < times i xs → (i == s) ≡ false
-apart_item s i xs none some = go (i == s) refl where
-  go : (b : Bool) → (i == s) ≡ b → b ≡ false
-  go false e = refl
-  go true e = let j = same_page i s e in let t : times i xs ≡ times s xs = ap (λ k. times k xs) j
-      in absurd (omega arith)
-
-zero_if : (n : ℕ) → if1 (not (n == 0)) ≡ 0 → n ≡ 0
-zero_if n h = grind (arith, nat_tests)
 
 -- nothing changes
 pub chains_same : (h h' : ℕ → ℕ) (k k' o o' t t' c c' : ℕ → ℕ → ℕ) (st st' ch ch' : ℕ → List ℕ) → Chains h k o t c st ch
@@ -85,18 +47,18 @@ module _ (h h' : ℕ → ℕ) (k o o' t t' c c' : ℕ → ℕ → ℕ) (st ch : 
     (others : (g i : ℕ) → ((g == q) && (i == s)) ≡ false → (o' g i ≡ o g i) × (t' g i ≡ t g i))
     (cursors_same : (g i : ℕ) → c' g i ≡ c g i) where
   unlinked : k q s ≡ 0
-  unlinked = let a = old.ties q s in zero_if (k q s) (omega arith)
+  unlinked = let a = old.ties q s in if1_zero (k q s) (omega arith)
 
-  untied : o q s ≡ 0
-  untied = let a = old.ties q s in no_debt (omega arith)
+  owes_nothing : o q s ≡ 0
+  owes_nothing = let a = old.ties q s in no_debt (omega arith)
 
-  kept : (g : ℕ) (xs : List ℕ) → (g ≡ q → times s xs ≡ 0) → Chained (k g) (o g) xs → Chained (k g) (o' g) xs
-  kept g xs out old' = chained_same (k g) (k g) (o g) (o' g) xs old'
+  chained_push : (g : ℕ) (xs : List ℕ) → (g ≡ q → times s xs ≡ 0) → Chained (k g) (o g) xs → Chained (k g) (o' g) xs
+  chained_push g xs out old' = chained_same (k g) (k g) (o g) (o' g) xs old'
       (λ i some. let z = (others g i (apart g i xs out some)).0 in omega arith) where
         apart : (g i : ℕ) (xs : List ℕ) → (g ≡ q → times s xs ≡ 0) → 0 < times i xs → ((g == q) && (i == s)) ≡ false
         apart g i xs out some = go (g == q) refl where
           go : (b : Bool) → (g == q) ≡ b → (b && (i == s)) ≡ false
-          go true e = apart_item s i xs (out (same_page g q e)) some
+          go true e = apart_item s i xs (out (eqb-true g q e)) some
           go false e = refl
 
   at_top : Chained (k q) (o' q) (s ∷ st q)
@@ -104,20 +66,20 @@ module _ (h h' : ℕ → ℕ) (k o o' t t' c c' : ℕ → ℕ → ℕ) (st ch : 
       let a = old.tops q in
       let b = link_to_top (st q) in
       let u = unlinked in
-      let v = untied in
-      let w = owed_new in (omega arith, kept q (st q) (λ _. omega arith) (old.stacks q))
+      let v = owes_nothing in
+      let w = owed_new in (omega arith, chained_push q (st q) (λ _. omega arith) (old.stacks q))
 
   push_stacks : (g : ℕ) → Chained (k g) (o' g) (put st q (s ∷ st q) g)
   push_stacks g = go (g == q) refl where
     go : (b : Bool) → (g == q) ≡ b → Chained (k g) (o' g) (put st q (s ∷ st q) g)
-    go true e = let i = same_page g q e in rw (i, put_same st q (s ∷ st q)) at_top
-    go false e = rw (put_other st q g (s ∷ st q) e) (kept g (st g)
-        (λ i. absurd (let z : (g == q) ≡ true = rw i (page_same q) in cc)) (old.stacks g))
+    go true e = let i = eqb-true g q e in rw (i, put_same st q (s ∷ st q)) at_top
+    go false e = rw (put_other st q g (s ∷ st q) e) (chained_push g (st g)
+        (λ i. absurd (let z : (g == q) ≡ true = rw i (eq-eqb q q refl) in cc)) (old.stacks g))
 
   push_tops : (g : ℕ) → h' g ≡ top (put st q (s ∷ st q) g)
   push_tops g = go (g == q) refl where
     go : (b : Bool) → (g == q) ≡ b → h' g ≡ top (put st q (s ∷ st q) g)
-    go true e = let i = same_page g q e in rw (i, put_same st q (s ∷ st q)) head_new
+    go true e = let i = eqb-true g q e in rw (i, put_same st q (s ∷ st q)) head_new
     go false e = rw (put_other st q g (s ∷ st q) e) (heads g e ∙ old.tops g)
 
   push_ties : (g i : ℕ) → if1 (not (k g i == 0)) + t' g i ≡ times i (put st q (s ∷ st q) g) + times i (ch g)
@@ -125,17 +87,17 @@ module _ (h h' : ℕ → ℕ) (k o o' t t' c c' : ℕ → ℕ → ℕ) (st ch : 
     go : (b d : Bool) → (g == q) ≡ b → (i == s) ≡ d → if1 (not (k g i == 0)) + t' g i
         ≡ times i (put st q (s ∷ st q) g) + times i (ch g)
     go true true e f =
-        let a = same_page g q e in
-        let b = same_page i s f in
+        let a = eqb-true g q e in
+        let b = eqb-true i s f in
         let o = old.ties q s in
-        let m : if1 (s == s) ≡ 1 = rw (page_same s) refl in
+        let m = if1_self s in
         rw (a, b, put_same st q (s ∷ st q), times_cons s s (st q)) (omega arith)
     go true false e f =
-        let a = same_page g q e in
-        let x : ((q == q) && (i == s)) ≡ false = rw (page_same q) f in
+        let a = eqb-true g q e in
+        let x : ((q == q) && (i == s)) ≡ false = rw (eq-eqb q q refl) f in
         let z = (others q i x).1 in
         let o = old.ties q i in
-        let m : if1 (s == i) ≡ 0 = rw (eq_sym s i, f) (omega arith) in
+        let m : if1 (s == i) ≡ 0 = rw (eqb-comm s i, f) (omega arith) in
         rw (a, put_same st q (s ∷ st q), times_cons i s (st q)) (omega arith)
     go false d e f =
         let x : ((g == q) && (i == s)) ≡ false = rw e refl in
@@ -147,7 +109,7 @@ module _ (h h' : ℕ → ℕ) (k o o' t t' c c' : ℕ → ℕ → ℕ) (st ch : 
   chains_push = record {
     tops = push_tops;
     stacks = push_stacks;
-    chains = λ g. kept g (ch g) (λ i. rw i (omega arith)) (old.chains g);
+    chains = λ g. chained_push g (ch g) (λ i. rw i (omega arith)) (old.chains g);
     ties = push_ties;
     cursors = λ g i. cursors_same g i ∙ old.cursors g i;
   }
@@ -159,12 +121,12 @@ module _ (h : ℕ → ℕ) (k k' o o' t t' c c' : ℕ → ℕ → ℕ) (st ch : 
     (others : (g i : ℕ) → ((g == q) && (i == s)) ≡ false → (k' g i ≡ k g i) × (o' g i ≡ o g i) × (t' g i ≡ t g i))
     (cursors_same : (g i : ℕ) → c' g i ≡ c g i) where
   was_unlinked : k q s ≡ 0
-  was_unlinked = let a = old.ties q s in zero_if (k q s) (omega arith)
+  was_unlinked = let a = old.ties q s in if1_zero (k q s) (omega arith)
 
-  both : (g i : ℕ) → k' g i + o' g i ≡ k g i + o g i
-  both g i = go (g == q) (i == s) refl refl where
+  sums_stay : (g i : ℕ) → k' g i + o' g i ≡ k g i + o g i
+  sums_stay g i = go (g == q) (i == s) refl refl where
     go : (b d : Bool) → (g == q) ≡ b → (i == s) ≡ d → k' g i + o' g i ≡ k g i + o g i
-    go true true e f = let a = same_page g q e in let b = same_page i s f in let u = was_unlinked in let v = link_new
+    go true true e f = let a = eqb-true g q e in let b = eqb-true i s f in let u = was_unlinked in let v = link_new
         in let w = owed_new in rw (a, b) (omega arith)
     go true false e f = let z = others g i (rw (e, f) refl) in let y = z.0 in let x = z.1 in omega arith
     go false d e f = let z = others g i (rw e refl) in let y = z.0 in let x = z.1 in omega arith
@@ -179,8 +141,8 @@ module _ (h : ℕ → ℕ) (k k' o o' t t' c c' : ℕ → ℕ → ℕ) (st ch : 
 
     go : (b d : Bool) → (g == q) ≡ b → (i == s) ≡ d → if1 (not (k' g i == 0)) + t' g i ≡ times i (st g) + times i (ch g)
     go true true e f =
-        let a = same_page g q e in
-        let b = same_page i s f in
+        let a = eqb-true g q e in
+        let b = eqb-true i s f in
         let u = was_unlinked in
         let m = old.ties q s in
         let z : if1 (not (k q s == 0)) ≡ 0 = rw u refl in
@@ -193,8 +155,8 @@ module _ (h : ℕ → ℕ) (k k' o o' t t' c c' : ℕ → ℕ → ℕ) (st ch : 
   pub chains_tie : Chains h k' o' t' c' st ch
   chains_tie = record {
     tops = old.tops;
-    stacks = λ g. chained_same (k g) (k' g) (o g) (o' g) (st g) (old.stacks g) (λ i _. both g i);
-    chains = λ g. chained_same (k g) (k' g) (o g) (o' g) (ch g) (old.chains g) (λ i _. both g i);
+    stacks = λ g. chained_same (k g) (k' g) (o g) (o' g) (st g) (old.stacks g) (λ i _. sums_stay g i);
+    chains = λ g. chained_same (k g) (k' g) (o g) (o' g) (ch g) (old.chains g) (λ i _. sums_stay g i);
     ties = tie_ties;
     cursors = λ g i. cursors_same g i ∙ old.cursors g i;
   }
@@ -206,35 +168,35 @@ module _ (h h' : ℕ → ℕ) (k o o' t t' c c' : ℕ → ℕ → ℕ) (st ch : 
     (ts : (g i : ℕ) → t' g i ≡ t g i)
     (cursor_new : (i : ℕ) → c' q i ≡ c q i + first_is (st q) i)
     (cursors_else : (g i : ℕ) → (g == q) ≡ false → c' g i ≡ c g i) where
-  still : (g : ℕ) (xs : List ℕ) → Chained (k g) (o g) xs → Chained (k g) (o' g) xs
-  still g xs x = chained_same (k g) (k g) (o g) (o' g) xs x (λ i _. let z = os g i in omega arith)
+  chained_take : (g : ℕ) (xs : List ℕ) → Chained (k g) (o g) xs → Chained (k g) (o' g) xs
+  chained_take g xs x = chained_same (k g) (k g) (o g) (o' g) xs x (λ i _. let z = os g i in omega arith)
 
   pub chains_take : Chains h' k o' t' c' (put st q []) (put ch q (st q))
   chains_take = record { tops = tops; stacks = stacks; chains = chains; ties = ties; cursors = cursors } where
     tops : (g : ℕ) → h' g ≡ top (put st q [] g)
     tops g = go (g == q) refl where
       go : (b : Bool) → (g == q) ≡ b → h' g ≡ top (put st q [] g)
-      go true e = let i = same_page g q e in rw (i, put_same st q []) head_new
+      go true e = let i = eqb-true g q e in rw (i, put_same st q []) head_new
       go false e = rw (put_other st q g [] e) (heads g e ∙ old.tops g)
 
     stacks : (g : ℕ) → Chained (k g) (o' g) (put st q [] g)
     stacks g = go (g == q) refl where
       go : (b : Bool) → (g == q) ≡ b → Chained (k g) (o' g) (put st q [] g)
-      go true e = let i = same_page g q e in rw (i, put_same st q []) tt
-      go false e = rw (put_other st q g [] e) (still g (st g) (old.stacks g))
+      go true e = let i = eqb-true g q e in rw (i, put_same st q []) tt
+      go false e = rw (put_other st q g [] e) (chained_take g (st g) (old.stacks g))
 
     chains : (g : ℕ) → Chained (k g) (o' g) (put ch q (st q) g)
     chains g = go (g == q) refl where
       go : (b : Bool) → (g == q) ≡ b → Chained (k g) (o' g) (put ch q (st q) g)
-      go true e = let i = same_page g q e in rw (i, put_same ch q (st q)) (still q (st q) (old.stacks q))
-      go false e = rw (put_other ch q g (st q) e) (still g (ch g) (old.chains g))
+      go true e = let i = eqb-true g q e in rw (i, put_same ch q (st q)) (chained_take q (st q) (old.stacks q))
+      go false e = rw (put_other ch q g (st q) e) (chained_take g (ch g) (old.chains g))
 
     ties : (g i : ℕ) → if1 (not (k g i == 0)) + t' g i ≡ times i (put st q [] g) + times i (put ch q (st q) g)
     ties g i = go (g == q) refl where
       go : (b : Bool) → (g == q) ≡ b → if1 (not (k g i == 0)) + t' g i
           ≡ times i (put st q [] g) + times i (put ch q (st q) g)
       go true e =
-          let j = same_page g q e in
+          let j = eqb-true g q e in
           let x = old.ties q i in
           let y = ts q i in
           let z : times i (ch q) ≡ 0 = rw empty (times_none i) in
@@ -246,7 +208,7 @@ module _ (h h' : ℕ → ℕ) (k o o' t t' c c' : ℕ → ℕ → ℕ) (st ch : 
     cursors g i = go (g == q) refl where
       go : (b : Bool) → (g == q) ≡ b → c' g i ≡ first_is (put ch q (st q) g) i
       go true e =
-          let j = same_page g q e in
+          let j = eqb-true g q e in
           let x = old.cursors q i in
           let y = cursor_new i in
           let z : first_is (ch q) i ≡ 0 = rw empty refl in
@@ -259,11 +221,11 @@ module _ (h : ℕ → ℕ) (k k' o o' t t' c c' : ℕ → ℕ → ℕ) (st ch : 
     (once : times s (st q) + times s (ch q) ≤ 1) (found : (k q s == 0) ≡ false)
     (link_new : k' q s ≡ 0) (links : (g i : ℕ) → ((g == q) && (i == s)) ≡ false → k' g i ≡ k g i)
     (os : (g i : ℕ) → o' g i ≡ o g i) (ts : (g i : ℕ) → t' g i ≡ t g i) where
-  here : times s (ch q) ≡ 1 + times s rest
-  here = let e : if1 (s == s) ≡ 1 = rw (page_same s) refl in rw (is, times_cons s s rest) (omega arith)
+  counts_first : times s (ch q) ≡ 1 + times s rest
+  counts_first = let e = if1_self s in rw (is, times_cons s s rest) (omega arith)
 
   out : (times s (st q) ≡ 0) × (times s rest ≡ 0) × (t q s ≡ 0)
-  out = let a = here in let b = old.ties q s in let d : if1 (not (k q s == 0)) ≡ 1 = rw found refl
+  out = let a = counts_first in let b = old.ties q s in let d : if1 (not (k q s == 0)) ≡ 1 = rw found refl
       in (omega arith, omega arith, omega arith)
 
   -- the link that it found
@@ -273,21 +235,20 @@ module _ (h : ℕ → ℕ) (k k' o o' t t' c c' : ℕ → ℕ → ℕ) (st ch : 
       let y = x.0 in
       let z = no_debt out.2 in omega arith
 
-  keep : (g : ℕ) (xs : List ℕ) → (g ≡ q → times s xs ≡ 0) → Chained (k g) (o g) xs → Chained (k' g) (o' g) xs
-  keep g xs none x = chained_same (k g) (k' g) (o g) (o' g) xs x
+  chained_follow : (g : ℕ) (xs : List ℕ) → (g ≡ q → times s xs ≡ 0) → Chained (k g) (o g) xs → Chained (k' g) (o' g) xs
+  chained_follow g xs none x = chained_same (k g) (k' g) (o g) (o' g) xs x
       (λ i some. let z = os g i in let y = links g i (apart i some) in omega arith) where
         apart : (i : ℕ) → 0 < times i xs → ((g == q) && (i == s)) ≡ false
         apart i some = go (g == q) refl where
           go : (b : Bool) → (g == q) ≡ b → (b && (i == s)) ≡ false
-          go true e = apart_item s i xs (none (same_page g q e)) some
+          go true e = apart_item s i xs (none (eqb-true g q e)) some
           go false e = refl
 
   pub chains_follow : ((i : ℕ) → c' q i + if1 (s == i) ≡ c q i + first_is rest i)
       → ((g i : ℕ) → (g == q) ≡ false → c' g i ≡ c g i) → Chains h k' o' t' c' st (put ch q rest)
   chains_follow cursor_new cursors_else = record {
     tops = old.tops;
-    stacks = λ g. keep g (st g) (λ i. rw i out.0)
-        (old.stacks g);
+    stacks = λ g. chained_follow g (st g) (λ i. rw i out.0) (old.stacks g);
     chains = chains;
     ties = ties;
     cursors = cursors;
@@ -296,19 +257,19 @@ module _ (h : ℕ → ℕ) (k k' o o' t t' c c' : ℕ → ℕ → ℕ) (st ch : 
     chains g = go (g == q) refl where
       go : (b : Bool) → (g == q) ≡ b → Chained (k' g) (o' g) (put ch q rest g)
       go true e =
-          let i = same_page g q e in
+          let i = eqb-true g q e in
           let x : Chained (k q) (o q) (s ∷ rest) = rw is at (old.chains q) in
-          rw (i, put_same ch q rest) (keep q rest (λ _. out.1) x.1)
-      go false e = rw (put_other ch q g rest e) (keep g (ch g)
-          (λ i. absurd (let z : (g == q) ≡ true = rw i (page_same q) in cc)) (old.chains g))
+          rw (i, put_same ch q rest) (chained_follow q rest (λ _. out.1) x.1)
+      go false e = rw (put_other ch q g rest e) (chained_follow g (ch g)
+          (λ i. absurd (let z : (g == q) ≡ true = rw i (eq-eqb q q refl) in cc)) (old.chains g))
 
     ties : (g i : ℕ) → if1 (not (k' g i == 0)) + t' g i ≡ times i (st g) + times i (put ch q rest g)
     ties g i = go (g == q) (i == s) refl refl where
       go : (b d : Bool) → (g == q) ≡ b → (i == s) ≡ d → if1 (not (k' g i == 0)) + t' g i
           ≡ times i (st g) + times i (put ch q rest g)
       go true true e f =
-          let a = same_page g q e in
-          let b = same_page i s f in
+          let a = eqb-true g q e in
+          let b = eqb-true i s f in
           let x = out in
           let x0 = x.0 in
           let x1 = x.1 in
@@ -316,10 +277,10 @@ module _ (h : ℕ → ℕ) (k k' o o' t t' c c' : ℕ → ℕ → ℕ) (st ch : 
           let y = ts q s in
           rw (a, b, link_new, put_same ch q rest) (omega arith)
       go true false e f =
-          let a = same_page g q e in
+          let a = eqb-true g q e in
           let x = old.ties q i in
-          let z : times i (ch q) ≡ times i rest = rw (is, times_cons i s rest, eq_sym s i, f) (omega arith) in
-          let y : ((q == q) && (i == s)) ≡ false = rw (page_same q) f in
+          let z : times i (ch q) ≡ times i rest = rw (is, times_cons i s rest, eqb-comm s i, f) (omega arith) in
+          let y : ((q == q) && (i == s)) ≡ false = rw (eq-eqb q q refl) f in
           rw (a, links q i y, ts q i, put_same ch q rest) (omega arith)
       go false d e f = let y : ((g == q) && (i == s)) ≡ false = rw e refl
           in rw (links g i y, ts g i, put_other ch q g rest e) (old.ties g i)
@@ -328,7 +289,7 @@ module _ (h : ℕ → ℕ) (k k' o o' t t' c c' : ℕ → ℕ → ℕ) (st ch : 
     cursors g i = go (g == q) refl where
       go : (b : Bool) → (g == q) ≡ b → c' g i ≡ first_is (put ch q rest g) i
       go true e =
-          let j = same_page g q e in
+          let j = eqb-true g q e in
           let x = old.cursors q i in
           let y = cursor_new i in
           let z : first_is (ch q) i ≡ if1 (s == i) = rw is refl in
@@ -340,18 +301,18 @@ pub chained_pos : (word owed : ℕ → ℕ) (s : ℕ) (xs : List ℕ) → Chaine
     → 0 < word s + owed s
 unfolding total
 chained_pos word owed s [] x m = absurd (omega arith)
-chained_pos word owed s (i ∷ xs) x m = at (i == s) refl m (λ n. chained_pos word owed s xs x.1 n) where
-  at : (b : Bool) → (i == s) ≡ b → 0 < if1 b + times s xs → (0 < times s xs → 0 < word s + owed s) → 0 < word s + owed s
-  at true e m rest = let j = same_page i s e in let y = x.0 in let f = link_to_top xs in let z : word i + owed i
+chained_pos word owed s (i ∷ xs) x m = go (i == s) refl m (λ n. chained_pos word owed s xs x.1 n) where
+  go : (b : Bool) → (i == s) ≡ b → 0 < if1 b + times s xs → (0 < times s xs → 0 < word s + owed s) → 0 < word s + owed s
+  go true e m rest = let j = eqb-true i s e in let y = x.0 in let f = link_to_top xs in let z : word i + owed i
       ≡ word s + owed s = ap (λ n. word n + owed n) j in omega arith
-  at false e m rest = rest (omega arith)
+  go false e m rest = rest (omega arith)
 
 -- what is tied has no link yet, and owes one
-pub owes : (h : ℕ → ℕ) (k o t c : ℕ → ℕ → ℕ) (st ch : ℕ → List ℕ) (q s : ℕ) → Chains h k o t c st ch
+pub tied_owes : (h : ℕ → ℕ) (k o t c : ℕ → ℕ → ℕ) (st ch : ℕ → List ℕ) (q s : ℕ) → Chains h k o t c st ch
     → times s (st q) + times s (ch q) ≤ 1 → 0 < t q s → 0 < o q s
-owes h k o t c st ch q s old once tied =
+tied_owes h k o t c st ch q s old once tied =
     let a = old.ties q s in
-    let z : k q s ≡ 0 = zero_if (k q s) (omega arith) in
+    let z : k q s ≡ 0 = if1_zero (k q s) (omega arith) in
     go (times s (st q)) refl z where
       go : (n : ℕ) → times s (st q) ≡ n → k q s ≡ 0 → 0 < o q s
       go zero e z = let a = old.ties q s in let m = chained_pos (k q) (o q) s (ch q) (old.chains q) (omega arith)

@@ -1,25 +1,14 @@
 -- What a part names stays within the heap, step by step.
-use Rattle.std.proofs.Common.{◌≡◌, ℕ, ◌+◌, ◌%◌, ◌<◌, ◌≤◌, ◌==◌, ◌&&◌, ⊎_elim, Bool, true, false, cond, List, [], ◌∷◌}
-use Rattle.std.proofs.Common.{refl, sym, ◌∙◌, subst, arith, Option, Some, None, slice_get}
+use Rattle.std.proofs.Common.{◌≡◌, ℕ, ◌+◌, ◌%◌, ◌<◌, ◌≤◌, ◌==◌, ◌&&◌, ⊎_elim, Bool, true, false, cond, [], ◌∷◌, refl}
+use Rattle.std.proofs.Common.{sym, ◌∙◌, subst, arith, Some, None, slice_get, eqb-true}
 use Rattle.std.specs.Prelude.{not, nat_lt}
 use Rattle.sh_word.specs.Fields.{fields_of}
 use Rattle.sh_slots.specs.declared.hand.Spot.{Spot}
-use Rattle.sh_slots.specs.declared.hand.Name.{Name}
 use Rattle.sh_slots.specs.declared.hand.Hand.{Hand}
-use Rattle.sh_slots.specs.declared.hand.Hand.TheVariants.{Idle, Removing, Leaving, Finishing, ToPut, Tying, Ringing}
-use Rattle.sh_slots.specs.declared.hand.Hand.TheVariants.{Filling}
 use Rattle.sh_slots.specs.Slots.{spot_of, live_at, after_drop, marked_word}
 use Rattle.sh_step.specs.declared.body.Body.{Body}
-use Rattle.sh_step.specs.declared.action.Action.{Action}
-use Rattle.sh_step.specs.declared.action.Action.TheVariants.{EnterGet, EnterRemove, Mark, Drop, DropHold, Finish}
-use Rattle.sh_step.specs.declared.action.Action.TheVariants.{FillSlot, Fill, Publish, ReadClass, ReadLength, ReadWord}
-use Rattle.sh_step.specs.declared.action.Action.TheVariants.{ReadPage, SetClass, Take, Follow, Put, PutSlot, Tie, Adopt}
-use Rattle.sh_step.specs.declared.action.Action.TheVariants.{Leave, Arm, Ring, RingTie, TakeBell, FollowBell}
-use Rattle.sh_step.specs.declared.action.Event.{Event}
-use Rattle.sh_step.specs.Collections.{total, if1, without}
-use Rattle.sh_step.specs.Plans.{Plan, heap_pages, page_of}
-use Rattle.sh_step.specs.Rows.{Row, row, own, hand as in_hand}
-use Rattle.sh_core.specs.Worlds.{World, step, apply, open_world}
+use Rattle.sh_step.specs.Collections.{if1, without}
+use Rattle.sh_core.specs.Worlds.{World, apply, open_world}
 use Rattle.sh_core.specs.Lists.{times}
 use Rattle.sh_shape.specs.declared.places.Place.{Place}
 use Rattle.sh_shape.specs.declared.places.Place.TheVariants.{State}
@@ -27,23 +16,28 @@ use Rattle.sh_core.specs.Words.{read}
 use Rattle.sh_core.specs.Within.{Within, HandWithin, SpotWithin, AllWithin}
 use Rattle.sh_core.proofs.Totals.{get_set}
 use Rattle.sh_core.proofs.OpenGood.{part_new}
-use Rattle.sh_core.proofs.StackSteps.{same_page, times_cons, times_none}
-use Rattle.sh_step.specs.Conditions.{Named, Meets, its_page}
-use Rattle.sh_step.proofs.ConditionLaws.{meets}
-use Rattle.sh_step.proofs.PageLaws.{page_within}
-
-times_less : (q k : ℕ) (xs : List ℕ) → times k (without (λ x. x == q) xs) ≤ times k xs
-unfolding total without
-times_less q k [] = omega arith
-times_less q k (x ∷ xs) = go (x == q) (times_less q k xs) where
-  go : (b : Bool) → times k (without (λ x. x == q) xs) ≤ times k xs
-      → times k (cond b xs (x ∷ without (λ x. x == q) xs)) ≤ if1 (x == k) + times k xs
-  go true rest = omega arith
-  go false rest = omega arith
+use Rattle.sh_slots.specs.declared.hand.Hand.TheVariants.{Idle, Removing, Leaving, Finishing, ToPut, Tying, Ringing}
+use Rattle.sh_slots.specs.declared.hand.Hand.TheVariants.{RingTying, Filling}
+use Rattle.sh_stack.specs.Stack.{link_over}
+use Rattle.sh_bell.specs.Bell.{is_armed, top_of}
+use Rattle.sh_step.specs.declared.moves.Move.{Move}
+use Rattle.sh_step.specs.declared.moves.Move.TheVariants.{EnterGet, EnterRemove, Mark, Drop, DropHold, Finish, FillSlot}
+use Rattle.sh_step.specs.declared.moves.Move.TheVariants.{Fill, Publish, Take, Follow, Put, PutSlot, Tie, Adopt, Leave}
+use Rattle.sh_step.specs.declared.moves.Move.TheVariants.{Arm, Ring, RingTie, FollowBell}
+use Rattle.sh_step.specs.Moves.{row_of}
+use Rattle.sh_step.specs.Plans.{Plan, heap_pages}
+use Rattle.sh_step.specs.Rows.{Row, own, hand as in_hand}
+use Rattle.sh_core.proofs.ByMove.{May}
+use Rattle.sh_core.proofs.ListCounts.{times_cons, times_none, times_less}
+use Rattle.sh_core.proofs.Tests.{cond_either}
 
 -- where a slot's state word is found it is of a generation that there is
 abbrev IsStateOf : Plan → Row → ℕ → Type 0
 IsStateOf plan r n = (q s : ℕ) → r.place ≡ State q s → (fields_of n).generation ≤ plan.keys.gen_max
+
+-- what the hand is known to be names what is of the heap
+pub hand_within : (plan : Plan) (p : Body) (h : Hand) → Within plan p → p.hand ≡ h → HandWithin plan h
+hand_within plan p h old is = subst (HandWithin plan) is old.hand
 
 module _ (plan : Plan) (p : Body) (old : Within plan p) where
   -- the same shard, and no further armed page
@@ -56,140 +50,88 @@ module _ (plan : Plan) (p : Body) (old : Within plan p) where
         in old.armed q (omega arith);
   }
 
-  by_cond : (b : Bool) (u v : Body) → Within plan u → Within plan v → Within plan (cond b u v)
-  by_cond true u v x y = x
-  by_cond false u v x y = y
-
-  after : (x : Spot) (n : ℕ) → SpotWithin plan x → (fields_of n).generation ≤ plan.keys.gen_max
+  within_drop : (x : Spot) (n : ℕ) → SpotWithin plan x → (fields_of n).generation ≤ plan.keys.gen_max
       → HandWithin plan (after_drop x n)
-  after x n w few = go ((fields_of n).present && (fields_of n).marked && ((fields_of n).count == 1)) where
+  within_drop x n w few = go ((fields_of n).present && (fields_of n).marked && ((fields_of n).count == 1)) where
     go : (b : Bool) → HandWithin plan (cond b (Finishing x (fields_of n).generation) Idle)
     go true = (w, few)
     go false = tt
 
-  handed : (h : Hand) → p.hand ≡ h → HandWithin plan h
-  handed h e = subst (HandWithin plan) e old.hand
+  -- the same shard and armed pages, with another hand
+  with_hand : (h : Hand) → HandWithin plan h → Within plan (in_hand p h)
+  with_hand h w = record { hand = w; owned = old.owned; armed = old.armed }
 
-  -- a row whose part keeps the shard and the armed pages
-  quiet : (m r : Row) → m ≡ r → ((n : ℕ) → IsStateOf plan r n → Within plan (r.part n)) → (n : ℕ) → IsStateOf plan m n
-      → Within plan (m.part n)
-  quiet m r e w = let P : Row → Type 0 = λ u. (n : ℕ) → IsStateOf plan u n → Within plan (u.part n) in subst P (sym e) w
-
-  pub within_row : (x : Action) (m : Row) → row plan p x ≡ Some m → (n : ℕ) → IsStateOf plan m n
-      → Within plan (m.part n)
-  unfolding Meets
-  within_row (EnterGet k) m e = let h = meets plan p (EnterGet k) m e in
-      quiet m _ h.4 (λ n f. by_cond (live_at h.0.generation n && nat_lt (fields_of n).count plan.keys.guard_max)
-      (record p { holds = k ∷ p.holds }) (in_hand p (Leaving (spot_of h.0)))
+  pub within_part : (m : Move) → May plan p m → (n : ℕ) → IsStateOf plan (row_of plan p m) n
+      → Within plan ((row_of plan p m).part n)
+  within_part (EnterGet k x) (idle, named, few) n f =
+      cond_either (Within plan) (live_at x.generation n && nat_lt (fields_of n).count plan.keys.guard_max)
+      (record p { holds = k ∷ p.holds }) (in_hand p (Leaving (spot_of x)))
       (stays (record p { holds = k ∷ p.holds }) old.hand refl (λ q. omega arith))
-      (stays (in_hand p (Leaving (spot_of h.0))) (h.1.page, h.1.slot) refl (λ q. omega arith)))
-  within_row (EnterRemove k) m e = let h = meets plan p (EnterRemove k) m e in
-      quiet m _ h.3 (λ n f. go h.0 (live_at h.0.generation n) h.1) where
-        go : (x : Name) (b : Bool) → Named plan k x → Within plan (in_hand p (cond b (Removing k) (Leaving (spot_of x))))
-        go x true name = stays (in_hand p (Removing k)) (x, name) refl (λ q. omega arith)
-        go x false name = stays (in_hand p (Leaving (spot_of x))) (name.page, name.slot) refl (λ q. omega arith)
-  within_row Mark m e = let h = meets plan p Mark m e in quiet m _ h.4
-      (λ n f. stays (in_hand p (Leaving (spot_of h.1))) (h.3.page, h.3.slot) refl (λ q. omega arith))
-  within_row Drop m e = let h = meets plan p Drop m e in quiet m _ h.2
-      (λ n f. stays (in_hand p (after_drop h.0 n)) (after h.0 n (handed (Leaving h.0) h.1) (f h.0.page h.0.slot refl))
-      refl (λ q. omega arith))
-  within_row (DropHold k) m e = let h = meets plan p (DropHold k) m e
-      in quiet m _ h.4 (λ n f. record {
-        hand = after (spot_of h.0) n (h.1.page, h.1.slot) (f h.0.page h.0.slot refl);
-        owned = old.owned;
-        armed = old.armed;
-      })
-  within_row Finish m e = let h = meets plan p Finish m e in
-      let x : Spot = h.0 in
-      let g : ℕ = h.1 in
-      let w = (handed (Finishing x g) h.2).0 in
-      quiet m _ h.3 (λ n f. by_cond ((n == marked_word g) && not (g == plan.keys.gen_max))
+      (stays (in_hand p (Leaving (spot_of x))) (named.page, named.slot) refl (λ q. omega arith))
+  within_part (EnterRemove k x) (idle, named) n f = go (live_at x.generation n) where
+    go : (b : Bool) → Within plan (in_hand p (cond b (Removing k) (Leaving (spot_of x))))
+    go true = stays (in_hand p (Removing k)) (x, named) refl (λ q. omega arith)
+    go false = stays (in_hand p (Leaving (spot_of x))) (named.page, named.slot) refl (λ q. omega arith)
+  within_part (Mark k x) (is, named) n f =
+      stays (in_hand p (Leaving (spot_of x))) (named.page, named.slot) refl (λ q. omega arith)
+  within_part (Drop x) is n f = stays (in_hand p (after_drop x n))
+      (within_drop x n (hand_within plan p (Leaving x) old is) (f x.page x.slot refl)) refl (λ q. omega arith)
+  within_part (DropHold k x) (idle, named, is) n f = record {
+    hand = within_drop (spot_of x) n (named.page, named.slot) (f x.page x.slot refl);
+    owned = old.owned;
+    armed = old.armed;
+  }
+  within_part (Finish x g) is n f = cond_either (Within plan) ((n == marked_word g) && not (g == plan.keys.gen_max))
       (cond (own plan p x.page) (in_hand (record p { mine = x ∷ p.mine }) Idle) (in_hand p (ToPut x)))
       (in_hand p Idle)
-      (by_cond (own plan p x.page) (in_hand (record p { mine = x ∷ p.mine }) Idle) (in_hand p (ToPut x))
-      (stays (in_hand (record p { mine = x ∷ p.mine }) Idle) tt refl (λ q. omega arith))
-      (stays (in_hand p (ToPut x)) w refl (λ q. omega arith)))
-      (stays (in_hand p Idle) tt refl (λ q. omega arith)))
-  within_row (FillSlot y v) m e = let h = meets plan p (FillSlot y v) m e
-      in quiet m _ h.7 (λ n f. record {
-        hand = (page_within plan (its_page y) h.0, h.1);
-        owned = old.owned;
-        armed =
-            old.armed;
-      })
-  within_row Fill m e = let h = meets plan p Fill m e in quiet m _ h.5
-      (λ n f. record { hand = handed (Filling h.0 h.1 h.2) h.3; owned = old.owned; armed = old.armed })
-  within_row Publish m e = let h = meets plan p Publish m e in quiet m _ h.5
-      (λ n f. record { hand = tt; owned = old.owned; armed = old.armed })
-  within_row (ReadClass k) m e = let h = meets plan p (ReadClass k) m e
-      in quiet m _ h.4 (λ n f. record { hand = old.hand; owned = old.owned; armed = old.armed })
-  within_row (ReadLength k) m e = let h = meets plan p (ReadLength k) m e
-      in quiet m _ h.4 (λ n f. record { hand = old.hand; owned = old.owned; armed = old.armed })
-  within_row (ReadWord k i) m e = let h = meets plan p (ReadWord k i) m e
-      in quiet m _ h.9 (λ n f. record { hand = old.hand; owned = old.owned; armed = old.armed })
-  within_row (ReadPage y) m e = let h = meets plan p (ReadPage y) m e
-      in quiet m _ h.3 (λ n f. record { hand = old.hand; owned = old.owned; armed = old.armed })
-  within_row (SetClass y c) m e = let h = meets plan p (SetClass y c) m e
-      in quiet m _ h.7 (λ n f. record { hand = old.hand; owned = old.owned; armed = old.armed })
-  within_row (Take y) m e = let h = meets plan p (Take y) m e in
-      quiet m _ h.5 (λ n f. record { hand = old.hand; owned = old.owned; armed = go (page_of plan y) (n % 2 == 1) })
-    where
-      go : (q : ℕ) (b : Bool) (k : ℕ) → 0 < times k (cond b (without (λ x. x == q) p.armed) p.armed)
-          → k < heap_pages plan
-      go q true k some = let l = times_less q k p.armed in old.armed k (omega arith)
-      go q false k some = old.armed k some
-  within_row (Follow y) m e = let h = meets plan p (Follow y) m e in
-      quiet m _ h.5 (λ n f. by_cond (n == 0) p _ old (record { hand = old.hand; owned = old.owned; armed = old.armed }))
-  within_row Put m e = let h = meets plan p Put m e in quiet m _ h.2
-      (λ n f. record { hand = handed (ToPut h.0) h.1; owned = old.owned; armed = old.armed })
-  within_row (PutSlot y) m e = let h = meets plan p (PutSlot y) m e
-      in quiet m _ h.5 (λ n f. record {
-        hand = (page_within plan (its_page y) h.0, h.1);
-        owned = old.owned;
-        armed =
-            old.armed;
-      })
-  within_row Tie m e = let h = meets plan p Tie m e in quiet m _ h.4
-      (λ n f. go h.0 h.2 (handed (Tying h.0 h.1 h.2) h.3).0) where
-        go : (x : Spot) (b : Bool) → x.page < heap_pages plan → Within plan (in_hand p (cond b (Ringing x.page) Idle))
-        go x true w = record { hand = w; owned = old.owned; armed = old.armed }
-        go x false w = record { hand = tt; owned = old.owned; armed = old.armed }
-  within_row (Adopt k) m e = let h = meets plan p (Adopt k) m e in
-      quiet m _ h.3 (λ n f. by_cond (n == 0) _ p (record {
-        hand = old.hand;
-        owned = λ j is. let s : k ≡ j = let z : Some k ≡ Some j = is in cc in let small = h.2 in omega arith;
-        armed = λ q some. let z : times q [] ≡ 0 = none q in absurd (omega arith);
-      }) old) where
-        none : (q : ℕ) → times q [] ≡ 0
-        none q = times_none q
-  within_row Leave m e = let h = meets plan p Leave m e in quiet m _ h.7
-      (λ n f. record { hand = old.hand; owned = λ j is. absurd (let z : None ≡ Some j = is in cc); armed = old.armed })
-  within_row (Arm y) m e = let h = meets plan p (Arm y) m e in
-      quiet m _ h.6 (λ n f. record {
-        hand = old.hand;
-        owned = old.owned;
-        armed = λ k some. go (page_of plan y) k
-            (page_within plan y h.0) (page_of plan y == k) refl
-            (let t = times_cons k (page_of plan y) p.armed in let z : 0 < times k (page_of plan y ∷ p.armed) = some
-            in omega arith);
-      }) where
-        go : (q k : ℕ) → q < heap_pages plan → (b : Bool) → (q == k) ≡ b → 0 < if1 (q == k) + times k p.armed
-            → k < heap_pages plan
-        go q k small true e some = let i = same_page q k e in omega arith
-        go q k small false e some = old.armed k (let z : if1 (q == k) ≡ 0 = rw e refl in omega arith)
-  within_row Ring m e = let h = meets plan p Ring m e in quiet m _ h.2
-      (λ n f. record { hand = handed (Ringing h.0) h.1; owned = old.owned; armed = old.armed })
-  within_row RingTie m e = let h = meets plan p RingTie m e in quiet m _ h.3
-      (λ n f. record { hand = tt; owned = old.owned; armed = old.armed })
-  within_row TakeBell m e = let h = meets plan p TakeBell m e in quiet m _ h.4
-      (λ n f. record { hand = old.hand; owned = old.owned; armed = old.armed })
-  within_row FollowBell m e = let h = meets plan p FollowBell m e in
-      quiet m _ h.3 (λ n f. by_cond (n == 0) p _ old (record {
-        hand = old.hand;
-        owned = old.owned;
-        armed = λ k some. let l = times_less h.0 k p.armed
-            in old.armed k (omega arith);
-      }))
+      (cond_either (Within plan) (own plan p x.page) (in_hand (record p { mine = x ∷ p.mine }) Idle)
+      (in_hand p (ToPut x)) (stays (in_hand (record p { mine = x ∷ p.mine }) Idle) tt refl (λ q. omega arith))
+      (stays (in_hand p (ToPut x)) (hand_within plan p (Finishing x g) old is).0 refl (λ q. omega arith)))
+      (stays (in_hand p Idle) tt refl (λ q. omega arith))
+  within_part (FillSlot x v) may n f = record { hand = may.1; owned = old.owned; armed = old.armed }
+  within_part (Fill x v i c) (is, less, noted_is) n f = with_hand (Filling x v (i + 1))
+      (hand_within plan p (Filling x v i) old is)
+  within_part (Publish x v) may n f = with_hand Idle tt
+  within_part (Take q) may n f = record { hand = old.hand; owned = old.owned; armed = go (n % 2 == 1) } where
+    go : (b : Bool) (k : ℕ) → 0 < times k (cond b (without (λ x. x == q) p.armed) p.armed) → k < heap_pages plan
+    go true k some = let l = times_less q k p.armed in old.armed k (omega arith)
+    go false k some = old.armed k some
+  within_part (Follow q s) may n f = cond_either (Within plan) (n == 0) p _ old
+      (record { hand = old.hand; owned = old.owned; armed = old.armed })
+  within_part (Put x) is n f = with_hand (Tying x (link_over (top_of n)) (is_armed n))
+      (hand_within plan p (ToPut x) old is)
+  within_part (PutSlot x) may n f = record { hand = may.1; owned = old.owned; armed = old.armed }
+  within_part (Tie x l r) is n f = go r (hand_within plan p (Tying x l r) old is).0 where
+    go : (b : Bool) → x.page < heap_pages plan → Within plan (in_hand p (cond b (Ringing x.page) Idle))
+    go true w = with_hand (Ringing x.page) w
+    go false w = with_hand Idle tt
+  within_part (Adopt k) (idle, free, small) n f = cond_either (Within plan) (n == 0) _ p (record {
+    hand = old.hand;
+    owned = λ j is. let s : k ≡ j = let z : Some k ≡ Some j = is in cc in omega arith;
+    armed = λ q some. let z : times q [] ≡ 0 = times_none q in absurd (omega arith);
+  }) old
+  within_part (Leave k) may n f = record {
+    hand = old.hand;
+    owned = λ j is. absurd (let z : None ≡ Some j = is in cc);
+    armed = old.armed;
+  }
+  within_part (Arm q) may n f = record {
+    hand = old.hand;
+    owned = old.owned;
+    armed = λ k some. go k (q == k) refl (let t = times_cons k q p.armed in let z : 0 < times k (q ∷ p.armed) = some
+        in omega arith);
+  } where
+    go : (k : ℕ) (b : Bool) → (q == k) ≡ b → 0 < if1 (q == k) + times k p.armed → k < heap_pages plan
+    go k true e some = let i = eqb-true q k e in let inside = may.1 in omega arith
+    go k false e some = old.armed k (let z : if1 (q == k) ≡ 0 = rw e refl in omega arith)
+  within_part (Ring q) is n f = with_hand (RingTying q (link_over n)) (hand_within plan p (Ringing q) old is)
+  within_part (RingTie q l) is n f = with_hand Idle tt
+  within_part (FollowBell q) may n f = cond_either (Within plan) (n == 0) p _ old (record {
+    hand = old.hand;
+    owned = old.owned;
+    armed = λ k some. let l = times_less q k p.armed in old.armed k (omega arith);
+  })
+  within_part m may n f = record { hand = old.hand; owned = old.owned; armed = old.armed }
 
 -- of what is read there
 state_read : (plan : Plan) (w : World) (r : Row) → ((q s : ℕ) → (fields_of (w.words.state_at q s)).generation ≤
@@ -197,27 +139,15 @@ state_read : (plan : Plan) (w : World) (r : Row) → ((q s : ℕ) → (fields_of
 state_read plan w r few q s at = let P : Place → Type 0 = λ x. (fields_of (read w.words x)).generation ≤
     plan.keys.gen_max in subst P (sym at) (few q s)
 
-pub within_step : (plan : Plan) (w : World) (e : Event) → ((q s : ℕ)
-    → (fields_of (w.words.state_at q s)).generation ≤ plan.keys.gen_max) → AllWithin plan w
-    → AllWithin plan (step plan w e)
-unfolding step apply
-within_step plan w e few old = go (slice_get w.parts e.pass) refl where
-  go : (o : Option Body) → slice_get w.parts e.pass ≡ o → AllWithin plan
-      (elim o as (λ _. World) [
-        | Some p ↦ elim (row plan p e.action) [ Some m ↦ apply w e.pass m | None ↦ w ]
-        | None
-            ↦ w
-      ])
-  go None at = old
-  go (Some p) at = by (row plan p e.action) refl where
-    by : (o : Option Row) → row plan p e.action ≡ o → AllWithin plan
-        (elim o as (λ _. World) [ Some m ↦ apply w e.pass m | None ↦ w ])
-    by None h = old
-    by (Some m) h = λ b u i.
-        let n : ℕ = read w.words m.place in
-        ⊎_elim (λ d. let P : Body → Type 0 = λ v. Within plan v in subst P d.1
-        (within_row plan p (old e.pass p at) e.action m h n (state_read plan w m few))) (λ d. old b u d.1)
-        (get_set w.parts e.pass b (m.part n) u i)
+pub within_move : (plan : Plan) (w : World) (a : ℕ) (p : Body) (m : Move) → ((q s : ℕ)
+    → (fields_of (w.words.state_at q s)).generation ≤ plan.keys.gen_max) → slice_get w.parts a ≡ Some p → May plan p m
+    → AllWithin plan w → AllWithin plan (apply w a (row_of plan p m))
+unfolding apply
+within_move plan w a p m few at may old b u i =
+    let r : Row = row_of plan p m in
+    let n : ℕ = read w.words r.place in
+    ⊎_elim (λ d. subst (Within plan) d.1 (within_part plan p (old a p at) m may n (state_read plan w r few)))
+    (λ d. old b u d.1) (get_set w.parts a b (r.part n) u i)
 
 pub within_open : (plan : Plan) → AllWithin plan (open_world plan)
 within_open plan a p at =

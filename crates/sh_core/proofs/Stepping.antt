@@ -6,7 +6,7 @@ use Rattle.sh_history.specs.History.{Legal}
 use Rattle.std.specs.Prelude.{replicate}
 use Rattle.sh_key.specs.Layout.{Layout, IsLayout}
 use Rattle.sh_shape.specs.Shape.{Numbers, IsShape, Fits}
-use Rattle.sh_shape.specs.Places.{IsPlace, number, words_of, all_pages}
+use Rattle.sh_shape.specs.Places.{IsPlace, number}
 use Rattle.sh_step.specs.declared.action.Event.{Event}
 use Rattle.sh_step.specs.declared.body.Body.{Body}
 use Rattle.sh_step.specs.Operations.{operate}
@@ -14,13 +14,11 @@ use Rattle.sh_step.specs.Plans.{Plan, plan_of}
 use Rattle.sh_step.specs.Rows.{Row, row}
 use Rattle.sh_core.specs.declared.outcome.Outcome.{Outcome}
 use Rattle.sh_core.specs.declared.outcome.Outcome.TheVariants.{Skipped}
-use Rattle.sh_core.specs.Words.{opening, read}
+use Rattle.sh_core.specs.Words.{read}
 use Rattle.sh_core.specs.Worlds.{World, step, apply, run, run_from, open_world, joined, entry_of, value_at_place}
 use Rattle.sh_step.specs.Parts.{newcomer}
 use Rattle.sh_core.specs.Outcomes.{row_of_event, outcome_of, done}
 use Rattle.sh_core.specs.Kept.{KeptWorld, StandsFor, FromEvents, OpensWith}
-use Rattle.sh_core.specs.Opening.{opening_words}
-use Rattle.sh_core.proofs.OpeningWords.{opening_holds}
 use Rattle.sh_core.proofs.KeptWords.{hold_write}
 use Rattle.sh_core.proofs.RunTheorem.{legal_of}
 use Rattle.sh_core.proofs.Steps.{step_moves, step_skips, step_past, run_snoc}

@@ -1,7 +1,6 @@
 -- A step, once its part and its move are known.
-use Rattle.std.proofs.Common.{◌≡◌, ◌≢◌, ℕ, ◌==◌, true, false, cond, List, [], ◌∷◌, ◌++◌, refl, ap, ◌∙◌, arith, Option}
-use Rattle.std.proofs.Common.{Some, None, slice_get}
-use Rattle.std.proofs.lemmas.Bool.Decides.{nat_tests}
+use Rattle.std.proofs.Common.{◌≡◌, ◌≢◌, ℕ, ◌==◌, cond, List, [], ◌∷◌, ◌++◌, refl, ap, ◌∙◌, Option, Some, None}
+use Rattle.std.proofs.Common.{slice_get, eq-eqb, ne_eqb}
 use Rattle.sh_step.specs.declared.action.Event.{Event}
 use Rattle.sh_step.specs.Plans.{Plan}
 use Rattle.sh_step.specs.declared.body.Body.{Body}
@@ -84,15 +83,14 @@ trail_grows plan es a x p r at is =
     let e : Event = record { pass = a; action = x } in
     let old : List Footstep = trail_of plan es a in
     let new : List Footstep = old ++ footstep_of x r (read w.words r.place) ∷ [] in
-    let self : (a == a) ≡ true = grind (arith, nat_tests) in
-    one_more plan es e a ∙ (ap (adds w e a old) (row_of_at plan w e p at ∙ is) ∙ ap (λ b. cond b new old) self)
+    one_more plan es e a ∙ (ap (adds w e a old) (row_of_at plan w e p at ∙ is)
+    ∙ ap (λ b. cond b new old) (eq-eqb a a refl))
 
 others_stay : (w : World) (e : Event) (a : ℕ) (steps : List Footstep) (o : Option Row) → e.pass ≢ a → adds w e a steps o
     ≡ steps
 unfolding adds
 others_stay w e a steps (Some m) other =
-    let apart : (e.pass == a) ≡ false = grind (arith, nat_tests) in
-    ap (λ b. cond b (steps ++ footstep_of e.action m (read w.words m.place) ∷ []) steps) apart
+    ap (λ b. cond b (steps ++ footstep_of e.action m (read w.words m.place) ∷ []) steps) (ne_eqb e.pass a other)
 others_stay w e a steps None other = refl
 
 pub others_trails_stay : OthersTrailsStay

@@ -1,6 +1,6 @@
 -- Sums over the passes after a change of one of them.
 use Rattle.std.proofs.Common.{◌≡◌, ◌≢◌, ℕ, zero, suc, ◌+◌, ◌<◌, ◌≤◌, Bool, true, false, cond, List, [], ◌∷◌, ◌++◌, ◌||◌}
-use Rattle.std.proofs.Common.{◌⊎◌, set, refl, ap, arith, Some, None, slice_get, inl, inr, ⊎_elim}
+use Rattle.std.proofs.Common.{◌⊎◌, set, refl, ap, arith, Some, None, slice_get, inl, inr, ⊎_elim, length, ◌*◌}
 use Rattle.sh_step.specs.Collections.{total, without, has}
 
 pub total_set : {A : Type 0} (f : A → ℕ) (xs : List A) (i : ℕ) (v w : A) → slice_get xs i ≡ Some v
@@ -83,3 +83,38 @@ some_part {A = A} f (x ∷ xs) h = go (f x) refl (λ k. some_part f xs k) where
       × (y : A) × (slice_get (x ∷ xs) i ≡ Some y) × (0 < f y)
   go (suc n) e rest = (0, x, refl, omega arith)
   go zero e rest = let r = rest (omega arith) in (suc r.0, r.1, r.2, r.3)
+
+-- few enough passes and holds that a count has room
+pub total_few : {A : Type 0} (f : A → ℕ) (m : ℕ) (xs : List A) → ((a : ℕ) (x : A) → slice_get xs a ≡ Some x → f x ≤ m)
+    → total f xs ≤ length xs * m
+unfolding total
+total_few f m [] h = omega arith
+total_few f m (x ∷ xs) h = let one = h 0 x refl in let rest = total_few f m xs (λ a y e. h (suc a) y e) in omega arith
+
+pub total_length : {A : Type 0} (f : A → ℕ) → ((x : A) → f x ≤ 1) → (xs : List A) → total f xs ≤ length xs
+unfolding total
+total_length f h [] = omega arith
+total_length f h (x ∷ xs) = let one = h x in let rest = total_length f h xs in omega arith
+
+-- where only those who own have something and there is one owner, what all have is what it has
+pub zero_all : {A : Type 0} (f g : A → ℕ) → (xs : List A) → ((j : ℕ) (x : A) → slice_get xs j ≡ Some x → g x ≡ 0 → f x
+    ≡ 0) → total g xs ≡ 0 → total f xs ≡ 0
+unfolding total
+zero_all f g [] h e = refl
+zero_all f g (x ∷ xs) h e = let a = h 0 x refl (omega arith) in let b = zero_all f g xs (λ j y at. h (suc j) y at)
+    (omega arith) in omega arith
+
+pub total_alone : {A : Type 0} (f g : A → ℕ) (xs : List A) (i : ℕ) (v : A)
+    → ((j : ℕ) (x : A) → slice_get xs j ≡ Some x → g x ≡ 0 → f x ≡ 0) → slice_get xs i ≡ Some v → total g xs ≤ 1
+    → 0 < g v → total f xs ≡ f v
+unfolding total
+total_alone f g [] i v h e one some = absurd (let z : None ≡ Some v = e in cc)
+total_alone f g (x ∷ xs) zero v h e one some =
+    let s : x ≡ v = cc in
+    let t : g x ≡ g v = ap g s in
+    let u : f x ≡ f v = ap f s in
+    let r = zero_all f g xs (λ j y at. h (suc j) y at) (omega arith) in omega arith
+total_alone f g (x ∷ xs) (suc i) v h e one some =
+    let at = total_at g xs i v e in
+    let r = total_alone f g xs i v (λ j y at. h (suc j) y at) e (omega arith) some in
+    let z = h 0 x refl (omega arith) in omega arith

@@ -29,17 +29,11 @@ small n = plan_of tiny (record { shards = 1; segments = 1; passes = n })
 abbrev pub ev : ℕ → Action → Event
 ev a x = record { pass = a; action = x }
 
-abbrev pub at : ℕ → ℕ → ℕ → SlotName
-at n p s = record { shard = n; page = p; slot = s }
+abbrev pub slot : ℕ → ℕ → ℕ → SlotName
+slot n p s = record { shard = n; page = p; slot = s }
 
 abbrev pub page : ℕ → ℕ → PageName
 page n p = record { shard = n; page = p }
-
-abbrev moved : Outcome
-moved = Moved
-
-abbrev skipped : Outcome
-skipped = Skipped
 
 -- the accounts of the first page, with class c
 abbrev acc : ℕ → ℕ → ℕ → ℕ → ℕ → ℕ → ℕ → Accounts
@@ -60,40 +54,44 @@ unfolding fields_of word_of put put2 total without has noted off every home spot
     keys_of page_number local over_heap accounts listed list_step lists_from row_of_event outcome_of outcomes_from
 everything = 0
 
--- a page of three slots, with the value 5 in the first
-abbrev opened : List Event
-opened = ev 0 (Adopt 0) ∷ ev 0 (ReadPage (page 0 0)) ∷ ev 0 (SetClass (page 0 0) 7) ∷ ev 0
-    (FillSlot (at 0 0 0) (5 ∷ [])) ∷ ev 0 Fill ∷ ev 0 Publish ∷ []
+-- a page of three slots
+abbrev pub three_slots : List Event
+three_slots = ev 0 (Adopt 0) ∷ ev 0 (ReadPage (page 0 0)) ∷ ev 0 (SetClass (page 0 0) 7) ∷ []
+
+-- with the value 5 in the first
+abbrev one_value : List Event
+one_value = three_slots ++ ev 0 (FillSlot (slot 0 0 0) (5 ∷ [])) ∷ ev 0 Fill ∷ ev 0 Publish ∷ []
 
 -- each step is done, and the last one inserts
-opened_ends : ends 2 opened ≡ (
-  moved ∷ moved ∷ moved ∷ moved ∷ moved ∷ Replied (Insert 0 4096 (5 ∷ [])) ∷ [],
+one_value_ends : ends 2 one_value ≡ (
+  Moved ∷ Moved ∷ Moved ∷ Moved ∷ Moved ∷ Replied (Insert 0 4096 (5 ∷ [])) ∷ [],
   acc 7 1 0
       0 2 0 0,
 )
 unfolding everything
-opened_ends = refl
+one_value_ends = refl
 
 -- its words
-opened_words : (words 2 opened).class_at 0 ∷ (words 2 opened).state_at 0 0 ∷ (words 2 opened).length_at 0 0 ∷
-    (words 2 opened).payload_at 0 0 ∷ (words 2 opened).owner_at 0 ∷ [] ≡ 8 ∷ 5368709120 ∷ 1 ∷ 5 ∷ 1 ∷ []
+one_value_words : (words 2 one_value).class_at 0 ∷ (words 2 one_value).state_at 0 0 ∷
+    (words 2 one_value).length_at 0 0 ∷ (words 2 one_value).payload_at 0 0 ∷ (words 2 one_value).owner_at 0 ∷ []
+    ≡ 8 ∷ 5368709120 ∷ 1 ∷ 5 ∷ 1 ∷ []
 unfolding everything
-opened_words = refl
+one_value_words = refl
 
 -- of two passes that remove one key the first mark decides
-two_removers : ends 2 (opened ++ ev 0 (EnterRemove 4096) ∷ ev 1 (EnterRemove 4096) ∷ ev 1 Mark ∷ ev 0 Mark ∷ [])
-    ≡ (
-      moved ∷ moved ∷ moved ∷ moved ∷ moved ∷ Replied (Insert 0 4096 (5 ∷ [])) ∷ moved ∷ moved ∷ Replied
-          (Removed 1 4096) ∷ Replied (Gone 0 4096) ∷ [],
-      acc 7 0 1 0 2 0 0,
-    )
+two_removers : ends 2 (one_value ++ ev 0 (EnterRemove 4096) ∷ ev 1 (EnterRemove 4096) ∷ ev 1 Mark ∷ ev 0 Mark ∷ []) ≡ (
+  Moved ∷ Moved ∷ Moved ∷ Moved ∷ Moved ∷ Replied (Insert 0 4096 (5 ∷ [])) ∷ Moved ∷ Moved ∷
+      Replied (Removed 1 4096) ∷ Replied (Gone 0 4096) ∷ [],
+  acc 7 0 1 0 2 0 0,
+)
 unfolding everything
 two_removers = refl
 
 -- a slot that is used again while a pass leaves it
 abbrev again : List Event
-again = opened ++ ev 0 (EnterRemove 4096) ∷ ev 0 Mark ∷ ev 0 Drop ∷ ev 0 Finish ∷ ev 0 (FillSlot (at 0 0 0) (6 ∷ [])) ∷
-    ev 0 Fill ∷ ev 0 Publish ∷ ev 1 (EnterGet 4096) ∷ ev 0 (EnterRemove 8192) ∷ ev 0 Mark ∷ ev 0 Drop ∷ []
+again = one_value ++ ev 0 (EnterRemove 4096) ∷ ev 0 Mark ∷ ev 0 Drop ∷ ev 0 Finish ∷
+    ev 0 (FillSlot (slot 0 0 0) (6 ∷ [])) ∷ ev 0 Fill ∷ ev 0 Publish ∷ ev 1 (EnterGet 4096) ∷
+    ev 0 (EnterRemove 8192) ∷ ev 0 Mark ∷ ev 0 Drop ∷ []
 
 -- marked, with one pass on it
 again_word : (words 2 again).state_at 0 0 ≡ 11811160065
@@ -106,9 +104,9 @@ ended = again ++ ev 1 Drop ∷ ev 1 Finish ∷ ev 1 Put ∷ ev 1 Tie ∷ []
 
 -- an old key stays gone, and the last to leave ends the removal
 again_ends : ends 2 ended ≡ (
-  moved ∷ moved ∷ moved ∷ moved ∷ moved ∷ Replied (Insert 0 4096 (5 ∷ [])) ∷ moved ∷ Replied
-      (Removed 0 4096) ∷ moved ∷ moved ∷ moved ∷ moved ∷ Replied (Insert 0 8192 (6 ∷ [])) ∷ Replied (Gone 1 4096) ∷ moved
-      ∷ Replied (Removed 0 8192) ∷ moved ∷ moved ∷ moved ∷ moved ∷ moved ∷ [],
+  Moved ∷ Moved ∷ Moved ∷ Moved ∷ Moved ∷ Replied (Insert 0 4096 (5 ∷ [])) ∷ Moved ∷ Replied (Removed 0 4096) ∷ Moved ∷
+      Moved ∷ Moved ∷ Moved ∷ Replied (Insert 0 8192 (6 ∷ [])) ∷ Replied (Gone 1 4096) ∷ Moved ∷
+      Replied (Removed 0 8192) ∷ Moved ∷ Moved ∷ Moved ∷ Moved ∷ Moved ∷ [],
   acc 7 0 0 0 2 0 1,
 )
 unfolding everything
@@ -121,11 +119,11 @@ unfolding everything
 again_words = refl
 
 -- an exchange that finds another pass on the slot changes nothing; that pass ends the removal
-late_finish : ends 2 (opened ++ ev 0 (EnterRemove 4096) ∷ ev 0 Mark ∷ ev 0 Drop ∷ ev 1 (EnterGet 4096) ∷ ev 0 Finish ∷
-    ev 1 Drop ∷ ev 1 Finish ∷ [])
+late_finish : ends 2 (one_value ++ ev 0 (EnterRemove 4096) ∷ ev 0 Mark ∷ ev 0 Drop ∷ ev 1 (EnterGet 4096) ∷
+    ev 0 Finish ∷ ev 1 Drop ∷ ev 1 Finish ∷ [])
     ≡ (
-      moved ∷ moved ∷ moved ∷ moved ∷ moved ∷ Replied (Insert 0 4096 (5 ∷ [])) ∷ moved ∷ Replied (Removed 0 4096) ∷
-          moved ∷ Replied (Gone 1 4096) ∷ moved ∷ moved ∷ moved ∷ [],
+      Moved ∷ Moved ∷ Moved ∷ Moved ∷ Moved ∷ Replied (Insert 0 4096 (5 ∷ [])) ∷ Moved ∷ Replied (Removed 0 4096) ∷
+          Moved ∷ Replied (Gone 1 4096) ∷ Moved ∷ Moved ∷ Moved ∷ [],
       acc 7 0 0 0 2 1 0,
     )
 unfolding everything
@@ -133,16 +131,16 @@ late_finish = refl
 
 -- two freed slots, of which the lower one is not tied yet
 abbrev untied : List Event
-untied = ev 0 (Adopt 0) ∷ ev 0 (ReadPage (page 0 0)) ∷ ev 0 (SetClass (page 0 0) 7) ∷ ev 0 (FillSlot (at 0 0 0) ([])) ∷
-    ev 0 Publish ∷ ev 0 (FillSlot (at 0 0 1) ([])) ∷ ev 0 Publish ∷ ev 1 (EnterRemove 4096) ∷ ev 1 Mark ∷ ev 1 Drop ∷ ev
-    1 Finish ∷ ev 1 Put ∷ ev 2 (EnterRemove 4097) ∷ ev 2 Mark ∷ ev 2 Drop ∷ ev 2 Finish ∷ ev 2 Put ∷ ev 2 Tie ∷ ev 0
-    (Take (page 0 0)) ∷ ev 0 (Follow (page 0 0)) ∷ ev 0 (Follow (page 0 0)) ∷ []
+untied = three_slots ++ ev 0 (FillSlot (slot 0 0 0) ([])) ∷ ev 0 Publish ∷ ev 0 (FillSlot (slot 0 0 1) ([])) ∷
+    ev 0 Publish ∷ ev 1 (EnterRemove 4096) ∷ ev 1 Mark ∷ ev 1 Drop ∷ ev 1 Finish ∷ ev 1 Put ∷ ev 2 (EnterRemove 4097) ∷
+    ev 2 Mark ∷ ev 2 Drop ∷ ev 2 Finish ∷ ev 2 Put ∷ ev 2 Tie ∷ ev 0 (Take (page 0 0)) ∷ ev 0 (Follow (page 0 0)) ∷
+    ev 0 (Follow (page 0 0)) ∷ []
 
 -- following stops at a link that is not written
 untied_ends : ends 3 untied ≡ (
-  moved ∷ moved ∷ moved ∷ moved ∷ Replied (Insert 0 4096 []) ∷ moved ∷ Replied
-      (Insert 0 4097 []) ∷ moved ∷ Replied (Removed 1 4096) ∷ moved ∷ moved ∷ moved ∷ moved ∷ Replied (Removed 2 4097) ∷
-      moved ∷ moved ∷ moved ∷ moved ∷ moved ∷ moved ∷ moved ∷ [],
+  Moved ∷ Moved ∷ Moved ∷ Moved ∷ Replied (Insert 0 4096 []) ∷ Moved ∷ Replied (Insert 0 4097 []) ∷ Moved ∷
+      Replied (Removed 1 4096) ∷ Moved ∷ Moved ∷ Moved ∷ Moved ∷ Replied (Removed 2 4097) ∷ Moved ∷ Moved ∷ Moved ∷
+      Moved ∷ Moved ∷ Moved ∷ Moved ∷ [],
   acc 7 0 0 0 2 0 1,
 )
 unfolding everything
@@ -157,24 +155,24 @@ untied_words = refl
 -- and goes on once it is tied
 tied_later : ends 3 (untied ++ ev 1 Tie ∷ ev 0 (Follow (page 0 0)) ∷ [])
     ≡ (
-      moved ∷ moved ∷ moved ∷ moved ∷ Replied (Insert 0 4096 []) ∷ moved ∷ Replied (Insert 0 4097 []) ∷ moved ∷ Replied
-          (Removed 1 4096) ∷ moved ∷ moved ∷ moved ∷ moved ∷ Replied (Removed 2 4097) ∷ moved ∷ moved ∷ moved ∷ moved ∷
-          moved ∷ moved ∷ moved ∷ moved ∷ moved ∷ [],
+      Moved ∷ Moved ∷ Moved ∷ Moved ∷ Replied (Insert 0 4096 []) ∷ Moved ∷ Replied (Insert 0 4097 []) ∷ Moved ∷
+          Replied (Removed 1 4096) ∷ Moved ∷ Moved ∷ Moved ∷ Moved ∷ Replied (Removed 2 4097) ∷ Moved ∷ Moved ∷ Moved ∷
+          Moved ∷ Moved ∷ Moved ∷ Moved ∷ Moved ∷ Moved ∷ [],
       acc 7 0 0 0 3 0 0,
     )
 unfolding everything
 tied_later = refl
 
 -- an owner leaves only what it has put back, and the next one finds it
-left_and_adopted : ends 3 (untied ++ ev 0 Leave ∷ ev 1 Tie ∷ ev 0 (Follow (page 0 0)) ∷ ev 0 (PutSlot (at 0 0 0)) ∷ ev 0
-    Tie ∷ ev 0 (PutSlot (at 0 0 1)) ∷ ev 0 Tie ∷ ev 0 (PutSlot (at 0 0 2)) ∷ ev 0 Tie ∷ ev 0 Leave ∷ ev 1 (Adopt 0) ∷ ev
-    1 (ReadPage (page 0 0)) ∷ ev 1 (Take (page 0 0)) ∷ ev 1 (Follow (page 0 0)) ∷ ev 1 (Follow (page 0 0)) ∷ ev 1
-    (FillSlot (at 0 0 1) (9 ∷ [])) ∷ ev 1 Fill ∷ ev 1 Publish ∷ [])
+left_and_adopted : ends 3 (untied ++ ev 0 Leave ∷ ev 1 Tie ∷ ev 0 (Follow (page 0 0)) ∷ ev 0 (PutSlot (slot 0 0 0)) ∷
+    ev 0 Tie ∷ ev 0 (PutSlot (slot 0 0 1)) ∷ ev 0 Tie ∷ ev 0 (PutSlot (slot 0 0 2)) ∷ ev 0 Tie ∷ ev 0 Leave ∷
+    ev 1 (Adopt 0) ∷ ev 1 (ReadPage (page 0 0)) ∷ ev 1 (Take (page 0 0)) ∷ ev 1 (Follow (page 0 0)) ∷
+    ev 1 (Follow (page 0 0)) ∷ ev 1 (FillSlot (slot 0 0 1) (9 ∷ [])) ∷ ev 1 Fill ∷ ev 1 Publish ∷ [])
     ≡ (
-      moved ∷ moved ∷ moved ∷ moved ∷ Replied (Insert 0 4096 []) ∷ moved ∷ Replied (Insert 0 4097 []) ∷ moved ∷ Replied
-          (Removed 1 4096) ∷ moved ∷ moved ∷ moved ∷ moved ∷ Replied (Removed 2 4097) ∷ moved ∷ moved ∷ moved ∷ moved ∷
-          moved ∷ moved ∷ moved ∷ skipped ∷ moved ∷ moved ∷ moved ∷ moved ∷ moved ∷ moved ∷ moved ∷ moved ∷ moved ∷ moved
-          ∷ moved ∷ moved ∷ moved ∷ moved ∷ moved ∷ moved ∷ Replied (Insert 1 8193 (9 ∷ [])) ∷ [],
+      Moved ∷ Moved ∷ Moved ∷ Moved ∷ Replied (Insert 0 4096 []) ∷ Moved ∷ Replied (Insert 0 4097 []) ∷ Moved ∷
+          Replied (Removed 1 4096) ∷ Moved ∷ Moved ∷ Moved ∷ Moved ∷ Replied (Removed 2 4097) ∷ Moved ∷ Moved ∷ Moved ∷
+          Moved ∷ Moved ∷ Moved ∷ Moved ∷ Skipped ∷ Moved ∷ Moved ∷ Moved ∷ Moved ∷ Moved ∷ Moved ∷ Moved ∷ Moved ∷
+          Moved ∷ Moved ∷ Moved ∷ Moved ∷ Moved ∷ Moved ∷ Moved ∷ Moved ∷ Replied (Insert 1 8193 (9 ∷ [])) ∷ [],
       acc 7 1 0 0 1 0 1,
     )
 unfolding everything
@@ -182,15 +180,14 @@ left_and_adopted = refl
 
 -- the first free into an armed page rings
 abbrev rung : List Event
-rung = opened ++ ev 0 (Arm (page 0 0)) ∷ ev 1 (EnterRemove 4096) ∷ ev 1 Mark ∷ ev 1 Drop ∷ ev 1 Finish ∷ ev 1 Put ∷ ev 1
-    Tie ∷ ev 1 Ring ∷ ev 0 TakeBell ∷ ev 0 FollowBell ∷ ev 0 (Arm (page 0 0)) ∷ ev 1 RingTie ∷ ev 0 FollowBell ∷ ev 0
-    (Arm (page 0 0)) ∷ []
+rung = one_value ++ ev 0 (Arm (page 0 0)) ∷ ev 1 (EnterRemove 4096) ∷ ev 1 Mark ∷ ev 1 Drop ∷ ev 1 Finish ∷ ev 1 Put ∷
+    ev 1 Tie ∷ ev 1 Ring ∷ ev 0 TakeBell ∷ ev 0 FollowBell ∷ ev 0 (Arm (page 0 0)) ∷ ev 1 RingTie ∷ ev 0 FollowBell ∷
+    ev 0 (Arm (page 0 0)) ∷ []
 
 -- the page stays armed until its ring is read
 rung_ends : ends 2 rung ≡ (
-  moved ∷ moved ∷ moved ∷ moved ∷ moved ∷ Replied (Insert 0 4096 (5 ∷ [])) ∷ moved ∷ moved ∷
-      Replied (Removed 1 4096) ∷ moved ∷ moved ∷ moved ∷ moved ∷ moved ∷ moved ∷ moved ∷ skipped ∷ moved ∷ moved ∷ moved ∷
-      [],
+  Moved ∷ Moved ∷ Moved ∷ Moved ∷ Moved ∷ Replied (Insert 0 4096 (5 ∷ [])) ∷ Moved ∷ Moved ∷ Replied (Removed 1 4096) ∷
+      Moved ∷ Moved ∷ Moved ∷ Moved ∷ Moved ∷ Moved ∷ Moved ∷ Skipped ∷ Moved ∷ Moved ∷ Moved ∷ [],
   acc 7 0 0 0 2 0 1,
 )
 unfolding everything
@@ -203,13 +200,13 @@ unfolding everything
 rung_words = refl
 
 -- a stack that is taken without its flag leaves the page armed
-taken_before_tied : ends 2 (opened ++ ev 0 (Arm (page 0 0)) ∷ ev 1 (EnterRemove 4096) ∷ ev 1 Mark ∷ ev 1 Drop ∷ ev 1
-    Finish ∷ ev 1 Put ∷ ev 0 (Take (page 0 0)) ∷ ev 1 Tie ∷ ev 1 Ring ∷ ev 0 TakeBell ∷ ev 0 FollowBell ∷ ev 0
-    (Arm (page 0 0)) ∷ ev 1 RingTie ∷ ev 0 FollowBell ∷ ev 0 (Arm (page 0 0)) ∷ [])
+taken_before_tied : ends 2 (one_value ++ ev 0 (Arm (page 0 0)) ∷ ev 1 (EnterRemove 4096) ∷ ev 1 Mark ∷ ev 1 Drop ∷
+    ev 1 Finish ∷ ev 1 Put ∷ ev 0 (Take (page 0 0)) ∷ ev 1 Tie ∷ ev 1 Ring ∷ ev 0 TakeBell ∷ ev 0 FollowBell ∷
+    ev 0 (Arm (page 0 0)) ∷ ev 1 RingTie ∷ ev 0 FollowBell ∷ ev 0 (Arm (page 0 0)) ∷ [])
     ≡ (
-      moved ∷ moved ∷ moved ∷ moved ∷ moved ∷ Replied (Insert 0 4096 (5 ∷ [])) ∷ moved ∷ moved ∷ Replied
-          (Removed 1 4096) ∷ moved ∷ moved ∷ moved ∷ moved ∷ moved ∷ moved ∷ moved ∷ moved ∷ skipped ∷ moved ∷ moved ∷
-          skipped ∷ [],
+      Moved ∷ Moved ∷ Moved ∷ Moved ∷ Moved ∷ Replied (Insert 0 4096 (5 ∷ [])) ∷ Moved ∷ Moved ∷
+          Replied (Removed 1 4096) ∷ Moved ∷ Moved ∷ Moved ∷ Moved ∷ Moved ∷ Moved ∷ Moved ∷ Moved ∷ Skipped ∷ Moved ∷
+          Moved ∷ Skipped ∷ [],
       acc 7 0 0 0 2 0 1,
     )
 unfolding everything
@@ -217,26 +214,25 @@ taken_before_tied = refl
 
 -- only the owner reads a page for itself
 only_owners : ends 2 (ev 0 (Adopt 0) ∷ ev 1 (Adopt 0) ∷ ev 1 (ReadPage (page 0 0)) ∷ ev 0 (ReadPage (page 0 0)) ∷ [])
-    ≡ (moved ∷ moved ∷ skipped ∷ moved ∷ [], blank)
+    ≡ (Moved ∷ Moved ∷ Skipped ∷ Moved ∷ [], blank)
 unfolding everything
 only_owners = refl
 
 -- a page with a value keeps its class
-class_is_kept : ends 2 (opened ++ ev 0 (SetClass (page 0 0) 7) ∷ ev 0 (SetClass (page 0 0) 0) ∷ [])
-    ≡ (
-      moved ∷ moved ∷ moved ∷ moved ∷ moved ∷ Replied (Insert 0 4096 (5 ∷ [])) ∷ skipped ∷ skipped ∷ [],
-      acc 7 1 0 0 2
-          0 0,
-    )
+class_is_kept : ends 2 (one_value ++ ev 0 (SetClass (page 0 0) 7) ∷ ev 0 (SetClass (page 0 0) 0) ∷ []) ≡ (
+  Moved ∷ Moved ∷ Moved ∷ Moved ∷ Moved ∷ Replied (Insert 0 4096 (5 ∷ [])) ∷ Skipped ∷ Skipped ∷ [],
+  acc 7 1 0 0 2
+      0 0,
+)
 unfolding everything
 class_is_kept = refl
 
 -- a page that is wholly its owner's gets another class
-class_changes : ends 2 (opened ++ ev 0 (EnterRemove 4096) ∷ ev 0 Mark ∷ ev 0 Drop ∷ ev 0 Finish ∷ ev 0
-    (SetClass (page 0 0) 0) ∷ [])
+class_changes : ends 2 (one_value ++ ev 0 (EnterRemove 4096) ∷ ev 0 Mark ∷ ev 0 Drop ∷ ev 0 Finish ∷
+    ev 0 (SetClass (page 0 0) 0) ∷ [])
     ≡ (
-      moved ∷ moved ∷ moved ∷ moved ∷ moved ∷ Replied (Insert 0 4096 (5 ∷ [])) ∷ moved ∷ Replied (Removed 0 4096) ∷
-          moved ∷ moved ∷ moved ∷ [],
+      Moved ∷ Moved ∷ Moved ∷ Moved ∷ Moved ∷ Replied (Insert 0 4096 (5 ∷ [])) ∷ Moved ∷ Replied (Removed 0 4096) ∷
+          Moved ∷ Moved ∷ Moved ∷ [],
       acc 0 0 0 0 48 0 0,
     )
 unfolding everything
@@ -245,7 +241,7 @@ class_changes = refl
 -- an adopter reads a page before it gives it a class, and leaves with nothing of its own
 adopter_knows_nothing : ends 2 (ev 0 (Adopt 0) ∷ ev 0 Leave ∷ ev 0 Leave ∷ ev 1 (Adopt 0) ∷ ev 1 (ReadPage (page 0 0)) ∷
     ev 1 (SetClass (page 0 0) 7) ∷ ev 1 Leave ∷ []) ≡ (
-      moved ∷ moved ∷ skipped ∷ moved ∷ moved ∷ moved ∷ skipped ∷ [],
+      Moved ∷ Moved ∷ Skipped ∷ Moved ∷ Moved ∷ Moved ∷ Skipped ∷ [],
       acc 7 0 0 0 3 0 0,
     )
 unfolding everything
@@ -253,7 +249,7 @@ adopter_knows_nothing = refl
 
 -- the accounts of the page where a remover stops
 abbrev stopped : List Event → Accounts
-stopped es = (ends 2 (opened ++ es)).1
+stopped es = (ends 2 (one_value ++ es)).1
 
 stopped_before_entering : stopped ([]) ≡ acc 7 1 0 0 2 0 0
 unfolding everything

@@ -30,7 +30,7 @@ use Rattle.sh_core.specs.WrongRows.{ends_at_unwritten, leaves_link, follows_twic
 use Rattle.sh_core.specs.WrongRows.{leaves_bell, forgets_last_slot, gives_any_class, ignores_room, never_answers_gone}
 use Rattle.sh_core.specs.WrongRows.{remembers_generation, finish_again, tries_again, keeps_flag}
 use Rattle.sh_step.proofs.Truths.{no_bool}
-use Rattle.sh_core.proofs.Worked.{small, ev, at, page, everything}
+use Rattle.sh_core.proofs.Worked.{small, ev, slot, page, three_slots, everything}
 
 -- ---- over the right table it is the run
 
@@ -66,13 +66,10 @@ refuted rows P n some few es fails always = fails (always tiny (record { shards 
       few_passes = few;
     }) (record { shards_fit = omega arith; pages_fit = omega arith }) es)
 
--- a page of three slots; a value in one of its slots; a key that pass a removes, up to the end of its generation, and
--- up to its slot's place on the stack
-abbrev opened : List Event
-opened = ev 0 (Adopt 0) ∷ ev 0 (ReadPage (page 0 0)) ∷ ev 0 (SetClass (page 0 0) 7) ∷ []
-
+-- on a page of three slots: a value in one of them; a key that pass a removes, up to the end of its generation, and up
+-- to its slot's place on the stack
 abbrev inserted : ℕ → List Event
-inserted s = ev 0 (FillSlot (at 0 0 s) []) ∷ ev 0 Publish ∷ []
+inserted s = ev 0 (FillSlot (slot 0 0 s) []) ∷ ev 0 Publish ∷ []
 
 abbrev removed : ℕ → ℕ → List Event
 removed a k = ev a (EnterRemove k) ∷ ev a Mark ∷ ev a Drop ∷ ev a Finish ∷ []
@@ -89,7 +86,7 @@ wrongly = 0
 
 -- a key is issued twice where the end of a generation leaves it
 abbrev reissuing : List Event
-reissuing = opened ++ inserted 0 ++ removed 0 4096 ++ inserted 0
+reissuing = three_slots ++ inserted 0 ++ removed 0 4096 ++ inserted 0
 
 reissued : (run_by keeps_generation (small 1) reissuing).log ≡ Insert 0 4096 [] ∷ Removed 0 4096 ∷ Insert 0 4096 [] ∷ []
 unfolding wrongly
@@ -103,7 +100,7 @@ kept_generation_issues_twice = refuted keeps_generation IsLegal 1 (omega arith) 
 
 -- and where the last generation is followed by the first
 abbrev wrapping : List Event
-wrapping = opened ++ inserted 0 ++ removed 0 4096 ++ inserted 0 ++ removed 0 8192 ++ inserted 0 ++ removed 0 12288
+wrapping = three_slots ++ inserted 0 ++ removed 0 4096 ++ inserted 0 ++ removed 0 8192 ++ inserted 0 ++ removed 0 12288
     ++ inserted 0
 
 wrapped : (run_by wraps_generation (small 1) wrapping).log ≡ Insert 0 4096 [] ∷ Removed 0 4096 ∷ Insert 0 8192 [] ∷
@@ -129,16 +126,15 @@ present plan w a p k n h at some name =
 
 -- a held value goes where a late end overwrites whatever stands there
 abbrev overwriting : List Event
-overwriting = opened ++ inserted 0 ++ ev 1 (EnterRemove 4096) ∷ ev 1 Mark ∷ ev 1 Drop ∷ ev 0 (EnterGet 4096) ∷ ev 0 Drop
-    ∷ ev 0 Finish ∷ inserted 0 ++ ev 0 (EnterGet 8192) ∷ ev 1 Finish ∷ []
+overwriting = three_slots ++ inserted 0 ++ ev 1 (EnterRemove 4096) ∷ ev 1 Mark ∷ ev 1 Drop ∷ ev 0 (EnterGet 4096) ∷
+    ev 0 Drop ∷ ev 0 Finish ∷ inserted 0 ++ ev 0 (EnterGet 8192) ∷ ev 1 Finish ∷ []
 
 abbrev holder : Body
 holder = record newcomer {
   holds = 8192 ∷ [];
   owned = Some 0;
   classes = (0, 8) ∷ (0, 0) ∷ [];
-  mine = spot 0 1 ∷ spot 0 2
-      ∷ [];
+  mine = spot 0 1 ∷ spot 0 2 ∷ [];
 }
 
 pub ignored_count_loses_held : ¬ AlwaysBy ignores_count (λ plan w l. HeldStands plan w)
@@ -151,7 +147,7 @@ ignored_count_loses_held = refuted ignores_count (λ plan w l. HeldStands plan w
 
 -- a link that is stored before its slot is put names nothing under it
 abbrev putting : List Event
-putting = opened ++ inserted 0 ++ inserted 1 ++ put_back 1 4096 ++ put_back 1 4097
+putting = three_slots ++ inserted 0 ++ inserted 1 ++ put_back 1 4096 ++ put_back 1 4097
 
 pub early_link_is_wrong : ¬ AlwaysBy ties_first Linked
 unfolding wrongly
@@ -160,8 +156,8 @@ early_link_is_wrong = refuted ties_first Linked 2 (omega arith) (omega arith) pu
 
 -- the slots under a link that is not written yet are lost where it is taken for the end
 abbrev following : List Event
-following = opened ++ inserted 0 ++ inserted 1 ++ put_back 1 4096 ++ removed 1 4097
-    ++ ev 1 Put ∷ ev 0 (Take (page 0 0)) ∷ ev 0 (Follow (page 0 0)) ∷ []
+following = three_slots ++ inserted 0 ++ inserted 1 ++ put_back 1 4096 ++ removed 1 4097 ++ ev 1 Put ∷
+    ev 0 (Take (page 0 0)) ∷ ev 0 (Follow (page 0 0)) ∷ []
 
 pub unwritten_end_loses_slots : ¬ AlwaysBy ends_at_unwritten Linked
 unfolding wrongly
@@ -170,9 +166,9 @@ unwritten_end_loses_slots = refuted ends_at_unwritten Linked 2 (omega arith) (om
 
 -- and where an old link still stands
 abbrev following_again : List Event
-following_again = opened ++ inserted 0 ++ inserted 1 ++ put_back 1 4096
-    ++ ev 0 (Take (page 0 0)) ∷ ev 0 (Follow (page 0 0)) ∷ inserted 0 ++ put_back 1 4097 ++ removed 1 8192
-    ++ ev 1 Put ∷ ev 0 (Take (page 0 0)) ∷ ev 0 (Follow (page 0 0)) ∷ []
+following_again = three_slots ++ inserted 0 ++ inserted 1 ++ put_back 1 4096 ++ ev 0 (Take (page 0 0)) ∷
+    ev 0 (Follow (page 0 0)) ∷ inserted 0 ++ put_back 1 4097 ++ removed 1 8192 ++ ev 1 Put ∷ ev 0 (Take (page 0 0)) ∷
+    ev 0 (Follow (page 0 0)) ∷ []
 
 pub old_link_loses_slots : ¬ AlwaysBy leaves_link Linked
 unfolding wrongly
@@ -181,7 +177,7 @@ old_link_loses_slots = refuted leaves_link Linked 2 (omega arith) (omega arith) 
 
 -- an armed page whose flag was found has no ring to wait for where nobody rings
 abbrev pub freeing : List Event
-freeing = opened ++ inserted 0 ++ ev 0 (Arm (page 0 0)) ∷ put_back 1 4096
+freeing = three_slots ++ inserted 0 ++ ev 0 (Arm (page 0 0)) ∷ put_back 1 4096
 
 pub silent_freer_loses_ring : ¬ AlwaysBy never_rings Armed
 unfolding wrongly
@@ -192,19 +188,19 @@ silent_freer_loses_ring = refuted never_rings Armed 2 (omega arith) (omega arith
 pub leaver_keeps_slots : ¬ AlwaysBy leaves_slots (λ plan w l. LeftEmpty plan w)
 unfolding wrongly
 leaver_keeps_slots = refuted leaves_slots (λ plan w l. LeftEmpty plan w) 1 (omega arith) (omega arith)
-    (opened ++ ev 0 Leave ∷ []) (λ h. let z : 1 ≡ 0 = (h 0 refl).0 (spot 0 0) refl in absurd (omega arith))
+    (three_slots ++ ev 0 Leave ∷ []) (λ h. let z : 1 ≡ 0 = (h 0 refl).0 (spot 0 0) refl in absurd (omega arith))
 
 -- a slot with a value is its owner's too where its page gets another class
 pub forgotten_slot_has_two_kinds : ¬ AlwaysBy forgets_last_slot (λ plan w l. OneKind w l)
 unfolding wrongly
 forgotten_slot_has_two_kinds = refuted forgets_last_slot (λ plan w l. OneKind w l) 1 (omega arith) (omega arith)
-    (opened ++ inserted 2 ++ ev 0 (SetClass (page 0 0) 6) ∷ []) (λ h.
+    (three_slots ++ inserted 2 ++ ev 0 (SetClass (page 0 0) 6) ∷ []) (λ h.
     let small : 2 < 4 = omega arith in
     let z : 2 ≡ 1 = (h (spot 0 2) 6 refl).0 small in absurd (omega arith))
 
 -- a key with one hold to come is not crowded where four may be had
 abbrev getting : List Event
-getting = opened ++ inserted 0 ++ ev 0 (EnterGet 4096) ∷ []
+getting = three_slots ++ inserted 0 ++ ev 0 (EnterGet 4096) ∷ []
 
 crowded : (run_by crowds_at_once (small 1) getting).log ≡ Insert 0 4096 [] ∷ Crowded 0 4096 ∷ []
 unfolding wrongly
@@ -218,7 +214,7 @@ crowded_too_early = refuted crowds_at_once IsLegal 1 (omega arith) (omega arith)
 
 -- two passes remove one key
 abbrev removing : List Event
-removing = opened ++ inserted 0 ++ ev 0 (EnterRemove 4096) ∷ ev 1 (EnterRemove 4096) ∷ ev 0 Mark ∷ ev 1 Mark ∷ []
+removing = three_slots ++ inserted 0 ++ ev 0 (EnterRemove 4096) ∷ ev 1 (EnterRemove 4096) ∷ ev 0 Mark ∷ ev 1 Mark ∷ []
 
 removed_both : (run_by both_remove (small 2) removing).log ≡ Insert 0 4096 [] ∷ Removed 0 4096 ∷ Removed 1 4096 ∷ []
 unfolding wrongly
@@ -234,19 +230,19 @@ key_is_removed_twice = refuted both_remove IsLegal 2 (omega arith) (omega arith)
 pub stayed_count_is_nobodys : ¬ AlwaysBy marks_and_stays (λ plan w l. Counted plan w)
 unfolding wrongly
 stayed_count_is_nobodys = refuted marks_and_stays (λ plan w l. Counted plan w) 1 (omega arith) (omega arith)
-    (opened ++ inserted 0 ++ ev 0 (EnterRemove 4096) ∷ ev 0 Mark ∷ [])
+    (three_slots ++ inserted 0 ++ ev 0 (EnterRemove 4096) ∷ ev 0 Mark ∷ [])
     (λ h. let z : 1 ≡ 0 = h (spot 0 0) in absurd (omega arith))
 
 -- a marked slot that nobody finishes
 pub forgotten_end_never_comes : ¬ AlwaysBy drops_and_forgets (λ plan w l. Finished plan w)
 unfolding wrongly
 forgotten_end_never_comes = refuted drops_and_forgets (λ plan w l. Finished plan w) 1 (omega arith) (omega arith)
-    (opened ++ inserted 0 ++ ev 0 (EnterRemove 4096) ∷ ev 0 Mark ∷ ev 0 Drop ∷ [])
+    (three_slots ++ inserted 0 ++ ev 0 (EnterRemove 4096) ∷ ev 0 Mark ∷ ev 0 Drop ∷ [])
     (λ h. let z : 0 < 0 = h (spot 0 0) refl refl refl in absurd (omega arith))
 
 -- the class of a key that is held no more
 abbrev knowing : List Event
-knowing = opened ++ inserted 0 ++ ev 0 (EnterGet 4096) ∷ ev 0 (ReadClass 4096) ∷ ev 0 (DropHold 4096) ∷ []
+knowing = three_slots ++ inserted 0 ++ ev 0 (EnterGet 4096) ∷ ev 0 (ReadClass 4096) ∷ ev 0 (DropHold 4096) ∷ []
 
 abbrev knower : Body
 knower = record newcomer {
@@ -266,12 +262,12 @@ known_key_is_not_held = refuted knows_after_hold (λ plan w l. NotesAreTrue plan
 pub unretired_slot_has_no_key : ¬ AlwaysBy never_retires (λ plan w l. GenerationsEnd plan w)
 unfolding wrongly
 unretired_slot_has_no_key = refuted never_retires (λ plan w l. GenerationsEnd plan w) 1 (omega arith) (omega arith)
-    (opened ++ inserted 0 ++ removed 0 4096 ++ inserted 0 ++ removed 0 8192 ++ inserted 0 ++ removed 0 12288)
+    (three_slots ++ inserted 0 ++ removed 0 4096 ++ inserted 0 ++ removed 0 8192 ++ inserted 0 ++ removed 0 12288)
     (λ h. let z : 4 ≤ 3 = (h (spot 0 0)).1 in absurd (omega arith))
 
 -- a slot that stands twice among its owner's
 abbrev collecting : List Event
-collecting = opened ++ inserted 0 ++ put_back 1 4096 ++ ev 0 (Take (page 0 0)) ∷ ev 0 (Follow (page 0 0)) ∷ []
+collecting = three_slots ++ inserted 0 ++ put_back 1 4096 ++ ev 0 (Take (page 0 0)) ∷ ev 0 (Follow (page 0 0)) ∷ []
 
 pub followed_twice_is_mine_twice : ¬ AlwaysBy follows_twice (λ plan w l. OneKind w l)
 unfolding wrongly
@@ -282,7 +278,7 @@ followed_twice_is_mine_twice = refuted follows_twice (λ plan w l. OneKind w l) 
 
 -- what was rung for is followed by nobody where its owner left
 abbrev ringing : List Event
-ringing = opened ++ inserted 0 ++ inserted 1 ++ inserted 2 ++ ev 0 (Arm (page 0 0)) ∷ put_back 1 4096
+ringing = three_slots ++ inserted 0 ++ inserted 1 ++ inserted 2 ++ ev 0 (Arm (page 0 0)) ∷ put_back 1 4096
     ++ ev 1 Ring ∷ ev 1 RingTie ∷ ev 0 TakeBell ∷ ev 0 Leave ∷ []
 
 abbrev gone : Body
@@ -304,12 +300,12 @@ ninth_class_is_none = refuted gives_any_class (λ plan w l. ClassesAreKnown plan
 pub fifth_hold_is_too_many : ¬ AlwaysBy ignores_room (λ plan w l. HoldsAreFew plan w)
 unfolding wrongly
 fifth_hold_is_too_many = refuted ignores_room (λ plan w l. HoldsAreFew plan w) 1 (omega arith) (omega arith)
-    (opened ++ inserted 0 ++ ev 0 (EnterGet 4096) ∷ ev 0 (EnterGet 4096) ∷ ev 0 (EnterGet 4096) ∷ ev 0 (EnterGet 4096) ∷
-    ev 0 (EnterGet 4096) ∷ []) (λ h. let z : 5 ≤ 4 = h 4096 in absurd (omega arith))
+    (three_slots ++ inserted 0 ++ ev 0 (EnterGet 4096) ∷ ev 0 (EnterGet 4096) ∷ ev 0 (EnterGet 4096) ∷
+    ev 0 (EnterGet 4096) ∷ ev 0 (EnterGet 4096) ∷ []) (λ h. let z : 5 ≤ 4 = h 4096 in absurd (omega arith))
 
 -- a flag over a slot that was put
 abbrev flagged : List Event
-flagged = opened ++ inserted 0 ++ ev 0 (Arm (page 0 0)) ∷ removed 1 4096 ++ ev 1 Put ∷ []
+flagged = three_slots ++ inserted 0 ++ ev 0 (Arm (page 0 0)) ∷ removed 1 4096 ++ ev 1 Put ∷ []
 
 pub flag_stays_over_slot : ¬ AlwaysBy keeps_flag (λ plan w l. FlaggedAreEmpty w l)
 unfolding wrongly
@@ -323,7 +319,7 @@ owner = record newcomer { owned = Some 0; classes = (0, 8) ∷ (0, 0) ∷ []; mi
 pub generation_is_no_key : ¬ AlwaysBy remembers_generation (λ plan w l. KeysInHandName plan w)
 unfolding wrongly
 generation_is_no_key = refuted remembers_generation (λ plan w l. KeysInHandName plan w) 1 (omega arith) (omega arith)
-    (opened ++ inserted 0 ++ ev 0 (EnterRemove 4096) ∷ [])
+    (three_slots ++ inserted 0 ++ ev 0 (EnterRemove 4096) ∷ [])
     (λ h. let n = h 0 (record owner { hand = Removing 1 }) refl in let z : None ≡ Some n.0 = n.1.unpacks in cc)
 
 -- an end that is tried again and again
@@ -333,7 +329,7 @@ ender = record owner { hand = Finishing (spot 0 0) 1 }
 pub end_may_never_come : ¬ AlwaysBy tries_again (λ plan w l. GoesOn tries_again plan w)
 unfolding wrongly
 end_may_never_come = refuted tries_again (λ plan w l. GoesOn tries_again plan w) 1 (omega arith) (omega arith)
-    (opened ++ inserted 0 ++ ev 0 (EnterRemove 4096) ∷ ev 0 Mark ∷ ev 0 Drop ∷ [])
+    (three_slots ++ inserted 0 ++ ev 0 (EnterRemove 4096) ∷ ev 0 Mark ∷ ev 0 Drop ∷ [])
     (λ h. let z : 5 < 5 = (h 0 ender refl (λ e. cc)).1 Finish (finish_again (small 1) ender (spot 0 0) 1) refl 0
     in absurd (omega arith))
 

@@ -13,10 +13,18 @@ use Rattle.sh_core.specs.Tallies.{SlotsFine}
 use Rattle.sh_core.specs.Stories.{KeysFine, HoldsFine, AllHoldsFine}
 use Rattle.sh_history.specs.History.{Legal}
 
+-- of a slot into which v is being filled: its length word is v's length, which its class allows, the first i words of
+-- its payload are v's, and the class that the pass noted is the page's
+pub record Fills (size class noted slot : ℕ) (payload : ℕ → ℕ) (v : List ℕ) (i : ℕ) : Type 0 where
+  pub length_is : size ≡ length v
+  pub begun : i ≤ length v
+  pub fits : length v ≤ width (class - 1)
+  pub so_far : words_from payload (slot * width (class - 1)) i ≡ take i v
+  pub class_is : noted ≡ class
+
 abbrev pub FillFine : Words → Body → Hand → Type 0
-FillFine w p (Filling x v i) = (w.length_at x.page x.slot ≡ length v) × (i ≤ length v)
-    × (length v ≤ width (w.class_at x.page - 1)) × (words_from (w.payload_at x.page)
-    (x.slot * width (w.class_at x.page - 1)) i ≡ take i v) × (class_word_noted p x.page ≡ w.class_at x.page)
+FillFine w p (Filling x v i) = Fills (w.length_at x.page x.slot) (w.class_at x.page) (class_word_noted p x.page) x.slot
+    (w.payload_at x.page) v i
 FillFine w p _ = Unit {0}
 
 abbrev pub PartsFine : Words → List Body → Type 0

@@ -1,6 +1,6 @@
 -- What the tasks of a list give, from what is known by their places.
-use Rattle.std.proofs.Common.{◌≡◌, ℕ, suc, ◌<◌, ◌+◌, List, [], ◌∷◌, length, get_or, IfOk, Result, Ok, Err, refl, sym, subst}
-use Rattle.std.proofs.Common.{arith}
+use Rattle.std.proofs.Common.{◌≡◌, ℕ, suc, ◌<◌, ◌+◌, List, [], ◌∷◌, length, get_or, IfOk, Result, Ok, Err, refl, sym}
+use Rattle.std.proofs.Common.{subst, arith}
 use Rattle.sh_meet.specs.Tasks.{AllGive}
 
 -- two facts of a result that is Ok give a third

@@ -8,8 +8,8 @@ use std::thread::{Threads, join, map_vec};
 /// Work for a thread of its own, and what is known of what it gives.
 ///
 /// A closure that borrows a heap, as one that has a pass does, says nothing of its result by `thread::join`. A task
-/// does: it is a struct with the pass, and `gives` relates the task before to its output. So a pass that a task gives back is
-/// known to be of its heap:
+/// does: it is a struct with the pass, and `gives` relates the task before to its output. So a pass that a task gives
+/// back is known to be of its heap:
 ///
 /// ```text
 /// impl<'a> Task for Reading<'a> {

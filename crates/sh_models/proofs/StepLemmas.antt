@@ -125,20 +125,22 @@ stands_more layout k next es None o stands does =
     )
 
 -- a run so far: which world, and which lines
-pub record Ran (layout : Layout) (shape : Numbers) (tag : Option ℕ) (es : List Event) (k : KeptWorld) (text : List ℕ) :
-    Type 0 where
+pub record EventsRan (layout : Layout) (shape : Numbers) (tag : Option ℕ) (es : List Event) (k : KeptWorld)
+    (text : List ℕ) : Type 0 where
   pub shape_is : k.shape ≡ shape
   pub stands : StandsFor k (run (plan_of layout shape) (events_shown tag es))
   pub is : text ≡ event_lines tag es (outcomes (plan_of layout shape) (events_shown tag es))
 
 pub ran_none : (layout : Layout) (shape : Numbers) (tag : Option ℕ) (k : KeptWorld) (text : List ℕ) → k.shape ≡ shape
-    → StandsFor k (open_world (plan_of layout shape)) → text ≡ [] → Ran layout shape tag [] k text
+    → StandsFor k (open_world (plan_of layout shape)) → text ≡ [] → EventsRan layout shape tag [] k text
 unfolding event_lines run_from
 ran_none layout shape tag k text same stands none = record { shape_is = same; stands = stands; is = none }
 
 pub ran_more : (layout : Layout) (shape : Numbers) (tag : Option ℕ) (es : List Event) (e : Event) (k next : KeptWorld)
-    (o : Outcome) (old new : List ℕ) → Ran layout shape tag es k old → DoesEvent layout k (event_shown tag e) o next
-    → new ≡ old ++ event_line tag e.pass (kind_of_action e.action) o → Ran layout shape tag (es ++ e ∷ []) next new
+    (o : Outcome) (old new : List ℕ) → EventsRan layout shape tag es k old
+    → DoesEvent layout k (event_shown tag e) o next
+    → new ≡ old ++ event_line tag e.pass (kind_of_action e.action) o
+    → EventsRan layout shape tag (es ++ e ∷ []) next new
 ran_more layout shape tag es e k next o old new ran does is =
     let plan : Plan = plan_of layout shape in
     let stands : StandsFor k (run (plan_of layout k.shape) (events_shown tag es)) = subst

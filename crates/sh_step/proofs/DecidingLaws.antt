@@ -17,8 +17,8 @@ use Rattle.sh_step.specs.Rows.{Row, row}
 use Rattle.sh_step.proofs.ConditionLaws.{meets}
 
 module _ (plan : Plan) (p : Body) (n : ℕ) where
-  by_row : (b : Bool) (m r : Row) → m ≡ r → is_some (r.reply n) ≡ b → is_some (m.reply n) ≡ b
-  by_row b m r e is = subst (λ (u : Row). is_some (u.reply n) ≡ b) (sym e) is
+  replies_by : (b : Bool) (m r : Row) → m ≡ r → is_some (r.reply n) ≡ b → is_some (m.reply n) ≡ b
+  replies_by b m r e is = subst (λ (u : Row). is_some (u.reply n) ≡ b) (sym e) is
 
   gone : (k : ℕ) (b : Bool) → is_some (cond b None (Some (Gone k))) ≡ not b
   gone k true = refl
@@ -31,34 +31,34 @@ module _ (plan : Plan) (p : Body) (n : ℕ) where
 
   replies : (x : Action) (m : Row) → row plan p x ≡ Some m → is_some (m.reply n) ≡ decides plan x n
   unfolding Meets
-  replies (EnterGet k) m e = let h = meets plan p (EnterGet k) m e in by_row true m _ h.4 refl
+  replies (EnterGet k) m e = let h = meets plan p (EnterGet k) m e in replies_by true m _ h.4 refl
   replies (EnterRemove k) m e = let h = meets plan p (EnterRemove k) m e in
-      by_row (not (is_live plan k n)) m _ h.3
+      replies_by (not (is_live plan k n)) m _ h.3
       (gone k (live_at h.0.generation n) ∙ ap not (live k h.0 h.1.unpacks))
-  replies Mark m e = let h = meets plan p Mark m e in by_row true m _ h.4 refl
-  replies Drop m e = let h = meets plan p Drop m e in by_row false m _ h.2 refl
-  replies (DropHold k) m e = let h = meets plan p (DropHold k) m e in by_row true m _ h.4 refl
-  replies Finish m e = let h = meets plan p Finish m e in by_row false m _ h.3 refl
-  replies (FillSlot y v) m e = let h = meets plan p (FillSlot y v) m e in by_row false m _ h.7 refl
-  replies Fill m e = let h = meets plan p Fill m e in by_row false m _ h.5 refl
-  replies Publish m e = let h = meets plan p Publish m e in by_row true m _ h.5 refl
-  replies (ReadClass k) m e = let h = meets plan p (ReadClass k) m e in by_row false m _ h.4 refl
-  replies (ReadLength k) m e = let h = meets plan p (ReadLength k) m e in by_row false m _ h.4 refl
-  replies (ReadWord k i) m e = let h = meets plan p (ReadWord k i) m e in by_row false m _ h.9 refl
-  replies (ReadPage y) m e = let h = meets plan p (ReadPage y) m e in by_row false m _ h.3 refl
-  replies (SetClass y c) m e = let h = meets plan p (SetClass y c) m e in by_row false m _ h.7 refl
-  replies (Take y) m e = let h = meets plan p (Take y) m e in by_row false m _ h.5 refl
-  replies (Follow y) m e = let h = meets plan p (Follow y) m e in by_row false m _ h.5 refl
-  replies Put m e = let h = meets plan p Put m e in by_row false m _ h.2 refl
-  replies (PutSlot y) m e = let h = meets plan p (PutSlot y) m e in by_row false m _ h.5 refl
-  replies Tie m e = let h = meets plan p Tie m e in by_row false m _ h.4 refl
-  replies (Adopt k) m e = let h = meets plan p (Adopt k) m e in by_row false m _ h.3 refl
-  replies Leave m e = let h = meets plan p Leave m e in by_row false m _ h.7 refl
-  replies (Arm y) m e = let h = meets plan p (Arm y) m e in by_row false m _ h.6 refl
-  replies Ring m e = let h = meets plan p Ring m e in by_row false m _ h.2 refl
-  replies RingTie m e = let h = meets plan p RingTie m e in by_row false m _ h.3 refl
-  replies TakeBell m e = let h = meets plan p TakeBell m e in by_row false m _ h.4 refl
-  replies FollowBell m e = let h = meets plan p FollowBell m e in by_row false m _ h.3 refl
+  replies Mark m e = let h = meets plan p Mark m e in replies_by true m _ h.4 refl
+  replies Drop m e = let h = meets plan p Drop m e in replies_by false m _ h.2 refl
+  replies (DropHold k) m e = let h = meets plan p (DropHold k) m e in replies_by true m _ h.4 refl
+  replies Finish m e = let h = meets plan p Finish m e in replies_by false m _ h.3 refl
+  replies (FillSlot y v) m e = let h = meets plan p (FillSlot y v) m e in replies_by false m _ h.7 refl
+  replies Fill m e = let h = meets plan p Fill m e in replies_by false m _ h.5 refl
+  replies Publish m e = let h = meets plan p Publish m e in replies_by true m _ h.5 refl
+  replies (ReadClass k) m e = let h = meets plan p (ReadClass k) m e in replies_by false m _ h.4 refl
+  replies (ReadLength k) m e = let h = meets plan p (ReadLength k) m e in replies_by false m _ h.4 refl
+  replies (ReadWord k i) m e = let h = meets plan p (ReadWord k i) m e in replies_by false m _ h.9 refl
+  replies (ReadPage y) m e = let h = meets plan p (ReadPage y) m e in replies_by false m _ h.3 refl
+  replies (SetClass y c) m e = let h = meets plan p (SetClass y c) m e in replies_by false m _ h.7 refl
+  replies (Take y) m e = let h = meets plan p (Take y) m e in replies_by false m _ h.5 refl
+  replies (Follow y) m e = let h = meets plan p (Follow y) m e in replies_by false m _ h.5 refl
+  replies Put m e = let h = meets plan p Put m e in replies_by false m _ h.2 refl
+  replies (PutSlot y) m e = let h = meets plan p (PutSlot y) m e in replies_by false m _ h.5 refl
+  replies Tie m e = let h = meets plan p Tie m e in replies_by false m _ h.4 refl
+  replies (Adopt k) m e = let h = meets plan p (Adopt k) m e in replies_by false m _ h.3 refl
+  replies Leave m e = let h = meets plan p Leave m e in replies_by false m _ h.7 refl
+  replies (Arm y) m e = let h = meets plan p (Arm y) m e in replies_by false m _ h.6 refl
+  replies Ring m e = let h = meets plan p Ring m e in replies_by false m _ h.2 refl
+  replies RingTie m e = let h = meets plan p RingTie m e in replies_by false m _ h.3 refl
+  replies TakeBell m e = let h = meets plan p TakeBell m e in replies_by false m _ h.4 refl
+  replies FollowBell m e = let h = meets plan p FollowBell m e in replies_by false m _ h.3 refl
 
 pub deciding_replies : DecidingStepsReply
 deciding_replies plan p x m n e = replies plan p n x m e

@@ -1,5 +1,7 @@
 pub mod ListLaws
 pub mod RunLaws
+pub mod RunsLaws
+pub mod RunsWithout
 pub mod NoteLaws
 pub mod NameLaws
 pub mod MoveLaws
@@ -8,7 +10,9 @@ pub mod PageLaws
 pub mod HoldLaws
 pub mod KeyLaws
 pub mod Truths
+pub mod LookupLaws
 pub mod ConditionLaws
+pub mod RowLaws
 pub mod StepLaws
 pub mod FootstepLaws
 pub mod OperationLaws

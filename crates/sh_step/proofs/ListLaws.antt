@@ -1,8 +1,14 @@
--- The words of `Collections` by those of the library.
+-- The words of `Collections` by those of the library, and what they say of one list behind the other.
 use Rattle.std.proofs.Common.{◌≡◌, ℕ, ◌==◌, ◌||◌, ◌&&◌, ◌+◌, ◌-◌, ◌<◌, subst, arith, Bool, true, false, cond, not, List}
-use Rattle.std.proofs.Common.{[], ◌∷◌, ◌++◌, Option, Some, None, ◌≤◌, zero, suc, refl, ltb-false, ap, sym, ◌∙◌}
+use Rattle.std.proofs.Common.{[], ◌∷◌, ◌++◌, Option, Some, None, ◌≤◌, zero, suc, refl, ltb-false, eqb-true}
+use Rattle.std.proofs.Common.{ap, sym, ◌∙◌}
 use Rattle.std.specs.Prelude.{option_map, filter, nat_lt, length, OnSome, replicate, get_or}
+use Rattle.std.proofs.lemmas.Bool.{or_left, cond-true}
 use Rattle.std.proofs.lemmas.Bool.Decides.{nat_tests}
+use Rattle.std.proofs.lemmas.List.{nil_from_length}
+use Rattle.std.proofs.lemmas.List.Elements.{filter-append}
+use Rattle.std.proofs.lemmas.List.Folds.{list_any-append}
+use Rattle.std.proofs.Math.Bool.{or-false}
 use Rattle.std.specs.List.{list_any, find, remove, position, position_or_len}
 use Rattle.sh_slots.specs.declared.hand.Spot.{Spot}
 use Rattle.sh_slots.specs.Slots.{spots}
@@ -109,17 +115,23 @@ position_within p xs i e = go (nat_lt (position_or_len p xs) (length xs)) refl e
       (arith, nat_tests) in omega arith
   go false is e = absurd (let no_none : ⊥ = cc in no_none)
 
--- one item more
+-- ---- one item more, and one list behind the other
+
+pub has_front : {A : Type 0} (p : A → Bool) (x : A) (xs : List A) → p x ≡ true → has p (x ∷ xs) ≡ true
+unfolding has
+has_front p x xs here = or_left (p x) (has p xs) here
+
+pub without_front : {A : Type 0} (p : A → Bool) (x : A) (xs : List A) → p x ≡ true → without p (x ∷ xs) ≡ xs
+unfolding without
+without_front p x xs here = cond-true (p x) xs (x ∷ without p xs) here
+
+pub has_in_both : {A : Type 0} (p : A → Bool) (xs ys : List A) → has p (xs ++ ys) ≡ (has p xs || has p ys)
+has_in_both p xs ys = sym (any_is_has p (xs ++ ys)) ∙ (list_any-append p xs ys
+    ∙ (ap (λ b. b || list_any p ys) (any_is_has p xs) ∙ ap (λ b. has p xs || b) (any_is_has p ys)))
+
 pub has_more : {A : Type 0} (p : A → Bool) (xs : List A) (x : A) → has p (xs ++ x ∷ []) ≡ (has p xs || p x)
 unfolding has
-has_more p [] x = go (p x) where
-  go : (b : Bool) → (b || false) ≡ (false || b)
-  go true = refl
-  go false = refl
-has_more p (y ∷ ys) x = ap (λ b. p y || b) (has_more p ys x) ∙ go (p y) (has p ys) (p x) where
-  go : (a b c : Bool) → (a || (b || c)) ≡ ((a || b) || c)
-  go true b c = refl
-  go false b c = refl
+has_more p xs x = has_in_both p xs (x ∷ []) ∙ ap (λ b. has p xs || b) (or-false (p x))
 
 -- before the first item nothing is seen
 pub none_seen : {A : Type 0} (p : A → Bool) (n i : ℕ) → get_or (replicate n false) i false ≡ has p []
@@ -127,3 +139,32 @@ unfolding has
 none_seen p zero i = refl
 none_seen p (suc n) zero = refl
 none_seen p (suc n) (suc i) = none_seen p n i
+
+pub without_in_first : {A : Type 0} (p : A → Bool) (xs ys : List A) → has p xs ≡ true
+    → without p (xs ++ ys) ≡ without p xs ++ ys
+unfolding has without
+without_in_first p [] ys there = absurd (let no : ⊥ = cc in no)
+without_in_first p (x ∷ xs) ys there = go (p x) refl (λ h. without_in_first p xs ys h) where
+  go : (b : Bool) → p x ≡ b → (has p xs ≡ true → without p (xs ++ ys) ≡ without p xs ++ ys)
+      → cond b (xs ++ ys) (x ∷ without p (xs ++ ys)) ≡ cond b xs (x ∷ without p xs) ++ ys
+  go true is rest = refl
+  go false is rest = ap (λ zs. x ∷ zs) (rest (sym (ap (λ b. b || has p xs) is) ∙ there))
+
+pub without_behind : {A : Type 0} (p : A → Bool) (xs ys : List A) → has p xs ≡ false
+    → without p (xs ++ ys) ≡ xs ++ without p ys
+unfolding has without
+without_behind p [] ys none = refl
+without_behind p (x ∷ xs) ys none = go (p x) refl (λ h. without_behind p xs ys h) where
+  go : (b : Bool) → p x ≡ b → (has p xs ≡ false → without p (xs ++ ys) ≡ xs ++ without p ys)
+      → cond b (xs ++ ys) (x ∷ without p (xs ++ ys)) ≡ x ∷ (xs ++ without p ys)
+  go true is rest = absurd (let f : true ≡ false = sym (ap (λ b. b || has p xs) is) ∙ none in let no : ⊥ = cc in no)
+  go false is rest = ap (λ zs. x ∷ zs) (rest (sym (ap (λ b. b || has p xs) is) ∙ none))
+
+pub off_in_both : {A : Type 0} (p : A → Bool) (xs ys : List A) → off p (xs ++ ys) ≡ off p xs ++ off p ys
+off_in_both p xs ys = sym (off_is_filtered p (xs ++ ys)) ∙ (filter-append (λ x. not (p x)) xs ys
+    ∙ (ap (λ zs. zs ++ filter (λ x. not (p x)) ys) (off_is_filtered p xs)
+    ∙ ap (λ zs. off p xs ++ zs) (off_is_filtered p ys)))
+
+-- a list of length 0 has nothing
+pub none_left : {A : Type 0} (xs : List A) → (length xs == 0) ≡ true → xs ≡ []
+none_left xs none = nil_from_length xs (eqb-true (length xs) 0 none)

@@ -10,6 +10,7 @@ use Rattle.sh_shape.proofs.PlaceLaws.{page_is_below}
 use Rattle.sh_slots.specs.declared.hand.Name.{Name}
 use Rattle.sh_step.specs.Plans.{plan_of, keys_of, name_in}
 use Rattle.sh_step.specs.Moves.{has_place, place_named}
+use Rattle.sh_step.proofs.Truths.{and3}
 
 -- the place of a name that the shape may have
 placed : Numbers → Option Name → Option Name
@@ -21,12 +22,6 @@ of_parts n o = placed n (elim o [ Some p ↦ name_in n.shards (pages_of n) p | N
 
 name_of_parts : Numbers → Parts → Name
 name_of_parts n p = record { page = page_number n p.shard p.page; slot = p.slot; generation = p.generation }
-
-both : (a b c : Bool) → (a && b && c) ≡ true → (a ≡ true) × (b ≡ true) × (c ≡ true)
-both true true true e = (refl, refl, refl)
-both true true false e = absurd (let no : ⊥ = cc in no)
-both true false c e = absurd (let no : ⊥ = cc in no)
-both false b c e = absurd (let no : ⊥ = cc in no)
 
 pub no_key : (layout : Layout) (n : Numbers) (k : ℕ) → unpacked layout k ≡ None → place_named (plan_of layout n) k
     ≡ None
@@ -78,5 +73,5 @@ pub a_place : (layout : Layout) (n : Numbers) (k : ℕ) (p : Parts) → unpacked
     })
 unfolding keys_of placed of_parts name_of_parts
 a_place layout n k p e inside =
-    let all = both (nat_lt p.shard n.shards) (nat_lt p.page (pages_of n)) (nat_lt p.slot 48) inside in
+    let all = and3 (nat_lt p.shard n.shards) (nat_lt p.page (pages_of n)) (nat_lt p.slot 48) inside in
     ap (of_parts n) e ∙ in_shape n p all.0 all.1 all.2

@@ -1,9 +1,14 @@
 -- The newest note of each number says what all notes say.
 use Rattle.std.proofs.Common.{◌≡◌, ℕ, ◌==◌, Bool, true, false, cond, List, [], ◌∷◌, Some, None, refl, sym, ap, ◌∙◌}
-use Rattle.std.proofs.Common.{arith}
+use Rattle.std.proofs.Common.{arith, eq-eqb}
+use Rattle.std.proofs.lemmas.Bool.{cond-true}
 use Rattle.std.proofs.lemmas.Bool.Decides.{nat_tests}
 use Rattle.sh_step.specs.Collections.{noted, off}
 use Rattle.sh_step.specs.Notes.{NoteTheSame}
+
+pub noted_now : (q n : ℕ) (xs : List (ℕ × ℕ)) → noted q ((q, n) ∷ xs) ≡ Some n
+unfolding noted
+noted_now q n xs = cond-true (q == q) (Some n) (noted q xs) (eq-eqb q q refl)
 
 -- a number's notes are gone, and those of another stay
 noted_off_same : (k : ℕ) (xs : List (ℕ × ℕ)) → noted k (off (λ x. x.0 == k) xs) ≡ None

@@ -16,6 +16,9 @@ use sh_value::Value;
 // How many classes there are.
 const CLASSES: u64 = 8;
 
+// The class word of the pages whose slots have one word each.
+const ONE_WORD: u64 = 1;
+
 /// How many words a slot has of a page of this class word; of a number that is no class word 0.
 pub fn width_of_word(class_word: u64) -> u64
     ensures is { result ≡ width (class_word - 1) }
@@ -47,6 +50,11 @@ pub fn payload_word(slot: u64, class_word: u64, i: u64) -> u64
     requires { payload_word slot class_word i < 48 }
     ensures { result ≡ payload_word slot class_word i }
 {
+    // (Values of one word are told apart, so that the place of their word waits for no load of the class word: the
+    // processor guesses how the test ends, and fetches the word meanwhile.)
+    if class_word == ONE_WORD {
+        return slot + i;
+    }
     slot * width_of_word(class_word) + i
 }
 

@@ -1,4 +1,4 @@
-use Rattle.std.proofs.Common.{◌≡◌, ◌∙◌, sym, ap, subst}
+use Rattle.std.proofs.Common.{◌∙◌, sym, ap, subst}
 use Rattle.std.specs.Prelude.{ℕ, List}
 use Rattle.sh_shape.specs.Places.{IsPlace}
 use Rattle.sh_step.specs.declared.step.Step.{Step}
@@ -6,7 +6,7 @@ use Rattle.sh_step.specs.Operations.{StoresWord}
 use Rattle.sh_step.specs.Plans.{plan_of}
 use Rattle.sh_step.specs.Moves.{row_of}
 use Rattle.sh_core.specs.Kept.{word_at}
-use Rattle.sh_core.proofs.Operating.{has_room}
+use Rattle.sh_core.proofs.Operating.{operation_has_room}
 use Rattle.sh_core.proofs.moving.do_move.Goals as goal
 
 pub step-step-requires-clause-place : goal.step-step-requires-clause-place
@@ -30,6 +30,6 @@ after-requires g c =
     let place = ap (λ (s : Step). s.place) step in
     let found = c.word_at-found.ensures ∙ (ap (λ (xs : List ℕ). word_at shape xs c.step-step.result.place)
     c.deref.ensures.value ∙ ap (word_at shape c.args.words.now.items) place) in
-    has_room c.step-step.result.operation row.operation c.word_at-found.result
+    operation_has_room c.step-step.result.operation row.operation c.word_at-found.result
     (word_at shape c.args.words.now.items row.place) (ap (λ (s : Step). s.operation) step) found
     c.word_at-found.type_inv c.requires.counts

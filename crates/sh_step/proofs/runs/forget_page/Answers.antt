@@ -1,6 +1,6 @@
 use Rattle.std.proofs.Common.{◌∙◌, ap}
 use Rattle.sh_step.specs.Runs.{slots_in}
-use Rattle.sh_step.proofs.RunLaws.{other_pages_kept}
+use Rattle.sh_step.proofs.RunsLaws.{other_pages_kept}
 use Rattle.sh_step.proofs.runs.forget_page.Goals as goal
 
 pub returns-clause-slots : goal.returns-clause-slots

@@ -1,5 +1,5 @@
 use Rattle.std.proofs.Common.{◌∙◌}
-use Rattle.sh_step.proofs.RunLaws.{all_empty_is_none}
+use Rattle.sh_step.proofs.RunsLaws.{all_empty_is_none}
 use Rattle.sh_step.proofs.runs.has_no_spot.Goals as goal
 
 pub returns : goal.returns

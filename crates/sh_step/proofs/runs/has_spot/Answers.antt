@@ -1,5 +1,5 @@
 use Rattle.std.proofs.Common.{◌∙◌}
-use Rattle.sh_step.proofs.RunLaws.{any_run_is_has}
+use Rattle.sh_step.proofs.RunsLaws.{any_run_is_has}
 use Rattle.sh_step.proofs.runs.has_spot.Goals as goal
 
 pub returns : goal.returns

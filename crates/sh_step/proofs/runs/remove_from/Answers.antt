@@ -4,8 +4,8 @@ use Rattle.std.specs.Prelude.{length}
 use Rattle.sh_slots.specs.Slots.{same_spot}
 use Rattle.sh_step.specs.Collections.{has, without}
 use Rattle.sh_step.specs.Runs.{slots_in, slots_of}
-use Rattle.sh_step.proofs.ListLaws.{position_within, on_some}
-use Rattle.sh_step.proofs.RunLaws.{without_in_run, without_a_run, found_has, none_left}
+use Rattle.sh_step.proofs.ListLaws.{position_within, on_some, none_left}
+use Rattle.sh_step.proofs.RunsWithout.{without_in_run, without_a_run, found_has}
 use Rattle.sh_step.proofs.runs.remove_from.Goals as goal
 
 pub run_without-left-requires : goal.run_without-left-requires

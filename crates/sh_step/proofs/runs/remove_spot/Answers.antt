@@ -1,5 +1,5 @@
 use Rattle.std.proofs.Common.{◌∙◌, sym}
-use Rattle.sh_step.proofs.RunLaws.{none_without}
+use Rattle.sh_step.proofs.RunsWithout.{none_without}
 use Rattle.sh_step.proofs.runs.remove_spot.Goals as goal
 
 pub returns-in_default : goal.returns-in_default

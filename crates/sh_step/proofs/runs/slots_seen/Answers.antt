@@ -5,7 +5,7 @@ use Rattle.sh_slots.specs.Slots.{same_spot}
 use Rattle.sh_step.specs.declared.run.Run.{Run}
 use Rattle.sh_step.specs.Collections.{has}
 use Rattle.sh_step.specs.Runs.{slots_in, slots_of}
-use Rattle.sh_step.proofs.RunLaws.{slots_in_more, none_seen_yet}
+use Rattle.sh_step.proofs.RunsLaws.{slots_in_more, none_seen_yet}
 use Rattle.sh_step.proofs.runs.slots_seen.Goals as goal
 
 pub loop-i-init : goal.loop-i-init

@@ -1,4 +1,4 @@
-use Rattle.sh_step.proofs.RunLaws.{none_in_runs}
+use Rattle.sh_step.proofs.RunsLaws.{none_in_runs}
 use Rattle.sh_step.proofs.own_slots.OwnSlots.new.Goals as goal
 
 pub returns : goal.returns

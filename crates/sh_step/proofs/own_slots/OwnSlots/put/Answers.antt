@@ -1,5 +1,5 @@
 use Rattle.std.proofs.Common.{◌∷◌, ◌∙◌, ap}
-use Rattle.sh_step.proofs.RunLaws.{slots_in_first}
+use Rattle.sh_step.proofs.RunsLaws.{slots_in_first}
 use Rattle.sh_step.proofs.own_slots.OwnSlots.put.Goals as goal
 
 pub returns-clause-ok : goal.returns-clause-ok

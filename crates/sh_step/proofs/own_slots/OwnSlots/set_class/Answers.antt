@@ -2,7 +2,7 @@ use Rattle.std.proofs.Common.{◌++◌, ◌==◌, ◌∙◌, ap}
 use Rattle.sh_slots.specs.Slots.{spots}
 use Rattle.sh_step.specs.Collections.{off}
 use Rattle.sh_step.specs.Runs.{slots_in}
-use Rattle.sh_step.proofs.RunLaws.{slots_in_first}
+use Rattle.sh_step.proofs.RunsLaws.{slots_in_first}
 use Rattle.sh_step.proofs.own_slots.OwnSlots.set_class.Goals as goal
 
 pub returns-clause-slots : goal.returns-clause-slots

@@ -1,8 +1,8 @@
--- All that holds, over the kinds that step on a state word, a length or a payload word, or read.
+-- All that holds, over the moves on a state word, a length or a payload word.
 use Rattle.std.proofs.Common.{◌≡◌, ◌≢◌, ℕ, ◌+◌, ◌-◌, ◌^◌, ◌<◌, ◌≤◌, ◌==◌, ◌&&◌, ◌||◌, Bool, true, false, cond, List}
-use Rattle.std.proofs.Common.{◌∷◌, length, sym, refl, ap, ◌∙◌, subst, arith, Option, Some, None, slice_get}
+use Rattle.std.proofs.Common.{◌∷◌, length, sym, refl, ap, ◌∙◌, subst, arith, Option, Some, None, slice_get, eqb-true}
+use Rattle.std.proofs.Common.{eq-eqb}
 use Rattle.std.specs.Prelude.{not, nat_lt, bit_or}
-use Rattle.std.proofs.lemmas.Bool.Decides.{nat_tests}
 use Rattle.sh_slots.specs.declared.hand.Spot.{Spot}
 use Rattle.sh_slots.specs.declared.hand.Name.{Name}
 use Rattle.sh_slots.specs.declared.hand.Hand.{Hand}
@@ -10,53 +10,46 @@ use Rattle.sh_slots.specs.declared.hand.Hand.TheVariants.{Idle, Removing, Leavin
 use Rattle.sh_core.specs.Words.{Words, write}
 use Rattle.sh_shape.specs.declared.places.Place.TheVariants.{State}
 use Rattle.sh_word.specs.Fields.{Fields, fields_of, word_of}
-use Rattle.sh_step.specs.Plans.{Plan, heap_pages, Lawful}
-use Rattle.sh_shape.specs.Classes.{width, slots}
+use Rattle.sh_step.specs.Plans.{Plan, Lawful}
+use Rattle.sh_shape.specs.Classes.{width}
 use Rattle.sh_shape.proofs.ClassLaws.{slots_few}
 use Rattle.sh_slots.specs.Slots.{same_spot, spot_of, name_at, live_at, marked_word}
 use Rattle.sh_step.specs.Collections.{total, if1, has, without, noted}
 use Rattle.sh_step.specs.declared.body.Body.{Body}
 use Rattle.sh_core.specs.Lists.{PutLists, mine_at, in_hand}
 use Rattle.sh_core.specs.Placed.{SoundOf, HomedPart, All}
-use Rattle.sh_step.specs.Plans.{Plan, heap_pages, Lawful}
 use Rattle.sh_step.specs.Operations.{operate}
 use Rattle.sh_step.specs.declared.operation.Operation.{Operation}
 use Rattle.sh_slots.specs.declared.reply.Reply.{Reply}
 use Rattle.sh_step.specs.Rows.{Row, hand, own, freed, class_word_noted, enter_get, enter_remove, mark, drop_hand}
 use Rattle.sh_step.specs.Rows.{drop_key, finish, fill_slot, fill, publish}
 use Rattle.sh_core.specs.Worlds.{World, apply}
-use Rattle.sh_core.specs.Tallies.{held, room, at_spot}
+use Rattle.sh_core.specs.Tallies.{held, at_spot}
 use Rattle.sh_core.specs.Good.{Good}
-use Rattle.sh_step.proofs.Truths.{lt_of}
 use Rattle.sh_core.proofs.Totals.{total_at, total_without}
-use Rattle.sh_core.proofs.StateWords.{fields_of-entered}
 use Rattle.sh_word.proofs.Words.{fields_of-sub, fields_of-or_mark, fields_of-or_present, fields_of-word_of}
-use Rattle.sh_core.proofs.Slots.{same_spot-refl, same_spot-true}
-use Rattle.sh_core.proofs.SlotSteps.{leaving, reused}
+use Rattle.sh_core.proofs.Slots.{same_spot-refl, same_spot-true, if1_same_spot}
+use Rattle.sh_core.proofs.SlotSteps.{leaving, reused_fields, fields_of-entered}
 use Rattle.sh_core.proofs.MarkStep.{good_mark, is_current}
-use Rattle.sh_core.proofs.SlotGood.{good_drop, good_publish, good_gone, good_got, room_to_enter, no_or, room_few}
+use Rattle.sh_core.proofs.SlotGood.{good_drop, good_publish, good_gone, good_got, room_to_enter, room_few}
 use Rattle.sh_core.proofs.FinishGood.{good_enter_remove, good_finish_hand, good_drop_key}
 use Rattle.sh_core.proofs.FillGood.{good_fill_slot, good_fill}
-use Rattle.sh_core.proofs.GoodKinds.{good_finish_fail, good_finish_mine, good_finish_last, found_is, retired}
+use Rattle.sh_core.proofs.GoodKinds.{good_finish_fail, good_finish_mine, good_finish_last, found_is, retired_fields}
 use Rattle.sh_core.proofs.GoodKinds.{good_remove_gone, good_crowded}
 use Rattle.sh_core.proofs.ClassGood.{sound_state, sound_still, sound_length}
-use Rattle.sh_core.proofs.StackSteps.{same_page, page_same, eq_sym}
 use Rattle.sh_core.proofs.RestSteps.{face, rest_frame}
 use Rattle.sh_core.proofs.StackKinds.{apart_pages}
+use Rattle.sh_core.proofs.Tests.{eqb-comm, if1_neither, cond_either}
+use Rattle.sh_core.proofs.ListCounts.{has_some}
+use Rattle.sh_core.proofs.ClassSlots.{room_placed}
 
 -- a part that shows the same of lists, bells, duties and owners
 abbrev pub Plain : Plan → (ℕ → ℕ) → Body → Body → Type 0
 Plain plan class p u = (face plan u ≡ face plan p) × HomedPart plan class u
 
-pub plain_cond : (plan : Plan) (class : ℕ → ℕ) (p : Body) (b : Bool) (u v : Body) → Plain plan class p u
-    → Plain plan class p v → Plain plan class p (cond b u v)
-plain_cond plan class p true u v x y = x
-plain_cond plan class p false u v x y = y
-
 pub plain_hand : (plan : Plan) (class : ℕ → ℕ) (p q : Body) (b : Bool) (h k : Hand) → Plain plan class p (hand q h)
     → Plain plan class p (hand q k) → Plain plan class p (hand q (cond b h k))
-plain_hand plan class p q true h k x y = x
-plain_hand plan class p q false h k x y = y
+plain_hand plan class p q b h k = cond_either (λ u. Plain plan class p (hand q u)) b h k
 
 -- a step on a state word by a part that shows the same
 pub all_state : (plan : Plan) (w : World) (l : PutLists) (a : ℕ) (p : Body) (x : Spot) (operation : Operation)
@@ -68,28 +61,26 @@ pub all_state : (plan : Plan) (w : World) (l : PutLists) (a : ℕ) (p : Body) (x
 unfolding apply
 all_state plan w l a p x operation part reply old at good plain sound = record {
   good = good;
-  rest = rest_frame plan w.words.class_at w.words.head_at w.words.page_link_at w.words.bell_at w.words.owner_at
-      w.words.link_at w.parts l a p
-      (part (w.words.state_at x.page x.slot)) old.rest at plain.0 plain.1;
+  rest = rest_frame plan w.words w.parts l a p (part (w.words.state_at x.page x.slot)) old.rest at plain.0 plain.1;
   sound = sound;
 }
 
-still : (plan : Plan) (w : Words) (x : Spot) (n : ℕ) (c : ℕ) → SoundOf plan w → fields_of n
+sound_count : (plan : Plan) (w : Words) (x : Spot) (n : ℕ) (c : ℕ) → SoundOf plan w → fields_of n
     ≡ record (fields_of (w.state_at x.page x.slot)) { count = c } → SoundOf plan (write w (State x.page x.slot) n)
-still plan w x n c old e = sound_still plan w x n old (ap (λ (t : Fields). t.generation) e)
+sound_count plan w x n c old e = sound_still plan w x n old (ap (λ (t : Fields). t.generation) e)
     (ap (λ (t : Fields). t.marked) e) (ap (λ (t : Fields). t.present) e)
 
-pub kept_enter_get : (plan : Plan) (w : World) (l : PutLists) (a : ℕ) (p : Body) (k : ℕ) (y : Name) → Lawful plan
+pub all_enter_get : (plan : Plan) (w : World) (l : PutLists) (a : ℕ) (p : Body) (k : ℕ) (y : Name) → Lawful plan
     → All plan w l → slice_get w.parts a ≡ Some (hand p Idle) → plan.keys.unpack k ≡ Some y → length p.holds < 16
     → All plan (apply w a (enter_get plan (hand p Idle) k y)) l
-kept_enter_get plan w l a p k y laws old at name fewer =
+all_enter_get plan w l a p k y laws old at name fewer =
     let h = old.rest.homed a (hand p Idle) at in
     all_state plan w l a (hand p Idle) (spot_of y) _ _ _ old at
     (good (live_at y.generation n) (nat_lt (fields_of n).count plan.keys.guard_max) refl refl)
-    (plain_cond plan w.words.class_at (hand p Idle) (live_at y.generation n && nat_lt (fields_of n).count
+    (cond_either (Plain plan w.words.class_at (hand p Idle)) (live_at y.generation n && nat_lt (fields_of n).count
     plan.keys.guard_max) (record p { holds = k ∷ p.holds; hand = Idle }) (hand p (Leaving (spot_of y))) (refl, h)
     (refl, h))
-    (still plan w.words (spot_of y) (n + 1) _ old.sound (fields_of-entered n
+    (sound_count plan w.words (spot_of y) (n + 1) _ old.sound (fields_of-entered n
     (room_to_enter plan w l (spot_of y) laws old.good))) where
       n : ℕ
       n = w.words.state_at y.page y.slot
@@ -100,15 +91,15 @@ kept_enter_get plan w l a p k y laws old at name fewer =
       good true true e f = good_got plan w l a p k y laws old.good at name fewer e f
       good true false e f = good_crowded plan w l a p k y laws old.good at name e f
 
-pub kept_enter_remove : (plan : Plan) (w : World) (l : PutLists) (a : ℕ) (p : Body) (k : ℕ) (y : Name) → Lawful plan
+pub all_enter_remove : (plan : Plan) (w : World) (l : PutLists) (a : ℕ) (p : Body) (k : ℕ) (y : Name) → Lawful plan
     → All plan w l → slice_get w.parts a ≡ Some (hand p Idle) → plan.keys.unpack k ≡ Some y
     → All plan (apply w a (enter_remove plan (hand p Idle) k y)) l
-kept_enter_remove plan w l a p k y laws old at name =
+all_enter_remove plan w l a p k y laws old at name =
     let h = old.rest.homed a (hand p Idle) at in
     all_state plan w l a (hand p Idle) (spot_of y) _ _ _ old at (good (live_at y.generation n) refl)
     (plain_hand plan w.words.class_at (hand p Idle) p (live_at y.generation n) (Removing k) (Leaving (spot_of y))
     (refl, h) (refl, h))
-    (still plan w.words (spot_of y) (n + 1) _ old.sound (fields_of-entered n
+    (sound_count plan w.words (spot_of y) (n + 1) _ old.sound (fields_of-entered n
     (room_to_enter plan w l (spot_of y) laws old.good))) where
       n : ℕ
       n = w.words.state_at y.page y.slot
@@ -117,10 +108,10 @@ kept_enter_remove plan w l a p k y laws old at name =
       good false e = good_remove_gone plan w l a p k y laws old.good at name e
       good true e = good_enter_remove plan w l a p k y laws old.good at name e
 
-pub kept_mark : (plan : Plan) (w : World) (l : PutLists) (a : ℕ) (p : Body) (k : ℕ) (y : Name) → Lawful plan
+pub all_mark : (plan : Plan) (w : World) (l : PutLists) (a : ℕ) (p : Body) (k : ℕ) (y : Name) → Lawful plan
     → All plan w l → slice_get w.parts a ≡ Some (hand p (Removing k)) → plan.keys.unpack k ≡ Some y
     → All plan (apply w a (mark (hand p (Removing k)) k y)) l
-kept_mark plan w l a p k y laws old at name =
+all_mark plan w l a p k y laws old at name =
     let n : ℕ = w.words.state_at y.page y.slot in
     let c = is_current _ _ (fields_of n) plan w.parts a p k y name at (old.good.slots (spot_of y)) in
     all_state plan w l a (hand p (Removing k)) (spot_of y) _ _ _ old at
@@ -129,9 +120,9 @@ kept_mark plan w l a p k y laws old at name =
     (let g = old.sound.generations y.page y.slot in rw (fields_of-or_mark n) g)
     (λ _. old.sound.lengths y.page y.slot (rw c.0 refl)))
 
-pub kept_drop_hand : (plan : Plan) (w : World) (l : PutLists) (a : ℕ) (p : Body) (x : Spot) → All plan w l
+pub all_drop_hand : (plan : Plan) (w : World) (l : PutLists) (a : ℕ) (p : Body) (x : Spot) → All plan w l
     → slice_get w.parts a ≡ Some (hand p (Leaving x)) → All plan (apply w a (drop_hand (hand p (Leaving x)) x)) l
-kept_drop_hand plan w l a p x old at =
+all_drop_hand plan w l a p x old at =
     let n : ℕ = w.words.state_at x.page x.slot in
     let h = old.rest.homed a (hand p (Leaving x)) at in
     let f = old.good.slots x in
@@ -141,12 +132,12 @@ kept_drop_hand plan w l a p x old at =
     (plain_hand plan w.words.class_at (hand p (Leaving x)) p
     ((fields_of n).present && (fields_of n).marked && ((fields_of n).count == 1))
     (Finishing x (fields_of n).generation) Idle (refl, h) (refl, h))
-    (still plan w.words x (n - 1) _ old.sound (fields_of-sub n some))
+    (sound_count plan w.words x (n - 1) _ old.sound (fields_of-sub n some))
 
-pub kept_drop_key : (plan : Plan) (w : World) (l : PutLists) (a : ℕ) (p : Body) (k : ℕ) (y : Name) → All plan w l
+pub all_drop_key : (plan : Plan) (w : World) (l : PutLists) (a : ℕ) (p : Body) (k : ℕ) (y : Name) → All plan w l
     → slice_get w.parts a ≡ Some (hand p Idle) → plan.keys.unpack k ≡ Some y → has (λ j. j == k) p.holds ≡ true
     → All plan (apply w a (drop_key (hand p Idle) k y)) l
-kept_drop_key plan w l a p k y old at name is =
+all_drop_key plan w l a p k y old at name is =
     let n : ℕ = w.words.state_at y.page y.slot in
     let x : Spot = spot_of y in
     let h = old.rest.homed a (hand p Idle) at in
@@ -154,14 +145,14 @@ kept_drop_key plan w l a p k y old at name is =
     let e = same_spot-refl x in
     let here : if1 (at_spot x (plan.keys.unpack k)) ≡ 1 = rw (name, e) refl in
     let less = total_without (λ j. if1 (at_spot x (plan.keys.unpack j))) (λ j. j == k) 1
-    (λ j t. let i = same_page j k t in rw i here) p.holds is in
+    (λ j t. let i = eqb-true j k t in rw i here) p.holds is in
     let v = total_at (held plan x) w.parts a (hand p Idle) at in
     let some : 0 < (fields_of n).count = omega arith in
     all_state plan w l a (hand p Idle) x _ _ _ old at (good_drop_key plan w l a p k y old.good at name is)
     (plain_hand plan w.words.class_at (hand p Idle) (freed p k)
     ((fields_of n).present && (fields_of n).marked && ((fields_of n).count == 1))
     (Finishing x (fields_of n).generation) Idle (refl, h) (refl, h))
-    (still plan w.words x (n - 1) _ old.sound (fields_of-sub n some))
+    (sound_count plan w.words x (n - 1) _ old.sound (fields_of-sub n some))
 
 -- one more of `mine`, on a page of the own shard
 pub mine_more : (plan : Plan) (class : ℕ → ℕ) (p : Body) (x : Spot) → own plan p x.page ≡ true → HomedPart plan class p
@@ -170,7 +161,7 @@ unfolding total
 mine_more plan class p x mine h = record {
   mines = λ y e. let z = h.mines y e
       in let f = apart_pages plan p.owned x.page y.page mine e in let g : if1 (same_spot y x)
-      ≡ 0 = rw (eq_sym y.page x.page, f) refl in omega arith;
+      ≡ 0 = rw (eqb-comm y.page x.page, f) refl in omega arith;
   points = h.points;
   arms = h.arms;
   bell = h.bell;
@@ -197,10 +188,10 @@ finish_next plan g n = cond (n == marked_word g)
     (word_of (record { generation = g + 1; marked = false; present = false; count = 0 })))
     n
 
-pub kept_finish : (plan : Plan) (w : World) (l : PutLists) (a : ℕ) (p : Body) (x : Spot) (g : ℕ) → All plan w l
+pub all_finish : (plan : Plan) (w : World) (l : PutLists) (a : ℕ) (p : Body) (x : Spot) (g : ℕ) → All plan w l
     → slice_get w.parts a ≡ Some (hand p (Finishing x g)) → All plan
     (apply w a (finish plan (hand p (Finishing x g)) x g)) l
-kept_finish plan w l a p x g old at = go (n == marked_word g) (g == plan.keys.gen_max) (own plan p x.page) refl refl
+all_finish plan w l a p x g old at = go (n == marked_word g) (g == plan.keys.gen_max) (own plan p x.page) refl refl
     refl where
       n : ℕ
       n = w.words.state_at x.page x.slot
@@ -226,26 +217,28 @@ kept_finish plan w l a p x g old at = go (n == marked_word g) (g == plan.keys.ge
       go true true d e f o = all_state plan w l a (hand p (Finishing x g)) x _ _ _ old at
           (good_finish_last plan w l a p x g old.good at e f) (plain (n == marked_word g) (g == plan.keys.gen_max)
           (own plan p x.page) refl)
-          (let i : finish_next plan g n ≡ word_of (retired g) = rw (e, f) refl in let P : ℕ
+          (let i : finish_next plan g n ≡ word_of (retired_fields g) = rw (e, f) refl in let P : ℕ
           → Type 0 = λ m. SoundOf plan (write w.words (State x.page x.slot) m)
-          in subst P (sym i) (sound_state plan w.words x (word_of (retired g)) old.sound
-          (rw (fields_of-word_of (retired g) (omega arith)) range) (λ _. old.sound.lengths x.page x.slot there))) where
-            s : fields_of n ≡ record { generation = g; marked = true; present = true; count = 0 }
-            s = found_is plan w l a p x g old.good at e
+          in subst P (sym i) (sound_state plan w.words x (word_of (retired_fields g)) old.sound
+          (rw (fields_of-word_of (retired_fields g) (omega arith)) range) (λ _. old.sound.lengths x.page x.slot there)))
+        where
+          s : fields_of n ≡ record { generation = g; marked = true; present = true; count = 0 }
+          s = found_is plan w l a p x g old.good at e
 
-            range : (0 < g) × (g ≤ plan.keys.gen_max)
-            range = let P : Fields → Type 0 = λ t. (0 < t.generation) × (t.generation ≤ plan.keys.gen_max)
-                in subst P s (old.sound.generations x.page x.slot)
+          range : (0 < g) × (g ≤ plan.keys.gen_max)
+          range = let P : Fields → Type 0 = λ t. (0 < t.generation) × (t.generation ≤ plan.keys.gen_max)
+              in subst P s (old.sound.generations x.page x.slot)
 
-            there : ((fields_of n).present || (fields_of n).marked) ≡ true
-            there = rw s refl
+          there : ((fields_of n).present || (fields_of n).marked) ≡ true
+          there = rw s refl
       go true false d e f o = all_state plan w l a (hand p (Finishing x g)) x _ _ _ old at (good d o)
           (plain (n == marked_word g) (g == plan.keys.gen_max) (own plan p x.page) refl)
-          (let i : finish_next plan g n ≡ word_of (reused g) = rw (e, f) refl in let P : ℕ
+          (let i : finish_next plan g n ≡ word_of (reused_fields g) = rw (e, f) refl in let P : ℕ
           → Type 0 = λ m. SoundOf plan (write w.words (State x.page x.slot) m)
-          in subst P (sym i) (sound_state plan w.words x (word_of (reused g)) old.sound
-          (rw (fields_of-word_of (reused g) (omega arith)) range)
-          (λ z. let y : (false || false) ≡ true = rw (fields_of-word_of (reused g) (omega arith)) at z in absurd (cc))))
+          in subst P (sym i) (sound_state plan w.words x (word_of (reused_fields g)) old.sound
+          (rw (fields_of-word_of (reused_fields g) (omega arith)) range)
+          (λ z. let y : (false || false) ≡ true = rw (fields_of-word_of (reused_fields g) (omega arith)) at z
+          in absurd (cc))))
         where
           s : fields_of n ≡ record { generation = g; marked = true; present = true; count = 0 }
           s = found_is plan w l a p x g old.good at e
@@ -257,46 +250,31 @@ kept_finish plan w l a p x g old at = go (n == marked_word g) (g == plan.keys.ge
               let r0 = r.0 in
               let r1 = r.1 in
               let k : g ≢ plan.keys.gen_max = (λ z. let y : (g == plan.keys.gen_max)
-              ≡ true = rw z (page_same plan.keys.gen_max) in let v : true ≡ false = sym y ∙ f in cc)
+              ≡ true = rw z (eq-eqb plan.keys.gen_max plan.keys.gen_max refl) in let v : true ≡ false = sym y ∙ f in cc)
               in (omega arith, grind arith)
 
           good : (d : Bool) → own plan p x.page ≡ d → Good plan (apply w a (finish plan (hand p (Finishing x g)) x g)) l
           good true o = good_finish_mine plan w l a p x g old.good at e f o
           good false o = good_finish_hand plan w l a p x g old.good at e f o
 
--- a slot that is somewhere is a place of the shape
-pub place_of : (plan : Plan) (w : Words) (x : Spot) → SoundOf plan w → 0 < room w x → (x.page < heap_pages plan)
-    × (x.slot < 48)
-place_of plan w x sound h = go (nat_lt 0 (w.class_at x.page)) (nat_lt x.slot (slots (w.class_at x.page - 1))) refl refl
-  where
-    go : (b c : Bool) → nat_lt 0 (w.class_at x.page) ≡ b → nat_lt x.slot (slots (w.class_at x.page - 1)) ≡ c
-        → (x.page < heap_pages plan) × (x.slot < 48)
-    go false c e f = absurd (let z : room w x ≡ 0 = rw e refl in omega arith)
-    go true false e f = absurd (let z : room w x ≡ 0 = rw (e, f) refl in omega arith)
-    go true true e f =
-        let k = sound.classes x.page in
-        let k0 = k.0 in
-        let a : 0 < w.class_at x.page = lt_of 0 (w.class_at x.page) e in
-        let b : x.slot < slots (w.class_at x.page - 1) = lt_of x.slot (slots (w.class_at x.page - 1)) f in
-        let s = slots_few (w.class_at x.page - 1) in (k.1 a, omega arith)
-
-pub kept_publish : (plan : Plan) (w : World) (l : PutLists) (a : ℕ) (p : Body) (x : Spot) (v : List ℕ) (i : ℕ)
+pub all_publish : (plan : Plan) (w : World) (l : PutLists) (a : ℕ) (p : Body) (x : Spot) (v : List ℕ) (i : ℕ)
     → Lawful plan → All plan w l → slice_get w.parts a ≡ Some (hand p (Filling x v i)) → length v ≤ i
     → All plan (apply w a (publish plan (hand p (Filling x v i)) x v)) l
-kept_publish plan w l a p x v i laws old at all =
+all_publish plan w l a p x v i laws old at all =
     let n : ℕ = w.words.state_at x.page x.slot in
     let f = old.good.slots x in
-    let e = same_spot-refl x in
-    let one : if1 (same_spot x x) ≡ 1 = rw e refl in
+    let one = if1_same_spot x in
     let t = total_at (in_hand x) w.parts a (hand p (Filling x v i)) at in
     let g = old.sound.generations x.page x.slot in
-    let s = place_of plan w.words x old.sound (omega arith) in
+    let s = room_placed plan w.words x old.sound (omega arith) in
+    let few = slots_few (w.words.class_at x.page - 1) in
     let fill = (old.good.parts a (hand p (Filling x v i)) at).1 in
     all_state plan w l a (hand p (Filling x v i)) x _ _ _ old at
     (good_publish plan w l a p x v i laws old.good at all
-    (laws.names (name_at x (fields_of n).generation) g.0 g.1 s.0 s.1))
+    (laws.names (name_at x (fields_of n).generation) g.0 g.1 s.0 (let small = s.1 in omega arith)))
     (refl, old.rest.homed a (hand p (Filling x v i)) at)
-    (sound_state plan w.words x (bit_or n (2 ^ 30)) old.sound (rw (fields_of-or_present n) g) (λ _. rw fill.0 fill.2))
+    (sound_state plan w.words x (bit_or n (2 ^ 30)) old.sound (rw (fields_of-or_present n) g)
+    (λ _. rw fill.length_is fill.fits))
 
 noted_class : (o : Option ℕ) → 0 < (elim o as (λ _. ℕ) [ Some c ↦ c | None ↦ 0 ]) → o
     ≡ Some (elim o as (λ _. ℕ) [ Some c ↦ c | None ↦ 0 ])
@@ -310,37 +288,35 @@ pub class_noted : (plan : Plan) (w : World) (l : PutLists) (a : ℕ) (p : Body) 
 class_noted plan w l a p q old at mine some = sym ((old.rest.homed a p at).notes q (class_word_noted p q) mine
     (noted_class (noted q p.classes) some)).0
 
-pub kept_fill_slot : (plan : Plan) (w : World) (l : PutLists) (a : ℕ) (p : Body) (x : Spot) (v : List ℕ) → All plan w l
+pub all_fill_slot : (plan : Plan) (w : World) (l : PutLists) (a : ℕ) (p : Body) (x : Spot) (v : List ℕ) → All plan w l
     → slice_get w.parts a ≡ Some (hand p Idle) → own plan p x.page ≡ true → has (same_spot x) p.mine ≡ true
     → 0 < class_word_noted p x.page → length v ≤ width (class_word_noted p x.page - 1)
     → All plan (apply w a (fill_slot (hand p Idle) x v)) l
 unfolding apply
-kept_fill_slot plan w l a p x v old at mine is some fits =
+all_fill_slot plan w l a p x v old at mine is some fits =
     let c = class_noted plan w l a (hand p Idle) x.page old at mine some in
     let f = old.good.slots x in
     let m = total_at (mine_at x) w.parts a (hand p Idle) at in
-    let t = total_without (λ y. if1 (same_spot x y)) (same_spot x) 1 (λ y h. rw h refl) p.mine is in
+    let t = has_some (same_spot x) p.mine is in
     let r = room_few w.words x in
     let P : ℕ → Type 0 = λ k. length v ≤ width (k - 1) in
     record {
       good = good_fill_slot plan w l a p x v old.good at is c (subst P c fits);
-      rest = rest_frame plan w.words.class_at w.words.head_at w.words.page_link_at w.words.bell_at w.words.owner_at
-          w.words.link_at w.parts l a (hand p Idle) (hand (record p { mine = without (same_spot x) p.mine })
+      rest = rest_frame plan w.words w.parts l a (hand p Idle) (hand (record p { mine = without (same_spot x) p.mine })
           (Filling x v 0)) old.rest at refl
           (mine_less plan w.words.class_at p x is (old.rest.homed a (hand p Idle) at));
       sound = sound_length plan w.words x (length v) old.sound
-          (no_or (fields_of (w.words.state_at x.page x.slot)).present
+          (if1_neither (fields_of (w.words.state_at x.page x.slot)).present
           (fields_of (w.words.state_at x.page x.slot)).marked (omega arith));
     }
 
-pub kept_fill : (plan : Plan) (w : World) (l : PutLists) (a : ℕ) (p : Body) (x : Spot) (v : List ℕ) (i : ℕ)
+pub all_fill : (plan : Plan) (w : World) (l : PutLists) (a : ℕ) (p : Body) (x : Spot) (v : List ℕ) (i : ℕ)
     → All plan w l → slice_get w.parts a ≡ Some (hand p (Filling x v i)) → i < length v
     → All plan (apply w a (fill (hand p (Filling x v i)) x v i)) l
 unfolding apply
-kept_fill plan w l a p x v i old at less = record {
+all_fill plan w l a p x v i old at less = record {
   good = good_fill plan w l a p x v i old.good old.sound at less;
-  rest = rest_frame plan w.words.class_at w.words.head_at w.words.page_link_at w.words.bell_at w.words.owner_at
-      w.words.link_at w.parts l a (hand p (Filling x v i)) (hand p (Filling x v (i + 1))) old.rest at refl
+  rest = rest_frame plan w.words w.parts l a (hand p (Filling x v i)) (hand p (Filling x v (i + 1))) old.rest at refl
       (old.rest.homed a (hand p (Filling x v i)) at);
   sound = old.sound;
 }
