@@ -1,6 +1,5 @@
 -- What the book of a pass gains by each of its calls.
-use Rattle.std.proofs.Common.{◌≡◌, ℕ, ◌<◌, ◌==◌, ◌||◌, true, false, List, ◌∷◌, refl, ap}
-use Rattle.std.proofs.Common.{sym, subst, arith, eq-eqb}
+use Rattle.std.proofs.Common.{◌≡◌, ℕ, ◌<◌, ◌==◌, true, false, List, refl, ap, sym, subst, arith, eq-eqb}
 use Rattle.std.specs.Prelude.{Result, Ok, Err}
 use Rattle.sh_history.specs.declared.log.LogEntry.TheVariants.{Unread}
 use Rattle.sh_history.specs.Log.{logged_holds_by}
@@ -10,27 +9,24 @@ use Rattle.sh_value.specs.declared.hold.Hold.{Hold}
 use Rattle.sh_value.specs.declared.refusal.Refusal.{Refusal}
 use Rattle.sh_value.specs.declared.refusal.Refusal.TheVariants as refusal
 use Rattle.sh_step.specs.Collections.{has}
+use Rattle.sh_step.proofs.ListLaws.{has_front}
 use Rattle.sh_table.specs.declared.view.View.{View}
 use Rattle.sh_table.specs.Tales.{ViewStands}
 use Rattle.sh_pass.specs.Passes.{Caller, holds, GetDoes, ReadDoes, RemoveDoes, ReleaseDoes}
 use Rattle.sh_pass.specs.Lookups.{caller_book, caller_setting}
 use Rattle.sh_pass.proofs.HeldLaws.{some_times, no_times}
 
-log_is : (v w : Caller) → w ≡ v → w.view.own.log ≡ v.view.own.log
-log_is v w e = ap (λ (z : Caller). z.view.own.log) e
+log_same : (v w : Caller) → w ≡ v → w.view.own.log ≡ v.view.own.log
+log_same v w e = ap (λ (z : Caller). z.view.own.log) e
 
 -- a key among the holds is held, as the log tells too
 held_now : (layout : Layout) (v : View) (key : ℕ) → ViewStands layout v → has (λ k. k == key) v.own.body.holds ≡ true
     → 0 < logged_holds_by v.own.log v.pass key
 held_now layout v key s here = let a = some_times key v.own.body.holds here in let b = s.holds key in omega arith
 
-not_held : (layout : Layout) (v : View) (key : ℕ) → ViewStands layout v → has (λ k. k == key) v.own.body.holds ≡ false
+none_held : (layout : Layout) (v : View) (key : ℕ) → ViewStands layout v → has (λ k. k == key) v.own.body.holds ≡ false
     → logged_holds_by v.own.log v.pass key ≡ 0
-not_held layout v key s none = let a = no_times key v.own.body.holds none in let b = s.holds key in omega arith
-
-has_first : (key : ℕ) (xs : List ℕ) → has (λ k. k == key) (key ∷ xs) ≡ true
-unfolding has
-has_first key xs = ap (λ b. b || has (λ k. k == key) xs) (eq-eqb key key refl)
+none_held layout v key s none = let a = no_times key v.own.body.holds none in let b = s.holds key in omega arith
 
 pub get_leaves : (layout : Layout) (key : ℕ) (o n : Caller) (r : Result Hold Refusal)
     → ViewStands layout n.view → GetDoes layout key o r n
@@ -38,85 +34,37 @@ pub get_leaves : (layout : Layout) (key : ℕ) (o n : Caller) (r : Result Hold R
 get_leaves layout key o n (Ok hold) s k =
     let adds = k.3 in
     let here : has (λ j. j == key) (holds n) ≡ true = subst (λ xs. has (λ j. j == key) xs ≡ true)
-    (sym adds.holds) (has_first key (holds o)) in (
+    (sym adds.holds) (has_front (λ j. j == key) key (holds o) (eq-eqb key key refl)) in (
       k.0,
       (Unread o.view.pass key, (refl, refl), adds.log),
       subst
           (λ a. 0 < logged_holds_by (caller_book n) a key) adds.same.pass
           (held_now layout n.view key s here),
     )
-get_leaves layout key o n (Err refusal.BadKey) s k = log_is o n k.1
+get_leaves layout key o n (Err refusal.BadKey) s k = log_same o n k.1
 get_leaves layout key o n (Err refusal.Gone) s k = k.2.log
 get_leaves layout key o n (Err refusal.Crowded) s k = k.2.log
-get_leaves layout key o n (Err refusal.HoldsFull) s k = log_is o n k.2
-get_leaves layout key o n (Err refusal.NotHeld) s k = absurd k
-get_leaves layout key o n (Err refusal.TooLong) s k = absurd k
-get_leaves layout key o n (Err refusal.Full) s k = absurd k
-get_leaves layout key o n (Err refusal.Memory) s k = absurd k
-get_leaves layout key o n (Err refusal.Taken) s k = absurd k
-get_leaves layout key o n (Err refusal.NoShard) s k = absurd k
-get_leaves layout key o n (Err refusal.Waiting) s k = absurd k
-get_leaves layout key o n (Err refusal.BadShape) s k = absurd k
-get_leaves layout key o n (Err refusal.WrongKind) s k = absurd k
+get_leaves layout key o n (Err refusal.HoldsFull) s k = log_same o n k.2
+get_leaves layout key o n (Err _) s k = absurd k
 
 pub read_leaves : (layout : Layout) (key : ℕ) (o n : Caller) (r : Result (List ℕ) Refusal)
     → ViewStands layout o.view → ReadDoes key o r n
     → ReadLeaves (caller_setting layout o) key (caller_book o) r (caller_book n)
 read_leaves layout key o n (Ok value) s k = (held_now layout o.view key s k.0, k.1.log, k.1.value_is)
-read_leaves layout key o n (Err refusal.BadKey) s k = absurd k
-read_leaves layout key o n (Err refusal.Gone) s k = absurd k
-read_leaves layout key o n (Err refusal.Crowded) s k = absurd k
-read_leaves layout key o n (Err refusal.HoldsFull) s k = absurd k
-read_leaves layout key o n (Err refusal.NotHeld) s k = (
-  not_held layout o.view key s k.0,
-  log_is
-      o n k.1,
-)
-read_leaves layout key o n (Err refusal.TooLong) s k = absurd k
-read_leaves layout key o n (Err refusal.Full) s k = absurd k
-read_leaves layout key o n (Err refusal.Memory) s k = absurd k
-read_leaves layout key o n (Err refusal.Taken) s k = absurd k
-read_leaves layout key o n (Err refusal.NoShard) s k = absurd k
-read_leaves layout key o n (Err refusal.Waiting) s k = absurd k
-read_leaves layout key o n (Err refusal.BadShape) s k = absurd k
-read_leaves layout key o n (Err refusal.WrongKind) s k = absurd k
+read_leaves layout key o n (Err refusal.NotHeld) s k = (none_held layout o.view key s k.0, log_same o n k.1)
+read_leaves layout key o n (Err _) s k = absurd k
 
 pub remove_leaves : (layout : Layout) (key : ℕ) (o n : Caller) (r : Result (Unit {0}) Refusal)
     → RemoveDoes layout key o r n
     → RemoveLeaves (caller_setting layout o) key (caller_book o) r (caller_book n)
 remove_leaves layout key o n (Ok u) k = k.1.log
-remove_leaves layout key o n (Err refusal.BadKey) k = log_is o n k.1
+remove_leaves layout key o n (Err refusal.BadKey) k = log_same o n k.1
 remove_leaves layout key o n (Err refusal.Gone) k = k.1.log
-remove_leaves layout key o n (Err refusal.Crowded) k = absurd k
-remove_leaves layout key o n (Err refusal.HoldsFull) k = absurd k
-remove_leaves layout key o n (Err refusal.NotHeld) k = absurd k
-remove_leaves layout key o n (Err refusal.TooLong) k = absurd k
-remove_leaves layout key o n (Err refusal.Full) k = absurd k
-remove_leaves layout key o n (Err refusal.Memory) k = absurd k
-remove_leaves layout key o n (Err refusal.Taken) k = absurd k
-remove_leaves layout key o n (Err refusal.NoShard) k = absurd k
-remove_leaves layout key o n (Err refusal.Waiting) k = absurd k
-remove_leaves layout key o n (Err refusal.BadShape) k = absurd k
-remove_leaves layout key o n (Err refusal.WrongKind) k = absurd k
+remove_leaves layout key o n (Err _) k = absurd k
 
 pub release_leaves : (layout : Layout) (key : ℕ) (o n : Caller) (r : Result (Unit {0}) Refusal)
     → ViewStands layout o.view → ReleaseDoes layout key o r n
     → ReleaseLeaves (caller_setting layout o) key (caller_book o) r (caller_book n)
 release_leaves layout key o n (Ok u) s k = (held_now layout o.view key s k.0, k.1.log)
-release_leaves layout key o n (Err refusal.BadKey) s k = absurd k
-release_leaves layout key o n (Err refusal.Gone) s k = absurd k
-release_leaves layout key o n (Err refusal.Crowded) s k = absurd k
-release_leaves layout key o n (Err refusal.HoldsFull) s k = absurd k
-release_leaves layout key o n (Err refusal.NotHeld) s k = (
-  not_held layout o.view key s k.0,
-  log_is
-      o n k.1,
-)
-release_leaves layout key o n (Err refusal.TooLong) s k = absurd k
-release_leaves layout key o n (Err refusal.Full) s k = absurd k
-release_leaves layout key o n (Err refusal.Memory) s k = absurd k
-release_leaves layout key o n (Err refusal.Taken) s k = absurd k
-release_leaves layout key o n (Err refusal.NoShard) s k = absurd k
-release_leaves layout key o n (Err refusal.Waiting) s k = absurd k
-release_leaves layout key o n (Err refusal.BadShape) s k = absurd k
-release_leaves layout key o n (Err refusal.WrongKind) s k = absurd k
+release_leaves layout key o n (Err refusal.NotHeld) s k = (none_held layout o.view key s k.0, log_same o n k.1)
+release_leaves layout key o n (Err _) s k = absurd k

@@ -1,6 +1,6 @@
 -- What a call leaves of what an owner knows.
-use Rattle.std.proofs.Common.{◌≡◌, ℕ, zero, suc, ◌+◌, ◌*◌, ◌/◌, ◌%◌, ◌<◌, ◌==◌, ◌&&◌, ◌||◌, Bool, true, false}
-use Rattle.std.proofs.Common.{cond, Option, Some, None, List, ◌∷◌, refl, ap, ◌∙◌, sym, subst, arith, mod-lt}
+use Rattle.std.proofs.Common.{◌≡◌, ℕ, zero, suc, ◌+◌, ◌*◌, ◌/◌, ◌%◌, ◌<◌, ◌==◌, ◌&&◌, Bool, true, false, Option, Some}
+use Rattle.std.proofs.Common.{None, List, ◌∷◌, refl, ap, ◌∙◌, sym, subst, arith, mod-lt}
 use Rattle.std.proofs.lemmas.Bool.{false≢true}
 use Rattle.sh_history.specs.declared.log.LogEntry.{LogEntry}
 use Rattle.sh_key.specs.Layout.{Layout}
@@ -19,11 +19,11 @@ use Rattle.sh_step.specs.Footsteps.{at_link, at_belled, did_find}
 use Rattle.sh_step.specs.Kinds.{kind_of_action}
 use Rattle.sh_step.specs.Plans.{Plan, plan_of, home, local}
 use Rattle.sh_step.proofs.ConditionLaws.{owns_is}
+use Rattle.sh_step.proofs.ListLaws.{has_front, without_front}
 use Rattle.sh_table.specs.Tales.{OwnerStands, ViewStands}
 use Rattle.sh_pass.specs.Growing.{Grows, SameTale, SameOwn, CallsAlone, IsOfShard, is_of_call, with_slot}
 use Rattle.sh_pass.specs.Passes.{Caller}
-use Rattle.sh_pass.specs.Owners.{CallLeaves, SlotCame, SameBells, SeenPage, own_body}
-use Rattle.sh_pass.specs.Owners.{seen_page, page_with}
+use Rattle.sh_pass.specs.Owners.{CallLeaves, SlotCame, SameBells, SeenPage, own_body, seen_page, page_with}
 use Rattle.sh_pass.proofs.OwnNotes.{self, one_more, one_more_else}
 
 -- ---- no step of a call takes from a page or from a bell, follows or arms
@@ -79,14 +79,6 @@ some_pages : (s p q : ℕ) → q < s * p → 0 < p
 some_pages s zero q less = absurd (omega arith)
 some_pages s (suc p) q less = omega arith
 
-has_first : (z : Spot) (zs : List Spot) → same_spot z z ≡ true → has (same_spot z) (z ∷ zs) ≡ true
-unfolding has
-has_first z zs e = ap (λ b. b || has (same_spot z) zs) e
-
-without_first : (z : Spot) (zs : List Spot) → same_spot z z ≡ true → without (same_spot z) (z ∷ zs) ≡ zs
-unfolding without
-without_first z zs e = ap (λ b. cond b zs (z ∷ without (same_spot z) zs)) e
-
 local_lt : (plan : Plan) (q : ℕ) → 0 < plan.pages → local plan q < plan.pages
 unfolding local
 local_lt plan q some = mod-lt q some
@@ -99,19 +91,19 @@ module _ (layout : Layout) (v w : Caller) (same : SameTale v.view w.view) (alone
   abbrev plan : Plan
   plan = plan_of layout v.view.shape
 
-  bells : (own_body w).bell_cursor ≡ (own_body v).bell_cursor → SameBells layout v w
-  bells cursor n i = record {
+  bells_left : (own_body w).bell_cursor ≡ (own_body v).bell_cursor → SameBells layout v w
+  bells_left cursor n i = record {
     cursor = cursor i;
     takes = alone (takes_bell n) (no_take_bell n) i;
     met = (ap (λ (s : Numbers). Rattle.sh_step.specs.Footsteps.bell_met (plan_of layout s) n w.view.own.trail)
         same.shape ∙ alone (meets_bell plan n) (no_follow_bell plan n)) i;
   }
 
-  seen : (q : ℕ) (g : SeenPage) → ((s : ℕ) → has (same_spot (record { page = q; slot = s })) (own_body w).mine
+  page_left : (q : ℕ) (g : SeenPage) → ((s : ℕ) → has (same_spot (record { page = q; slot = s })) (own_body w).mine
       ≡ g.mine s) → noted q (own_body w).cursors ≡ g.cursor → has (λ y. y == q) (own_body w).armed ≡ g.armed
       → noted q (own_body w).classes ≡ g.class
       → (seen_page v q).takes ≡ g.takes → (seen_page v q).met ≡ g.met → seen_page w q ≡ g
-  seen q g mine cursor armed class takes met i = record {
+  page_left q g mine cursor armed class takes met i = record {
     mine = λ s. mine s i;
     cursor = cursor i;
     armed = armed i;
@@ -122,15 +114,16 @@ module _ (layout : Layout) (v w : Caller) (same : SameTale v.view w.view) (alone
 
   slot : (r : Option Spot) → SameOwn (with_slot (own_body v) r) (own_body w) → (own_body v).hand ≡ Idle
       → IsOfShard plan (own_body v) r → OwnerStands plan (own_body w) → SlotCame r v w
-  slot None own idle home stands = λ q. seen q (seen_page v q)
+  slot None own idle home stands = λ q. page_left q (seen_page v q)
       (λ s. ap (has (same_spot (record { page = q; slot = s }))) own.mine) (ap (noted q) own.cursors)
       (ap (has (λ y. y == q)) own.armed) (ap (noted q) own.classes) refl refl
   slot (Some x) own idle at stands =
       let p : Body = own_body v in
       let mine : (own_body w).mine ≡ x ∷ p.mine = own.mine in
       let here : same_spot x x ≡ true = rw (self x.page, self x.slot) refl in
-      let m = stands.mine x (ap (has (same_spot x)) mine ∙ has_first x p.mine here) in
-      let before : has (same_spot x) p.mine ≡ false = ap (has (same_spot x)) (sym (without_first x p.mine here))
+      let m = stands.mine x (ap (has (same_spot x)) mine ∙ has_front (same_spot x) x p.mine here) in
+      let before : has (same_spot x) p.mine ≡ false =
+      ap (has (same_spot x)) (sym (without_front (same_spot x) x p.mine here))
       ∙ (ap (λ ys. has (same_spot x) (without (same_spot x) ys)) (sym mine) ∙ stands.mine_once x) in
       let some : 0 < plan.pages = some_pages plan.shards plan.pages x.page m.1 in
       let y : PageName = record { shard = home plan x.page; page = local plan x.page } in (
@@ -140,11 +133,11 @@ module _ (layout : Layout) (v w : Caller) (same : SameTale v.view w.view) (alone
         m.2,
         before,
         record {
-          here = seen x.page (page_with (seen_page v x.page) x.slot)
+          here = page_left x.page (page_with (seen_page v x.page) x.slot)
               (λ s. ap (has (same_spot (record { page = x.page; slot = s }))) mine ∙ one_more x.page x.slot s p.mine)
               (ap (noted x.page) own.cursors) (ap (has (λ z. z == x.page)) own.armed) (ap (noted x.page) own.classes)
               refl refl;
-          others = λ q ne. seen q (seen_page v q) (λ s. ap (has (same_spot (record { page = q; slot = s }))) mine
+          others = λ q ne. page_left q (seen_page v q) (λ s. ap (has (same_spot (record { page = q; slot = s }))) mine
               ∙ one_more_else x.page q x.slot s p.mine ne) (ap (noted q) own.cursors) (ap (has (λ z. z == q)) own.armed)
               (ap (noted q) own.classes) refl refl;
         },
@@ -156,7 +149,7 @@ module _ (layout : Layout) (v w : Caller) (same : SameTale v.view w.view) (alone
     idle = over;
     same = same;
     owned = own.owned;
-    bells = bells own.bell;
+    bells = bells_left own.bell;
     arm = alone arms_page no_arm;
     slot = slot r own idle at (subst (λ (s : Numbers). OwnerStands (plan_of layout s) (own_body w)) same.shape
         stands.owner);

@@ -1,18 +1,19 @@
 -- What is noted of pages and slots after a change of the lists.
 use Rattle.std.proofs.Common.{◌≡◌, ◌≢◌, ℕ, zero, suc, ◌+◌, ◌-◌, ◌==◌, ◌&&◌, ◌||◌, Bool, true, false, cond, Some, None}
-use Rattle.std.proofs.Common.{List, [], ◌∷◌, ◌++◌, refl, ap, ◌∙◌, sym, subst, arith}
+use Rattle.std.proofs.Common.{List, [], ◌∷◌, ◌++◌, refl, ap, ◌∙◌, sym, subst, arith, eqb-true, eq-eqb, ne_eqb}
+use Rattle.std.proofs.Common.{true≢false}
 use Rattle.std.specs.Prelude.{nat_lt, nat_le, not}
+use Rattle.std.proofs.lemmas.Bool.{and_parts, and_right}
 use Rattle.std.proofs.lemmas.Bool.Decides.{nat_tests}
+use Rattle.std.proofs.Math.Bool.{and-false, and-true, or-false}
 use Rattle.sh_slots.specs.declared.hand.Spot.{Spot}
 use Rattle.sh_slots.specs.Slots.{same_spot, spots}
 use Rattle.sh_step.specs.Collections.{has, noted, without, off}
 use Rattle.sh_step.specs.Rows.{point, unpoint}
+use Rattle.sh_step.proofs.ListLaws.{has_in_both}
 
 pub self : (n : ℕ) → (n == n) ≡ true
-self n = grind (arith, nat_tests)
-
-pub unlike : (m n : ℕ) → m ≢ n → (m == n) ≡ false
-unlike m n h = grind (arith, nat_tests)
+self n = eq-eqb n n refl
 
 pub noted_point : (k q n : ℕ) (xs : List (ℕ × ℕ)) → noted q xs ≡ None → noted q (point k q n xs)
     ≡ cond (nat_lt n k) None (Some (n - k))
@@ -27,7 +28,7 @@ unfolding noted
 noted_point_else k q n r xs ne = go (nat_lt n k) where
   go : (b : Bool) → noted r (cond b xs ((q, n - k) ∷ xs)) ≡ noted r xs
   go true = refl
-  go false = ap (λ b. cond b (Some (n - k)) (noted r xs)) (unlike q r (λ e. ne (sym e)))
+  go false = ap (λ b. cond b (Some (n - k)) (noted r xs)) (ne_eqb q r (λ e. ne (sym e)))
 
 pub noted_unpoint_else : (q r : ℕ) (xs : List (ℕ × ℕ)) → r ≢ q → noted r (unpoint q xs) ≡ noted r xs
 unfolding noted without
@@ -35,7 +36,7 @@ noted_unpoint_else q r [] ne = refl
 noted_unpoint_else q r (x ∷ xs) ne = go (x.0 == q) refl (noted_unpoint_else q r xs ne) where
   go : (b : Bool) → (x.0 == q) ≡ b → noted r (unpoint q xs) ≡ noted r xs → noted r (cond b xs (x ∷ unpoint q xs))
       ≡ cond (x.0 == r) (Some x.1) (noted r xs)
-  go true e rest = let f : (x.0 == r) ≡ false = unlike x.0 r
+  go true e rest = let f : (x.0 == r) ≡ false = ne_eqb x.0 r
       (λ k. ne (let z : x.0 ≡ q = grind (arith, nat_tests) in sym k ∙ z))
       in ap (λ b. cond b (Some x.1) (noted r xs)) (sym f)
   go false e rest = ap (λ o. cond (x.0 == r) (Some x.1) o) rest
@@ -57,16 +58,12 @@ disarmed q xs false e = refl
 pub disarmed_else : (q r : ℕ) (xs : List ℕ) (b : Bool) → r ≢ q → has (λ x. x == r)
     (cond b (without (λ x. x == q) xs) xs) ≡ has (λ x. x == r) xs
 disarmed_else q r xs true ne = has_without_else (λ x. x == q) (λ x. x == r) xs
-    (λ x e. unlike x r (λ k. ne (let z : x ≡ q = grind (arith, nat_tests) in sym k ∙ z)))
+    (λ x e. ne_eqb x r (λ k. ne (let z : x ≡ q = grind (arith, nat_tests) in sym k ∙ z)))
 disarmed_else q r xs false ne = refl
 
 pub armed_else : (q r : ℕ) (xs : List ℕ) → r ≢ q → has (λ x. x == r) (q ∷ xs) ≡ has (λ x. x == r) xs
 unfolding has
-armed_else q r xs ne = ap (λ b. b || has (λ x. x == r) xs) (unlike q r (λ e. ne (sym e)))
-
-pub armed_now : (q : ℕ) (xs : List ℕ) → has (λ x. x == q) (q ∷ xs) ≡ true
-unfolding has
-armed_now q xs = ap (λ b. b || has (λ x. x == q) xs) (self q)
+armed_else q r xs ne = ap (λ b. b || has (λ x. x == r) xs) (ne_eqb q r (λ e. ne (sym e)))
 
 abbrev at : ℕ → ℕ → Spot
 at q s = record { page = q; slot = s }
@@ -79,44 +76,28 @@ one_more q s t xs = ap (λ b. (b && (t == s)) || has (same_spot (at q t)) xs) (s
 pub one_more_else : (q r s t : ℕ) (xs : List Spot) → r ≢ q → has (same_spot (at r t)) (at q s ∷ xs)
     ≡ has (same_spot (at r t)) xs
 unfolding has
-one_more_else q r s t xs ne = ap (λ b. (b && (t == s)) || has (same_spot (at r t)) xs) (unlike r q ne)
-
-both_true : (a b : Bool) → (a && b) ≡ true → (a ≡ true) × (b ≡ true)
-both_true true true e = (refl, refl)
-both_true true false e = absurd (let z : ⊥ = cc in z)
-both_true false b e = absurd (let z : ⊥ = cc in z)
+one_more_else q r s t xs ne = ap (λ b. (b && (t == s)) || has (same_spot (at r t)) xs) (ne_eqb r q ne)
 
 pub one_less_else : (q r s t : ℕ) (xs : List Spot) → r ≢ q → has (same_spot (at r t)) (without (same_spot (at q s)) xs)
     ≡ has (same_spot (at r t)) xs
 one_less_else q r s t xs ne = has_without_else (same_spot (at q s)) (same_spot (at r t)) xs (λ x e.
-    let k = both_true (q == x.page) (s == x.slot) e in
+    let k = and_parts (q == x.page) (s == x.slot) e in
     let z : q ≡ x.page = (let k0 = k.0 in grind (arith, nat_tests)) in
-    ap (λ b. b && (t == x.slot)) (unlike r x.page (λ j. ne (j ∙ sym z))))
+    ap (λ b. b && (t == x.slot)) (ne_eqb r x.page (λ j. ne (j ∙ sym z))))
 
 pub one_less : (q s t : ℕ) (xs : List Spot) → has (same_spot (at q s)) (without (same_spot (at q s)) xs) ≡ false
     → has (same_spot (at q t)) (without (same_spot (at q s)) xs) ≡ (has (same_spot (at q t)) xs && not (t == s))
 one_less q s t xs once = go (t == s) refl where
-  last : (b : Bool) → b ≡ (b && true)
-  last true = refl
-  last false = refl
-
-  none : (b : Bool) → false ≡ (b && false)
-  none true = refl
-  none false = refl
-
   go : (b : Bool) → (t == s) ≡ b → has (same_spot (at q t)) (without (same_spot (at q s)) xs)
       ≡ (has (same_spot (at q t)) xs && not b)
-  go true e = let z : t ≡ s = grind (arith, nat_tests) in subst
+  go true e = let z : t ≡ s = eqb-true t s e in subst
       (λ j. has (same_spot (at q j)) (without (same_spot (at q s)) xs) ≡ false) (sym z) once
-      ∙ none (has (same_spot (at q t)) xs)
+      ∙ sym (and-false (has (same_spot (at q t)) xs))
   go false e = has_without_else (same_spot (at q s)) (same_spot (at q t)) xs (λ x f.
-      let k = both_true (q == x.page) (s == x.slot) f in
-      let z : s ≡ x.slot = (let k1 = k.1 in grind (arith, nat_tests)) in
-      two (q == x.page) (unlike t x.slot (λ j. let y : true ≡ false = (sym (self t) ∙ ap (λ i. t == i) (j ∙ sym z)) ∙ e
-      in cc))) ∙ last (has (same_spot (at q t)) xs) where
-        two : (a : Bool) {b : Bool} → b ≡ false → (a && b) ≡ false
-        two true e = e
-        two false e = refl
+      let k = and_parts (q == x.page) (s == x.slot) f in
+      let z : s ≡ x.slot = eqb-true s x.slot k.1 in
+      and_right (q == x.page) (t == x.slot) (ap (λ i. t == i) (sym z) ∙ e))
+      ∙ sym (and-true (has (same_spot (at q t)) xs))
 
 -- ---- all slots of a page
 
@@ -128,7 +109,7 @@ none_off q t (x ∷ xs) = go (x.page == q) refl (none_off q t xs) where
       → has (same_spot (at q t)) (cond b (off (λ x. x.page == q) xs) (x ∷ off (λ x. x.page == q) xs)) ≡ false
   go true e rest = rest
   go false e rest = ap (λ b. (b && (t == x.slot)) || has (same_spot (at q t)) (off (λ x. x.page == q) xs))
-      (unlike q x.page (λ k. let z : true ≡ false = (sym (self q) ∙ ap (λ i. i == q) k) ∙ e in cc)) ∙ rest
+      (ne_eqb q x.page (λ k. let z : true ≡ false = (sym (self q) ∙ ap (λ i. i == q) k) ∙ e in cc)) ∙ rest
 
 off_else : (q r t : ℕ) (xs : List Spot) → r ≢ q → has (same_spot (at r t)) (off (λ x. x.page == q) xs)
     ≡ has (same_spot (at r t)) xs
@@ -140,16 +121,8 @@ off_else q r t (x ∷ xs) ne = go (x.page == q) refl (off_else q r t xs ne) wher
       (cond b (off (λ x. x.page == q) xs) (x ∷ off (λ x. x.page == q) xs))
       ≡ (((r == x.page) && (t == x.slot)) || has (same_spot (at r t)) xs)
   go true e rest = rest ∙ ap (λ b. (b && (t == x.slot)) || has (same_spot (at r t)) xs)
-      (sym (unlike r x.page (λ k. ne (let z : x.page ≡ q = grind (arith, nat_tests) in k ∙ z))))
+      (sym (ne_eqb r x.page (λ k. ne (let z : x.page ≡ q = grind (arith, nat_tests) in k ∙ z))))
   go false e rest = ap (λ b. ((r == x.page) && (t == x.slot)) || b) rest
-
-has_append : (f : Spot → Bool) (xs ys : List Spot) → has f (xs ++ ys) ≡ (has f xs || has f ys)
-unfolding has
-has_append f [] ys = refl
-has_append f (x ∷ xs) ys = go (f x) (has_append f xs ys) where
-  go : (b : Bool) → has f (xs ++ ys) ≡ (has f xs || has f ys) → (b || has f (xs ++ ys)) ≡ ((b || has f xs) || has f ys)
-  go true e = refl
-  go false e = e
 
 spots_have : (q t s n : ℕ) → has (same_spot (at q t)) (spots q s n) ≡ (nat_le s t && nat_lt t (s + n))
 unfolding has spots
@@ -181,45 +154,34 @@ spots_else : (q r t s n : ℕ) → r ≢ q → has (same_spot (at r t)) (spots q
 unfolding has spots
 spots_else q r t s zero ne = refl
 spots_else q r t s (suc n) ne = ap (λ b. (b && (t == s)) || has (same_spot (at r t)) (spots q (s + 1) n))
-    (unlike r q ne) ∙ spots_else q r t (s + 1) n ne
-
-or_false : (b : Bool) → (b || false) ≡ b
-or_false true = refl
-or_false false = refl
+    (ne_eqb r q ne) ∙ spots_else q r t (s + 1) n ne
 
 pub all_given : (q t n : ℕ) (xs : List Spot) → has (same_spot (at q t)) (spots q 0 n ++ off (λ x. x.page == q) xs)
     ≡ nat_lt t n
 all_given q t n xs =
     let x : nat_le 0 t ≡ true = grind (arith, nat_tests) in
     let y : 0 + n ≡ n = omega arith in
-    has_append (same_spot (at q t)) (spots q 0 n) (off (λ x. x.page == q) xs)
+    has_in_both (same_spot (at q t)) (spots q 0 n) (off (λ x. x.page == q) xs)
     ∙ (ap (λ b. has (same_spot (at q t)) (spots q 0 n) || b) (none_off q t xs)
-    ∙ (or_false (has (same_spot (at q t)) (spots q 0 n)) ∙
+    ∙ (or-false (has (same_spot (at q t)) (spots q 0 n)) ∙
     (spots_have q t 0 n ∙ (ap (λ b. b && nat_lt t (0 + n)) x ∙ ap (nat_lt t) y))))
 
 pub given_else : (q r t n : ℕ) (xs : List Spot) → r ≢ q → has (same_spot (at r t))
     (spots q 0 n ++ off (λ x. x.page == q) xs) ≡ has (same_spot (at r t)) xs
-given_else q r t n xs ne = has_append (same_spot (at r t)) (spots q 0 n) (off (λ x. x.page == q) xs)
+given_else q r t n xs ne = has_in_both (same_spot (at r t)) (spots q 0 n) (off (λ x. x.page == q) xs)
     ∙ (ap (λ b. b || has (same_spot (at r t)) (off (λ x. x.page == q) xs)) (spots_else q r t 0 n ne)
     ∙ off_else q r t xs ne)
 
-pub noted_now : (q n : ℕ) (xs : List (ℕ × ℕ)) → noted q ((q, n) ∷ xs) ≡ Some n
-unfolding noted
-noted_now q n xs = ap (λ b. cond b (Some n) (noted q xs)) (self q)
-
 pub noted_else : (q r n : ℕ) (xs : List (ℕ × ℕ)) → r ≢ q → noted r ((q, n) ∷ xs) ≡ noted r xs
 unfolding noted
-noted_else q r n xs ne = ap (λ b. cond b (Some n) (noted r xs)) (unlike q r (λ e. ne (sym e)))
+noted_else q r n xs ne = ap (λ b. cond b (Some n) (noted r xs)) (ne_eqb q r (λ e. ne (sym e)))
 
 -- ---- lists in which nothing stands
-
-false_true : true ≡ false → ⊥
-false_true e = cc
 
 pub none_mine : (xs : List Spot) → ((x : Spot) → has (same_spot x) xs ≡ false) → xs ≡ []
 unfolding has
 none_mine [] h = refl
-none_mine (x ∷ xs) h = absurd (false_true (sym (rw (self x.page, self x.slot) refl) ∙ h x))
+none_mine (x ∷ xs) h = absurd (true≢false (sym (rw (self x.page, self x.slot) refl) ∙ h x))
 
 pub none_noted_at : (xs : List (ℕ × ℕ)) → ((q : ℕ) → noted q xs ≡ None) → xs ≡ []
 unfolding noted
@@ -230,4 +192,4 @@ none_noted_at (x ∷ xs) h = absurd (let e : Some x.1 ≡ None = sym (ap (λ b. 
 pub none_armed : (xs : List ℕ) → ((q : ℕ) → has (λ x. x == q) xs ≡ false) → xs ≡ []
 unfolding has
 none_armed [] h = refl
-none_armed (x ∷ xs) h = absurd (false_true (sym (ap (λ b. b || has (λ y. y == x) xs) (self x)) ∙ h x))
+none_armed (x ∷ xs) h = absurd (true≢false (sym (ap (λ b. b || has (λ y. y == x) xs) (self x)) ∙ h x))

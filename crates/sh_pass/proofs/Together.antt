@@ -1,21 +1,17 @@
 -- Several passes: which passes their tales name, and that the first passes of a heap are of it.
-use Rattle.std.proofs.Common.{◌≡◌, ℕ, ◌<◌, ◌||◌, ◌+◌, Bool, true, false, cond, zero, suc, List, [], ◌∷◌, ◌++◌, take}
-use Rattle.std.proofs.Common.{length, max, bit_or, refl, sym, ap, ◌∙◌, get_or}
+use Rattle.std.proofs.Common.{◌≡◌, ℕ, ◌<◌, ◌||◌, ◌+◌, cond, zero, suc, List, [], ◌∷◌, ◌++◌, take, length, max, bit_or}
+use Rattle.std.proofs.Common.{refl, sym, ap, ◌∙◌, get_or}
 use Rattle.std.specs.Int.{bit_at}
 use Rattle.std.proofs.lemmas.Nat.Bits.{bit_at_or}
 use Rattle.std.proofs.lemmas.List.{take_more}
-use Rattle.std.proofs.Math.Bool.{or_assoc}
+use Rattle.std.proofs.Math.Bool.{or-false, or_assoc}
 use Rattle.sh_table.specs.Seats.{Heap}
 use Rattle.sh_table.specs.Views.{Each, names}
 use Rattle.sh_pass.specs.Passes.{AreOf, Caller, IsTally, named_by, newcomers}
 use Rattle.sh_pass.proofs.Tales.{max_or}
 
-or_false : (b : Bool) → b || false ≡ b
-or_false true = refl
-or_false false = refl
-
 named_behind : (ps : List Caller) (p : Caller) (a : ℕ) → named_by (ps ++ p ∷ []) a ≡ named_by ps a || names p.view a
-named_behind [] p a = or_false (names p.view a)
+named_behind [] p a = or-false (names p.view a)
 named_behind (q ∷ ps) p a = ap (λ b. names q.view a || b) (named_behind ps p a)
     ∙ sym (or_assoc (names q.view a) (named_by ps a) (names p.view a))
 

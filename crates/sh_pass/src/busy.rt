@@ -35,7 +35,8 @@ impl<L: KeyLayout, H: KeepsHeap<L>> Model for Busy<L, H> {
 
     ghost view = { λ b. caller_of b.state.seat };
 
-    ghost invariant = { λ b. IsBusy L.layout (H.heap b.heap) b.state.seat b.state.held.items b.state.named b.state.hand };
+    ghost invariant = { λ b.
+        IsBusy L.layout (H.heap b.heap) b.state.seat b.state.held.items b.state.named b.state.hand };
 }
 
 impl<L: KeyLayout, H: KeepsHeap<L>> Pass<L, H> {

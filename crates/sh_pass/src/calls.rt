@@ -141,8 +141,8 @@ pub(crate) fn release_key<L: KeyLayout>(
     (Ok(()), slot)
 }
 
-/// Reads the value of a key that the pass holds, and of which the place is known, into a value of the caller's, in place
-/// of what that was: a value that is answered is copied by each call on its way.
+/// Reads the value of a key that the pass holds, and of which the place is known, into a value of the caller's, in
+/// place of what that was: a value that is answered is copied by each call on its way.
 #[inline(always)]
 pub(crate) fn read_key<L: KeyLayout>(
     table: &HeapTable<L>,

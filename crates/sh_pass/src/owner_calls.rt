@@ -101,9 +101,9 @@ impl<L: KeyLayout, H: KeepsHeap<L>> Owner<L, H> {
         Ok(value)
     }
 
-    /// Reads the value of a key that the owner holds into a value of the caller's, in place of what that was, so that it
-    /// is copied nowhere. Refused as `NotHeld`, exactly where the owner has no hold on the key: then the caller's value
-    /// stays as it was.
+    /// Reads the value of a key that the owner holds into a value of the caller's, in place of what that was, so that
+    /// it is copied nowhere. Refused as `NotHeld`, exactly where the owner has no hold on the key: then the caller's
+    /// value stays as it was.
     #[inline(always)]
     pub fn read_into(&mut self, hold: Hold, value: &mut Value) -> Result<(), Refusal>
         requires idle { (own_body self.old).hand ≡ Idle }

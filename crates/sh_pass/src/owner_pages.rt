@@ -74,7 +74,8 @@ impl<L: KeyLayout, H: KeepsHeap<L>> Owner<L, H> {
         requires classed { 0 < class_word_noted (own_body self.old) (heap_page self.old name) }
         requires none { (seen_page self.old (heap_page self.old name)).cursor ≡ None }
         requires calm { (seen_page self.old (heap_page self.old name)).armed ≡ false }
-        ensures does { OwnerDid L.layout (action.Arm name) (move.Arm (heap_page self.old name)) result self.old self.new }
+        ensures does { OwnerDid L.layout (action.Arm name) (move.Arm (heap_page self.old name)) result
+            self.old self.new }
         ensures acts { OwnerActs Idle [] 1 self.old self.new }
         ensures bells { SameBells L.layout self.old self.new }
         ensures page { OnPage (heap_page self.old name) (page_armed (seen_page self.old (heap_page self.old name))

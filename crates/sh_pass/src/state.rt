@@ -55,6 +55,7 @@ impl<L: KeyLayout> PassState<L> {
 
     /// Takes a hold on a key, so that its value stays readable. Refused as `BadKey`, `HoldsFull`, `Gone` or `Crowded`,
     /// tried in that order, as the get of a `Pass` is.
+    #[inline(always)]
     pub fn get(&mut self, heap: &Heap<L>, key: u64) -> Result<Hold, Refusal>
         requires { self.old.heap ≡ heap.now }
         ensures does { GetDoes L.layout key self.old result self.new }
@@ -90,6 +91,7 @@ impl<L: KeyLayout> PassState<L> {
     }
 
     /// Gives one hold on a key back. Refused as `NotHeld`, exactly where the pass has no hold on the key.
+    #[inline(always)]
     pub fn release(&mut self, heap: &Heap<L>, hold: Hold) -> Result<(), Refusal>
         requires { self.old.heap ≡ heap.now }
         ensures does { ReleaseDoes L.layout hold.key self.old result self.new }

@@ -10,10 +10,12 @@ use Rattle.sh_queue.specs.Numbers.{has_number, put_before, RisesFrom}
 use Rattle.sh_queue.specs.Queues.{PageQueues, FilingQueues, class_queue, next_filed, mark_behind, none_opened}
 use Rattle.sh_queue.specs.Queues.{pages_to_mark, pages_behind, marks, queues_from, class_queues, queues_shown}
 use Rattle.sh_queue.specs.Queues.{filing_shown, KeepsQueues, KeepsFiling}
-use Rattle.sh_queue.proofs.Numbers.{has_number-put_before_other, has_number-put_before_same}
-use Rattle.sh_queue.proofs.Numbers.{RisesFrom-more}
-use Rattle.sh_queue.proofs.Sections.{run-put_before_other, queue-put_before_same, queue-put_before_other}
-use Rattle.sh_queue.proofs.Sections.{marks-put_before, has_number-queue, has_number-mark}
+use Rattle.sh_queue.proofs.PutBefore.{has_number-put_before_other, has_number-put_before_same}
+use Rattle.sh_queue.proofs.Rising.{RisesFrom-more}
+use Rattle.sh_queue.proofs.Marks.{has_number-mark}
+use Rattle.sh_queue.proofs.PagePutIn.{run-put_before_other, queue-put_before_same, queue-put_before_other}
+use Rattle.sh_queue.proofs.PagePutIn.{marks-put_before}
+use Rattle.sh_queue.proofs.QueuedPages.{has_number-queue}
 use Rattle.sh_queue.proofs.Moves.{Leaves, class_is}
 use Rattle.sh_queue.proofs.Openings.{get_or-replicate_same, less_or_same, class_queues_same, shows_none}
 

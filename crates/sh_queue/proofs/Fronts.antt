@@ -9,9 +9,10 @@ use Rattle.sh_lists.specs.Numbers.{Distinct}
 use Rattle.sh_queue.specs.Numbers.{has_number, following, preceding, RisesFrom}
 use Rattle.sh_queue.specs.Queues.{PageQueues, EachOnce, queued_pages, page_numbered, pages_behind, queues_from}
 use Rattle.sh_queue.specs.Queues.{class_queues, queues_shown, KeepsQueues}
-use Rattle.sh_queue.proofs.Numbers.{has_number-first, has_number-last, lowest}
-use Rattle.sh_queue.proofs.Sections.{page_of-following, page_of-preceding, has_number-queue, pages, Distinct-pages}
-use Rattle.sh_queue.proofs.Sections.{has_number-pages, run-append-queues}
+use Rattle.sh_queue.proofs.Numbers.{has_number-first, has_number-last}
+use Rattle.sh_queue.proofs.Rising.{lowest}
+use Rattle.sh_queue.proofs.QueueEnds.{page_of-following, page_of-preceding}
+use Rattle.sh_queue.proofs.QueuedPages.{has_number-queue, pages, Distinct-pages, has_number-pages, run-append-queues}
 use Rattle.sh_queue.proofs.Moves.{length-queues_from}
 
 -- the first of a queue, if there is one, is opened, and so is the last

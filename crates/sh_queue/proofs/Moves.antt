@@ -9,13 +9,17 @@ use Rattle.sh_lists.specs.Numbers.{Misses, Distinct, upward}
 use Rattle.sh_queue.specs.Numbers.{has_number, without_number, put_after, put_before, RisesFrom}
 use Rattle.sh_queue.specs.Queues.{PageQueues, class_queue, at_front, at_back, among_full, pages_to_mark, pages_behind}
 use Rattle.sh_queue.specs.Queues.{marks, queues_from, class_queues, queues_shown, KeepsQueues}
-use Rattle.sh_queue.proofs.Numbers.{has_number-without_other, has_number-without_same, has_number-from_Misses}
-use Rattle.sh_queue.proofs.Numbers.{Misses-from_has, has_number-put_after_other, has_number-put_after_same}
-use Rattle.sh_queue.proofs.Numbers.{has_number-put_before_other, has_number-put_before_same, has_number-append}
-use Rattle.sh_queue.proofs.Numbers.{has_number-else, has_number-here, RisesFrom-without}
-use Rattle.sh_queue.proofs.Sections.{queue-without, Misses-queue, run-without, marks-without, run-put_after}
-use Rattle.sh_queue.proofs.Sections.{queue-put_after_same, queue-put_after_other, marks-put_after, run-put_before_other}
-use Rattle.sh_queue.proofs.Sections.{queue-put_before_same, queue-put_before_other, marks-put_before, has_number-mark}
+use Rattle.sh_queue.proofs.Numbers.{has_number-from_Misses, Misses-from_has, has_number-append, has_number-else}
+use Rattle.sh_queue.proofs.Numbers.{has_number-here}
+use Rattle.sh_queue.proofs.Without.{has_number-without_other, has_number-without_same}
+use Rattle.sh_queue.proofs.PutAfter.{has_number-put_after_other, has_number-put_after_same}
+use Rattle.sh_queue.proofs.PutBefore.{has_number-put_before_other, has_number-put_before_same}
+use Rattle.sh_queue.proofs.Rising.{RisesFrom-without}
+use Rattle.sh_queue.proofs.Marks.{has_number-mark}
+use Rattle.sh_queue.proofs.PageTakenOut.{queue-without, Misses-queue, run-without, marks-without}
+use Rattle.sh_queue.proofs.PagePutIn.{run-put_after, queue-put_after_same, queue-put_after_other, marks-put_after}
+use Rattle.sh_queue.proofs.PagePutIn.{run-put_before_other, queue-put_before_same, queue-put_before_other}
+use Rattle.sh_queue.proofs.PagePutIn.{marks-put_before}
 
 -- ---- the queues of the classes
 

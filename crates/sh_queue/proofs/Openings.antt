@@ -10,10 +10,13 @@ use Rattle.sh_lists.proofs.Distincts.{upward-push, Misses-upward}
 use Rattle.sh_queue.specs.Numbers.{has_number, put_before, RisesFrom}
 use Rattle.sh_queue.specs.Queues.{PageQueues, one_more_segment, none_opened, pages_to_mark, pages_behind, marks}
 use Rattle.sh_queue.specs.Queues.{queues_from, class_queues, queues_shown, KeepsQueues}
-use Rattle.sh_queue.proofs.Numbers.{has_number-put_before_other, has_number-put_before_same, RisesFrom-more}
-use Rattle.sh_queue.proofs.Numbers.{put_before-nil, put_before-push}
-use Rattle.sh_queue.proofs.Sections.{run-put_before_other, queue-put_before_same, queue-put_before_other}
-use Rattle.sh_queue.proofs.Sections.{marks-put_before, has_number-queue, has_number-mark}
+use Rattle.sh_queue.proofs.PutBefore.{has_number-put_before_other, has_number-put_before_same, put_before-nil}
+use Rattle.sh_queue.proofs.PutBefore.{put_before-push}
+use Rattle.sh_queue.proofs.Rising.{RisesFrom-more}
+use Rattle.sh_queue.proofs.Marks.{has_number-mark}
+use Rattle.sh_queue.proofs.PagePutIn.{run-put_before_other, queue-put_before_same, queue-put_before_other}
+use Rattle.sh_queue.proofs.PagePutIn.{marks-put_before}
+use Rattle.sh_queue.proofs.QueuedPages.{has_number-queue}
 use Rattle.sh_queue.proofs.Moves.{Leaves}
 
 -- n pages, from this one on, stand behind the blank ones

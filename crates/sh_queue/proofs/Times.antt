@@ -7,7 +7,8 @@ use Rattle.std.proofs.lemmas.Bool.{cases_eq, false≢true}
 use Rattle.sh_lists.specs.Numbers.{Misses, Distinct, AllBelow, upward}
 use Rattle.sh_lists.proofs.Distincts.{Distinct-upward, Misses-upward, length-le_from_Distinct}
 use Rattle.sh_queue.specs.Numbers.{has_number, without_number}
-use Rattle.sh_queue.proofs.Numbers.{has_number-from_Misses, Misses-from_has, has_number-upward, without_number-else}
+use Rattle.sh_queue.proofs.Numbers.{has_number-from_Misses, Misses-from_has, has_number-upward}
+use Rattle.sh_queue.proofs.Without.{without_number-else}
 
 -- how often k stands in the list
 abbrev pub times : ℕ → List ℕ → ℕ

@@ -148,8 +148,8 @@ pub record KeepsQueues (numbers : List ℕ) (size opened unopened : ℕ) (notes 
   pub each_noted : length notes ≡ opened
   pub noted : (page : ℕ) → get_or notes page false ≡ has_number page (pages_behind 8 numbers)
 
--- what is true while pages are filed: there is room for all of them, and no more; those filed so far are in the chain; no
--- page is full
+-- what is true while pages are filed: there is room for all of them, and no more; those filed so far are in the chain;
+-- no page is full
 pub record KeepsFiling (numbers : List ℕ) (size filed unopened : ℕ) (notes : List Bool) : Type 0 where
   pub room : size ≡ 11 + length notes
   pub some_left : filed ≤ length notes

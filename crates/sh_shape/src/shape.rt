@@ -35,8 +35,8 @@ impl Model for Shape {
 }
 
 impl Shape {
-    /// The small shape with these numbers: at least one of each, at most 256 segments in all shards together, at most 64
-    /// passes. Else it is refused as `BadShape`. Scripts name these shapes; `Shape::large` takes larger ones.
+    /// The small shape with these numbers: at least one of each, at most 256 segments in all shards together, at most
+    /// 64 passes. Else it is refused as `BadShape`. Scripts name these shapes; `Shape::large` takes larger ones.
     ///
     /// ```text
     /// let shape = Shape::new(2, 128, 64)?;

@@ -1,24 +1,24 @@
 -- Reading the class words of a shard that was adopted.
-use Rattle.std.proofs.Common.{◌≡◌, ◌≢◌, ℕ, zero, suc, ◌+◌, ◌<◌, ◌≤◌, ⊎_elim, false, Some, None, List, []}
-use Rattle.std.proofs.Common.{length, set, replicate, refl, ap, ◌∙◌, sym, subst, arith, append-nil}
+use Rattle.std.proofs.Common.{◌≡◌, ◌≢◌, ℕ, zero, suc, ◌+◌, ◌<◌, ◌≤◌, ⊎_elim, false, Some, None, List, [], length, set}
+use Rattle.std.proofs.Common.{replicate, refl, ap, ◌∙◌, sym, subst, arith, append-nil}
 use Rattle.std.proofs.lemmas.Bool.{cases_eq}
-use Rattle.std.proofs.lemmas.Bool.Decides.{nat_tests}
 use Rattle.std.proofs.lemmas.List.{get_or-set_same, get_or-set_other}
+use Rattle.std.proofs.Math.Numerals.{lt_of_le_of_ne}
 use Rattle.sh_key.specs.Layout.{Layout}
 use Rattle.sh_shape.specs.Places.{pages_of}
 use Rattle.sh_slots.specs.declared.hand.Hand.TheVariants.{Idle}
 use Rattle.sh_table.specs.Tales.{ViewStands}
 use Rattle.sh_pass.specs.Passes.{Caller}
-use Rattle.sh_pass.specs.Owners.{SeenPage, SeenBell, Aside, OwnerActs, OnPage, SameBells, HasNothing}
-use Rattle.sh_pass.specs.Owners.{heap_page, own_body, seen_page, page_noted}
+use Rattle.sh_pass.specs.Owners.{SeenPage, SeenBell, Aside, OwnerActs, OnPage, SameBells, HasNothing, heap_page}
+use Rattle.sh_pass.specs.Owners.{own_body, seen_page, page_noted}
 use Rattle.sh_states.specs.declared.states.PageState.{PageState}
+use Rattle.sh_states.specs.States.{bare_lists, blank_state, state_at}
 use Rattle.sh_shard.specs.Pages.{shard_page, AdoptsShard}
 use Rattle.sh_shard.specs.Steps.{StepsAtMost}
-use Rattle.sh_states.specs.States.{bare_lists, blank_state, state_at}
 use Rattle.sh_shard.specs.Kept.{KeepsPage, KeepsPages}
 use Rattle.sh_shard.proofs.Keeping.{page_of, here_at, others_at}
 use Rattle.sh_shard.proofs.Sides.{aside_none, aside_then}
-use Rattle.sh_shard.proofs.Working.{paged_of}
+use Rattle.sh_shard.proofs.PageSteps.{paged_of}
 
 abbrev pub state_of : ℕ → PageState
 state_of n = record { lists = bare_lists; class_word = n; armed = false }
@@ -92,25 +92,22 @@ reading_more {layout} shard n word v w x states after r inside acts bells on sta
       (λ (ne : q ≢ heap_page w (shard_page shard n)). subst HasNothing (sym (on.others q ne)) (r.none q))
       (cases_eq q (heap_page w (shard_page shard n)));
   pages = λ p l. ⊎_elim
-      (λ (e : p ≡ n). subst (λ z. KeepsPage (state_at after z) (page_of x shard z)) (sym e) last)
+      (λ (e : p ≡ n). subst (λ z. KeepsPage (state_at after z) (page_of x shard z)) (sym e) kept_here)
       (λ (ne : p ≢ n). let P : PageState × SeenPage → Type 0 = λ z. KeepsPage z.0 z.1 in
       let h = others_at w x shard n acts.aside.same.shape on p ne in
-      subst P (λ i. (sym (other p ne) i, sym h i)) (r.pages p (less p n l ne)))
+      subst P (λ i. (sym (state_else p ne) i, sym h i)) (r.pages p (lt_of_le_of_ne (let z = l in omega arith) ne)))
       (cases_eq p n);
-  later = λ p l. other p (λ e. absurd (omega arith)) ∙ r.later p (omega arith);
+  later = λ p l. state_else p (λ e. absurd (omega arith)) ∙ r.later p (omega arith);
 } where
-  less : (p k : ℕ) → p < k + 1 → p ≢ k → p < k
-  less p k l ne = grind (arith, nat_tests)
-
-  other : (p : ℕ) → p ≢ n → state_at after p ≡ state_at states p
-  other p ne = ap (λ (z : List PageState). state_at z p) is
+  state_else : (p : ℕ) → p ≢ n → state_at after p ≡ state_at states p
+  state_else p ne = ap (λ (z : List PageState). state_at z p) is
       ∙ get_or-set_other states n p (state_of word) blank_state ne
 
   here : page_of x shard n ≡ page_noted (page_of w shard n) word
   here = here_at w x shard n acts.aside.same.shape on
 
-  last : KeepsPage (state_at after n) (page_of x shard n)
-  last = subst (λ (z : PageState). KeepsPage z (page_of x shard n))
+  kept_here : KeepsPage (state_at after n) (page_of x shard n)
+  kept_here = subst (λ (z : PageState). KeepsPage z (page_of x shard n))
       (sym (ap (λ (z : List PageState). state_at z n) is
       ∙ get_or-set_same states n (state_of word) blank_state inside))
       (subst (KeepsPage (state_of word)) (sym here) (kept_first (page_of w shard n) word

@@ -1,6 +1,6 @@
 -- A slot that came to be the owner's stands in its page's lists.
-use Rattle.std.proofs.Common.{◌≡◌, ◌≢◌, ℕ, suc, ◌+◌, ◌*◌, ◌^◌, ◌<◌, ◌≤◌, ⊎_elim, Option, Some, None, IfSome}
-use Rattle.std.proofs.Common.{List, length, get_or, set, refl, ap, ◌∙◌, sym, subst, arith}
+use Rattle.std.proofs.Common.{◌≡◌, ◌≢◌, ℕ, suc, ◌+◌, ◌*◌, ◌^◌, ◌<◌, ◌≤◌, ⊎_elim, Option, Some, None, IfSome, List}
+use Rattle.std.proofs.Common.{length, get_or, set, refl, ap, ◌∙◌, sym, subst, arith}
 use Rattle.std.proofs.lemmas.Bool.{cases_eq}
 use Rattle.std.proofs.Math.Nat.{mul-le-mul_right}
 use Rattle.std.proofs.lemmas.List.{get_or-set_same, get_or-set_other, length-set}
@@ -10,15 +10,15 @@ use Rattle.sh_slots.specs.declared.hand.Spot.{Spot}
 use Rattle.sh_step.specs.declared.action.PageName.{PageName}
 use Rattle.sh_table.specs.Tales.{ViewStands}
 use Rattle.sh_pass.specs.Passes.{Caller}
-use Rattle.sh_pass.specs.Owners.{SeenBell, CallLeaves, SlotCame, MayTouch, OnPage, heap_page}
-use Rattle.sh_pass.specs.Owners.{seen_page, page_with}
+use Rattle.sh_pass.specs.Owners.{SeenBell, CallLeaves, SlotCame, MayTouch, OnPage, heap_page, seen_page, page_with}
 use Rattle.sh_states.specs.declared.states.PageState.{PageState}
-use Rattle.sh_shard.specs.Pages.{shard_page, SlotComes}
 use Rattle.sh_states.specs.States.{blank_state, with_local}
+use Rattle.sh_queue.proofs.Numbers.{Misses-from_has}
+use Rattle.sh_shard.specs.Pages.{shard_page, SlotComes}
 use Rattle.sh_shard.specs.Kept.{KeepsPage, KeepsPages, MayCome, Came}
-use Rattle.sh_shard.proofs.PageLaws.{kept_with, misses_has}
-use Rattle.sh_shard.proofs.Keeping.{page_of, here_at, others_at, all_at, rings_same}
-use Rattle.sh_shard.proofs.Working.{paged_of}
+use Rattle.sh_shard.proofs.PageLaws.{kept_with}
+use Rattle.sh_shard.proofs.Keeping.{page_of, here_at, others_at, all_at, rings_at_same}
+use Rattle.sh_shard.proofs.PageSteps.{paged_of}
 
 -- the pages of a shard are among those of the heap
 pub few_pages : {layout : Layout} {v : Caller} {shard : ℕ} {rings : Option ℕ} {states : List PageState}
@@ -52,7 +52,7 @@ may_come {layout} {v} {shard} {rings} {states} (Some x) w k s =
       l,
       at ∙ ap (λ z. shard * z + y.page) (sym k.few),
       s.3,
-      misses_has x.slot _
+      Misses-from_has x.slot _
           ((k.pages y.page l).mine x.slot ∙ (ap (λ z. (seen_page v z).mine x.slot) (sym at) ∙ s.4)),
     )
 
@@ -73,7 +73,7 @@ kept_after {layout} {v} {shard} {rings} {states} None page w after k h stands c 
         stands = stands;
         idle = h.idle;
         owned = h.owned ∙ k.owned;
-        bell = ap (λ (b : SeenBell). b.cursor) (h.bells shard) ∙ (k.bell ∙ rings_same v w shard rings h.same.shape);
+        bell = ap (λ (b : SeenBell). b.cursor) (h.bells shard) ∙ (k.bell ∙ rings_at_same v w shard rings h.same.shape);
         few = size ∙ (k.few ∙ ap pages_of (sym h.same.shape));
         pages = λ p l. subst (λ (z : List PageState). KeepsPage (get_or z p blank_state) (page_of w shard p)) (sym c.1)
             (subst (KeepsPage (get_or states p blank_state)) (sym (same p)) (k.pages p (omega arith)));
@@ -103,7 +103,7 @@ kept_after {layout} {v} {shard} {rings} {states} (Some x) page w after k h stand
         stands = stands;
         idle = h.idle;
         owned = h.owned ∙ k.owned;
-        bell = ap (λ (b : SeenBell). b.cursor) (h.bells shard) ∙ (k.bell ∙ rings_same v w shard rings h.same.shape);
+        bell = ap (λ (b : SeenBell). b.cursor) (h.bells shard) ∙ (k.bell ∙ rings_at_same v w shard rings h.same.shape);
         few = size ∙ (k.few ∙ ap pages_of (sym h.same.shape));
         pages = λ q l. subst (λ (z : List PageState). KeepsPage (get_or z q blank_state) (page_of w shard q)) (sym c.4)
             (⊎_elim

@@ -6,8 +6,9 @@ use Rattle.std.proofs.lemmas.Bool.{cases_eq, false≢true}
 use Rattle.sh_queue.specs.Numbers.{has_number, RisesFrom}
 use Rattle.sh_queue.specs.Queues.{PageQueues, EachOnce, class_queue, at_back}
 use Rattle.sh_queue.proofs.Numbers.{has_number-append, has_number-here, has_number-there}
-use Rattle.sh_queue.proofs.PageLaws.{class_apart, class_queue-at_back_same, class_queue-at_back_other, has_number-only}
-use Rattle.sh_queue.proofs.PageLaws.{without_number-hasnt}
+use Rattle.sh_queue.proofs.PutBack.{has_number-only, without_number-hasnt}
+use Rattle.sh_queue.proofs.ClassQueues.{class_queue-at_back_same, class_queue-at_back_other}
+use Rattle.sh_queue.proofs.PagePlaces.{class_apart}
 use Rattle.sh_shard.specs.Pages.{Paged, page_at, seen_class}
 use Rattle.sh_shard.specs.Shards.{FullPage}
 use Rattle.sh_shard.specs.Filing.{ReturnsRising}

@@ -1,23 +1,22 @@
 -- Pages come back from the full queue, and the pages of a shard that is adopted come to their queues.
-use Rattle.std.proofs.Common.{◌≡◌, ◌≢◌, ℕ, ◌+◌, ◌-◌, ◌<◌, ◌⊎◌, inl, inr, ⊎_elim, Bool, true, false}
-use Rattle.std.proofs.Common.{Option, Some, None, MatchOption, IfSome, [], ◌∷◌, ◌++◌, refl, ap, ◌∙◌, sym}
-use Rattle.std.proofs.Common.{subst, arith}
+use Rattle.std.proofs.Common.{◌≡◌, ◌≢◌, ℕ, ◌+◌, ◌-◌, ◌<◌, ◌⊎◌, inl, inr, ⊎_elim, Bool, true, false, Option, Some, None}
+use Rattle.std.proofs.Common.{MatchOption, IfSome, [], ◌∷◌, ◌++◌, refl, ap, ◌∙◌, sym, subst, arith}
 use Rattle.std.proofs.lemmas.Bool.{cases_eq, false≢true}
 use Rattle.std.proofs.lemmas.List.{length-set}
 use Rattle.sh_queue.specs.Numbers.{has_number, RisesFrom}
 use Rattle.sh_queue.specs.Queues.{PageQueues, FilingQueues, EachOnce, class_queue, at_back, next_filed}
 use Rattle.sh_queue.proofs.Filings.{next_filed-opened, next_filed-unopened, class_queue-next_filed_same}
 use Rattle.sh_queue.proofs.Filings.{class_queue-next_filed_other}
-use Rattle.sh_queue.proofs.PageLaws.{has_number-from_without, has_number-at_back, full_opened}
+use Rattle.sh_queue.proofs.PutBack.{has_number-from_without}
+use Rattle.sh_queue.proofs.ClassQueues.{has_number-at_back}
+use Rattle.sh_queue.proofs.PagePlaces.{full_opened}
 use Rattle.sh_pass.specs.Owners.{SeenPage}
 use Rattle.sh_shard.specs.Pages.{Paged, page_at, seen_class, SlotComes}
 use Rattle.sh_shard.specs.Shards.{SortedPages, FullPage}
 use Rattle.sh_shard.specs.Returning.{SortedBut, ReturnsPage, FiledPages, FilesFirst}
 use Rattle.sh_shard.proofs.Sorting.{stands_at_back}
 use Rattle.sh_shard.proofs.Filing.{rises_append, below_append, is_behind}
-
-word_of : (g : SeenPage) (word : ℕ) → g.class ≡ Some word → seen_class g ≡ word
-word_of g word is = ap (λ (o : Option ℕ). elim o as (λ _. ℕ) [ Some m ↦ m | None ↦ 0 ]) is
+use Rattle.sh_shard.proofs.ClassWords.{classed_is}
 
 -- ---- what holds where pages may stand in the full queue that are not full
 
@@ -132,14 +131,6 @@ module _ (v : Paged) (q q' : PageQueues) (p : ℕ) (named named' : ℕ → Type 
       class))
       why
 
--- a page with a class word above 0 has it
-pub classed_is : (g : SeenPage) → 0 < seen_class g → g.class ≡ Some (seen_class g)
-classed_is g some = go g.class refl some where
-  go : (o : Option ℕ) → g.class ≡ o → 0 < seen_class g → g.class ≡ Some (seen_class g)
-  go None is l = let e : seen_class g ≡ 0 = ap (λ (o : Option ℕ). elim o as (λ _. ℕ) [ Some m ↦ m | None ↦ 0 ]) is
-      in absurd (omega arith)
-  go (Some m) is l = is ∙ ap (λ z. Some z) (sym (word_of g m is))
-
 -- a page of the full queue has its word
 pub full_classed : (v : Paged) (q : PageQueues) (p : ℕ) (named : ℕ → Type 0) → SortedBut named v q → (page_at v p).class
     ≡ Some (seen_class (page_at v p)) ⊎ (has_number p q.full ≡ false)
@@ -182,25 +173,25 @@ filed_class v q c f class is = record {
       (f.classes c p h))
       (λ (h : p ≡ q.opened). let P : ℕ × ℕ → Type 0 = λ z. (page_at v z.1).class ≡ Some (z.0 + 1)
       in subst P (λ i. (sym e i, sym h i)) is)
-      (is_behind p q.opened (class_queue q c) (sym (ap (has_number p) (same d e)) ∙ here)))
+      (is_behind p q.opened (class_queue q c) (sym (ap (has_number p) (class_now d e)) ∙ here)))
       (λ (e : d ≢ c). f.classes d p (sym (ap (has_number p) (class_queue-next_filed_other c d q e)) ∙ here))
       (cases_eq d c);
   full = f.full;
   blank = f.blank;
   rising = λ d. ⊎_elim
-      (λ (e : d ≡ c). subst (RisesFrom 0) (sym (same d e))
+      (λ (e : d ≡ c). subst (RisesFrom 0) (sym (class_now d e))
       (rises_append 0 q.opened (class_queue q c) (f.rising c) (omega arith) (f.below c)))
       (λ (e : d ≢ c). subst (RisesFrom 0) (sym (class_queue-next_filed_other c d q e)) (f.rising d))
       (cases_eq d c);
   below = λ d p here. ⊎_elim
       (λ (e : d ≡ c). below_append q.opened (class_queue q c) (f.below c) p
-      (sym (ap (has_number p) (same d e)) ∙ here))
+      (sym (ap (has_number p) (class_now d e)) ∙ here))
       (λ (e : d ≢ c). let l = f.below d p (sym (ap (has_number p) (class_queue-next_filed_other c d q e)) ∙ here)
       in omega arith)
       (cases_eq d c);
 } where
-  same : (d : ℕ) → d ≡ c → class_queue (next_filed (Some c) q) d ≡ class_queue q c ++ q.opened ∷ []
-  same d e = ap (class_queue (next_filed (Some c) q)) e
+  class_now : (d : ℕ) → d ≡ c → class_queue (next_filed (Some c) q) d ≡ class_queue q c ++ q.opened ∷ []
+  class_now d e = ap (class_queue (next_filed (Some c) q)) e
       ∙ class_queue-next_filed_same c q (let m = f.many in omega arith)
 
 filed_next : (class : Option ℕ) (v : Paged) (q : PageQueues) → FiledPages v q

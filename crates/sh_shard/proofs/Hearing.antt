@@ -1,19 +1,18 @@
 -- What is read from the bell.
-use Rattle.std.proofs.Common.{◌≡◌, ◌≢◌, ℕ, zero, suc, ◌+◌, ◌-◌, ◌<◌, ◌≤◌, ◌==◌, ◌||◌, ◌⊎◌, inl, inr, ⊎_elim, Bool, true}
-use Rattle.std.proofs.Common.{false, Some, refl, ap, ◌∙◌, sym, subst, arith}
-use Rattle.std.proofs.lemmas.Bool.{cases_eq, false≢true}
+use Rattle.std.proofs.Common.{◌≡◌, ◌≢◌, ℕ, ◌+◌, ◌-◌, ◌<◌, ◌≤◌, ◌==◌, ◌||◌, ◌⊎◌, inl, inr, ⊎_elim, Bool, true, false}
+use Rattle.std.proofs.Common.{Some, refl, ap, ◌∙◌, sym, subst, arith}
+use Rattle.std.proofs.lemmas.Bool.{false≢true}
 use Rattle.std.proofs.lemmas.Bool.Decides.{nat_tests}
 use Rattle.sh_queue.specs.Numbers.{has_number}
 use Rattle.sh_queue.specs.Queues.{PageQueues, EachOnce, class_queue, at_back}
-use Rattle.sh_queue.proofs.PageLaws.{has_number-at_back}
+use Rattle.sh_queue.proofs.ClassQueues.{has_number-at_back}
 use Rattle.sh_pass.specs.Owners.{SeenPage}
-use Rattle.sh_step.specs.Collections.{if1}
-use Rattle.sh_shard.specs.Pages.{Paged, page_at, count_below, armed_pages, BellReads, BellStops}
+use Rattle.sh_shard.specs.Pages.{Paged, page_at, BellReads, BellStops}
 use Rattle.sh_shard.specs.Shards.{Sharded}
 use Rattle.sh_shard.specs.Searches.{Heard, Hears}
 use Rattle.sh_shard.specs.Works.{WorksThroughout, ReadFromBell}
 use Rattle.sh_shard.proofs.Sides.{aside_none, aside_then}
-use Rattle.sh_shard.proofs.Works.{through_none, through_reads, through_stops, read_more}
+use Rattle.sh_shard.proofs.Works.{through_none, through_reads, through_stops, read_more, read_of}
 
 pub through_hears : (c : ℕ) (read : Bool) (o n : Sharded) → Hears c read o n → WorksThroughout o.pages n.pages
 through_hears c read o n h = record {
@@ -48,13 +47,8 @@ hears_none c o = record {
       e. e;
 }
 
-by_cases : (p : ℕ) {B : Type 0} (f : SeenPage → B) (o n : Paged) → BellReads p o n → f (page_at n p) ≡ f (page_at o p)
-    → (q : ℕ) → f (page_at n q) ≡ f (page_at o q)
-by_cases p f o n b e q = ⊎_elim (λ (is : q ≡ p). subst (λ z. f (page_at n z) ≡ f (page_at o z)) (sym is) e)
-    (λ (ne : q ≢ p). ap f (b.others q ne)) (cases_eq q p)
-
 read_class : (p : ℕ) (o n : Paged) → BellReads p o n → (r : ℕ) → (page_at n r).class ≡ (page_at o r).class
-read_class p o n b r = by_cases p (λ g. g.class) o n b (ap (λ (g : SeenPage). g.class) b.here) r
+read_class p o n b r = read_of p (λ g. g.class) o n b (ap (λ (g : SeenPage). g.class) b.here) r
 
 -- one page more
 pub hears_more : (c word : ℕ) (read read' : Bool) (o n m : Sharded) → c < 8 → Hears c read o n → EachOnce n.queues
@@ -76,13 +70,13 @@ hears_more c word read read' o n m l h once d quiet = record {
   shard = d.reads.shard ∙ h.shard;
   count = d.reads.count ∙ h.count;
   classes = λ q. read_class d.page n.pages m.pages d.reads q ∙ h.classes q;
-  page_takes = λ q. by_cases d.page (λ g. g.takes) n.pages m.pages d.reads (ap (λ (g : SeenPage). g.takes) d.reads.here)
+  page_takes = λ q. read_of d.page (λ g. g.takes) n.pages m.pages d.reads (ap (λ (g : SeenPage). g.takes) d.reads.here)
       q ∙ h.page_takes q;
-  page_met = λ q. by_cases d.page (λ g. g.met) n.pages m.pages d.reads (ap (λ (g : SeenPage). g.met) d.reads.here) q
+  page_met = λ q. read_of d.page (λ g. g.met) n.pages m.pages d.reads (ap (λ (g : SeenPage). g.met) d.reads.here) q
       ∙ h.page_met q;
   takes = d.reads.takes ∙ h.takes;
   met = let a = h.met in let b = d.reads.met in omega arith;
-  pages = λ r q e. let k = quiet r in d.reads.others q (λ (is : q ≡ d.page). k.1 (other q is e)) ∙ h.pages k.0 q e;
+  pages = λ r q e. let k = quiet r in d.reads.others q (λ (is : q ≡ d.page). k.1 (word_is q is e)) ∙ h.pages k.0 q e;
   queue = λ r q e. let k = quiet r in h.queue k.0 q (⊎_elim
       (λ (t : m.queues ≡ n.queues). sym (ap (λ (z : PageQueues). has_number q (class_queue z c)) t) ∙ e)
       (λ (t : (m.queues ≡ at_back (word - 1) d.page n.queues) × (0 < word) × (word ≤ 8)). again q k.1 t.0 t.1 t.2
@@ -113,8 +107,8 @@ hears_more c word read read' o n m l h once d quiet = record {
       m.pages d.reads)))
       (h.came q e)
 
-  other : (q : ℕ) → q ≡ d.page → (page_at o.pages q).class ≡ Some (c + 1) → word ≡ c + 1
-  other q is e =
+  word_is : (q : ℕ) → q ≡ d.page → (page_at o.pages q).class ≡ Some (c + 1) → word ≡ c + 1
+  word_is q is e =
       let f : Some word ≡ Some (c + 1) = sym d.class ∙ (read_class d.page n.pages m.pages d.reads d.page
       ∙ (h.classes d.page ∙ (ap (λ z. (page_at o.pages z).class) (sym is) ∙ e))) in
       let g : word ≡ c + 1 = cc in g
@@ -125,47 +119,6 @@ hears_more c word read read' o n m l h once d quiet = record {
   again q ne is some few e = ⊎_elim (λ (t : has_number q (class_queue n.queues c) ≡ true). t)
       (λ (t : (c ≡ word - 1) × (q ≡ d.page)). absurd (ne (let z = t.0 in omega arith)))
       (has_number-at_back (word - 1) d.page n.queues c q (let z = once.classes in omega arith) e)
-
--- one page less is armed
-count_alike : (f g : ℕ → Bool) (p n : ℕ) → n ≤ p → ((q : ℕ) → q ≢ p → g q ≡ f q) → count_below g n ≡ count_below f n
-count_alike f g p zero l same = refl
-count_alike f g p (suc n) l same =
-    let x : if1 (g n) ≡ if1 (f n) = ap if1 (same n (λ e. absurd (omega arith))) in
-    let z = count_alike f g p n (omega arith) same in omega arith
-
-count_less : (f g : ℕ → Bool) (p n : ℕ) → p < n → f p ≡ true → g p ≡ false → ((q : ℕ) → q ≢ p → g q ≡ f q)
-    → count_below g n + 1 ≡ count_below f n
-count_less f g p zero l a b same = absurd (omega arith)
-count_less f g p (suc n) l a b same = go (λ k. count_less f g p n k a b same) (cases_eq n p) where
-  go : (p < n → count_below g n + 1 ≡ count_below f n) → (n ≡ p) ⊎ (n ≢ p) → (if1 (g n) + count_below g n) + 1
-      ≡ if1 (f n) + count_below f n
-  go rest (inl is) =
-      let x : if1 (f n) ≡ 1 = ap if1 (ap f is ∙ a) in
-      let y : if1 (g n) ≡ 0 = ap if1 (ap g is ∙ b) in
-      let z = count_alike f g p n (omega arith) same in omega arith
-  go rest (inr ne) =
-      let x : if1 (g n) ≡ if1 (f n) = ap if1 (same n ne) in
-      let z = rest (more p n l ne) in omega arith where
-        more : (p n : ℕ) → p < suc n → n ≢ p → p < n
-        more p n l ne = grind (arith, nat_tests)
-
-pub armed_less : (word : ℕ) (n m : Sharded) → Heard word n m → armed_pages m.pages + 1 ≡ armed_pages n.pages
-armed_less word n m d =
-    let size : m.pages.count ≡ n.pages.count = d.reads.count in
-    ap (λ k. count_below (λ p. (page_at m.pages p).armed) k + 1) size
-    ∙ count_less (λ p. (page_at n.pages p).armed) (λ p. (page_at m.pages p).armed) d.page n.pages.count
-    (let i = d.reads.inside in omega arith) d.reads.was (ap (λ (g : SeenPage). g.armed) d.reads.here)
-    (λ q ne. ap (λ (g : SeenPage). g.armed) (d.reads.others q ne))
-
-count_few : (f : ℕ → Bool) (n : ℕ) → count_below f n ≤ n
-count_few f zero = omega arith
-count_few f (suc n) = go (f n) (count_few f n) where
-  go : (b : Bool) → count_below f n ≤ n → if1 b + count_below f n ≤ suc n
-  go true l = omega arith
-  go false l = omega arith
-
-pub armed_few : (v : Paged) → armed_pages v ≤ v.count
-armed_few v = count_few (λ p. (page_at v p).armed) v.count
 
 pub not_either : (a b : Bool) (word c : ℕ) → b ≡ (a || (word == c + 1)) → b ≡ false → (a ≡ false) × (word ≢ c + 1)
 not_either a b word c e f = go a (sym e ∙ f) where

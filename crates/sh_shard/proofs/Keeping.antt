@@ -1,7 +1,7 @@
 -- What is kept of the pages stays what is known of them, step by step.
-use Rattle.std.proofs.Common.{◌≡◌, ◌≢◌, ℕ, zero, suc, ◌+◌, ◌-◌, ◌*◌, ◌/◌, ◌<◌, ◌==◌, ⊎_elim, Bool, true, false}
-use Rattle.std.proofs.Common.{cond, Option, Some, None, List, [], ◌++◌, length, get_or, set, IfSome, refl, ap, ◌∙◌, sym}
-use Rattle.std.proofs.Common.{subst, arith, append-nil}
+use Rattle.std.proofs.Common.{◌≡◌, ◌≢◌, ℕ, zero, suc, ◌+◌, ◌-◌, ◌*◌, ◌/◌, ◌<◌, ◌==◌, ⊎_elim, Bool, true, false, cond}
+use Rattle.std.proofs.Common.{Option, Some, None, List, [], ◌++◌, length, get_or, set, IfSome, refl, ap, ◌∙◌, sym}
+use Rattle.std.proofs.Common.{subst, arith, append-nil, add_left_cancel}
 use Rattle.std.specs.Prelude.{nat_lt}
 use Rattle.std.proofs.lemmas.List.{get_or-set_same, get_or-set_other, length-set}
 use Rattle.std.proofs.lemmas.Bool.{cases_eq}
@@ -17,17 +17,17 @@ use Rattle.sh_shape.specs.Places.{pages_of}
 use Rattle.sh_slots.specs.declared.hand.Hand.{Hand}
 use Rattle.sh_slots.specs.declared.hand.Hand.TheVariants.{Idle}
 use Rattle.sh_step.specs.Plans.{Plan, plan_of, home}
-use Rattle.sh_stack.specs.Stack.{link_item}
 use Rattle.sh_step.specs.Rows.{owned_by, own}
+use Rattle.sh_stack.specs.Stack.{link_item}
 use Rattle.sh_table.specs.Tales.{ViewStands}
 use Rattle.sh_pass.specs.Passes.{Caller}
 use Rattle.sh_pass.specs.Owners.{HasNothing, SeenPage, SeenBell, Aside, OwnerActs, OnPage, SamePages, SameBells}
 use Rattle.sh_pass.specs.Owners.{MayTouch, heap_page, own_body, seen_page, seen_bell, page_on_bell, bell_followed}
 use Rattle.sh_states.specs.declared.states.PageState.{PageState}
-use Rattle.sh_shard.specs.Pages.{shard_page}
 use Rattle.sh_states.specs.States.{blank_state, state_at}
+use Rattle.sh_queue.proofs.Numbers.{Misses-from_has}
+use Rattle.sh_shard.specs.Pages.{shard_page}
 use Rattle.sh_shard.specs.Kept.{KeepsPage, KeepsPages, rings_at}
-use Rattle.sh_shard.proofs.PageLaws.{misses_has}
 
 -- page p of the shard as the owner sees it
 abbrev pub page_of : Caller → (shard p : ℕ) → SeenPage
@@ -38,9 +38,7 @@ pub same_place : (v w : Caller) → w.view.shape ≡ v.view.shape → (shard p :
 same_place v w same shard p = ap (λ (z : Numbers). shard * pages_of z + p) same
 
 pub apart : (v : Caller) (shard p q : ℕ) → q ≢ p → heap_page v (shard_page shard q) ≢ heap_page v (shard_page shard p)
-apart v shard p q ne e = ne (alike (shard * pages_of v.view.shape) q p e) where
-  alike : (n q p : ℕ) → n + q ≡ n + p → q ≡ p
-  alike n q p e = omega arith
+apart v shard p q ne e = ne (add_left_cancel (shard * pages_of v.view.shape) e)
 
 pub here_at : (v w : Caller) (shard p : ℕ) {g : SeenPage} → w.view.shape ≡ v.view.shape
     → OnPage (heap_page v (shard_page shard p)) g v w → page_of w shard p ≡ g
@@ -79,16 +77,16 @@ keeps_on {layout} {v} {w} {shard} {states = states} {after = after} {g = g} p k 
           (cases_eq q p);
     }
 
-pub rings_same : (v w : Caller) (shard : ℕ) (rings : Option ℕ) → w.view.shape ≡ v.view.shape → rings_at v shard rings
+pub rings_at_same : (v w : Caller) (shard : ℕ) (rings : Option ℕ) → w.view.shape ≡ v.view.shape → rings_at v shard rings
     ≡ rings_at w shard rings
-rings_same v w shard None same = refl
-rings_same v w shard (Some p) same = λ i. Some (shard * pages_of (sym same i) + p)
+rings_at_same v w shard None same = refl
+rings_at_same v w shard (Some p) same = λ i. Some (shard * pages_of (sym same i) + p)
 
 bell_kept : {layout : Layout} {v w : Caller} {shard : ℕ} {rings : Option ℕ} {states : List PageState}
     → KeepsPages layout v shard rings states → Aside v w → SameBells layout v w → (own_body w).bell_cursor
     ≡ rings_at w shard rings
 bell_kept {v = v} {w = w} {shard = shard} {rings = rings} k aside same = ap (λ (b : SeenBell). b.cursor) (same shard)
-    ∙ (k.bell ∙ rings_same v w shard rings aside.same.shape)
+    ∙ (k.bell ∙ rings_at_same v w shard rings aside.same.shape)
 
 pub keeps_set : {layout : Layout} {v w : Caller} {shard : ℕ} {rings : Option ℕ} {states : List PageState}
     {es : List LogEntry} {n : ℕ} {g : SeenPage} (p : ℕ) (st : PageState) → KeepsPages layout v shard rings states
@@ -123,7 +121,7 @@ ready {v = v} {shard = shard} p s k l cursor =
     let a = k.pages p l in
     let c = k.stands.owner.cursors (heap_page v (shard_page shard p)) s cursor in record {
       small = c.2;
-      apart = misses_has s _ (a.mine s ∙ c.3);
+      apart = Misses-from_has s _ (a.mine s ∙ c.3);
     }
 
 -- ---- the bell
@@ -218,7 +216,7 @@ keeps_bell_waiting {layout} {v = v} {w = w} {shard = shard} {rings = rings} p n 
     let cursor : (bell_followed v shard n b).cursor ≡ b.cursor = ap
     (λ t. (cond t (record b { met = b.met + 1 }) (record b { cursor = page_on_bell v shard 2 n })).cursor) e in
     keeps_on p k acts (ap (λ (z : SeenBell). z.cursor) bell ∙
-    (cursor ∙ (k.bell ∙ rings_same v w shard rings acts.aside.same.shape))) on stands refl a (λ q ne. refl)
+    (cursor ∙ (k.bell ∙ rings_at_same v w shard rings acts.aside.same.shape))) on stands refl a (λ q ne. refl)
 
 -- a cursor that a step left is at a slot of the page
 pub small_cursor : {layout : Layout} {v w : Caller} {q : ℕ} {g : SeenPage} (c : Option ℕ) → g.cursor ≡ c

@@ -1,14 +1,15 @@
 -- A page whose lists or whose notes change is kept as the owner sees it.
-use Rattle.std.proofs.Common.{◌≡◌, ◌≢◌, ℕ, zero, suc, ◌+◌, ◌<◌, ◌==◌, ◌&&◌, ◌||◌, Bool, true, false, cond, Option}
-use Rattle.std.proofs.Common.{Some, None, List, [], ◌∷◌, ◌++◌, refl, ap, ◌∙◌, sym, subst, arith, append-nil, ne_eqb}
-use Rattle.std.proofs.Common.{eq-eqb}
+use Rattle.std.proofs.Common.{◌≡◌, ℕ, zero, suc, ◌+◌, ◌<◌, ◌==◌, ◌&&◌, ◌||◌, Bool, true, false, cond, Option, Some}
+use Rattle.std.proofs.Common.{None, List, [], ◌∷◌, ◌++◌, refl, ap, ◌∙◌, sym, subst, arith, append-nil}
 use Rattle.std.specs.Prelude.{nat_lt, nat_le, not}
-use Rattle.std.proofs.lemmas.Bool.{false≢true}
 use Rattle.std.proofs.lemmas.Bool.Decides.{nat_tests}
+use Rattle.std.proofs.Math.Bool.{and-true, and-false}
+use Rattle.std.proofs.lemmas.Bool.{cond_both}
 use Rattle.sh_bell.specs.Bell.{is_armed, top_of}
 use Rattle.sh_lists.specs.Lists.{Lists, refilled}
 use Rattle.sh_lists.specs.Numbers.{Misses, upward}
 use Rattle.sh_queue.specs.Numbers.{has_number}
+use Rattle.sh_queue.proofs.Numbers.{has_number-append, has_number-from_Misses}
 use Rattle.sh_shape.specs.Classes.{slots}
 use Rattle.sh_stack.specs.Stack.{top_item, link_item}
 use Rattle.sh_pass.specs.Owners.{SeenPage, page_taken, page_armed, page_followed, page_without, page_with, page_given}
@@ -16,13 +17,10 @@ use Rattle.sh_pass.specs.Owners.{page_rung}
 use Rattle.sh_states.specs.declared.states.PageState.{PageState}
 use Rattle.sh_shard.specs.Pages.{seen_class}
 use Rattle.sh_shard.specs.Kept.{KeepsPage}
-
-never_armed : (b : Bool) → cond b false false ≡ false
-never_armed true = refl
-never_armed false = refl
+use Rattle.sh_shard.proofs.ClassWords.{word_of}
 
 pub class_kept : (st : PageState) (g : SeenPage) → KeepsPage st g → seen_class g ≡ st.class_word
-class_kept st g a = ap (λ (c : Option ℕ). elim c [ Some n ↦ n | None ↦ 0 ]) a.class
+class_kept st g a = word_of g st.class_word a.class
 
 pub kept_taken : (st : PageState) (g : SeenPage) (n : ℕ) (l : Lists) (c : Option ℕ) (b : Bool) → KeepsPage st g
     → 0 < seen_class g → l ≡ record st.lists { cursor = c } → c ≡ top_item (top_of n)
@@ -34,7 +32,7 @@ kept_taken st g n l c b a some e f h = record {
   cursor = sym f ∙ ap (λ (z : Lists). z.cursor) (sym e);
   armed = ap (λ z. cond (is_armed n) false z) a.armed ∙ sym h;
   mine = λ s. ap (λ (z : Lists). has_number s (z.free ++ z.local)) e ∙ a.mine s;
-  blank = λ z. h ∙ (ap (λ t. cond (is_armed n) false t) (a.blank z) ∙ never_armed (is_armed n));
+  blank = λ z. h ∙ cond_both (is_armed n) false st.armed (λ t. t ≡ false) (λ _. refl) (λ _. a.blank z);
   unread = λ z. let k = class_kept st g a in absurd (omega arith);
 }
 
@@ -52,11 +50,6 @@ kept_armed st g n l c a some e f = record {
 }
 
 -- ---- slots that come to the lists
-
-pub has_append : (s : ℕ) (a b : List ℕ) → has_number s (a ++ b) ≡ has_number s a || has_number s b
-has_append s [] b = refl
-has_append s (x ∷ a) b = elim (x == s) as (λ t. t || has_number s (a ++ b) ≡ (t || has_number s a) || has_number s b)
-    [ true ↦ refl | false ↦ has_append s a b ]
 
 or_swap : (a b c : Bool) → ((a || (b || false)) || c) ≡ (b || (a || c))
 or_swap true true c = refl
@@ -88,11 +81,11 @@ kept_followed st g s n l a some at e = go (n == 0) refl where
     cursor = ap (λ (z : Lists). z.cursor) (sym e);
     armed = a.armed;
     mine = λ t. ap (λ (z : Lists). has_number t (z.free ++ z.local)) e
-        ∙ (has_append t (st.lists.free ++ s ∷ []) st.lists.local
-        ∙ (ap (λ b. b || has_number t st.lists.local) (has_append t st.lists.free (s ∷ []))
+        ∙ (has_number-append t (st.lists.free ++ s ∷ []) st.lists.local
+        ∙ (ap (λ b. b || has_number t st.lists.local) (has_number-append t st.lists.free (s ∷ []))
         ∙ (or_swap (has_number t st.lists.free) (s == t) (has_number t st.lists.local)
         ∙ (ap (λ b. b || (has_number t st.lists.free || has_number t st.lists.local)) (eqb_sym s t)
-        ∙ ap (λ b. (t == s) || b) (sym (has_append t st.lists.free st.lists.local) ∙ a.mine t)))));
+        ∙ ap (λ b. (t == s) || b) (sym (has_number-append t st.lists.free st.lists.local) ∙ a.mine t)))));
     blank = a.blank;
     unread = λ z. let none : None ≡ Some s = sym (a.unread z) ∙ (sym a.cursor ∙ at) in cc;
   }
@@ -122,26 +115,13 @@ kept_with st g s l a e = record {
   cursor = a.cursor ∙ ap (λ (z : Lists). z.cursor) (sym e);
   armed = a.armed;
   mine = λ t. ap (λ (z : Lists). has_number t (z.free ++ z.local)) e
-      ∙ (has_append t st.lists.free (s ∷ st.lists.local)
+      ∙ (has_number-append t st.lists.free (s ∷ st.lists.local)
       ∙ (or_under (has_number t st.lists.free) (s == t) (has_number t st.lists.local)
       ∙ (ap (λ b. b || (has_number t st.lists.free || has_number t st.lists.local)) (eqb_sym s t)
-      ∙ ap (λ b. (t == s) || b) (sym (has_append t st.lists.free st.lists.local) ∙ a.mine t))));
+      ∙ ap (λ b. (t == s) || b) (sym (has_number-append t st.lists.free st.lists.local) ∙ a.mine t))));
   blank = a.blank;
   unread = λ z. ap (λ (z : Lists). z.cursor) e ∙ a.unread z;
 }
-
-misses_head : (x y : ℕ) (ys : List ℕ) (t : Bool) → (y == x) ≡ t → (t || has_number x ys) ≡ false
-    → (has_number x ys ≡ false → Misses x ys) → (x ≢ y) × Misses x ys
-misses_head x y ys true e f r = absurd (false≢true (sym f))
-misses_head x y ys false e f r = ((λ is. false≢true (sym e ∙ eq-eqb y x (sym is))), r f)
-
-pub misses_has : (x : ℕ) (xs : List ℕ) → has_number x xs ≡ false → Misses x xs
-misses_has x [] e = tt
-misses_has x (y ∷ ys) e = misses_head x y ys (y == x) refl e (misses_has x ys)
-
-pub has_misses : (s : ℕ) (xs : List ℕ) → Misses s xs → has_number s xs ≡ false
-has_misses s [] m = refl
-has_misses s (y ∷ ys) m = ap (λ b. b || has_number s ys) (ne_eqb y s (λ is. m.0 (sym is))) ∙ has_misses s ys m.1
 
 -- ---- a slot that is used
 
@@ -181,21 +161,14 @@ kept_without st g x l a u = record {
   blank = a.blank;
   unread = λ z. u.cursor ∙ a.unread z;
 } where
-  last : (b : Bool) → b ≡ (b && true)
-  last true = refl
-  last false = refl
-
-  none : (b : Bool) → false ≡ (b && false)
-  none true = refl
-  none false = refl
-
   whole : (t : ℕ) → ((x == t) || has_number t (l.free ++ l.local)) ≡ g.mine t
   whole t = ap (has_number t) (sym u.order) ∙ a.mine t
 
   go : (t : ℕ) (b : Bool) → (t == x) ≡ b → has_number t (l.free ++ l.local) ≡ (g.mine t && not b)
   go t true e = let is : t ≡ x = grind (arith, nat_tests) in subst (λ z. has_number z (l.free ++ l.local) ≡ false)
-      (sym is) (has_misses x (l.free ++ l.local) u.apart) ∙ none (g.mine t)
-  go t false e = ap (λ b. b || has_number t (l.free ++ l.local)) (sym (eqb_sym x t ∙ e)) ∙ (whole t ∙ last (g.mine t))
+      (sym is) (has_number-from_Misses x (l.free ++ l.local) u.apart) ∙ sym (and-false (g.mine t))
+  go t false e = ap (λ b. b || has_number t (l.free ++ l.local)) (sym (eqb_sym x t ∙ e))
+      ∙ (whole t ∙ sym (and-true (g.mine t)))
 
 -- the slot that is used is the owner's
 pub used_is_mine : (st : PageState) (g : SeenPage) (x : ℕ) (l : Lists) → KeepsPage st g → UsesSlot x st.lists l

@@ -4,12 +4,13 @@ use Rattle.std.proofs.Common.{Option, Some, None, MatchOption, IfSome, List, ◌
 use Rattle.std.proofs.Common.{sym, subst, arith}
 use Rattle.std.specs.Prelude.{Result, Ok, Err}
 use Rattle.std.proofs.lemmas.Bool.{cases_eq, cases_lt, false≢true}
+use Rattle.sh_value.specs.declared.refusal.Refusal.TheVariants as refusal
+use Rattle.sh_value.specs.declared.refusal.Refusal.{Refusal}
 use Rattle.sh_queue.specs.Numbers.{has_number}
 use Rattle.sh_queue.specs.Queues.{PageQueues, EachOnce, class_queue, at_front, one_more_segment}
-use Rattle.sh_queue.proofs.PageLaws.{class_queue-at_front_same, without_number-hasnt}
+use Rattle.sh_queue.proofs.PutBack.{without_number-hasnt}
+use Rattle.sh_queue.proofs.ClassQueues.{class_queue-at_front_same}
 use Rattle.sh_key.specs.Layout.{Layout}
-use Rattle.sh_value.specs.declared.refusal.Refusal.{Refusal}
-use Rattle.sh_value.specs.declared.refusal.Refusal.TheVariants as refusal
 use Rattle.sh_pass.specs.Owners.{SeenPage}
 use Rattle.sh_shard.specs.Pages.{Paged, page_at, NothingMine, NamesSlot, PageInserts, GivesClass}
 use Rattle.sh_shard.specs.Pages.{TakesSteps}
@@ -25,7 +26,10 @@ use Rattle.sh_shard.specs.Searches.{Tried}
 use Rattle.sh_shard.proofs.Works.{through_none}
 use Rattle.sh_shard.proofs.Bounding.{steps_none}
 use Rattle.sh_shard.proofs.Working.{names_before}
-use Rattle.sh_shard.proofs.Searching.{added_since, added_given, front_has, stored, none_left, some_given, not_whole}
+use Rattle.sh_shard.proofs.Storing.{added_since, added_given, stored}
+use Rattle.sh_shard.proofs.Searching.{front_has}
+use Rattle.sh_shard.proofs.ClassDone.{none_left}
+use Rattle.sh_shard.proofs.BlankPages.{some_given, not_whole}
 
 -- ---- a page
 

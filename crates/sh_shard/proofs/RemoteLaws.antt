@@ -1,12 +1,13 @@
 -- Collecting what others freed, page by page.
-use Rattle.std.proofs.Common.{◌≡◌, ◌≢◌, ℕ, ◌+◌, ◌*◌, ◌<◌, ◌≤◌, ⊎_elim, Option, Some, None, MatchOption, refl, ap, ◌∙◌}
-use Rattle.std.proofs.Common.{sym, subst, arith}
+use Rattle.std.proofs.Common.{◌≡◌, ◌≢◌, ℕ, ◌+◌, ◌*◌, ◌<◌, ◌≤◌, ⊎_elim, Option, Some, None, MatchOption, refl, ◌∙◌, sym}
+use Rattle.std.proofs.Common.{subst, arith}
 use Rattle.std.proofs.lemmas.Bool.{cases_eq, cases_lt}
+use Rattle.std.proofs.Math.Numerals.{lt_of_le_of_ne}
 use Rattle.sh_pass.specs.Owners.{SeenPage, SeenBell, HasNothing}
-use Rattle.sh_shard.specs.Pages.{Paged, page_at, seen_class, CursorStands, TakesPage, CursorStops, BlankFrom}
-use Rattle.sh_shard.specs.Pages.{BlankHasNothing, StepsForRings}
-use Rattle.sh_shard.specs.Steps.{StepsAtMost}
 use Rattle.sh_queue.specs.Queues.{PageQueues}
+use Rattle.sh_shard.specs.Pages.{Paged, page_at, CursorStands, TakesPage, CursorStops, BlankFrom, BlankHasNothing}
+use Rattle.sh_shard.specs.Pages.{StepsForRings}
+use Rattle.sh_shard.specs.Steps.{StepsAtMost}
 use Rattle.sh_shard.specs.Filing.{ReturnsRising}
 use Rattle.sh_shard.specs.Works.{BellDone}
 use Rattle.sh_shard.specs.Leaving.{Collecting}
@@ -14,12 +15,9 @@ use Rattle.sh_shard.specs.RemoteFrees.{PageCollected, CollectsWhole, PagesCollec
 use Rattle.sh_shard.proofs.Works.{through_works}
 use Rattle.sh_shard.proofs.Working.{works_more}
 use Rattle.sh_shard.proofs.Bounding.{plain_then, slots_then, slots_most, rings_most, steps_none}
-use Rattle.sh_shard.proofs.LeavingLaws.{weaken, more, collecting_none, collecting_more}
-
-class_number : (g : SeenPage) → g.class ≡ Some 0 → seen_class g ≡ 0
-class_number g e = ap number e where
-  number : Option ℕ → ℕ
-  number c = elim c [ Some k ↦ k | None ↦ 0 ]
+use Rattle.sh_shard.proofs.ClassWords.{word_of}
+use Rattle.sh_shard.proofs.Waits.{waits_since}
+use Rattle.sh_shard.proofs.BellEmptying.{collecting_none, collecting_more}
 
 -- a page without a class has nothing on its stack
 pub collects_blank : (p : ℕ) (o n : Paged) → CursorStops p o n → (page_at n p).class ≡ Some 0 → CollectsWhole p o n
@@ -28,7 +26,7 @@ collects_blank p o n s blank = record {
   arm = s.arm;
   collected = record {
     waits = s.waits;
-    taken = λ l e. let z = class_number (page_at o p) (sym s.works.class ∙ blank) in absurd (omega arith);
+    taken = λ l e. let z = word_of (page_at o p) 0 (sym s.works.class ∙ blank) in absurd (omega arith);
   };
   steps = let g = s.steps in omega arith;
 }
@@ -50,7 +48,8 @@ collects_taken p o m t n s k h = record {
   works = works_more p o t n (works_more p o m t s.works k.works) h.works;
   arm = h.arm ∙ (k.arm ∙ s.arm);
   collected = record {
-    waits = weaken (page_at n p).cursor _ _ _ (let a = s.works.met in let b = k.works.met in omega arith) h.waits;
+    waits = waits_since (page_at n p).cursor _ _ _ _ (let a = s.works.met in let b = k.works.met in omega arith)
+        h.waits;
     taken = λ l e. let x = s.works.takes in let y = k.takes in let z = h.works.takes in omega arith;
   };
   steps = slots_then 2 1 3 p o t n (slots_then 1 1 2 p o m t s.steps k.steps (omega arith)) h.steps (omega arith);
@@ -74,7 +73,7 @@ collected_none o = record {
 collected_after : (g h k : SeenPage) → g.class ≡ h.class → g.met ≤ h.met → g.takes ≤ h.takes → PageCollected h k
     → PageCollected g k
 collected_after g h k same m t e = record {
-  waits = weaken k.cursor g.met h.met k.met m e.waits;
+  waits = waits_since k.cursor _ g.met h.met k.met m e.waits;
   taken = λ l c. let z = e.taken (subst classed same l) c
       in omega arith;
 } where
@@ -91,7 +90,7 @@ collected_more page o n m f e = record {
       (collected_after (page_at o page) (page_at n page) (page_at m page) (sym (f.collects.through.classes page))
       (f.collects.through.met page) (f.collects.through.takes page) e.collected))
       (λ (ne : p ≢ page). subst (PageCollected (page_at o p)) (sym (e.works.others p ne))
-      (f.pages p (more p page (let z = l in omega arith) (λ is. ne (sym is)))))
+      (f.pages p (lt_of_le_of_ne (let z = l in omega arith) ne)))
       (cases_eq p page);
   steps = plain_then _ _ _ (51 * page) 51 (51 * (page + 1)) f.steps (slots_most 3 51 page n m e.steps (omega arith))
       (omega arith);
@@ -101,7 +100,7 @@ collected_more page o n m f e = record {
 blank_page : (g h : SeenPage) → g.class ≡ Some 0 → HasNothing h → PageCollected g h
 blank_page g h blank none = record {
   waits = subst (λ (z : Option ℕ). MatchOption z (Unit {0}) (λ _. g.met < h.met)) (sym none.cursor) tt;
-  taken = λ l c. let z = class_number g blank in absurd (omega arith);
+  taken = λ l c. let z = word_of g 0 blank in absurd (omega arith);
 }
 
 pub pages_collected : (opened page : ℕ) (o n : Paged) → CollectedBelow page o n → BlankFrom opened o

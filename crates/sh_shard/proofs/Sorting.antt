@@ -3,16 +3,18 @@ use Rattle.std.proofs.Common.{◌≡◌, ◌≢◌, ℕ, zero, suc, ◌+◌, ◌
 use Rattle.std.proofs.Common.{None, MatchOption, List, [], ◌∷◌, length, refl, ap, ◌∙◌, sym, subst, arith}
 use Rattle.std.proofs.lemmas.Bool.{cases_eq, false≢true}
 use Rattle.sh_queue.specs.Numbers.{has_number, without_number}
-use Rattle.sh_queue.specs.Queues.{PageQueues, EachOnce, class_queue, at_front, at_back, among_full}
-use Rattle.sh_queue.specs.Queues.{one_more_segment}
+use Rattle.sh_queue.specs.Queues.{PageQueues, EachOnce, class_queue, at_front, at_back, among_full, one_more_segment}
 use Rattle.sh_queue.proofs.Numbers.{has_number-append, has_number-here}
-use Rattle.sh_queue.proofs.PageLaws.{has_number-from_without, has_number-in_back, has_number-at_front}
-use Rattle.sh_queue.proofs.PageLaws.{has_number-at_back, has_number-among_full, has_number-one_more_segment}
-use Rattle.sh_queue.proofs.PageLaws.{class_queue-at_front_same, class_queue-at_back_same, class_apart, classes_apart}
-use Rattle.sh_queue.proofs.PageLaws.{full_opened, EachOnce-at_front, EachOnce-at_back}
+use Rattle.sh_queue.proofs.PutBack.{has_number-from_without, has_number-in_back}
+use Rattle.sh_queue.proofs.ClassQueues.{has_number-at_front, has_number-at_back, has_number-among_full}
+use Rattle.sh_queue.proofs.ClassQueues.{has_number-one_more_segment, class_queue-at_front_same}
+use Rattle.sh_queue.proofs.ClassQueues.{class_queue-at_back_same}
+use Rattle.sh_queue.proofs.StandOnce.{EachOnce-at_front, EachOnce-at_back}
+use Rattle.sh_queue.proofs.PagePlaces.{class_apart, classes_apart, full_opened}
 use Rattle.sh_pass.specs.Owners.{SeenPage}
 use Rattle.sh_shard.specs.Pages.{Paged, page_at, seen_class, WorksOn, PageInserts, NothingMine, GivesClass, BellReads}
 use Rattle.sh_shard.specs.Shards.{SortedPages, FullPage}
+use Rattle.sh_shard.proofs.ClassWords.{word_of}
 
 or_right : (a : Bool) {b : Bool} → b ≡ true → a || b ≡ true
 or_right true is = refl
@@ -139,7 +141,7 @@ module _ (v : Paged) (q : PageQueues) (sorted : SortedPages v q) (once : EachOnc
             (cases_eq r p)
 
   class_inside : (c p : ℕ) → has_number p (class_queue q c) ≡ true → p < q.opened
-  class_inside c p here = Rattle.sh_queue.proofs.PageLaws.class_opened p q once c here
+  class_inside c p here = Rattle.sh_queue.proofs.PagePlaces.class_opened p q once c here
 
   pub sorted_works : (w : Paged) (c p : ℕ) → has_number p (class_queue q c) ≡ true → WorksOn p v w → SortedPages w q
   sorted_works w c p here k = sorted_on w c p here k.count (class_inside c p here) k.class k.others
@@ -153,8 +155,7 @@ module _ (v : Paged) (q : PageQueues) (sorted : SortedPages v q) (once : EachOnc
       → (page_at v p).cursor ≡ None
       → MatchOption (page_at v p).cursor ((page_at v p).armed ≡ true) (λ _. Unit {0}) → FullPage (page_at v p)
   full_page c p class here nothing none waits =
-      let word : seen_class (page_at v p) ≡ c + 1 = ap (λ (o : Option ℕ). elim o as (λ _. ℕ) [ Some n ↦ n | None ↦ 0 ])
-      (sorted.classes c p here) in record {
+      let word : seen_class (page_at v p) ≡ c + 1 = word_of (page_at v p) (c + 1) (sorted.classes c p here) in record {
         classed = omega arith;
         few = omega arith;
         armed = subst (λ (z : Option ℕ). MatchOption z ((page_at v p).armed ≡ true) (λ _. Unit {0})) none waits;
@@ -171,9 +172,6 @@ stands_at_back q p d once few inside = class_apart p (at_back d p q) (EachOnce-a
     (ap (has_number p) (class_queue-at_back_same d p q (let m = once.classes in omega arith))
     ∙ (has_number-append p (without_number p (class_queue q d)) (p ∷ [])
     ∙ or_right (has_number p (without_number p (class_queue q d))) (has_number-here p [])))
-
-word_of : (g : SeenPage) (word : ℕ) → g.class ≡ Some word → seen_class g ≡ word
-word_of g word is = ap (λ (o : Option ℕ). elim o as (λ _. ℕ) [ Some m ↦ m | None ↦ 0 ]) is
 
 -- page p alone came to be otherwise, in its class
 pub record Alters (p : ℕ) (v w : Paged) : Type 0 where

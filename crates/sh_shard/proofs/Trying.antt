@@ -17,7 +17,10 @@ use Rattle.sh_shard.proofs.Works.{through_more, through_takes, read_more, read_l
 use Rattle.sh_shard.proofs.Bounding.{rings_then, rings_most}
 use Rattle.sh_shard.proofs.Hearing.{through_hears}
 use Rattle.sh_shard.proofs.Working.{names_before}
-use Rattle.sh_shard.proofs.Searching.{weaken_armed, done_still, stored, class_done}
+use Rattle.sh_shard.proofs.Waits.{waits_since}
+use Rattle.sh_shard.proofs.Searching.{done_still}
+use Rattle.sh_shard.proofs.Storing.{stored}
+use Rattle.sh_shard.proofs.ClassDone.{class_done}
 
 -- a link that was not written is met at once
 pub rings_first : (c : ℕ) (read : Bool) (o n : Sharded) → Hears c read o n → StepsForRings 1 o.pages n.pages
@@ -79,7 +82,7 @@ bell_since : (o n m : Paged) → WorksThroughout o n → BellDone n m → BellDo
 bell_since o n m t d = weaken_bell m.bell.cursor _ _ _ _ _ _ t.bell_takes t.bell_met d
 
 done_since : (p : ℕ) (o n m : Paged) → WorksThroughout o n → PageDone n m p → PageDone o m p
-done_since p o n m s d = record { mine = d.mine; waits = weaken_armed (page_at m p).cursor _ _ _ _ (s.met p) d.waits }
+done_since p o n m s d = record { mine = d.mine; waits = waits_since (page_at m p).cursor _ _ _ _ (s.met p) d.waits }
 
 tried_in : (a b c k l : ℕ) → b ≤ a + 4 * k → c ≤ b + (l + 3) → l ≡ k → c ≤ a + (9 * k + 3)
 tried_in a b c k l x y e = omega arith
@@ -138,7 +141,8 @@ found_again layout c key value read o n m z s sorted once r t =
       through = through_more o.pages m.pages t.stores.tried before t.stores.through;
       inserts = t.stores.inserts;
     } in
-    stored layout c t.page key value o z stores (let a = t.inside in let e = r.opened in let f = s.opened in omega arith)
+    stored layout c t.page key value o z stores
+    (let a = t.inside in let e = r.opened in let f = s.opened in omega arith)
     (t.opened ∙ (r.opened ∙ s.opened)) (⊎_elim
     (λ (h : has_number t.page (class_queue n.queues c) ≡ true). inl (s.stood t.page h))
     (λ (h : ReadFromBell t.page n.pages m.pages). inr (inl (record {

@@ -1,6 +1,6 @@
 -- How many slots the lists of a page have, and whether these are all of its class.
-use Rattle.std.proofs.Common.{◌≡◌, ℕ, zero, suc, ◌+◌, ◌-◌, ◌<◌, ◌≤◌, ◌==◌, ◌||◌, Bool, true, false, Option, Some, None, IfSome, MatchOption}
-use Rattle.std.proofs.Common.{MatchBool, List, [], ◌∷◌, ◌++◌, length, refl, ap, ◌∙◌, sym, subst, arith}
+use Rattle.std.proofs.Common.{◌≡◌, ℕ, suc, ◌+◌, ◌-◌, ◌<◌, ◌≤◌, Bool, true, false, Option, Some, None, IfSome}
+use Rattle.std.proofs.Common.{MatchOption, MatchBool, List, [], ◌∷◌, ◌++◌, length, refl, ap, ◌∙◌, sym, subst, arith}
 use Rattle.std.specs.Prelude.{nat_lt}
 use Rattle.std.proofs.lemmas.Bool.Decides.{nat_tests}
 use Rattle.std.proofs.lemmas.List.{length-append}
@@ -8,8 +8,8 @@ use Rattle.sh_lists.specs.Lists.{SlotsOnce}
 use Rattle.sh_lists.specs.Numbers.{Distinct, AllBelow}
 use Rattle.sh_lists.proofs.Distincts.{length-le_from_Distinct}
 use Rattle.sh_queue.specs.Numbers.{has_number}
+use Rattle.sh_queue.proofs.Numbers.{has_number-here, has_number-there, has_number-else, Misses-from_has}
 use Rattle.sh_shape.specs.Classes.{slots}
-use Rattle.sh_step.specs.Collections.{if1}
 use Rattle.sh_key.specs.Layout.{Layout}
 use Rattle.sh_pass.specs.Passes.{Caller}
 use Rattle.sh_pass.specs.Owners.{SeenPage}
@@ -17,58 +17,28 @@ use Rattle.sh_states.specs.declared.states.PageState.{PageState}
 use Rattle.sh_states.specs.States.{state_at, WholeState, NoneWholeBelow, FirstWhole}
 use Rattle.sh_shard.specs.Kept.{KeepsPage, KeepsPages}
 use Rattle.sh_shard.specs.Pages.{count_below, NothingMine, WhollyMine}
-use Rattle.sh_shard.proofs.PageLaws.{misses_has}
 use Rattle.sh_shard.proofs.Keeping.{page_of, below_class}
+use Rattle.sh_shard.proofs.Counts.{count_none, count_all, count_one_more}
 
 -- ---- numbers of a list
 
-head_has : (x : ℕ) (xs : List ℕ) → has_number x (x ∷ xs) ≡ true
-head_has x xs = let e : (x == x) ≡ true = grind (arith, nat_tests) in ap (λ b. b || has_number x xs) e
-
 pub below_all : (n : ℕ) (xs : List ℕ) → ((s : ℕ) → has_number s xs ≡ true → s < n) → AllBelow n xs
 below_all n [] h = tt
-below_all n (x ∷ xs) h = (h x (head_has x xs), below_all n xs (λ s e. h s (behind s e))) where
-  either : (a b : Bool) → b ≡ true → (a || b) ≡ true
-  either true b e = refl
-  either false b e = e
-
-  behind : (s : ℕ) → has_number s xs ≡ true → has_number s (x ∷ xs) ≡ true
-  behind s e = either (x == s) (has_number s xs) e
+below_all n (x ∷ xs) h = (h x (has_number-here x xs), below_all n xs (λ s e. h s (has_number-there s x xs e)))
 
 -- n distinct numbers below n are all of them
 pub all_there : (n s : ℕ) (xs : List ℕ) → Distinct xs → AllBelow n xs → n ≤ length xs → s < n → has_number s xs ≡ true
 all_there n s xs d b l k = go (has_number s xs) refl where
   go : (t : Bool) → has_number s xs ≡ t → t ≡ true
   go true e = refl
-  go false e = let z = length-le_from_Distinct n (s ∷ xs) (misses_has s xs e, d) (k, b) in absurd (omega arith)
-
-count_alike : (f : ℕ → Bool) (x n : ℕ) → n ≤ x → count_below (λ s. (x == s) || f s) n ≡ count_below f n
-count_alike f x zero l = refl
-count_alike f x (suc n) l =
-    let e : (x == n) ≡ false = grind (arith, nat_tests) in
-    let r = count_alike f x n (omega arith) in
-    let h : if1 ((x == n) || f n) ≡ if1 (f n) = ap (λ b. if1 (b || f n)) e in omega arith
-
-count_one_more : (f : ℕ → Bool) (x n : ℕ) → count_below (λ s. (x == s) || f s) n ≤ suc (count_below f n)
-count_one_more f x zero = omega arith
-count_one_more f x (suc n) = go (x == n) refl (count_one_more f x n) where
-  go : (b : Bool) → (x == n) ≡ b → count_below (λ s. (x == s) || f s) n ≤ suc (count_below f n)
-      → if1 (b || f n) + count_below (λ s. (x == s) || f s) n ≤ suc (if1 (f n) + count_below f n)
-  go true e rest = let is : x ≡ n = grind (arith, nat_tests) in let r = count_alike f x n (omega arith) in omega arith
-  go false e rest = omega arith
+  go false e = let z = length-le_from_Distinct n (s ∷ xs) (Misses-from_has s xs e, d) (k, b) in absurd (omega arith)
 
 count_length : (xs : List ℕ) (n : ℕ) → count_below (λ s. has_number s xs) n ≤ length xs
-count_length [] n = none n where
-  none : (n : ℕ) → count_below (λ s. false) n ≤ 0
-  none zero = omega arith
-  none (suc n) = let r = none n in omega arith
-count_length (x ∷ xs) n = let a = count_one_more (λ s. has_number s xs) x n in let b = count_length xs n in omega arith
-
-count_all : (f : ℕ → Bool) (n : ℕ) → ((s : ℕ) → s < n → f s ≡ true) → count_below f n ≡ n
-count_all f zero h = refl
-count_all f (suc n) h =
-    let r = count_all f n (λ s l. h s (omega arith)) in
-    let e : if1 (f n) ≡ 1 = ap if1 (h n (omega arith)) in omega arith
+count_length [] n = let e = count_none (λ s. false) n (λ s. refl) in omega arith
+count_length (x ∷ xs) n =
+    let a = count_one_more (λ s. has_number s xs) (λ s. has_number s (x ∷ xs)) x n
+    (λ s ne. has_number-else s x xs (λ e. ne (sym e))) in
+    let b = count_length xs n in omega arith
 
 pub enough : (n : ℕ) (xs : List ℕ) → ((s : ℕ) → s < n → has_number s xs ≡ true) → n ≤ length xs
 enough n xs h = let a = count_all (λ s. has_number s xs) n h in let b = count_length xs n in omega arith
@@ -86,7 +56,7 @@ some_slot st g n a e = go (st.lists.free ++ st.lists.local) a.mine (length-appen
           → MatchBool b ((s : ℕ) × (g.mine s ≡ true)) (NothingMine g)
       go [] h l true t = absurd (let z : 0 < n = grind (arith, nat_tests) in omega arith)
       go [] h l false t = λ s. sym (h s)
-      go (x ∷ xs) h l true t = (x, sym (h x) ∙ head_has x xs)
+      go (x ∷ xs) h l true t = (x, sym (h x) ∙ has_number-here x xs)
       go (x ∷ xs) h l false t = absurd (let z : n ≤ 0 = grind (arith, nat_tests) in omega arith)
 
 -- a page whose lists have all slots of its class

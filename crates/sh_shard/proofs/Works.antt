@@ -66,8 +66,9 @@ through_stops o n b = record {
   bell_met = b.met;
 }
 
-read_of : (p : ℕ) {B : Type 0} (f : SeenPage → B) (o n : Paged) → BellReads p o n → f (page_at n p) ≡ f (page_at o p)
-    → (q : ℕ) → f (page_at n q) ≡ f (page_at o q)
+-- what is the same at the page that was read is the same at each
+pub read_of : (p : ℕ) {B : Type 0} (f : SeenPage → B) (o n : Paged) → BellReads p o n
+    → f (page_at n p) ≡ f (page_at o p) → (q : ℕ) → f (page_at n q) ≡ f (page_at o q)
 read_of p f o n b e q = ⊎_elim (λ (is : q ≡ p). subst (λ z. f (page_at n z) ≡ f (page_at o z)) (sym is) e)
     (λ (ne : q ≢ p). ap f (b.others q ne)) (cases_eq q p)
 

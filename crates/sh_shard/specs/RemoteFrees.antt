@@ -1,6 +1,5 @@
 -- What a collect does: what others freed in a shard comes to its owner.
 use Rattle.std.specs.Prelude.{◌≡◌, ℕ, ◌+◌, ◌*◌, ◌<◌, None}
-use Rattle.sh_key.specs.Layout.{Layout}
 use Rattle.sh_pass.specs.Owners.{SeenPage}
 use Rattle.sh_shard.specs.Pages.{Paged, page_at, seen_class, WaitsSince, WorksOn, NoArming, StepsForSlots}
 use Rattle.sh_shard.specs.Steps.{StepsAtMost}

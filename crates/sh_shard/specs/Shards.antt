@@ -114,8 +114,8 @@ pub record PreparesPage (c p : ℕ) (o n : Sharded) : Type 0 where
   pub front : class_queue n.queues c ≡ p ∷ class_queue o.queues c
   pub opened : OpensFor p o.queues n.queues
 
--- a page is prepared for class c, or there is none that could be, or the growth of the segment that has the next one was
--- refused
+-- a page is prepared for class c, or there is none that could be, or the growth of the segment that has the next one
+-- was refused
 abbrev pub PrepareServes : ℕ → Sharded → Result ℕ Refusal → Sharded → Type 0
 PrepareServes c o (Ok p) n = PreparesPage c p o n
 PrepareServes c o (Err refusal.Full) n = (n ≡ o) × NoPageFor c o
@@ -151,8 +151,8 @@ pub record CameByBell (c p key : ℕ) (value : List ℕ) (o n : Paged) : Type 0 
   pub again : WorksThroughout heard tried
   pub inserts : PageInserts p value key tried n
 
--- each page of class c and the bell were searched in vain; then page p, the next one for the class, was given it, and the
--- value is there
+-- each page of class c and the bell were searched in vain; then page p, the next one for the class, was given it, and
+-- the value is there
 pub record NextAfterSearch (c p key : ℕ) (value : List ℕ) (o n : Sharded) : Type 0 where
   pub searched : Sharded
   pub left : NoneLeft c o.pages searched.pages
@@ -161,8 +161,8 @@ pub record NextAfterSearch (c p key : ℕ) (value : List ℕ) (o n : Sharded) : 
   pub prepares : PreparesPage c p searched given
   pub inserts : PageInserts p value key given.pages n.pages
 
--- a value of class c went to a page that has the class, and no other page changed its class: one that stood in the queue
--- of the class, or came back by the bell, or was the next one for the class after a search in vain
+-- a value of class c went to a page that has the class, and no other page changed its class: one that stood in the
+-- queue of the class, or came back by the bell, or was the next one for the class after a search in vain
 pub record FindsPage (layout : Layout) (c key : ℕ) (value : List ℕ) (o n : Sharded) : Type 0 where
   pub page : ℕ
   pub inside : page < n.pages.count
@@ -201,8 +201,8 @@ DoneIn n o (Err _) m = ⊥
 
 -- ---- becoming and ceasing to be the owner
 
--- shard k is the pass's own, with its pages that have a class in their queues; or there is none of the number, or it has
--- an owner, or memory was refused
+-- shard k is the pass's own, with its pages that have a class in their queues; or there is none of the number, or it
+-- has an owner, or memory was refused
 abbrev pub AdoptServes : ℕ → Caller → Result Sharded (Caller × Refusal) → Type 0
 AdoptServes k v (Ok n) = (k < v.view.shape.shards) × AdoptsShard v k n.pages × OpensClassed n.pages n.queues
     × FilesRising n.queues

@@ -13,7 +13,8 @@ use sh_value::Refusal;
 impl<L: KeyLayout, H: KeepsHeap<L>> Shard<L, H> {
     /// Leaves the shard: what others freed is collected, all that the owner has is put back for the next owner, and the
     /// pass comes back. Refused as `Waiting`, with the shard, where another caller has begun a free in it that is yet
-    /// to end: then nothing is put back, and the shard serves as before. It takes at most 148 steps for each page, and 4.
+    /// to end: then nothing is put back, and the shard serves as before. It takes at most 148 steps for each
+    /// page, and 4.
     pub fn leave(self) -> Result<Pass<L, H>, (Self, Refusal)>
         ensures serves { LeaveServes self result }
         ensures bounded { LeaveIsBounded self result }

@@ -19,10 +19,10 @@ use std::marker::Model;
 /// Other passes act between all its calls. Memory is taken by `adopt`, and by an `insert` or a `prepare` that opens a
 /// segment.
 ///
-/// A shard is given up by `leave` alone. One that is dropped stays taken for as long as the heap stands: each adopt of it
-/// is refused as `Taken`, the slots that were its owner's are used by nobody, and what others free there is not collected.
-/// Its pass is gone with it: no other pass can be joined to it, so the heap is never known whole. The values stay, and
-/// other passes get, read, remove and release them as before.
+/// A shard is given up by `leave` alone. One that is dropped stays taken for as long as the heap stands: each adopt of
+/// it is refused as `Taken`, the slots that were its owner's are used by nobody, and what others free there is not
+/// collected. Its pass is gone with it: no other pass can be joined to it, so the heap is never known whole. The values
+/// stay, and other passes get, read, remove and release them as before.
 #[derive(Drop)]
 pub struct Shard<L: KeyLayout, H: KeepsHeap<L>> {
     pub(crate) pages: Pages<L, H>,
@@ -62,6 +62,7 @@ impl<L: KeyLayout, H: KeepsHeap<L>> Shard<L, H> {
     }
 
     /// Takes a hold on a key. Refused as `BadKey`, `HoldsFull`, `Gone` or `Crowded`, tried in that order.
+    #[inline(always)]
     pub fn get(&mut self, key: u64) -> Result<Hold, Refusal>
         ensures does { GetDoes L.layout key self.old.pages.owner result self.new.pages.owner }
         ensures stays { StaysOwner L.layout self.old self.new }
@@ -95,8 +96,8 @@ impl<L: KeyLayout, H: KeepsHeap<L>> Shard<L, H> {
         Ok(value)
     }
 
-    /// Reads the value of a key that the owner holds into a value of the caller's, in place of what that was, so that it
-    /// is copied nowhere. Refused as `NotHeld`: then the caller's value stays as it was.
+    /// Reads the value of a key that the owner holds into a value of the caller's, in place of what that was, so that
+    /// it is copied nowhere. Refused as `NotHeld`: then the caller's value stays as it was.
     pub fn read_into(&mut self, hold: Hold, value: &mut Value) -> Result<(), Refusal>
         ensures does { ReadIntoDoes hold.key self.old.pages.owner value.old result value.new self.new.pages.owner }
         ensures stays { StaysOwner L.layout self.old self.new }

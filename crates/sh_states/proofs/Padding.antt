@@ -5,7 +5,8 @@ use Rattle.std.specs.Prelude.{nat_le}
 use Rattle.std.proofs.lemmas.Bool.{cases_eq}
 use Rattle.std.proofs.lemmas.Bool.Decides.{nat_tests}
 use Rattle.std.proofs.lemmas.List.{length-append, length-replicate, length-set, replicate-append-replicate}
-use Rattle.std.proofs.lemmas.List.{append_assoc, set-append_left, get_or-set_same, get_or-set_other, get_or_read, get_or_default}
+use Rattle.std.proofs.lemmas.List.{append_assoc, set-append_left, get_or-set_same, get_or-set_other, get_or_read}
+use Rattle.std.proofs.lemmas.List.{get_or_default}
 use Rattle.std.proofs.Math.Seq.{set-append_seam}
 use Rattle.sh_lists.specs.Lists.{Lists, refilled}
 use Rattle.sh_lists.specs.Numbers.{Misses}

@@ -1,12 +1,10 @@
 //! The states of the pages of a shard.
-ghost use Rattle.std.specs.Prelude.{◌≡◌, ◌≢◌, ℕ, ◌+◌, ◌-◌, ◌^◌, ◌<◌, ◌≤◌, [], ◌++◌, length, replicate, slice_set, None};
-ghost use Rattle.std.specs.Prelude.{MatchOption, MatchBool, IfSome, IfNone, IfOk, false};
+ghost use Rattle.std.specs.Prelude.{◌≡◌, ◌<◌, ◌≤◌, length, replicate, MatchOption, MatchBool, IfSome, IfOk};
 ghost use Rattle.std.specs.Vec.{vec_capacity};
 ghost use Rattle.sh_lists.specs.Lists.{SlotsOnce};
-ghost use Rattle.sh_lists.specs.Numbers.{Misses, upward};
-ghost use Rattle.sh_shape.specs.Classes.{slots};
 ghost use Rattle.sh_states.specs.States.{blank_state, state_at, kept_slots, WholeState, NoneWholeBelow, FirstWhole};
-ghost use Rattle.sh_states.specs.States.{with_lists, with_local, with_read, UsesNext};
+
+mod changing;
 
 use sh_lists::PageLists;
 use sh_shape::classes;
@@ -72,7 +70,8 @@ impl PageStates {
     // What is written of a page, if anything is.
     #[inline(always)]
     fn written(&self, page: u64) -> Option<&PageState>
-        ensures state { MatchOption result (state_at self.now page ≡ blank_state) (λ state. state.now ≡ state_at self.now page) }
+        ensures state { MatchOption result (state_at self.now page ≡ blank_state)
+            (λ state. state.now ≡ state_at self.now page) }
         ensures few { IfSome result (λ state. state.now.class_word ≤ 8) }
     {
         if page >= self.written.len() as u64 {
@@ -156,7 +155,8 @@ impl PageStates {
     // The first whole page of those below `end`: none below the bound is whole.
     fn whole_from_bound(&self, end: u64) -> Option<u64>
         ensures once { IfSome result (λ page. SlotsOnce (state_at self.now page).lists) }
-        ensures first { MatchOption result (NoneWholeBelow end self.now) (λ page. (page < end) × FirstWhole page self.now) }
+        ensures first { MatchOption result (NoneWholeBelow end self.now)
+            (λ page. (page < end) × FirstWhole page self.now) }
     {
         for page in self.bound..end {
             if self.is_whole(page) {
@@ -164,117 +164,6 @@ impl PageStates {
             }
         }
         None
-    }
-
-    /// Takes the next slot of the page to use: the front of `free`, or where that is empty, of `local`, which then
-    /// becomes `free`. None, with nothing changed, where both are empty.
-    #[inline(always)]
-    pub fn next_slot(&mut self, page: u64) -> Option<u32>
-        ensures used { IfSome result (λ slot. UsesNext page slot self.old self.new) }
-        ensures small { IfSome result (λ slot. slot < 48) }
-        ensures none { IfNone result (kept_slots (state_at self.old page) ≡ 0) }
-        ensures same { IfNone result (self.new ≡ self.old) }
-    {
-        if page >= self.written.len() as u64 {
-            return None;
-        }
-        self.written[page as usize].lists.next_slot()
-    }
-
-    /// Puts a slot that stands in neither list of the page in front of `local`.
-    #[inline(always)]
-    pub fn push_local(&mut self, page: u64, slot: u32)
-        requires inside { page < length self.old }
-        requires small { slot < 48 }
-        requires apart { Misses slot ((state_at self.old page).lists.free ++ (state_at self.old page).lists.local) }
-        ensures { self.new ≡ slice_set self.old page (with_local (state_at self.old page) slot) }
-    {
-        write_up_to(&mut self.written, page);
-        let state = &mut self.written[page as usize];
-        state.lists.push_local(slot);
-        self.bound = bound_with(state, page, self.bound);
-    }
-
-    /// Puts a slot that stands in neither list of the page behind `free`, and says where reading goes on.
-    pub fn add_read(&mut self, page: u64, slot: u32, cursor: Option<u32>)
-        requires inside { page < length self.old }
-        requires small { slot < 48 }
-        requires apart { Misses slot ((state_at self.old page).lists.free ++ (state_at self.old page).lists.local) }
-        requires cursor { IfSome cursor (λ slot. slot < 48) }
-        ensures { self.new ≡ slice_set self.old page (with_read (state_at self.old page) slot cursor) }
-    {
-        write_up_to(&mut self.written, page);
-        let state = &mut self.written[page as usize];
-        state.lists.add_read(slot);
-        state.lists.set_cursor(cursor);
-        self.bound = bound_with(state, page, self.bound);
-    }
-
-    /// Says where reading the page's stack begins, once it was taken, and whether the page is armed.
-    pub fn begin_reading(&mut self, page: u64, cursor: Option<u32>, armed: bool)
-        requires inside { page < length self.old }
-        requires cursor { IfSome cursor (λ slot. slot < 48) }
-        ensures { self.new ≡ slice_set self.old page (record (state_at self.old page) {
-          lists = record (state_at self.old page).lists { cursor = cursor };
-          armed = armed;
-        }) }
-    {
-        write_up_to(&mut self.written, page);
-        let state = &mut self.written[page as usize];
-        state.lists.set_cursor(cursor);
-        state.armed = armed;
-    }
-
-    /// Says that the page is not armed.
-    pub fn disarm(&mut self, page: u64)
-        requires { page < length self.old }
-        ensures { self.new ≡ slice_set self.old page (record (state_at self.old page) { armed = false }) }
-    {
-        write_up_to(&mut self.written, page);
-        self.written[page as usize].armed = false;
-    }
-
-    /// Gives the page a class, from 0 to 7: then all slots of the class are the owner's.
-    pub fn give_class(&mut self, page: u64, class: u32)
-        requires inside { page < length self.old }
-        requires class { class < 8 }
-        ensures { self.new ≡ slice_set self.old page (record {
-          lists = record { free = upward 0 (slots class); local = []; cursor = (state_at self.old page).lists.cursor };
-          class_word = class + 1;
-          armed = (state_at self.old page).armed;
-        }) }
-    {
-        write_up_to(&mut self.written, page);
-        let state = &mut self.written[page as usize];
-        let cursor = state.lists.cursor();
-        state.lists = PageLists::full(classes::slots(class));
-        state.lists.set_cursor(cursor);
-        state.class_word = class as u64 + 1;
-        self.bound = bound_with(state, page, self.bound);
-    }
-
-    /// Says which class word a page has that was blank: 0 where it is blank, and else one more than its class.
-    #[inline(always)]
-    pub fn set_word(&mut self, page: u64, class_word: u64)
-        requires inside { page < length self.old }
-        requires blank { state_at self.old page ≡ blank_state }
-        requires few { class_word ≤ 8 }
-        ensures { self.new ≡ slice_set self.old page (record blank_state { class_word = class_word }) }
-    {
-        if class_word == 0 {
-            return;
-        }
-        // In ascending order, as an adopt goes, a state is written once.
-        if page == self.written.len() as u64 {
-            self.written.push_reserved(PageState {
-                lists: PageLists::bare(),
-                class_word,
-                armed: false,
-            });
-            return;
-        }
-        write_up_to(&mut self.written, page);
-        self.written[page as usize].class_word = class_word;
     }
 }
 
@@ -289,50 +178,6 @@ fn is_whole(state: &PageState) -> bool
         return false;
     }
     slots >= classes::slots((state.class_word - 1) as u32)
-}
-
-// The bound, once this is the state of the page.
-#[inline(always)]
-fn bound_with(state: &PageState, page: u64, bound: u64) -> u64
-    requires { state.now.class_word ≤ 8 }
-    ensures lower { result ≤ bound }
-    ensures none { page < result → ¬ WholeState state.now }
-{
-    if page < bound && is_whole(state) {
-        page
-    } else {
-        bound
-    }
-}
-
-// Writes the states of the pages up to this one, of which those that were not written are blank. It stands apart from
-// what seldom needs it.
-#[cold]
-#[inline(never)]
-fn write_more(written: &mut Vec<PageState>, page: u64)
-    requires { page < vec_capacity written.old }
-    ensures longer { written.new.items ≡ written.old.items ++ replicate (page + 1 - length written.old.items) blank_state }
-    ensures capacity { vec_capacity written.new ≡ vec_capacity written.old }
-{
-    for _next in written.len() as u64..page + 1 {
-        written.push_reserved(PageState {
-            lists: PageLists::bare(),
-            class_word: 0,
-            armed: false,
-        });
-    }
-}
-
-// The same, for pages of which most are written.
-#[inline(always)]
-fn write_up_to(written: &mut Vec<PageState>, page: u64)
-    requires { page < vec_capacity written.old }
-    ensures longer { written.new.items ≡ written.old.items ++ replicate (page + 1 - length written.old.items) blank_state }
-    ensures capacity { vec_capacity written.new ≡ vec_capacity written.old }
-{
-    if page >= written.len() as u64 {
-        write_more(written, page);
-    }
 }
 
 #[cfg(test)]

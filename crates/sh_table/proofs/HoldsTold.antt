@@ -1,6 +1,7 @@
 -- The holds of a pass are those that its log leaves it.
 use Rattle.std.proofs.Common.{◌≡◌, ℕ, suc, ◌+◌, ◌-◌, ◌<◌, ◌==◌, ◌&&◌, ◌||◌, Bool, true, false, cond, List, [], ◌∷◌}
 use Rattle.std.proofs.Common.{◌++◌, length, refl, ap, ◌∙◌, sym, arith, eq-eqb, length-append}
+use Rattle.std.proofs.Math.Nat.{add-sub_cancel_left}
 use Rattle.std.specs.Prelude.{count_by, filter}
 use Rattle.std.specs.List.{AllZip}
 use Rattle.sh_history.specs.declared.entry.Entry.{Entry}
@@ -14,8 +15,7 @@ use Rattle.sh_history.specs.Log.{is_logged_got_from, is_logged_release_from, log
 use Rattle.sh_history.proofs.LogLaws.{count_by-cons}
 use Rattle.sh_step.specs.Collections.{if1, has, without}
 use Rattle.sh_core.specs.Lists.{times}
-use Rattle.sh_core.proofs.BellKinds.{some_has, times_off}
-use Rattle.sh_core.proofs.StackSteps.{times_cons, times_none}
+use Rattle.sh_core.proofs.ListCounts.{some_has, times_off, times_cons, times_none}
 use Rattle.sh_core.proofs.Totals.{total_append}
 use Rattle.sh_table.specs.Tales.{by}
 
@@ -80,9 +80,6 @@ own_count g h only (e ∷ es) = go (own_count g h only es) (h e) refl
 
 -- ---- the holds
 
-more : (g r t : ℕ) → g ≡ r + t → g - r ≡ t
-more g r t e = omega (arith, e)
-
 pub holds_told : (a k held : ℕ) (log : List LogEntry) (es : List Entry) → AllZip Agrees log (by a es)
     → got_count_by es a k ≡ released_count_by es a k + held → logged_holds_by log a k ≡ held
 holds_told a k held log es agrees counts =
@@ -92,11 +89,13 @@ holds_told a k held log es agrees counts =
     let gone : count_by (is_logged_release_by a k) log ≡ released_count_by es a k =
     same_count (is_logged_release_by a k) (is_release_by a k) (same_release a k) log (by a es) agrees
     ∙ own_count (is_release_by a k) (λ e. pass_of e == a) (release_own a k) es in
-    (λ i. got i - gone i) ∙ more (got_count_by es a k) (released_count_by es a k) held counts
+    (λ i. got i - gone i) ∙ (ap (λ n. n - released_count_by es a k) counts
+    ∙ add-sub_cancel_left (released_count_by es a k) held)
 
 -- ---- and so many there are in all
 
-pub one_shorter : (k : ℕ) (xs : List ℕ) → has (λ x. x == k) xs ≡ true → length (without (λ x. x == k) xs) + 1 ≡ length xs
+pub one_shorter : (k : ℕ) (xs : List ℕ) → has (λ x. x == k) xs ≡ true
+    → length (without (λ x. x == k) xs) + 1 ≡ length xs
 unfolding has without
 one_shorter k [] h = cc
 one_shorter k (x ∷ xs) h = go (x == k) (λ e. one_shorter k xs e) h
@@ -241,4 +240,5 @@ hold_count_told a holds log es agrees counts =
     let all : count_by (is_got_from a) es ≡ count_by (is_release_from a) es + length holds =
     sym (got_length a es) ∙ (lists ∙ (length-append (released_keys a es) holds
     ∙ ap (λ n. n + length holds) (released_length a es))) in
-    (λ i. got i - gone i) ∙ more (count_by (is_got_from a) es) (count_by (is_release_from a) es) (length holds) all
+    (λ i. got i - gone i) ∙ (ap (λ n. n - count_by (is_release_from a) es) all
+    ∙ add-sub_cancel_left (count_by (is_release_from a) es) (length holds))

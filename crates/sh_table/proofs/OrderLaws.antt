@@ -67,9 +67,9 @@ by_cut a (y ∷ ys) front x rest e = go (pass_of y == a) front (by_cut a ys) e w
   go false front later e = let r = later front x rest e in (y ∷ r.0, r.1, ap (λ (l : List Entry). y ∷ l) r.2)
 
 -- an entry that was heard of stands among the first
-heard_in : (early : List Entry) (h : Heard) (e : Entry) → HasFirst early h → Contains h.log (Known e)
+heard_stands_early : (early : List Entry) (h : Heard) (e : Entry) → HasFirst early h → Contains h.log (Known e)
     → (fore : List Entry) × (aft : List Entry) × (early ≡ fore ++ e ∷ aft)
-heard_in early h e f c =
+heard_stands_early early h e f c =
     let s = splits_at h.log (Known e) c in
     let z = zip_cut Agrees s.0 (Known e) s.1 f.0 (subst (λ (l : List LogEntry). AllZip Agrees l f.0) s.2 f.3) in
     let is : z.1 ≡ e = z.4 in
@@ -117,7 +117,7 @@ gone_is_removed layout v history tale h a p k value inserted after =
     let ok = allowed_there layout v history f.0 f.1.late f.1.entry tale f.1.is in
     let may : Allowed v.shape.passes layout.guard_max f.0 (Gone a k) = subst
     (Allowed v.shape.passes layout.guard_max f.0) is ok.1 in
-    let c = heard_in f.0 h (Insert p k value) f.2 inserted in
+    let c = heard_stands_early f.0 h (Insert p k value) f.2 inserted in
     let issued : value_of f.0 k ≡ Some value = ap (λ l. value_of l k) c.2 ∙ value_of_insert v.shape.passes
     layout.guard_max c.0 c.1 p k value (subst (Legal v.shape.passes layout.guard_max) c.2 ok.0) in (
       f.0,
@@ -155,7 +155,7 @@ pub removed_is_gone : RemovedIsGone
 removed_is_gone layout v history tale h p k removed x after says =
     let f = heard_first layout v history tale h x after in
     let ok = allowed_there layout v history f.0 f.1.late f.1.entry tale f.1.is in
-    let c = heard_in f.0 h (Removed p k) f.2 removed in
+    let c = heard_stands_early f.0 h (Removed p k) f.2 removed in
     let gone : is_removed f.0 k ≡ true = ap (λ l. is_removed l k) c.2 ∙ removed_there c.0 c.1 p k in
     false≢true (sym (there_not_removed v.shape.passes layout.guard_max f.0 k x f.1.entry f.1.agrees ok.1 says) ∙ gone)
 

@@ -98,7 +98,8 @@ impl Record for (u64, u64, u64, u64) {
 
     ghost words = { λ r. r.0 ∷ r.1 ∷ r.2 ∷ r.3 ∷ [] };
 
-    ghost record_of = { λ ws. if length ws == 4 then Some (get_or ws 0 0, get_or ws 1 0, get_or ws 2 0, get_or ws 3 0) else None };
+    ghost record_of = { λ ws.
+        if length ws == 4 then Some (get_or ws 0 0, get_or ws 1 0, get_or ws 2 0, get_or ws 3 0) else None };
 
     fn encode(&self) -> Value {
         Value::of([self.0, self.1, self.2, self.3])

@@ -18,9 +18,9 @@ pub enum Refusal {
     /// The key names no present value: it was never issued, or it was removed.
     #[error("Gone: the key was removed, or never issued")]
     Gone,
-    /// The key has as many holds as a key may have. The running heap goes by the count in the slot's word, in which each
-    /// pass that is on the slot for a moment counts too: where a key may have four holds, three and one pass that is
-    /// about to remove it are enough.
+    /// The key has as many holds as a key may have. The running heap goes by the count in the slot's word, in which
+    /// each pass that is on the slot for a moment counts too: where a key may have four holds, three and one pass that
+    /// is about to remove it are enough.
     #[error("Crowded: the key has as many holds as it may have")]
     Crowded,
     /// The pass has 16 holds.

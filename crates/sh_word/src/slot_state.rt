@@ -49,7 +49,8 @@ impl Model for State {
 
     ghost invariant = { λ s. s.count < 2 ^ 30 };
 
-    ghost inverse = { λ f. record { generation = f.generation; marked = f.marked; present = f.present; count = f.count } };
+    ghost inverse = { λ f.
+        record { generation = f.generation; marked = f.marked; present = f.present; count = f.count } };
 }
 
 impl State {

@@ -97,7 +97,8 @@ returns-in-Crowded-clause-does g c =
     (subst Q c.in-Crowded.is e.first) in (
       ap is_some named,
       few,
-      adds_of (heap_of c.args.seat.now) (heap_of c.get_at-got.new.seat) _ (DecidedByEntry plan c.args.key answer.Crowded)
+      adds_of (heap_of c.args.seat.now) (heap_of c.get_at-got.new.seat) _
+          (DecidedByEntry plan c.args.key answer.Crowded)
           (same_home c.requires.seat e.seat) refl grows first,
     )
 

@@ -9,5 +9,6 @@ returns-in-Crowded-clause-first g c = get_decided c.args.seat.now.me.0 c.enter_t
 
 pub returns-in-Gone-clause-first : goal.returns-in-Gone-clause-first
 returns-in-Gone-clause-first g c = get_decided c.args.seat.now.me.0 c.enter_to_get-answer.new.seat.me.0
-    c.give_back_refused-in-Gone.new.seat.me.0 (plan_of g.L.KeyLayout.layout c.args.seat.now.me.0.shape) c.args.key c.args.name _
+    c.give_back_refused-in-Gone.new.seat.me.0 (plan_of g.L.KeyLayout.layout c.args.seat.now.me.0.shape) c.args.key
+    c.args.name _
     c.enter_to_get-answer.ensures.first c.give_back_refused-in-Gone.ensures.grows

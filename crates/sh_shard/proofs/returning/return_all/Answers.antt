@@ -1,6 +1,6 @@
 use Rattle.std.proofs.Common.{ℕ, ◌≢◌, ◌+◌, ◌<◌, ◌≤◌, ⊎_elim, ◌∙◌, sym, arith}
 use Rattle.std.proofs.lemmas.Bool.{cases_lt}
-use Rattle.sh_queue.proofs.PageLaws.{full_opened}
+use Rattle.sh_queue.proofs.PagePlaces.{full_opened}
 use Rattle.sh_shard.proofs.FullPages.{but_none, but_fewer, but_returned, full_classed, returns_opened}
 use Rattle.sh_shard.proofs.Filing.{returned_none, returned_more, returns_rising}
 use Rattle.sh_shard.proofs.returning.return_all.Goals as goal
@@ -42,6 +42,7 @@ returns-clause-rising g c = returns_rising c.loop-page.page c.args.queues.now c.
     c.loop-page.invariant.rising
 
 pub returns-clause-sorted : goal.returns-clause-sorted
-returns-clause-sorted g c = but_none c.args.pages.now c.loop-page.queues (λ p. c.loop-page.page ≤ p) c.loop-page.invariant.sorted
+returns-clause-sorted g c = but_none c.args.pages.now c.loop-page.queues (λ p. c.loop-page.page ≤ p)
+    c.loop-page.invariant.sorted
     (λ p here from. let inside = full_opened p c.loop-page.queues c.opened-returned.ensures.once here
     in let o = c.loop-page.invariant.opened in let l = c.loop-page-test.false in omega arith)

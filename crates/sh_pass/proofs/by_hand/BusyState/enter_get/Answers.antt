@@ -40,8 +40,8 @@ enter_get-found-requires g c = record {
       c.args.key c.in-Some.name (named_here g.L.KeyLayout.layout c.shape.result.now c.args.self.now.seat.me.0.shape
       c.args.key _ (Some c.in-Some.name) (c.shape.ensures ∙ sym c.requires.seat.shape) c.place_of_key.ensures
       c.in-Some.is) (c.requires.hand ∙ c.in-Idle.is) (few_left c.args.self.now.held.items
-      c.args.self.now.seat.me.0.own.body.holds c.is_full.result c.requires.kept.count c.requires.seat.stands.part.few_holds
-      c.is_full.ensures.value c.if-is_full.false);
+      c.args.self.now.seat.me.0.own.body.holds c.is_full.result c.requires.kept.count
+      c.requires.seat.stands.part.few_holds c.is_full.ensures.value c.if-is_full.false);
 }
 
 pub returns-in-Got-clause-busy : goal.returns-in-Got-clause-busy
@@ -65,8 +65,8 @@ returns-in-Got-clause-acts g c = done (action.EnterGet c.args.key) (move.EnterGe
     (named_here g.L.KeyLayout.layout c.shape.result.now c.args.self.now.seat.me.0.shape c.args.key _
     (Some c.in-Some.name) (c.shape.ensures ∙ sym c.requires.seat.shape) c.place_of_key.ensures c.in-Some.is)
     (c.requires.hand ∙ c.in-Idle.is) (few_left c.args.self.now.held.items c.args.self.now.seat.me.0.own.body.holds
-    c.is_full.result c.requires.kept.count c.requires.seat.stands.part.few_holds c.is_full.ensures.value c.if-is_full.false))
-    c.enter_get-found.ensures
+    c.is_full.result c.requires.kept.count c.requires.seat.stands.part.few_holds c.is_full.ensures.value
+    c.if-is_full.false)) c.enter_get-found.ensures
 
 pub returns-in-Crowded-clause-busy : goal.returns-in-Crowded-clause-busy
 returns-in-Crowded-clause-busy g c =
@@ -84,8 +84,8 @@ returns-in-Crowded-clause-acts g c = done (action.EnterGet c.args.key) (move.Ent
     (named_here g.L.KeyLayout.layout c.shape.result.now c.args.self.now.seat.me.0.shape c.args.key _
     (Some c.in-Some.name) (c.shape.ensures ∙ sym c.requires.seat.shape) c.place_of_key.ensures c.in-Some.is)
     (c.requires.hand ∙ c.in-Idle.is) (few_left c.args.self.now.held.items c.args.self.now.seat.me.0.own.body.holds
-    c.is_full.result c.requires.kept.count c.requires.seat.stands.part.few_holds c.is_full.ensures.value c.if-is_full.false))
-    c.enter_get-found.ensures
+    c.is_full.result c.requires.kept.count c.requires.seat.stands.part.few_holds c.is_full.ensures.value
+    c.if-is_full.false)) c.enter_get-found.ensures
 
 pub returns-in-Gone-clause-acts : goal.returns-in-Gone-clause-acts
 returns-in-Gone-clause-acts g c = done (action.EnterGet c.args.key) (move.EnterGet c.args.key c.in-Some.name) refl
@@ -93,5 +93,5 @@ returns-in-Gone-clause-acts g c = done (action.EnterGet c.args.key) (move.EnterG
     (named_here g.L.KeyLayout.layout c.shape.result.now c.args.self.now.seat.me.0.shape c.args.key _
     (Some c.in-Some.name) (c.shape.ensures ∙ sym c.requires.seat.shape) c.place_of_key.ensures c.in-Some.is)
     (c.requires.hand ∙ c.in-Idle.is) (few_left c.args.self.now.held.items c.args.self.now.seat.me.0.own.body.holds
-    c.is_full.result c.requires.kept.count c.requires.seat.stands.part.few_holds c.is_full.ensures.value c.if-is_full.false))
-    c.enter_get-found.ensures
+    c.is_full.result c.requires.kept.count c.requires.seat.stands.part.few_holds c.is_full.ensures.value
+    c.if-is_full.false)) c.enter_get-found.ensures

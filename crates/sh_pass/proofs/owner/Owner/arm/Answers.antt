@@ -4,7 +4,7 @@ use Rattle.sh_step.specs.declared.moves.Move.TheVariants as move
 use Rattle.sh_table.specs.Seats.{CanDo, Did}
 use Rattle.sh_pass.proofs.OwnMay.{may_arm}
 use Rattle.sh_pass.proofs.OwnSeats.{can, does, stood, seat_at}
-use Rattle.sh_pass.proofs.OwnSteps.{arm_does}
+use Rattle.sh_pass.proofs.OwnPageSteps.{arm_does}
 use Rattle.sh_pass.proofs.owner.Owner.arm.Goals as goal
 
 pub arm-requires : goal.arm-requires

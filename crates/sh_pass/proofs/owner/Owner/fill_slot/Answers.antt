@@ -5,7 +5,7 @@ use Rattle.sh_table.specs.Seats.{CanDo, Did}
 use Rattle.sh_pass.specs.Owners.{heap_spot, slot_in}
 use Rattle.sh_pass.proofs.OwnMay.{may_fill_slot}
 use Rattle.sh_pass.proofs.OwnSeats.{can, does, stood, seat_at}
-use Rattle.sh_pass.proofs.OwnSteps.{fill_slot_does}
+use Rattle.sh_pass.proofs.OwnPageSteps.{fill_slot_does}
 use Rattle.sh_pass.proofs.owner.Owner.fill_slot.Goals as goal
 
 pub fill_slot-requires : goal.fill_slot-requires

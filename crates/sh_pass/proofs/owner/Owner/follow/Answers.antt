@@ -4,7 +4,7 @@ use Rattle.sh_step.specs.declared.moves.Move.TheVariants as move
 use Rattle.sh_table.specs.Seats.{CanDo, Did}
 use Rattle.sh_pass.proofs.OwnMay.{may_follow}
 use Rattle.sh_pass.proofs.OwnSeats.{can, does, stood, seat_at}
-use Rattle.sh_pass.proofs.OwnSteps.{follow_does}
+use Rattle.sh_pass.proofs.OwnPageSteps.{follow_does}
 use Rattle.sh_pass.proofs.owner.Owner.follow.Goals as goal
 
 pub follow-requires : goal.follow-requires

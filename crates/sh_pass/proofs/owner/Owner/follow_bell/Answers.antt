@@ -4,7 +4,7 @@ use Rattle.sh_step.specs.declared.moves.Move.TheVariants as move
 use Rattle.sh_table.specs.Seats.{CanDo, Did}
 use Rattle.sh_pass.proofs.OwnMay.{may_follow_bell, home_is}
 use Rattle.sh_pass.proofs.OwnSeats.{can, does, stood, seat_at}
-use Rattle.sh_pass.proofs.OwnSteps.{follow_bell_does}
+use Rattle.sh_pass.proofs.OwnBellSteps.{follow_bell_does}
 use Rattle.sh_step.specs.Plans.{plan_of}
 use Rattle.sh_pass.specs.Owners.{heap_page}
 use Rattle.sh_pass.proofs.owner.Owner.follow_bell.Goals as goal

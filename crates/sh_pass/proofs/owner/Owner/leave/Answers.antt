@@ -5,14 +5,15 @@ use Rattle.sh_pass.specs.Owners.{own_body}
 use Rattle.sh_pass.proofs.OwnMay.{may_leave}
 use Rattle.sh_pass.proofs.OwnNotes.{none_mine, none_noted_at, none_armed}
 use Rattle.sh_pass.proofs.OwnSeats.{can, does, seat_at}
-use Rattle.sh_pass.proofs.OwnSteps.{leave_does}
+use Rattle.sh_pass.proofs.OwnOtherSteps.{leave_does}
 use Rattle.sh_pass.proofs.owner.Owner.leave.Goals as goal
 
 pub leave-requires : goal.leave-requires
 leave-requires g c =
     let v = c.args.self.now in
     let none = c.requires.pages in
-    can v action.Leave (move.Leave c.args.shard) c.self.view_is (seat_at (c.heap.view_is ∙ c.kept-heap.ensures) c.self.invariant.seat)
+    can v action.Leave (move.Leave c.args.shard) c.self.view_is
+    (seat_at (c.heap.view_is ∙ c.kept-heap.ensures) c.self.invariant.seat)
     (may_leave g.L.KeyLayout.layout v c.args.shard c.requires.idle c.requires.owned
     (none_mine (own_body v).mine (λ x. (none x.page).mine x.slot))
     (none_noted_at (own_body v).cursors (λ q. (none q).cursor))
@@ -21,5 +22,6 @@ leave-requires g c =
 pub returns : goal.returns
 returns g c =
     let v = c.args.self.now in
-    let d = does v c.self.view_is (seat_at (c.heap.view_is ∙ c.kept-heap.ensures) c.self.invariant.seat) c.leave.ensures in
+    let d = does v c.self.view_is (seat_at (c.heap.view_is ∙ c.kept-heap.ensures) c.self.invariant.seat)
+    c.leave.ensures in
     record { does = d; left = leave_does g.L.KeyLayout.layout v _ c.args.shard c.requires.idle d }

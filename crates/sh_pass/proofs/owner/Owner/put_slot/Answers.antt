@@ -5,7 +5,7 @@ use Rattle.sh_table.specs.Seats.{CanDo, Did}
 use Rattle.sh_pass.specs.Owners.{heap_spot, slot_in}
 use Rattle.sh_pass.proofs.OwnMay.{may_put_slot, owns_it}
 use Rattle.sh_pass.proofs.OwnSeats.{can, does, stood, seat_at}
-use Rattle.sh_pass.proofs.OwnSteps.{put_does}
+use Rattle.sh_pass.proofs.OwnPageSteps.{put_does}
 use Rattle.sh_pass.proofs.owner.Owner.put_slot.Goals as goal
 
 pub put_slot-requires : goal.put_slot-requires

@@ -4,7 +4,7 @@ use Rattle.sh_step.specs.declared.moves.Move.TheVariants as move
 use Rattle.sh_table.specs.Seats.{CanDo, Did}
 use Rattle.sh_pass.proofs.OwnMay.{may_read_page}
 use Rattle.sh_pass.proofs.OwnSeats.{can, does, stood, seat_at}
-use Rattle.sh_pass.proofs.OwnSteps.{read_does}
+use Rattle.sh_pass.proofs.OwnPageSteps.{read_does}
 use Rattle.sh_pass.proofs.owner.Owner.read_page.Goals as goal
 
 pub read_page-requires : goal.read_page-requires

@@ -4,7 +4,7 @@ use Rattle.sh_step.specs.declared.moves.Move.TheVariants as move
 use Rattle.sh_table.specs.Seats.{CanDo, Did}
 use Rattle.sh_pass.proofs.OwnMay.{may_set_class}
 use Rattle.sh_pass.proofs.OwnSeats.{can, does, stood, seat_at}
-use Rattle.sh_pass.proofs.OwnSteps.{class_does}
+use Rattle.sh_pass.proofs.OwnPageSteps.{class_does}
 use Rattle.sh_pass.proofs.owner.Owner.set_class.Goals as goal
 
 pub set_class-requires : goal.set_class-requires

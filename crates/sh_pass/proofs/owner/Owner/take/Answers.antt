@@ -4,7 +4,7 @@ use Rattle.sh_step.specs.declared.moves.Move.TheVariants as move
 use Rattle.sh_table.specs.Seats.{CanDo, Did}
 use Rattle.sh_pass.proofs.OwnMay.{may_take}
 use Rattle.sh_pass.proofs.OwnSeats.{can, does, stood, seat_at}
-use Rattle.sh_pass.proofs.OwnSteps.{take_does}
+use Rattle.sh_pass.proofs.OwnPageSteps.{take_does}
 use Rattle.sh_pass.proofs.owner.Owner.take.Goals as goal
 
 pub take-requires : goal.take-requires

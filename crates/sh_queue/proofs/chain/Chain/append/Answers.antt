@@ -1,7 +1,7 @@
 use Rattle.std.proofs.Common.{subst, arith}
 use Rattle.sh_lists.specs.Numbers.{Distinct}
 use Rattle.sh_queue.specs.Chain.{ChainNumbers}
-use Rattle.sh_queue.proofs.Linking.{appending_none, appending_more}
+use Rattle.sh_queue.proofs.Appending.{appending_none, appending_more}
 use Rattle.sh_queue.proofs.chain.Chain.append.Goals as goal
 
 pub loop-x-init : goal.loop-x-init

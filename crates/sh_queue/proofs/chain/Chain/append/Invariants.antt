@@ -1,4 +1,4 @@
-use Rattle.sh_queue.proofs.Linking.{Appending}
+use Rattle.sh_queue.proofs.Appending.{Appending}
 use Rattle.sh_queue.proofs.chain.Chain.append.Given as goal
 
 abbrev pub invariant-loop-x : goal.invariant-loop-x

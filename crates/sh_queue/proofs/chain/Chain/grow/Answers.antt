@@ -1,5 +1,5 @@
 use Rattle.std.proofs.Common.{ap, ◌∙◌}
-use Rattle.sh_queue.proofs.Linking.{grows}
+use Rattle.sh_queue.proofs.Growing.{grows}
 use Rattle.sh_queue.proofs.chain.Chain.grow.Goals as goal
 
 pub invariant_of-self-2 : goal.invariant_of-self-2

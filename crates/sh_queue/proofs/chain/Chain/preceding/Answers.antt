@@ -1,6 +1,6 @@
 use Rattle.std.proofs.Common.{◌∙◌, arith}
 use Rattle.std.proofs.lemmas.List.{get_or_read}
-use Rattle.sh_queue.proofs.Linking.{inside, ahead}
+use Rattle.sh_queue.proofs.ChainHolds.{inside, ahead}
 use Rattle.sh_queue.proofs.chain.Chain.preceding.Goals as goal
 
 pub index-requires : goal.index-requires

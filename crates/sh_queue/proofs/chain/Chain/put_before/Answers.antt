@@ -1,7 +1,7 @@
 use Rattle.std.proofs.Common.{◌≡◌, true, get_or, sym, subst, ap, ◌∙◌, arith}
 use Rattle.std.proofs.lemmas.List.{get_or_read}
 use Rattle.sh_queue.specs.Numbers.{has_number, put_after, following}
-use Rattle.sh_queue.proofs.Linking.{inside, follows, ahead}
+use Rattle.sh_queue.proofs.ChainHolds.{inside, follows, ahead}
 use Rattle.sh_queue.proofs.chain.Chain.put_before.Goals as goal
 
 pub index-before-requires : goal.index-before-requires

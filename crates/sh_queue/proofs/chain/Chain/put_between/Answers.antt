@@ -1,5 +1,6 @@
 use Rattle.std.proofs.Common.{◌∙◌, sym, arith}
-use Rattle.sh_queue.proofs.Linking.{inside, follows, puts}
+use Rattle.sh_queue.proofs.ChainHolds.{inside, follows}
+use Rattle.sh_queue.proofs.Linking.{puts}
 use Rattle.sh_queue.proofs.chain.Chain.put_between.Goals as goal
 
 pub index_mut-requires : goal.index_mut-requires

@@ -1,7 +1,8 @@
 use Rattle.std.proofs.Common.{ap, ◌∙◌, arith}
 use Rattle.std.proofs.lemmas.List.{get_or_read}
 use Rattle.sh_queue.specs.Numbers.{has_number}
-use Rattle.sh_queue.proofs.Linking.{inside, unlinks}
+use Rattle.sh_queue.proofs.ChainHolds.{inside}
+use Rattle.sh_queue.proofs.Unlinking.{unlinks}
 use Rattle.sh_queue.proofs.chain.Chain.unlink.Goals as goal
 
 pub index-before-requires : goal.index-before-requires

@@ -1,7 +1,7 @@
 use Rattle.std.proofs.Common.{◌+◌, ◌∷◌, [], ap, ◌∙◌}
 use Rattle.sh_queue.specs.Numbers.{put_before}
 use Rattle.sh_queue.specs.Chain.{ChainNumbers}
-use Rattle.sh_queue.proofs.Sections.{has_number-mark}
+use Rattle.sh_queue.proofs.Marks.{has_number-mark}
 use Rattle.sh_queue.proofs.Filings.{leaves_filed}
 use Rattle.sh_queue.proofs.filing.Filing.file.Goals as goal
 

@@ -2,7 +2,7 @@ use Rattle.std.proofs.Common.{◌≡◌, ◌≤◌, ◌<◌, ℕ, true, arith, a
 use Rattle.std.specs.Prelude.{slice_get, IfSome}
 use Rattle.sh_queue.specs.Numbers.{has_number}
 use Rattle.sh_queue.specs.Queues.{PageQueues, pages_behind}
-use Rattle.sh_queue.proofs.Sections.{has_number-mark}
+use Rattle.sh_queue.proofs.Marks.{has_number-mark}
 use Rattle.sh_queue.proofs.Fronts.{front_of, lowest_blank}
 use Rattle.sh_queue.proofs.queues.Queues.blank.Goals as goal
 

@@ -2,7 +2,7 @@ use Rattle.std.proofs.Common.{◌<◌, arith, sym, ap, ◌∙◌, subst}
 use Rattle.std.specs.Prelude.{None, IfSome}
 use Rattle.std.specs.List.{last_or}
 use Rattle.sh_queue.specs.Queues.{PageQueues, class_queue}
-use Rattle.sh_queue.proofs.Sections.{has_number-mark}
+use Rattle.sh_queue.proofs.Marks.{has_number-mark}
 use Rattle.sh_queue.proofs.Moves.{class_is}
 use Rattle.sh_queue.proofs.Fronts.{last_of}
 use Rattle.sh_queue.proofs.queues.Queues.last.Goals as goal

@@ -2,7 +2,7 @@ use Rattle.std.proofs.Common.{◌+◌, ◌≤◌, arith, sym, ap, ◌∙◌, sub
 use Rattle.sh_lists.specs.Numbers.{upward}
 use Rattle.sh_queue.specs.Numbers.{has_number, put_before}
 use Rattle.sh_queue.specs.Chain.{ChainNumbers}
-use Rattle.sh_queue.proofs.Sections.{has_number-mark}
+use Rattle.sh_queue.proofs.Marks.{has_number-mark}
 use Rattle.sh_queue.proofs.Openings.{lean_after, leaves_opened, next_are_new}
 use Rattle.sh_queue.proofs.queues.Queues.open_segment.Goals as goal
 

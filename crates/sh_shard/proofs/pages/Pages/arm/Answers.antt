@@ -8,7 +8,7 @@ use Rattle.sh_shard.specs.Kept.{KeepsPages}
 use Rattle.sh_shard.specs.Pages.{Paged, WorksOn, StepsForSlots, page_at, seen_class}
 use Rattle.sh_shard.proofs.PageLaws.{kept_armed}
 use Rattle.sh_shard.proofs.Keeping.{keeps_set, small_cursor, page_of}
-use Rattle.sh_shard.proofs.Working.{paged_of, works_on, arming}
+use Rattle.sh_shard.proofs.PageSteps.{paged_of, works_on, arming}
 use Rattle.sh_shard.proofs.pages.Pages.arm.Goals as goal
 
 pub small-cursor-requires : goal.small-cursor-requires

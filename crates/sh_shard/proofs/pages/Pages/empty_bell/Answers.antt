@@ -1,4 +1,4 @@
-use Rattle.sh_shard.proofs.LeavingLaws.{collecting_more, collecting_takes, bell_steps, bell_steps_taken}
+use Rattle.sh_shard.proofs.BellEmptying.{collecting_more, collecting_takes, bell_steps, bell_steps_taken}
 use Rattle.sh_shard.proofs.pages.Pages.empty_bell.Goals as goal
 
 pub returns-clause-through : goal.returns-clause-through

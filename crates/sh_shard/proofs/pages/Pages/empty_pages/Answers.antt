@@ -1,5 +1,5 @@
 use Rattle.std.proofs.Common.{arith}
-use Rattle.sh_shard.proofs.LeavingLaws.{emptying_none, emptying_more, pages_emptied}
+use Rattle.sh_shard.proofs.PageEmptying.{emptying_none, emptying_more, pages_emptied}
 use Rattle.sh_shard.proofs.pages.Pages.empty_pages.Goals as goal
 
 pub loop-page-init : goal.loop-page-init

@@ -1,4 +1,4 @@
-use Rattle.sh_shard.proofs.LeavingLaws.{Emptying}
+use Rattle.sh_shard.proofs.PageEmptying.{Emptying}
 use Rattle.sh_shard.proofs.pages.Pages.empty_pages.Given as goal
 
 abbrev pub invariant-loop-page : goal.invariant-loop-page

@@ -6,7 +6,7 @@ use Rattle.sh_shard.specs.Kept.{KeepsPages}
 use Rattle.sh_shard.specs.Pages.{Paged, CursorMoves, CursorStops}
 use Rattle.sh_shard.proofs.PageLaws.{kept_followed, followed_cursor}
 use Rattle.sh_shard.proofs.Keeping.{page_of, ready, keeps_set, small_cursor}
-use Rattle.sh_shard.proofs.Working.{paged_of, moved, stopped}
+use Rattle.sh_shard.proofs.PageSteps.{paged_of, moved, stopped}
 use Rattle.sh_shard.proofs.pages.Pages.follow.Goals as goal
 
 pub returns-then-found-eq0 : goal.returns-then-found-eq0

@@ -6,7 +6,8 @@ use Rattle.sh_shard.specs.Kept.{KeepsPages}
 use Rattle.sh_shard.specs.Pages.{Paged, BellReads, BellStops}
 use Rattle.sh_shard.proofs.PageLaws.{kept_rung}
 use Rattle.sh_shard.proofs.Keeping.{at_bell, may_touch, keeps_bell}
-use Rattle.sh_shard.proofs.Working.{paged_of, bell_read, bell_stopped}
+use Rattle.sh_shard.proofs.PageSteps.{paged_of}
+use Rattle.sh_shard.proofs.BellSteps.{bell_read, bell_stopped}
 use Rattle.sh_shard.proofs.pages.Pages.follow_bell.Goals as goal
 
 pub follow_bell-found-requires-clause-touch : goal.follow_bell-found-requires-clause-touch

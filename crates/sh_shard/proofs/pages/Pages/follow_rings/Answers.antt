@@ -1,5 +1,5 @@
 use Rattle.std.proofs.Common.{arith}
-use Rattle.sh_shard.proofs.LeavingLaws.{following_none, following_more, followed_to, never_past}
+use Rattle.sh_shard.proofs.BellEmptying.{following_none, following_more, followed_to, never_past}
 use Rattle.sh_shard.proofs.pages.Pages.follow_rings.Goals as goal
 
 pub loop-turn-init : goal.loop-turn-init

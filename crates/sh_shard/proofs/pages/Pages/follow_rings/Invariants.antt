@@ -1,4 +1,4 @@
-use Rattle.sh_shard.proofs.LeavingLaws.{Following}
+use Rattle.sh_shard.proofs.BellEmptying.{Following}
 use Rattle.sh_shard.proofs.pages.Pages.follow_rings.Given as goal
 
 abbrev pub invariant-loop-turn : goal.invariant-loop-turn

@@ -1,7 +1,7 @@
 use Rattle.std.proofs.Common.{length, subst}
 use Rattle.sh_shard.specs.Pages.{Paged, SlotComes}
 use Rattle.sh_shard.proofs.Coming.{few_pages, may_come, kept_after}
-use Rattle.sh_shard.proofs.Working.{paged_of}
+use Rattle.sh_shard.proofs.PageSteps.{paged_of}
 use Rattle.sh_shard.proofs.pages.Pages.get_guard.Goals as goal
 
 pub keep-page-requires-clause-few : goal.keep-page-requires-clause-few

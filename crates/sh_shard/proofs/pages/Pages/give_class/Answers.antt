@@ -8,7 +8,7 @@ use Rattle.sh_shard.specs.Kept.{KeepsPages}
 use Rattle.sh_shard.specs.Pages.{Paged, GivesClass}
 use Rattle.sh_shard.proofs.PageLaws.{kept_given}
 use Rattle.sh_shard.proofs.Keeping.{keeps_set}
-use Rattle.sh_shard.proofs.Working.{paged_of, gave_class}
+use Rattle.sh_shard.proofs.PageSteps.{paged_of, gave_class}
 use Rattle.sh_shard.proofs.pages.Pages.give_class.Goals as goal
 
 pub invariant_of-self : goal.invariant_of-self

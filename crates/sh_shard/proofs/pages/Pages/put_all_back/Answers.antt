@@ -1,5 +1,5 @@
 use Rattle.std.proofs.Common.{arith}
-use Rattle.sh_shard.proofs.LeavingLaws.{returning_none, returning_more, returned}
+use Rattle.sh_shard.proofs.PuttingBack.{returning_none, returning_more, returned}
 use Rattle.sh_shard.proofs.pages.Pages.put_all_back.Goals as goal
 
 pub loop-page-init : goal.loop-page-init

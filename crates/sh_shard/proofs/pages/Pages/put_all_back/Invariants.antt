@@ -1,4 +1,4 @@
-use Rattle.sh_shard.proofs.LeavingLaws.{Returning}
+use Rattle.sh_shard.proofs.PuttingBack.{Returning}
 use Rattle.sh_shard.proofs.pages.Pages.put_all_back.Given as goal
 
 abbrev pub invariant-loop-page : goal.invariant-loop-page

@@ -1,4 +1,4 @@
-use Rattle.sh_shard.proofs.LeavingLaws.{putting_none, put_done}
+use Rattle.sh_shard.proofs.PuttingBack.{putting_none, put_done}
 use Rattle.sh_shard.proofs.pages.Pages.put_back.Goals as goal
 
 pub loop-turn-init : goal.loop-turn-init

@@ -1,4 +1,4 @@
-use Rattle.sh_shard.proofs.LeavingLaws.{Putting}
+use Rattle.sh_shard.proofs.PuttingBack.{Putting}
 use Rattle.sh_shard.proofs.pages.Pages.put_back.Given as goal
 
 abbrev pub invariant-loop-turn : goal.invariant-loop-turn

@@ -8,8 +8,8 @@ use Rattle.sh_shard.specs.Pages.{Paged, page_at}
 use Rattle.sh_shard.specs.Leaving.{PutsOne}
 use Rattle.sh_shard.proofs.PageLaws.{uses_slot, kept_without, used_is_mine}
 use Rattle.sh_shard.proofs.Keeping.{page_of, keeps_set, two_acts, page_then, here_at, others_at}
-use Rattle.sh_shard.proofs.Working.{paged_of}
-use Rattle.sh_shard.proofs.LeavingLaws.{puts_one}
+use Rattle.sh_shard.proofs.PageSteps.{paged_of}
+use Rattle.sh_shard.proofs.PuttingBack.{puts_one}
 use Rattle.sh_shard.proofs.pages.Pages.put_next.Goals as goal
 
 pub invariant_of-self-2 : goal.invariant_of-self-2
@@ -57,4 +57,5 @@ returns g c =
     (ap length n.left ∙ length-set c.self.inside.states c.args.page _) acts.steps
     (here_at c.self.inside.owner c.tie.new.self c.self.inside.shard c.args.page acts.aside.same.shape on)
     (others_at c.self.inside.owner c.tie.new.self c.self.inside.shard c.args.page acts.aside.same.shape on)
-    (used_is_mine st (page_of c.self.inside.owner c.self.inside.shard c.args.page) c.in-Some.slot n.lists a u) c.in-Some.ensures.small)
+    (used_is_mine st (page_of c.self.inside.owner c.self.inside.shard c.args.page) c.in-Some.slot n.lists a u)
+    c.in-Some.ensures.small)

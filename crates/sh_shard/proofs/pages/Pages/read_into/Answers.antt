@@ -1,7 +1,7 @@
 use Rattle.std.proofs.Common.{None, refl, length, subst}
 use Rattle.sh_shard.specs.Pages.{Paged, SlotComes}
 use Rattle.sh_shard.proofs.Coming.{kept_after}
-use Rattle.sh_shard.proofs.Working.{paged_of}
+use Rattle.sh_shard.proofs.PageSteps.{paged_of}
 use Rattle.sh_shard.proofs.pages.Pages.read_into.Goals as goal
 
 pub invariant_of-self : goal.invariant_of-self

@@ -37,5 +37,5 @@ returns-clause-is g c =
     let o = owned st (page_of c.self.inside.owner c.self.inside.shard c.args.page) a c.slots-2.ensures.once
     (below_class c.args.page st k a some) most in
     subst (λ (z : Paged). c.slots.result - c.slots-2.result ≡ page_out (page_at z c.args.page)) c.self.view_is
-    (out_of st (page_of c.self.inside.owner c.self.inside.shard c.args.page) c.slots.result c.slots-2.result a o some count
-    c.slots-2.ensures.kept)
+    (out_of st (page_of c.self.inside.owner c.self.inside.shard c.args.page) c.slots.result c.slots-2.result a o some
+    count c.slots-2.ensures.kept)

@@ -8,7 +8,7 @@ use Rattle.sh_shard.specs.Kept.{KeepsPages}
 use Rattle.sh_shard.specs.Pages.{Paged, TakesPage, page_at, seen_class}
 use Rattle.sh_shard.proofs.PageLaws.{kept_taken}
 use Rattle.sh_shard.proofs.Keeping.{keeps_set, small_cursor, page_of}
-use Rattle.sh_shard.proofs.Working.{paged_of, taken}
+use Rattle.sh_shard.proofs.PageSteps.{paged_of, taken}
 use Rattle.sh_shard.proofs.pages.Pages.take.Goals as goal
 
 pub small-cursor-requires : goal.small-cursor-requires

@@ -1,6 +1,7 @@
 use Rattle.std.proofs.Common.{length, subst}
 use Rattle.sh_shard.specs.Pages.{Paged, BellTakes}
-use Rattle.sh_shard.proofs.Working.{paged_of, bell_took}
+use Rattle.sh_shard.proofs.PageSteps.{paged_of}
+use Rattle.sh_shard.proofs.BellSteps.{bell_took}
 use Rattle.sh_shard.proofs.pages.Pages.take_bell.Goals as goal
 
 pub returns : goal.returns

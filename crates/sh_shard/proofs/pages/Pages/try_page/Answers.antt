@@ -1,5 +1,5 @@
 use Rattle.std.proofs.Common.{length}
-use Rattle.sh_shard.proofs.Working.{tried, tried_early, tried_steps, tried_steps_early, used_in}
+use Rattle.sh_shard.proofs.PageTries.{tried, tried_early, tried_steps, tried_steps_early, used_in}
 use Rattle.sh_shard.proofs.pages.Pages.try_page.Goals as goal
 
 pub returns-in-Some-use_slot-clause-tried : goal.returns-in-Some-use_slot-clause-tried

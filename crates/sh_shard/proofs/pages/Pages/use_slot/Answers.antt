@@ -6,7 +6,7 @@ use Rattle.sh_shard.specs.Kept.{KeepsPages}
 use Rattle.sh_shard.specs.Pages.{Paged, PageInserts}
 use Rattle.sh_shard.proofs.PageLaws.{uses_slot, kept_without}
 use Rattle.sh_shard.proofs.Keeping.{keeps_set}
-use Rattle.sh_shard.proofs.Working.{paged_of, inserted}
+use Rattle.sh_shard.proofs.PageSteps.{paged_of, inserted}
 use Rattle.sh_shard.proofs.pages.Pages.use_slot.Goals as goal
 
 pub invariant_of-self-2 : goal.invariant_of-self-2

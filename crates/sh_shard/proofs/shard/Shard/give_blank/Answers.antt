@@ -2,7 +2,7 @@ use Rattle.std.proofs.Common.{refl, inl, ◌∙◌, sym, subst}
 use Rattle.sh_shard.specs.Pages.{page_at}
 use Rattle.sh_shard.specs.Shards.{Sharded, IsBlank, IsLowest, NoneOpenedBlank, PreparesPage}
 use Rattle.sh_shard.proofs.Sorting.{sorted_given}
-use Rattle.sh_shard.proofs.Searching.{front_blank, lowest_blank, none_opened_blank}
+use Rattle.sh_shard.proofs.BlankPages.{front_blank, lowest_blank, none_opened_blank}
 use Rattle.sh_shard.proofs.Preparing.{prepared, blank_other}
 use Rattle.sh_shard.proofs.shard.Shard.give_blank.Goals as goal
 

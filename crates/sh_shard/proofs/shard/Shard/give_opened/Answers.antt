@@ -1,6 +1,6 @@
 use Rattle.std.proofs.Common.{◌≡◌, ◌≢◌, refl, ap, ◌∙◌, sym, subst}
 use Rattle.sh_shard.specs.Shards.{Sharded, SortedPages}
-use Rattle.sh_shard.proofs.Searching.{none_blank}
+use Rattle.sh_shard.proofs.BlankPages.{none_blank}
 use Rattle.sh_shard.proofs.Preparing.{opened_has_blank, prepared_from}
 use Rattle.sh_shard.proofs.shard.Shard.give_opened.Goals as goal
 

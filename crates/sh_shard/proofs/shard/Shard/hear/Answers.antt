@@ -1,8 +1,10 @@
 use Rattle.std.proofs.Common.{◌≡◌, refl, ap, ◌∙◌, subst, arith}
 use Rattle.sh_queue.specs.Queues.{EachOnce}
 use Rattle.sh_shard.specs.Shards.{Sharded}
-use Rattle.sh_shard.proofs.Hearing.{hears_none, hears_more, hears_stops, armed_less, armed_few, not_either}
-use Rattle.sh_shard.proofs.Bounding.{rings_none, rings_then, rings_read}
+use Rattle.sh_shard.proofs.Hearing.{hears_none, hears_more, hears_stops, not_either}
+use Rattle.sh_shard.proofs.Counts.{armed_less, armed_few}
+use Rattle.sh_shard.proofs.Bounding.{rings_none, rings_then}
+use Rattle.sh_shard.proofs.BellEmptying.{read_steps}
 use Rattle.sh_shard.proofs.shard.Shard.hear.Goals as goal
 
 pub loop-turn-init : goal.loop-turn-init
@@ -24,11 +26,11 @@ loop-turn-preserved g c =
           c.loop-turn.self c.read_bell.new.self c.requires.class i.hears once c.in-Some.ensures
           (not_either c.loop-turn.read c.is_heard-read.result c.in-Some.word c.args.c c.is_heard-read.ensures);
       met = c.in-Some.ensures.reads.met ∙ i.met;
-      armed = let a = armed_less c.in-Some.word c.loop-turn.self c.read_bell.new.self c.in-Some.ensures
-          in let b = i.armed in omega arith;
+      armed = let a = armed_less c.in-Some.ensures.page c.loop-turn.self.pages c.read_bell.new.self.pages
+          c.in-Some.ensures.reads in let b = i.armed in omega arith;
       steps = rings_then 0 0 0 c.args.self.now.pages c.loop-turn.self.pages c.read_bell.new.self.pages i.steps
-          (rings_read _ _ _ _ c.in-Some.ensures.reads.steps (armed_less c.in-Some.word c.loop-turn.self
-          c.read_bell.new.self c.in-Some.ensures)) (omega arith);
+          (read_steps c.in-Some.ensures.page c.loop-turn.self.pages c.read_bell.new.self.pages
+          c.in-Some.ensures.reads) (omega arith);
     }
 
 pub returns-in_default-clause-steps : goal.returns-in_default-clause-steps

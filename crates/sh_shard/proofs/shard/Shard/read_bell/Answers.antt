@@ -1,6 +1,6 @@
 use Rattle.std.proofs.Common.{◌≡◌, ◌-◌, true, ◌∙◌, sym, arith}
 use Rattle.sh_queue.specs.Numbers.{has_number}
-use Rattle.sh_queue.proofs.PageLaws.{full_opened}
+use Rattle.sh_queue.proofs.PagePlaces.{full_opened}
 use Rattle.sh_shard.proofs.Sorting.{alters_reads, sorted_altered, sorted_returned, full_word, not_full}
 use Rattle.sh_shard.proofs.shard.Shard.read_bell.Goals as goal
 

@@ -3,7 +3,9 @@ use Rattle.std.specs.List.{last_or}
 use Rattle.sh_queue.specs.Numbers.{has_number}
 use Rattle.sh_queue.specs.Queues.{PageQueues, EachOnce, class_queue}
 use Rattle.sh_shard.specs.Shards.{Sharded, SortedPages}
-use Rattle.sh_shard.proofs.Searching.{begins, more, ended, found, found_in, no_pages, out_of_pages, front_has, settled_opened}
+use Rattle.sh_shard.proofs.Searching.{begins, searching_more, ended, no_pages, out_of_pages, front_has}
+use Rattle.sh_shard.proofs.Storing.{found, found_in}
+use Rattle.sh_shard.proofs.Searching.{settled_opened}
 use Rattle.sh_shard.proofs.shard.Shard.search.Goals as goal
 
 pub returns-in_default-clause-searched : goal.returns-in_default-clause-searched
@@ -91,9 +93,9 @@ loop-turn-preserved g c =
     let opened : c.settle.new.self.queues.opened ≡ c.loop-turn.self.queues.opened = settled_opened c.args.c
     c.in-Some-front.page c.try_page.new.self c.settle.new.self c.settle.ensures
     ∙ ap (λ (q : PageQueues). q.opened) c.try_page.ensures.queues in record {
-      searching = more c.args.c c.in-Some-front.page c.loop-turn._turn c.in-Some.last c.args.self.now c.loop-turn.self
-          c.try_page.new.self c.settle.new.self c.loop-turn.invariant.searching front once c.requires.class
-          c.try_page.ensures.queues tried.0 tried.1 c.settle.ensures opened c.in_default-try_page.ensures.steps
-          c.if-page-last.false;
+      searching = searching_more c.args.c c.in-Some-front.page c.loop-turn._turn c.in-Some.last c.args.self.now
+          c.loop-turn.self c.try_page.new.self c.settle.new.self c.loop-turn.invariant.searching front once
+          c.requires.class c.try_page.ensures.queues tried.0 tried.1 c.settle.ensures opened
+          c.in_default-try_page.ensures.steps c.if-page-last.false;
       opened = opened ∙ c.loop-turn.invariant.opened;
     }

@@ -1,7 +1,7 @@
 use Rattle.std.proofs.Common.{◌≡◌, ◌+◌, ◌-◌, ◌≤◌, ◌++◌, length, replicate}
 use Rattle.std.specs.Vec.{vec_capacity}
 use Rattle.sh_states.specs.States.{blank_state}
-use Rattle.sh_states.proofs.states.write_more.Given as goal
+use Rattle.sh_states.proofs.states.changing.write_more.Given as goal
 
 abbrev pub invariant-loop-next : goal.invariant-loop-next
 invariant-loop-next l = record {
