@@ -31,6 +31,22 @@ use Rattle.sh_beside.specs.Along.{CallAlong, SameButKey}
 use Rattle.sh_beside.proofs.Renaming.{renumbered, same_inserts}
 use Rattle.sh_beside.proofs.Renaming.{one_more}
 
+-- a layout and a shape, and other numbers of keys, no two of them the same
+pub record Numbering : Type 0 where
+  pub layout : Layout
+  pub shape : Numbers
+  pub number : ℕ → ℕ
+  pub one : (i j : ℕ) → number i ≡ number j → i ≡ j
+
+-- the call is answered by this reply, whose entry the store gains
+abbrev pub Told : {A : Type 0} → PlainReply A → Answer → Run → Run → Type 0
+Told reply a run next = (a ≡ done_answer reply.answer)
+    × (next ≡ record run { store = with_added run.store reply.adds })
+
+-- the key of a name
+abbrev pub key_named : Run → ℕ → Result ℕ Answer
+key_named run i = key_of run (reference.Name i)
+
 same_but : (a : Answer) → SameButKey a a
 same_but answer.Done = refl
 same_but (answer.Key n) = tt
@@ -38,18 +54,18 @@ same_but (answer.Read words) = refl
 same_but (answer.Refused r) = refl
 same_but answer.Unbound = refl
 
-module _ (layout : Layout) (shape : Numbers) (f : ℕ → ℕ) (one : (i j : ℕ) → f i ≡ f j → i ≡ j) where
+module _ (n : Numbering) where
   -- mode plain's own run, where the keys have these numbers
   abbrev pub own : Run → Run
   own run = record run {
-    store = record run.store { entries = map (renumbered f) run.store.entries };
-    keys = map (option_map f) run.keys;
+    store = record run.store { entries = map (renumbered n.number) run.store.entries };
+    keys = map (option_map n.number) run.keys;
   }
 
   -- the key has a place, and its number is one of a key
   abbrev pub KeyIs : Option ℕ → Type 0
   KeyIs None = Unit {0}
-  KeyIs (Some key) = (is_placed_key layout shape key ≡ true) × (is_some (unpacked layout (f key)) ≡ true)
+  KeyIs (Some key) = (is_placed_key n.layout n.shape key ≡ true) × (is_some (unpacked n.layout (n.number key)) ≡ true)
 
   abbrev pub KeysAre : List (Option ℕ) → Type 0
   KeysAre [] = Unit {0}
@@ -64,7 +80,8 @@ module _ (layout : Layout) (shape : Numbers) (f : ℕ → ℕ) (one : (i j : ℕ
   key_at (j ∷ ks) zero key h e = subst KeyIs (let same : j ≡ Some key = cc in same) h.0
   key_at (j ∷ ks) (suc i) key h e = key_at ks i key h.1 e
 
-  pub plainly : (run next : Run) (c : Call) (a : Answer) → CallDoes layout run c a next → CallAlong layout run c a next
+  pub plainly : (run next : Run) (c : Call) (a : Answer) → CallDoes n.layout run c a next
+      → CallAlong n.layout run c a next
   plainly run next c a h = inl (record { plain = a; does = h; same = same_but a })
 
   -- ---- calls on no key
@@ -81,17 +98,17 @@ module _ (layout : Layout) (shape : Numbers) (f : ℕ → ℕ) (one : (i j : ℕ
   own_leaves run true = refl
   own_leaves run false = refl
 
-  map_last : (ks : List (Option ℕ)) (k : Option ℕ) → map (option_map f) (ks ++ k ∷ [])
-      ≡ map (option_map f) ks ++ option_map f k ∷ []
+  map_last : (ks : List (Option ℕ)) (k : Option ℕ) → map (option_map n.number) (ks ++ k ∷ [])
+      ≡ map (option_map n.number) ks ++ option_map n.number k ∷ []
   map_last [] k = refl
-  map_last (j ∷ ks) k = ap (λ (xs : List (Option ℕ)). option_map f j ∷ xs) (map_last ks k)
+  map_last (j ∷ ks) k = ap (λ (xs : List (Option ℕ)). option_map n.number j ∷ xs) (map_last ks k)
 
   pub own_unnamed : (run : Run) → own (unnamed run) ≡ unnamed (own run)
   own_unnamed run = ap (λ (ks : List (Option ℕ)). record (own run) { keys = ks }) (map_last run.keys None)
 
   -- what only the running heap refuses
-  pub refused_alone : (run next : Run) (c : Call) (a : Answer) → RefusedAlone layout run c a next
-      → RefusedAlone layout (own run) c a (own next)
+  pub refused_alone : (run next : Run) (c : Call) (a : Answer) → RefusedAlone n.layout run c a next
+      → RefusedAlone n.layout (own run) c a (own next)
   refused_alone run next (call.Adopt shard) a h = (h.0, h.1, ap own h.2)
   refused_alone run next call.Leave a h = (h.0, h.1, ap own h.2)
   refused_alone run next (call.Insert words) a h = (h.0, h.1, h.2, ap own h.3 ∙ own_unnamed run)
@@ -102,33 +119,33 @@ module _ (layout : Layout) (shape : Numbers) (f : ℕ → ℕ) (one : (i j : ℕ
   refused_alone run next call.Post a h = absurd h
   refused_alone run next (call.Wait i) a h = absurd h
 
-  pub adopt_along : (run next : Run) (shard : ℕ) (a : Answer) → CallDoes layout run (call.Adopt shard) a next
-      → CallAlong layout (own run) (call.Adopt shard) a (own next)
+  pub adopt_along : (run next : Run) (shard : ℕ) (a : Answer) → CallDoes n.layout run (call.Adopt shard) a next
+      → CallAlong n.layout (own run) (call.Adopt shard) a (own next)
   adopt_along run next shard a h = plainly (own run) (own next) (call.Adopt shard) a
       (h.0, ap own h.1 ∙ own_adopts run shard (has_shard run) (nat_le run.shards shard))
 
-  pub leave_along : (run next : Run) (a : Answer) → CallDoes layout run call.Leave a next
-      → CallAlong layout (own run) call.Leave a (own next)
+  pub leave_along : (run next : Run) (a : Answer) → CallDoes n.layout run call.Leave a next
+      → CallAlong n.layout (own run) call.Leave a (own next)
   leave_along run next a h = plainly (own run) (own next) call.Leave a
       (h.0, ap own h.1 ∙ own_leaves run (has_shard run))
 
-  pub post_along : (run next : Run) (a : Answer) → CallDoes layout run call.Post a next
-      → CallAlong layout (own run) call.Post a (own next)
+  pub post_along : (run next : Run) (a : Answer) → CallDoes n.layout run call.Post a next
+      → CallAlong n.layout (own run) call.Post a (own next)
   post_along run next a h = plainly (own run) (own next) call.Post a (h.0, ap own h.1 ∙ own_unnamed run)
 
-  pub wait_along : (run next : Run) (i : ℕ) (a : Answer) → CallDoes layout run (call.Wait i) a next
-      → CallAlong layout (own run) (call.Wait i) a (own next)
+  pub wait_along : (run next : Run) (i : ℕ) (a : Answer) → CallDoes n.layout run (call.Wait i) a next
+      → CallAlong n.layout (own run) (call.Wait i) a (own next)
   wait_along run next i a h = plainly (own run) (own next) (call.Wait i) a (h.0, ap own h.1)
 
   -- the same where an entry was added
   pub own_added : (run : Run) (e : Entry) → own (record run { store = with_added run.store (Some e) })
-      ≡ record (own run) { store = with_added (own run).store (Some (renumbered f e)) }
+      ≡ record (own run) { store = with_added (own run).store (Some (renumbered n.number e)) }
   own_added run e = ap (λ (es : List Entry). record (own run) { store = record (own run).store { entries = es } })
-      (one_more f one run.store.entries e)
+      (one_more n.number n.one run.store.entries e)
 
   -- what is found for a call
   pub record Found (run next : Run) (c : Call) (a : Answer) : Type 0 where
-    pub along : CallAlong layout (own run) c a (own next)
+    pub along : CallAlong n.layout (own run) c a (own next)
     pub keys : KeysAre next.keys
 
   pub same_keys : (run next : Run) → next.keys ≡ run.keys → KeysAre run.keys → KeysAre next.keys
@@ -137,52 +154,51 @@ module _ (layout : Layout) (shape : Numbers) (f : ℕ → ℕ) (one : (i j : ℕ
   -- ---- insert
 
   module _ (run next : Run) (words : List ℕ) (a : Answer) (keys : KeysAre run.keys) where
-    abbrev Done : Type 0
-    Done = Found run next (call.Insert words) a
-
-    refuses_too : (r : Refusal) → Replied (insert_attempt layout (own run) words) (own run).store (Err r)
+    refuses_too : (r : Refusal) → Replied (insert_attempt n.layout (own run) words) (own run).store (Err r)
         (own run).store
-        → a ≡ answer.Refused r → next ≡ unnamed run → Done
+        → a ≡ answer.Refused r → next ≡ unnamed run → Found run next (call.Insert words) a
     refuses_too r replied is same =
         let p : own next ≡ unnamed (own run) = ap own same ∙ own_unnamed run in
         record {
-          along = subst (λ (n : Run). CallAlong layout (own run) (call.Insert words) a n) (sym p) (inl (record {
+          along = subst (λ (m : Run). CallAlong n.layout (own run) (call.Insert words) a m) (sym p) (inl (record {
             plain = a;
             does = record { result = Err r; replied = replied; is = is; next_is = refl };
             same = same_but a;
           }));
-          keys = subst (λ (n : Run). KeysAre n.keys) (sym same) (one_key_more run.keys None keys tt);
+          keys = subst (λ (m : Run). KeysAre m.keys) (sym same) (one_key_more run.keys None keys tt);
         }
 
-    count_is : insert_count (map (renumbered f) run.store.entries) ≡ insert_count run.store.entries
-    count_is = same_inserts f one run.store.entries
+    count_is : insert_count (map (renumbered n.number) run.store.entries) ≡ insert_count run.store.entries
+    count_is = same_inserts n.number n.one run.store.entries
 
     gives_too : nat_lt 16 (length words) ≡ false → has_shard run ≡ true
-        → nat_lt (insert_count run.store.entries) (key_count layout) ≡ true
-        → (g : GivesKey layout shape run words a next)
-        → f g.key ≡ first_key layout + insert_count run.store.entries → Done
-    gives_too few owned left g number =
-        let n : ℕ = insert_count (map (renumbered f) run.store.entries) in
-        let left_own : nat_lt n (key_count layout) ≡ true = ap (λ m. nat_lt m (key_count layout)) count_is ∙ left in
-        let next_number : f g.key ≡ first_key layout + n = number ∙ ap (λ m. first_key layout + m) (sym count_is) in
+        → nat_lt (insert_count run.store.entries) (key_count n.layout) ≡ true
+        → (g : GivesKey n.layout n.shape run words a next)
+        → n.number g.key ≡ first_key n.layout + insert_count run.store.entries → Found run next (call.Insert words) a
+    gives_too few owned left g number_is =
+        let count : ℕ = insert_count (map (renumbered n.number) run.store.entries) in
+        let left_own : nat_lt count (key_count n.layout) ≡ true =
+        ap (λ m. nat_lt m (key_count n.layout)) count_is ∙ left in
+        let next_number : n.number g.key ≡ first_key n.layout + count =
+        number_is ∙ ap (λ m. first_key n.layout + m) (sym count_is) in
         let Y : Run = record (own run) {
-          store = with_added (own run).store (Some (Insert run.store.pass (f g.key) words));
-          keys = map (option_map f) run.keys ++ Some (f g.key) ∷ [];
+          store = with_added (own run).store (Some (Insert run.store.pass (n.number g.key) words));
+          keys = map (option_map n.number) run.keys ++ Some (n.number g.key) ∷ [];
         } in
         let p : own next ≡ Y = ap own g.next_is
         ∙ (λ i. record (own run) {
           store = record (own run).store {
-            entries = one_more f one run.store.entries
+            entries = one_more n.number n.one run.store.entries
                 (Insert run.store.pass g.key words) i;
           };
           keys = map_last run.keys (Some g.key) i;
         }) in
-        let small : insert_count run.store.entries < key_count layout = grind (arith, nat_tests) in
+        let small : insert_count run.store.entries < key_count n.layout = grind (arith, nat_tests) in
         record {
-          along = subst (λ (m : Run). CallAlong layout (own run) (call.Insert words) a m) (sym p) (inl (record {
-            plain = answer.Key (shown run.tag (f g.key));
+          along = subst (λ (m : Run). CallAlong n.layout (own run) (call.Insert words) a m) (sym p) (inl (record {
+            plain = answer.Key (shown run.tag (n.number g.key));
             does = record {
-              result = Ok (f g.key);
+              result = Ok (n.number g.key);
               replied = rw (few, owned, left_own) (
                 sym (ap (λ (k : ℕ). Ok k) next_number),
                 ap (λ (k : ℕ). with_added (own run).store (Some (Insert run.store.pass k words))) next_number,
@@ -190,54 +206,57 @@ module _ (layout : Layout) (shape : Numbers) (f : ℕ → ℕ) (one : (i j : ℕ
               is = refl;
               next_is = refl;
             };
-            same = subst (λ (x : Answer). SameButKey x (answer.Key (shown run.tag (f g.key)))) (sym g.is) tt;
+            same = subst (λ (x : Answer). SameButKey x (answer.Key (shown run.tag (n.number g.key)))) (sym g.is) tt;
           }));
           keys = subst (λ (m : Run). KeysAre m.keys) (sym g.next_is) (one_key_more run.keys (Some g.key) keys (
             g.placed,
-            (keys_are_consecutive layout (f g.key)).1 (omega (arith, number), omega (arith, number, small)),
+            (keys_are_consecutive n.layout (n.number g.key)).1 (
+              omega (arith, number_is),
+              omega (arith, number_is, small),
+            ),
           ));
         }
 
-    pub insert_along : InsertsBeside layout shape run words (insert_attempt layout run words).answer a next
-        → ((g : GivesKey layout shape run words a next)
-        → f g.key ≡ first_key layout + insert_count run.store.entries) → Done
+    pub insert_along : InsertsBeside n.layout n.shape run words (insert_attempt n.layout run words).answer a next
+        → ((g : GivesKey n.layout n.shape run words a next)
+        → n.number g.key ≡ first_key n.layout + insert_count run.store.entries) → Found run next (call.Insert words) a
     insert_along h number = go (nat_lt 16 (length words)) (has_shard run) (nat_lt (insert_count run.store.entries)
-        (key_count layout)) refl refl refl
+        (key_count n.layout)) refl refl refl
       where
         go : (b c d : Bool) → nat_lt 16 (length words) ≡ b → has_shard run ≡ c
-            → nat_lt (insert_count run.store.entries) (key_count layout) ≡ d → Done
+            → nat_lt (insert_count run.store.entries) (key_count n.layout) ≡ d → Found run next (call.Insert words) a
         go true c d e g k =
-            let at : InsertsBeside layout shape run words (Err refusal.TooLong) a next =
-            subst (λ (x : Result ℕ Refusal). InsertsBeside layout shape run words x a next)
-            (let z : (insert_attempt layout run words).answer ≡ Err refusal.TooLong = rw e refl in z) h in
+            let at : InsertsBeside n.layout n.shape run words (Err refusal.TooLong) a next =
+            subst (λ (x : Result ℕ Refusal). InsertsBeside n.layout n.shape run words x a next)
+            (let z : (insert_attempt n.layout run words).answer ≡ Err refusal.TooLong = rw e refl in z) h in
             refuses_too refusal.TooLong (rw e (refl, refl)) at.0 at.1
         go false false d e g k =
-            let at : InsertsBeside layout shape run words (Err refusal.NoShard) a next =
-            subst (λ (x : Result ℕ Refusal). InsertsBeside layout shape run words x a next)
-            (let z : (insert_attempt layout run words).answer ≡ Err refusal.NoShard = rw (e, g) refl in z) h in
+            let at : InsertsBeside n.layout n.shape run words (Err refusal.NoShard) a next =
+            subst (λ (x : Result ℕ Refusal). InsertsBeside n.layout n.shape run words x a next)
+            (let z : (insert_attempt n.layout run words).answer ≡ Err refusal.NoShard = rw (e, g) refl in z) h in
             refuses_too refusal.NoShard (rw (e, g) (refl, refl)) at.0 at.1
         go false true false e g k =
-            let at : InsertsBeside layout shape run words (Err refusal.Full) a next =
-            subst (λ (x : Result ℕ Refusal). InsertsBeside layout shape run words x a next)
-            (let z : (insert_attempt layout run words).answer ≡ Err refusal.Full = rw (e, g, k) refl in z) h in
-            let none : nat_lt (insert_count (map (renumbered f) run.store.entries)) (key_count layout) ≡ false =
-            ap (λ m. nat_lt m (key_count layout)) count_is ∙ k in
+            let at : InsertsBeside n.layout n.shape run words (Err refusal.Full) a next =
+            subst (λ (x : Result ℕ Refusal). InsertsBeside n.layout n.shape run words x a next)
+            (let z : (insert_attempt n.layout run words).answer ≡ Err refusal.Full = rw (e, g, k) refl in z) h in
+            let none : nat_lt (insert_count (own run).store.entries) (key_count n.layout) ≡ false =
+            ap (λ m. nat_lt m (key_count n.layout)) count_is ∙ k in
             refuses_too refusal.Full (rw (e, g, none) (refl, refl)) at.0 at.1
         go false true true e g k =
-            let at : GivesKey layout shape run words a next =
-            subst (λ (x : Result ℕ Refusal). InsertsBeside layout shape run words x a next)
-            (let z : (insert_attempt layout run words).answer
-            ≡ Ok (first_key layout + insert_count run.store.entries) = rw (e, g, k) refl in z) h in
+            let at : GivesKey n.layout n.shape run words a next =
+            subst (λ (x : Result ℕ Refusal). InsertsBeside n.layout n.shape run words x a next)
+            (let z : (insert_attempt n.layout run words).answer
+            ≡ Ok (first_key n.layout + insert_count run.store.entries) = rw (e, g, k) refl in z) h in
             gives_too e g k at (number at)
 
   -- ---- calls on a key
 
   -- the key, under its other number
   abbrev pub own_key : Result ℕ Answer → Result ℕ Answer
-  own_key (Ok key) = Ok (f key)
+  own_key (Ok key) = Ok (n.number key)
   own_key (Err a) = Err a
 
-  own_bound : (o : Option (Option ℕ)) → bound_key (option_map (option_map f) o) ≡ own_key (bound_key o)
+  own_bound : (o : Option (Option ℕ)) → bound_key (option_map (option_map n.number) o) ≡ own_key (bound_key o)
   own_bound None = refl
   own_bound (Some None) = refl
   own_bound (Some (Some key)) = refl
@@ -248,21 +267,10 @@ module _ (layout : Layout) (shape : Numbers) (f : ℕ → ℕ) (one : (i j : ℕ
   bound_is (Some (Some k)) key e = let same : k ≡ key = (let z : Ok k ≡ Ok key =
       e in cc) in ap (λ (x : ℕ). Some (Some x)) same
 
-  module _ (run next : Run) (i : ℕ) (a : Answer) (keys : KeysAre run.keys) where
-    abbrev pub meant : Result ℕ Answer
-    meant = bound_key (slice_get run.keys i)
+  pub own_meant : (run : Run) (i : ℕ) (k : Result ℕ Answer) → key_named run i ≡ k
+      → key_named (own run) i ≡ own_key k
+  own_meant run i k e = ap bound_key (slice_get-map (option_map n.number) run.keys i)
+      ∙ (own_bound (slice_get run.keys i) ∙ ap own_key e)
 
-    pub own_meant : (k : Result ℕ Answer) → meant ≡ k → key_of (own run) (reference.Name i) ≡ own_key k
-    own_meant k e = ap bound_key (slice_get-map (option_map f) run.keys i)
-        ∙ (own_bound (slice_get run.keys i) ∙ ap own_key e)
-
-    pub known : (key : ℕ) → meant ≡ Ok key → KeyIs (Some key)
-    known key e = key_at run.keys i key keys (bound_is (slice_get run.keys i) key e)
-
-    -- a reply on a key, and the same reply under its other number
-    abbrev pub Told : {A : Type 0} → PlainReply A → Run → Run → Type 0
-    Told reply run next = (a ≡ done_answer reply.answer)
-        × (next ≡ record run { store = with_added run.store reply.adds })
-
-    pub same_keys_told : {A : Type 0} (reply : PlainReply A) → Told reply run next → KeysAre next.keys
-    same_keys_told reply h = same_keys run next (ap (λ (m : Run). m.keys) h.1) keys
+  pub known : (run : Run) (i key : ℕ) → KeysAre run.keys → key_named run i ≡ Ok key → KeyIs (Some key)
+  known run i key keys e = key_at run.keys i key keys (bound_is (slice_get run.keys i) key e)

@@ -1,76 +1,44 @@
 -- A get along with mode plain.
 use Rattle.std.proofs.Common.{◌≡◌, ℕ, ◌+◌, ◌<◌, inl, inr, Bool, true, false, cond, List, map}
-use Rattle.std.proofs.Common.{refl, ap, sym, ◌∙◌, subst, arith, Option, Some, None, Result, Ok, Err, slice_get}
-use Rattle.std.specs.Prelude.{is_some, nat_le, IsSome}
+use Rattle.std.proofs.Common.{refl, ap, sym, ◌∙◌, subst, arith, Option, Some, None, Result, Ok, Err}
+use Rattle.std.specs.Prelude.{nat_le, IsSome}
 use Rattle.std.proofs.lemmas.Bool.Decides.{nat_tests}
 use Rattle.sh_value.specs.declared.refusal.Refusal.TheVariants as refusal
-use Rattle.sh_key.specs.Layout.{Layout, unpacked}
-use Rattle.sh_shape.specs.Shape.{Numbers}
+use Rattle.sh_key.specs.Layout.{Layout}
 use Rattle.sh_history.specs.declared.entry.Entry.{Entry}
 use Rattle.sh_history.specs.declared.entry.Entry.TheVariants.{Got, Gone, Crowded}
 use Rattle.sh_history.specs.History.{present_value, hold_count, holds_on}
 use Rattle.sh_value.specs.declared.hold.Hold.{Hold}
 use Rattle.sh_plain.specs.Plain.{PlainReply, refused, with_added, get_reply, got_reply}
 use Rattle.sh_script.specs.declared.calls.Reference.TheVariants as reference
-use Rattle.sh_script.specs.declared.calls.Call.{Call}
 use Rattle.sh_script.specs.declared.calls.Call.TheVariants as call
 use Rattle.sh_output.specs.declared.answer.Answer.{Answer}
 use Rattle.sh_output.specs.Results.{done_answer}
-use Rattle.sh_models.specs.PlainRun.{Run, CallDoes, Tells}
-use Rattle.sh_models.specs.PlainRun.{bound_key, key_of}
-use Rattle.sh_beside.specs.Beside.{GetsBeside, WherePlaced, IfPlaced}
-use Rattle.sh_beside.specs.Beside.{IsLimit}
+use Rattle.sh_models.specs.PlainRun.{Run, Tells}
+use Rattle.sh_beside.specs.Beside.{GetsBeside, IsLimit, WherePlaced, IfPlaced}
 use Rattle.sh_beside.specs.Along.{CallAlong}
-use Rattle.sh_beside.proofs.Getting.{placed_is_key}
-use Rattle.sh_beside.proofs.Renaming.{renumbered, same_present, same_holds_on}
-use Rattle.sh_beside.proofs.Renaming.{same_hold_count}
-use Rattle.sh_beside.proofs.Along.{own as own_run, own_key as other_key, own_meant as other_meant, known as known_key}
-use Rattle.sh_beside.proofs.Along.{own_added as other_added, plainly as plain_answer, same_keys as keys_kept}
-use Rattle.sh_beside.proofs.Along.{KeyIs, KeysAre, Found}
+use Rattle.sh_beside.proofs.OnKeys.{placed_is_key}
+use Rattle.sh_beside.proofs.Renaming.{renumbered, same_present, same_holds_on, same_hold_count}
+use Rattle.sh_beside.proofs.Along.{Numbering, KeyIs, KeysAre, Told, Found, own, own_key, own_meant, own_added}
+use Rattle.sh_beside.proofs.Along.{key_named, known, plainly, same_keys}
 
-module _ (layout : Layout) (shape : Numbers) (f : ℕ → ℕ) (one : (i j : ℕ) → f i ≡ f j → i ≡ j) (run next : Run) (i : ℕ)
-    (a : Answer) (keys : KeysAre layout shape f one run.keys) where
-  abbrev own : Run → Run
-  own m = own_run layout shape f one m
-
-  abbrev own_key : Result ℕ Answer → Result ℕ Answer
-  own_key k = other_key layout shape f one k
-
-  abbrev meant : Result ℕ Answer
-  meant = bound_key (slice_get run.keys i)
-
-  own_meant : (k : Result ℕ Answer) → meant ≡ k → key_of (own run) (reference.Name i) ≡ own_key k
-  own_meant = other_meant layout shape f one run next i a keys
-
-  known : (key : ℕ) → meant ≡ Ok key → KeyIs layout shape f one (Some key)
-  known = known_key layout shape f one run next i a keys
-
-  own_added : (m : Run) (e : Entry) → own (record m { store = with_added m.store (Some e) })
-      ≡ record (own m) { store = with_added (own m).store (Some (renumbered f e)) }
-  own_added = other_added layout shape f one
-
-  plainly : (c : Call) → CallDoes layout (own run) c a (own next) → CallAlong layout (own run) c a (own next)
-  plainly c = plain_answer layout shape f one (own run) (own next) c a
-
-  same_keys : next.keys ≡ run.keys → KeysAre layout shape f one next.keys
-  same_keys e = keys_kept layout shape f one run next e keys
-
-  abbrev Told : {A : Type 0} → PlainReply A → Type 0
-  Told reply = (a ≡ done_answer reply.answer) × (next ≡ record run { store = with_added run.store reply.adds })
+module _ (n : Numbering) (run next : Run) (i : ℕ) (a : Answer) (keys : KeysAre n run.keys) where
+  abbrev es : List Entry
+  es = run.store.entries
 
   abbrev AlongGet : Type 0
-  AlongGet = CallAlong layout (own run) (call.Get (reference.Name i)) a (own next)
+  AlongGet = CallAlong n.layout (own n run) (call.Get (reference.Name i)) a (own n next)
 
-  by_key : (k : Result ℕ Answer) → meant ≡ k → Tells (get_reply layout) (own run) (own_key k) a (own next) → AlongGet
-  by_key k e h = plainly (call.Get (reference.Name i))
-      (subst (λ (x : Result ℕ Answer). Tells (get_reply layout) (own run) x a (own next)) (sym (own_meant k e)) h)
+  get_by_key : (k : Result ℕ Answer) → key_named run i ≡ k
+      → Tells (get_reply n.layout) (own n run) (own_key n k) a (own n next) → AlongGet
+  get_by_key k e h = plainly n (own n run) (own n next) (call.Get (reference.Name i)) a
+      (subst (λ (x : Result ℕ Answer). Tells (get_reply n.layout) (own n run) x a (own n next))
+      (sym (own_meant n run i k e)) h)
 
-  module _ (key : ℕ) (e : meant ≡ Ok key) (limit : ℕ) (is_limit : IsLimit layout run limit) where
+  module _ (key : ℕ) (e : key_named run i ≡ Ok key) (is : KeyIs n (Some key)) (limit : ℕ)
+      (is_limit : IsLimit n.layout run limit) where
     abbrev narrow : Layout
-    narrow = record layout { guard_max = limit }
-
-    abbrev es : List Entry
-    es = run.store.entries
+    narrow = record n.layout { guard_max = limit }
 
     abbrev crowded : PlainReply Hold
     crowded = record { answer = Err refusal.Crowded; adds = Some (Crowded run.store.pass key) }
@@ -78,129 +46,130 @@ module _ (layout : Layout) (shape : Numbers) (f : ℕ → ℕ) (one : (i j : ℕ
     abbrev given_hold : List ℕ → PlainReply Hold
     given_hold value = record { answer = Ok (record { key = key }); adds = Some (Got run.store.pass key value) }
 
-    is_key : is_some (unpacked layout key) ≡ true
-    is_key = placed_is_key layout shape key (known key e).0
-
-    own_is_key : is_some (unpacked layout (f key)) ≡ true
-    own_is_key = (known key e).1
-
-    own_count : hold_count (map (renumbered f) es) run.store.pass ≡ hold_count es run.store.pass
-    own_count = same_hold_count f one es run.store.pass
-
     -- what mode plain answers where the pass has room for a hold
     own_reply : nat_le 16 (hold_count es run.store.pass) ≡ false → (o : Option (List ℕ)) → present_value es key ≡ o
-        → get_reply layout (own run).store (f key) ≡ got_reply layout (own run).store (f key) o
+        → get_reply n.layout (own n run).store (n.number key) ≡ got_reply n.layout (own n run).store (n.number key) o
     own_reply g o p =
-        let h : nat_le 16 (hold_count (map (renumbered f) es) run.store.pass) ≡ false =
-        ap (nat_le 16) own_count ∙ g in
-        let q : present_value (map (renumbered f) es) (f key) ≡ o = same_present f one es key ∙ p in
-        rw (own_is_key, h, q) refl
+        let h : nat_le 16 (hold_count (map (renumbered n.number) es) run.store.pass) ≡ false =
+        ap (nat_le 16) (same_hold_count n.number n.one es run.store.pass) ∙ g in
+        let q : present_value (map (renumbered n.number) es) (n.number key) ≡ o =
+        same_present n.number n.one es key ∙ p in
+        let j = is.1 in
+        rw (j, h, q) refl
 
     reply : nat_le 16 (hold_count es run.store.pass) ≡ false → (o : Option (List ℕ)) → present_value es key ≡ o
         → get_reply narrow run.store key ≡ got_reply narrow run.store key o
-    reply g o p = rw (is_key, g, p) refl
+    reply g o p = let h = placed_is_key n.layout n.shape key is.0 in rw (h, g, p) refl
 
-    by_own_reply : (r : PlainReply Hold) → get_reply layout (own run).store (f key) ≡ r
-        → (a ≡ done_answer r.answer) × (own next ≡ record (own run) { store = with_added (own run).store r.adds })
+    by_own_reply : (r : PlainReply Hold) → get_reply n.layout (own n run).store (n.number key) ≡ r
+        → (a ≡ done_answer r.answer) × (own n next ≡ record (own n run) { store = with_added (own n run).store r.adds })
         → AlongGet
-    by_own_reply r q h = by_key (Ok key) e
+    by_own_reply r q h = get_by_key (Ok key) e
         (subst (λ (x : PlainReply Hold). (a ≡ done_answer x.answer)
-        × (own next ≡ record (own run) { store = with_added (own run).store x.adds })) (sym q) h)
+        × (own n next ≡ record (own n run) { store = with_added (own n run).store x.adds })) (sym q) h)
 
-    full : nat_le 16 (hold_count es run.store.pass) ≡ true → Told (get_reply narrow run.store key) → AlongGet
-    full g h =
+    along_full : nat_le 16 (hold_count es run.store.pass) ≡ true → Told (get_reply narrow run.store key) a run next
+        → AlongGet
+    along_full g h =
+        let is_key = placed_is_key n.layout n.shape key is.0 in
         let q : get_reply narrow run.store key ≡ refused refusal.HoldsFull = rw (is_key, g) refl in
-        let t = subst (λ (x : PlainReply Hold). Told x) q h in
-        let own_g : nat_le 16 (hold_count (map (renumbered f) es) run.store.pass) ≡ true =
-        ap (nat_le 16) own_count ∙ g in
-        let own_q : get_reply layout (own run).store (f key) ≡ refused refusal.HoldsFull =
-        rw (own_is_key, own_g) refl in
-        by_own_reply (refused refusal.HoldsFull) own_q (t.0, ap own t.1)
+        let t = subst (λ (x : PlainReply Hold). Told x a run next) q h in
+        let own_g : nat_le 16 (hold_count (map (renumbered n.number) es) run.store.pass) ≡ true =
+        ap (nat_le 16) (same_hold_count n.number n.one es run.store.pass) ∙ g in
+        let own_q : get_reply n.layout (own n run).store (n.number key) ≡ refused refusal.HoldsFull =
+        (let own_is_key = is.1 in rw (own_is_key, own_g) refl) in
+        by_own_reply (refused refusal.HoldsFull) own_q (t.0, ap (own n) t.1)
 
-    gone : nat_le 16 (hold_count es run.store.pass) ≡ false → present_value es key ≡ None
-        → Told (get_reply narrow run.store key) → AlongGet
-    gone g p h =
-        let t = subst (λ (x : PlainReply Hold). Told x) (reply g None p) h in
-        by_own_reply (got_reply layout (own run).store (f key) None) (own_reply g None p)
-        (t.0, ap own t.1 ∙ own_added run (Gone run.store.pass key))
+    along_gone : nat_le 16 (hold_count es run.store.pass) ≡ false → present_value es key ≡ None
+        → Told (get_reply narrow run.store key) a run next → AlongGet
+    along_gone g p h =
+        let t = subst (λ (x : PlainReply Hold). Told x a run next) (reply g None p) h in
+        by_own_reply (got_reply n.layout (own n run).store (n.number key) None) (own_reply g None p)
+        (t.0, ap (own n) t.1 ∙ own_added n run (Gone run.store.pass key))
 
-    there : nat_le 16 (hold_count es run.store.pass) ≡ false → (value : List ℕ) → present_value es key ≡ Some value
-        → Told (get_reply narrow run.store key) → AlongGet
-    there g value p h =
-        go (nat_le limit (holds_on es key)) (nat_le layout.guard_max (holds_on es key)) refl refl
-        (subst (λ (x : PlainReply Hold). Told x) (reply g (Some value) p) h)
+    along_there : nat_le 16 (hold_count es run.store.pass) ≡ false → (value : List ℕ)
+        → present_value es key ≡ Some value → Told (get_reply narrow run.store key) a run next → AlongGet
+    along_there g value p h =
+        go (nat_le limit (holds_on es key)) (nat_le n.layout.guard_max (holds_on es key)) refl refl
+        (subst (λ (x : PlainReply Hold). Told x a run next) (reply g (Some value) p) h)
       where
-        own_on : holds_on (map (renumbered f) es) (f key) ≡ holds_on es key
-        own_on = same_holds_on f one es key
+        own_on : holds_on (map (renumbered n.number) es) (n.number key) ≡ holds_on es key
+        own_on = same_holds_on n.number n.one es key
 
-        abbrev_told : (c : Bool) → nat_le layout.guard_max (holds_on es key) ≡ c
-            → got_reply layout (own run).store (f key) (Some value)
-            ≡ cond c (record { answer = Err refusal.Crowded; adds = Some (Crowded run.store.pass (f key)) })
-            (record { answer = Ok (record { key = f key }); adds = Some (Got run.store.pass (f key) value) })
-        abbrev_told c k = (let z : nat_le layout.guard_max (holds_on (map (renumbered f) es) (f key)) ≡ c =
-            ap (nat_le layout.guard_max) own_on ∙ k in rw z refl)
+        own_got : (c : Bool) → nat_le n.layout.guard_max (holds_on es key) ≡ c
+            → got_reply n.layout (own n run).store (n.number key) (Some value)
+            ≡ cond c (record { answer = Err refusal.Crowded; adds = Some (Crowded run.store.pass (n.number key)) })
+            (record {
+              answer = Ok (record { key = n.number key });
+              adds = Some (Got run.store.pass (n.number key) value);
+            })
+        own_got c k =
+            let z : nat_le n.layout.guard_max (holds_on (map (renumbered n.number) es) (n.number key)) ≡ c =
+            ap (nat_le n.layout.guard_max) own_on ∙ k in
+            rw z refl
 
-        go : (b c : Bool) → nat_le limit (holds_on es key) ≡ b → nat_le layout.guard_max (holds_on es key) ≡ c
-            → Told (got_reply narrow run.store key (Some value)) → AlongGet
+        go : (b c : Bool) → nat_le limit (holds_on es key) ≡ b → nat_le n.layout.guard_max (holds_on es key) ≡ c
+            → Told (got_reply narrow run.store key (Some value)) a run next → AlongGet
         go true true j k t =
-            let u : Told crowded =
+            let u : Told crowded a run next =
             rw j at t in
-            by_own_reply _ (own_reply g (Some value) p ∙ abbrev_told true k)
-            (u.0, ap own u.1 ∙ own_added run (Crowded run.store.pass key))
+            by_own_reply _ (own_reply g (Some value) p ∙ own_got true k)
+            (u.0, ap (own n) u.1 ∙ own_added n run (Crowded run.store.pass key))
         go false false j k t =
-            let u : Told (given_hold value)
+            let u : Told (given_hold value) a run next
             = rw j at t in
-            by_own_reply _ (own_reply g (Some value) p ∙ abbrev_told false k)
-            (u.0, ap own u.1 ∙ own_added run (Got run.store.pass key value))
+            by_own_reply _ (own_reply g (Some value) p ∙ own_got false k)
+            (u.0, ap (own n) u.1 ∙ own_added n run (Got run.store.pass key value))
         go false true j k t = absurd (let m = is_limit.most in let bad : ⊥ = grind (arith, nat_tests) in bad)
         go true false j k t =
-            let u : Told crowded =
+            let u : Told crowded a run next =
             rw j at t in
-            let some : holds_on es key < layout.guard_max = grind (arith, nat_tests) in
+            let some : holds_on es key < n.layout.guard_max = grind (arith, nat_tests) in
             let least = is_limit.least in
-            let over : layout.guard_max < holds_on es key + run.store.passes = grind (arith, nat_tests) in
+            let over : n.layout.guard_max < holds_on es key + run.store.passes = grind (arith, nat_tests) in
             inr (inl (record {
-              key = f key;
-              names = own_meant (Ok key) e;
-              there = subst (λ (o : Option (List ℕ)). IsSome o) (sym (same_present f one es key ∙ p)) refl;
-              early = subst (λ (n : ℕ). n < layout.guard_max) (sym own_on) some;
-              many = subst (λ (n : ℕ). layout.guard_max < n + run.store.passes) (sym own_on) over;
+              key = n.number key;
+              names = own_meant n run i (Ok key) e;
+              there = subst (λ (o : Option (List ℕ)). IsSome o) (sym (same_present n.number n.one es key ∙ p)) refl;
+              early = subst (λ (m : ℕ). m < n.layout.guard_max) (sym own_on) some;
+              many = subst (λ (m : ℕ). n.layout.guard_max < m + run.store.passes) (sym own_on) over;
               is = u.0;
-              next_is = ap own u.1 ∙ own_added run (Crowded run.store.pass key);
+              next_is = ap (own n) u.1 ∙ own_added n run (Crowded run.store.pass key);
             }))
 
-    get_told : Told (get_reply narrow run.store key) → AlongGet
+    get_told : Told (get_reply narrow run.store key) a run next → AlongGet
     get_told h = go (nat_le 16 (hold_count es run.store.pass)) refl
       where
         room : nat_le 16 (hold_count es run.store.pass) ≡ false → (o : Option (List ℕ)) → present_value es key ≡ o
             → AlongGet
-        room g None p = gone g p h
-        room g (Some value) p = there g value p h
+        room g None p = along_gone g p h
+        room g (Some value) p = along_there g value p h
 
         go : (b : Bool) → nat_le 16 (hold_count es run.store.pass) ≡ b → AlongGet
-        go true g = full g h
+        go true g = along_full g h
         go false g = room g (present_value es key) refl
 
-  pub get_along : WherePlaced layout shape meant (GetsBeside layout run meant a next) run a next
-      → Found layout shape f one run next (call.Get (reference.Name i)) a
-  get_along h = go meant refl
+  pub get_along : WherePlaced n.layout n.shape (key_named run i) (GetsBeside n.layout run (key_named run i) a next)
+      run a next → Found n run next (call.Get (reference.Name i)) a
+  get_along h = go (key_named run i) refl
     where
-      at : (k : Result ℕ Answer) → meant ≡ k → WherePlaced layout shape k (GetsBeside layout run k a next) run a next
-      at k e = subst (λ (x : Result ℕ Answer). WherePlaced layout shape x (GetsBeside layout run x a next) run a next)
-          e h
+      at : (k : Result ℕ Answer) → key_named run i ≡ k
+          → WherePlaced n.layout n.shape k (GetsBeside n.layout run k a next) run a next
+      at k e = subst (λ (x : Result ℕ Answer).
+          WherePlaced n.layout n.shape x (GetsBeside n.layout run x a next) run a next) e h
 
-      go : (k : Result ℕ Answer) → meant ≡ k → Found layout shape f one run next (call.Get (reference.Name i)) a
+      go : (k : Result ℕ Answer) → key_named run i ≡ k → Found n run next (call.Get (reference.Name i)) a
       go (Err b) e =
           let t = (at (Err b) e).tells in
           record {
-            along = by_key (Err b) e (t.0, ap own t.1);
-            keys = same_keys (ap (λ (m : Run). m.keys) t.1);
+            along = get_by_key (Err b) e (t.0, ap (own n) t.1);
+            keys = same_keys n run next (ap (λ (m : Run). m.keys) t.1) keys;
           }
       go (Ok key) e =
-          let g : GetsBeside layout run (Ok key) a next =
-          subst (λ (b : Bool). IfPlaced b (GetsBeside layout run (Ok key) a next) run a next) (known key e).0
-          (at (Ok key) e) in
+          let is = known n run i key keys e in
+          let g : GetsBeside n.layout run (Ok key) a next =
+          subst (λ (b : Bool). IfPlaced b (GetsBeside n.layout run (Ok key) a next) run a next) is.0 (at (Ok key) e) in
           record {
-            along = get_told key e g.limit g.is_limit g.tells;
-            keys = same_keys (ap (λ (m : Run). m.keys) g.tells.1);
+            along = get_told key e is g.limit g.is_limit g.tells;
+            keys = same_keys n run next (ap (λ (m : Run). m.keys) g.tells.1) keys;
           }

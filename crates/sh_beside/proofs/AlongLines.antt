@@ -1,9 +1,8 @@
 -- A line beside mode plain is one along with mode plain's own run, where the keys of a history have the numbers in
--- which
--- they were given.
+-- which they were given.
 use Rattle.std.proofs.Common.{◌≡◌, ℕ, ◌+◌, Bool, true, false, cond, List, [], ◌∷◌, ◌++◌, refl, ap, sym, ◌∙◌, subst}
 use Rattle.std.proofs.Common.{arith}
-use Rattle.std.proofs.Common.{append_assoc, inl, inr, Option, None, slice_set}
+use Rattle.std.proofs.Common.{append_assoc, inl, inr, None, slice_set}
 use Rattle.std.specs.Prelude.{nat_le}
 use Rattle.sh_key.specs.Layout.{Layout, first_key}
 use Rattle.sh_shape.specs.Shape.{Numbers}
@@ -17,8 +16,8 @@ use Rattle.sh_output.specs.declared.answer.Answer.{Answer}
 use Rattle.sh_models.specs.PlainRun.{Run, has_shard}
 use Rattle.sh_beside.specs.Beside.{CallBeside, GivesKey, RefusedAlone}
 use Rattle.sh_beside.specs.Along.{NamesKey}
-use Rattle.sh_beside.proofs.Along.{KeysAre, Found, one_key_more, same_keys, refused_alone, adopt_along, leave_along}
-use Rattle.sh_beside.proofs.Along.{post_along, wait_along, insert_along}
+use Rattle.sh_beside.proofs.Along.{Numbering, KeysAre, Found, one_key_more, same_keys, refused_alone, adopt_along}
+use Rattle.sh_beside.proofs.Along.{leave_along, post_along, wait_along, insert_along}
 use Rattle.sh_beside.proofs.AlongGets.{get_along}
 use Rattle.sh_beside.proofs.AlongKeys.{remove_along, release_along, read_along}
 use Rattle.sh_beside.proofs.Renaming.{place_in, one_place, given, given_append, place_now}
@@ -45,20 +44,25 @@ number_now layout before after later history p key words at whole new =
     ap (λ (ks : List ℕ). first_key layout + place_in ks key) all
     ∙ ap (λ (n : ℕ). first_key layout + n) (place_now before key (given later) new)
 
+-- those of all keys of the history
+abbrev pub numbering : Layout → Numbers → List Entry → Numbering
+numbering layout shape history = record {
+  layout = layout;
+  shape = shape;
+  number = number_of layout history;
+  one = one_number layout history;
+}
+
 -- ---- a call
 
-module _ (layout : Layout) (shape : Numbers) (f : ℕ → ℕ) (one : (i j : ℕ) → f i ≡ f j → i ≡ j) (run next : Run)
-    (a : Answer) (keys : KeysAre layout shape f one run.keys) where
-  abbrev AreKeys : List (Option ℕ) → Type 0
-  AreKeys ks = KeysAre layout shape f one ks
+module _ (n : Numbering) (run next : Run) (a : Answer) (keys : KeysAre n run.keys) where
+  kept : next.keys ≡ run.keys → KeysAre n next.keys
+  kept e = same_keys n run next e keys
 
-  kept : next.keys ≡ run.keys → AreKeys next.keys
-  kept e = same_keys layout shape f one run next e keys
+  one_none : next.keys ≡ run.keys ++ None ∷ [] → KeysAre n next.keys
+  one_none e = subst (KeysAre n) (sym e) (one_key_more n run.keys None keys tt)
 
-  one_none : next.keys ≡ run.keys ++ None ∷ [] → AreKeys next.keys
-  one_none e = subst AreKeys (sym e) (one_key_more layout shape f one run.keys None keys tt)
-
-  keys_refused : (c : Call) → RefusedAlone layout run c a next → AreKeys next.keys
+  keys_refused : (c : Call) → RefusedAlone n.layout run c a next → KeysAre n next.keys
   keys_refused (call.Adopt shard) h = kept (ap (λ (m : Run). m.keys) h.2)
   keys_refused call.Leave h = kept (ap (λ (m : Run). m.keys) h.2)
   keys_refused (call.Insert words) h = one_none (ap (λ (m : Run). m.keys) h.3)
@@ -82,35 +86,35 @@ module _ (layout : Layout) (shape : Numbers) (f : ℕ → ℕ) (one : (i j : ℕ
   left true = refl
   left false = refl
 
-  pub call_along : (c : Call) → NamesKey c → CallBeside layout shape run c a next
-      → ((words : List ℕ) (g : GivesKey layout shape run words a next)
-      → f g.key ≡ first_key layout + insert_count run.store.entries) → Found layout shape f one run next c a
+  pub call_along : (c : Call) → NamesKey c → CallBeside n.layout n.shape run c a next
+      → ((words : List ℕ) (g : GivesKey n.layout n.shape run words a next)
+      → n.number g.key ≡ first_key n.layout + insert_count run.store.entries) → Found n run next c a
   call_along c named (inr h) number =
-      record { along = inr (inr (refused_alone layout shape f one run next c a h)); keys = keys_refused c h }
+      record { along = inr (inr (refused_alone n run next c a h)); keys = keys_refused c h }
   call_along (call.Adopt shard) named (inl h) number = record {
-    along = adopt_along layout shape f one run next shard a h;
+    along = adopt_along n run next shard a h;
     keys = kept (ap (λ (m : Run). m.keys) h.1 ∙ adopted (has_shard run) (nat_le run.shards shard));
   }
   call_along call.Leave named (inl h) number = record {
-    along = leave_along layout shape f one run next a h;
+    along = leave_along n run next a h;
     keys = kept (ap (λ (m : Run). m.keys) h.1 ∙ left (has_shard run));
   }
-  call_along (call.Insert words) named (inl h) number = insert_along layout shape f one run next words a keys h
+  call_along (call.Insert words) named (inl h) number = insert_along n run next words a keys h
       (number words)
-  call_along (call.Get (reference.Name i)) named (inl h) number = get_along layout shape f one run next i a keys h
-  call_along (call.Get (reference.Key n)) named (inl h) number = absurd named
-  call_along (call.Read (reference.Name i)) named (inl h) number = read_along layout shape f one run next i a keys h
-  call_along (call.Read (reference.Key n)) named (inl h) number = absurd named
-  call_along (call.Remove (reference.Name i)) named (inl h) number = remove_along layout shape f one run next i a keys h
-  call_along (call.Remove (reference.Key n)) named (inl h) number = absurd named
+  call_along (call.Get (reference.Name i)) named (inl h) number = get_along n run next i a keys h
+  call_along (call.Get (reference.Key k)) named (inl h) number = absurd named
+  call_along (call.Read (reference.Name i)) named (inl h) number = read_along n run next i a keys h
+  call_along (call.Read (reference.Key k)) named (inl h) number = absurd named
+  call_along (call.Remove (reference.Name i)) named (inl h) number = remove_along n run next i a keys h
+  call_along (call.Remove (reference.Key k)) named (inl h) number = absurd named
   call_along (call.Release (reference.Name i)) named (inl h) number =
-      release_along layout shape f one run next i a keys h
-  call_along (call.Release (reference.Key n)) named (inl h) number = absurd named
+      release_along n run next i a keys h
+  call_along (call.Release (reference.Key k)) named (inl h) number = absurd named
   call_along call.Post named (inl h) number = record {
-    along = post_along layout shape f one run next a h;
+    along = post_along n run next a h;
     keys = one_none (ap (λ (m : Run). m.keys) h.1);
   }
   call_along (call.Wait i) named (inl h) number = record {
-    along = wait_along layout shape f one run next i a h;
+    along = wait_along n run next i a h;
     keys = kept (ap (λ (m : Run). m.keys) h.1);
   }

@@ -30,13 +30,13 @@ same_release_from : (a : ℕ) (x : LogEntry) (e : Entry) → Agrees x e → is_l
 same_release_from a (Known f) e h = ap (is_release_from a) (sym h)
 same_release_from a (Unread p j) e h = sym (ap (is_release_from a) h.1)
 
-same_count : (f : LogEntry → Bool) (g : Entry → Bool) → ((x : LogEntry) (e : Entry) → Agrees x e → f x ≡ g e)
+agreeing_count : (f : LogEntry → Bool) (g : Entry → Bool) → ((x : LogEntry) (e : Entry) → Agrees x e → f x ≡ g e)
     → (log : List LogEntry) (es : List Entry) → AllZip Agrees log es → count_by f log ≡ count_by g es
-same_count f g same [] [] h = refl
-same_count f g same [] (e ∷ es) h = absurd h
-same_count f g same (x ∷ log) [] h = absurd h
-same_count f g same (x ∷ log) (e ∷ es) h =
-    rw (count_by-cons f x log, count_by-cons g e es, same x e h.0, same_count f g same log es h.1) refl
+agreeing_count f g same [] [] h = refl
+agreeing_count f g same [] (e ∷ es) h = absurd h
+agreeing_count f g same (x ∷ log) [] h = absurd h
+agreeing_count f g same (x ∷ log) (e ∷ es) h =
+    rw (count_by-cons f x log, count_by-cons g e es, same x e h.0, agreeing_count f g same log es h.1) refl
 
 -- ---- entries of a pass among those of all
 
@@ -99,21 +99,21 @@ own_count g h only (e ∷ es) = go (own_count g h only es) (h e) refl
 told_count : (a : ℕ) (f : LogEntry → Bool) (g : Entry → Bool) → ((x : LogEntry) (e : Entry) → Agrees x e → f x ≡ g e)
     → ((e : Entry) → g e ≡ true → (pass_of e == a) ≡ true) → (log : List LogEntry) (es : List Entry)
     → AllZip Agrees log (entries_of (λ p. p == a) es) → count_by f log ≡ count_by g es
-told_count a f g same own log es agrees = same_count f g same log (entries_of (λ p. p == a) es) agrees
+told_count a f g same own log es agrees = agreeing_count f g same log (entries_of (λ p. p == a) es) agrees
     ∙ own_count g (λ e. pass_of e == a) own es
 
 -- ---- the holds
 
 module _ (a : ℕ) (log : List LogEntry) (es : List Entry) (agrees : AllZip Agrees log (entries_of (λ p. p == a) es))
   where
-    pub same_holds_by : (k : ℕ) → logged_holds_by log a k ≡ holds_by es a k
-    same_holds_by k =
+    pub holds_by_log : (k : ℕ) → logged_holds_by log a k ≡ holds_by es a k
+    holds_by_log k =
         let got = told_count a (is_logged_got_by a k) (is_got_by a k) (same_got a k) (got_own a k) log es agrees in
         let gone = told_count a (is_logged_release_by a k) (is_release_by a k) (same_release a k) (release_own a k) log
         es agrees in (λ i. got i - gone i)
 
-    pub same_hold_count : logged_hold_count log a ≡ hold_count es a
-    same_hold_count =
+    pub hold_count_by_log : logged_hold_count log a ≡ hold_count es a
+    hold_count_by_log =
         let got = told_count a (is_logged_got_from a) (is_got_from a) (same_got_from a)
         (got_from_own a) log es agrees in
         let gone = told_count a (is_logged_release_from a) (is_release_from a) (same_release_from a)

@@ -4,7 +4,7 @@ use Rattle.std.proofs.Common.{length, refl, ap, sym, ◌∙◌, subst, arith, eq
 use Rattle.std.specs.Prelude.{IsSome, nat_lt}
 use Rattle.std.specs.List.{list_any, IsDistinct, AllByRecursion}
 use lib.Dec.{eqb}
-use Rattle.std.proofs.Common.{lt-ltb}
+use Rattle.std.proofs.Common.{lt-ltb, true≢false}
 use Rattle.std.proofs.lemmas.Map.Keys.{IsDistinct-cons}
 use Rattle.std.proofs.lemmas.Map.Steps.{length-le_from_distinct_below}
 use Rattle.sh_key.specs.Layout.{Layout, unpacked, first_key, key_count}
@@ -27,15 +27,12 @@ nothing_apart : IsDistinct eqb []
 unfolding IsDistinct
 nothing_apart = tt
 
-true_false : (b : Bool) → b ≡ true → b ≡ false → ⊥
-true_false b p q = cc
-
 pub none_issued : (layout : Layout) → AreIssued layout []
 none_issued layout = record {
   places = [];
   counted = refl;
   apart = nothing_apart;
-  small = λ q e. absurd (true_false false e refl);
+  small = λ q e. absurd (true≢false (sym e));
   others = λ k few none. refl;
 }
 
@@ -64,7 +61,7 @@ issued_other layout es e other h = record {
 }
 
 either : (a b : Bool) → (a || b) ≡ true → a ≡ false → b ≡ true
-either true b e f = absurd (true_false true refl f)
+either true b e f = absurd (true≢false f)
 either false b e f = e
 
 neither : (a b : Bool) → a ≡ false → b ≡ false → (a || b) ≡ false
@@ -75,7 +72,7 @@ left_false true b e = e
 left_false false b e = refl
 
 right_false : (a b : Bool) → (a || b) ≡ false → b ≡ false
-right_false true b e = absurd (true_false true refl e)
+right_false true b e = absurd (true≢false e)
 right_false false b e = e
 
 all_apart : (k : ℕ) (ks : List ℕ) → list_any (eqb k) ks ≡ false → AllByRecursion (λ y. eqb k y ≡ false) ks

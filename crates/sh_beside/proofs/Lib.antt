@@ -4,6 +4,8 @@ pub mod Names
 pub mod Issued
 pub mod Fewness
 pub mod Shapes
+pub mod Turns
+pub mod OnKeys
 pub mod Steps
 pub mod Inserting
 pub mod Getting

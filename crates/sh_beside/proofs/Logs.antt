@@ -35,8 +35,8 @@ Gains false old new = (new ≡ old) ⊎ ((key : ℕ) × (value : List ℕ) × (n
 abbrev More : PassPart → PassPart → Bool → Type 0
 More v w b = Gains b v.log w.log
 
-same_log : (v w : PassPart) → Becomes v w → More v w false
-same_log v w e = inl (ap (λ (p : PassPart). p.log) e)
+log_stays : (v w : PassPart) → Becomes v w → More v w false
+log_stays v w e = inl (ap (λ (p : PassPart). p.log) e)
 
 same_part : (v w : PassPart) → w ≡ v → More v w false
 same_part v w e = inl (ap (λ (p : PassPart). p.log) e)
@@ -45,54 +45,54 @@ entry_more : (v w : PassPart) (e : LogEntry) → Becomes (with_entry v e) w → 
 entry_more v w e is = (e, ap (λ (p : PassPart). p.log) is)
 
 -- a refusal that comes first adds nothing, where such an answer adds no entry
-unless : {A : Type 0} (first : Option Refusal) (v : PassPart) (r : Result A Refusal) (w : PassPart)
+unless_gains : {A : Type 0} (first : Option Refusal) (v : PassPart) (r : Result A Refusal) (w : PassPart)
     (Unchanged Rest : Type 0) (adds : Result A Refusal → Bool) → (Unchanged → More v w false)
     → ((e : Refusal) → first ≡ Some e → adds (Err e) ≡ false) → (Rest → More v w (adds r))
     → UnlessRefused first r Unchanged Rest → More v w (adds r)
-unless None v r w Unchanged Rest adds same none rest h = rest h
-unless (Some e) v r w Unchanged Rest adds same none rest h = subst (More v w) (sym (ap adds h.0 ∙ none e refl))
+unless_gains None v r w Unchanged Rest adds same none rest h = rest h
+unless_gains (Some e) v r w Unchanged Rest adds same none rest h = subst (More v w) (sym (ap adds h.0 ∙ none e refl))
     (same h.1)
 
-adopts : (v w : PassPart) (shard : ℕ) (r : Result (Unit {0}) Refusal) → PartAdopted v shard r w → More v w false
-adopts v w shard (Ok x) e = inl (ap (λ (p : PassPart). p.log) e)
-adopts v w shard (Err refusal.Taken) e = same_log v w e
-adopts v w shard (Err refusal.Memory) e = same_log v w e
-adopts v w shard (Err _) e = absurd e
+adopt_gains : (v w : PassPart) (shard : ℕ) (r : Result (Unit {0}) Refusal) → PartAdopted v shard r w → More v w false
+adopt_gains v w shard (Ok x) e = inl (ap (λ (p : PassPart). p.log) e)
+adopt_gains v w shard (Err refusal.Taken) e = log_stays v w e
+adopt_gains v w shard (Err refusal.Memory) e = log_stays v w e
+adopt_gains v w shard (Err _) e = absurd e
 
-leaves : (v w : PassPart) (r : Result (Unit {0}) Refusal) → PartLeft v r w → More v w false
-leaves v w (Ok x) e = inl (ap (λ (p : PassPart). p.log) e)
-leaves v w (Err refusal.Waiting) e = same_log v w e
-leaves v w (Err _) e = absurd e
+leave_gains : (v w : PassPart) (r : Result (Unit {0}) Refusal) → PartLeft v r w → More v w false
+leave_gains v w (Ok x) e = inl (ap (λ (p : PassPart). p.log) e)
+leave_gains v w (Err refusal.Waiting) e = log_stays v w e
+leave_gains v w (Err _) e = absurd e
 
 module _ (terms : RunTerms) (tag : Option ℕ) (pass : ℕ) (v w : PassPart) where
-  inserts : (words : List ℕ) (r : Result ℕ Refusal) → ValueInserted terms pass v words r w
+  insert_gains : (words : List ℕ) (r : Result ℕ Refusal) → ValueInserted terms pass v words r w
       → More v w (is_key (key_answer tag r))
-  inserts words (Ok key) h = entry_more v w _ h.1
-  inserts words (Err refusal.Full) e = same_log v w e
-  inserts words (Err refusal.Memory) e = same_log v w e
-  inserts words (Err _) e = absurd e
+  insert_gains words (Ok key) h = entry_more v w _ h.1
+  insert_gains words (Err refusal.Full) e = log_stays v w e
+  insert_gains words (Err refusal.Memory) e = log_stays v w e
+  insert_gains words (Err _) e = absurd e
 
-  gets : (key : ℕ) (r : Result Hold Refusal) → HoldGot pass v key r w
+  get_gains : (key : ℕ) (r : Result Hold Refusal) → HoldGot pass v key r w
       → More v w (is_done_gone_or_crowded (done_answer r))
-  gets key (Ok hold) h = entry_more v w h.1.0 h.1.2
-  gets key (Err refusal.Gone) e = entry_more v w _ e
-  gets key (Err refusal.Crowded) e = entry_more v w _ e
-  gets key (Err _) e = absurd e
+  get_gains key (Ok hold) h = entry_more v w h.1.0 h.1.2
+  get_gains key (Err refusal.Gone) e = entry_more v w _ e
+  get_gains key (Err refusal.Crowded) e = entry_more v w _ e
+  get_gains key (Err _) e = absurd e
 
-  reads : (key : ℕ) (r : Result (List ℕ) Refusal) → ValueRead v key r w → More v w false
-  reads key (Ok value) h = inr (key, value, ap (λ (p : PassPart). p.log) h.0)
-  reads key (Err _) e = absurd e
+  read_gains : (key : ℕ) (r : Result (List ℕ) Refusal) → ValueRead v key r w → More v w false
+  read_gains key (Ok value) h = inr (key, value, ap (λ (p : PassPart). p.log) h.0)
+  read_gains key (Err _) e = absurd e
 
-  releases : (key : ℕ) (r : Result (Unit {0}) Refusal) → HoldReleased pass v key r w
+  release_gains : (key : ℕ) (r : Result (Unit {0}) Refusal) → HoldReleased pass v key r w
       → More v w (is_done (done_answer r))
-  releases key (Ok x) e = entry_more v w _ e
-  releases key (Err _) e = absurd e
+  release_gains key (Ok x) e = entry_more v w _ e
+  release_gains key (Err _) e = absurd e
 
-  removes : (key : ℕ) (r : Result (Unit {0}) Refusal) → KeyRemoved pass v key r w
+  remove_gains : (key : ℕ) (r : Result (Unit {0}) Refusal) → KeyRemoved pass v key r w
       → More v w (is_done_or_gone (done_answer r))
-  removes key (Ok x) e = entry_more v w _ e
-  removes key (Err refusal.Gone) e = entry_more v w _ e
-  removes key (Err _) e = absurd e
+  remove_gains key (Ok x) e = entry_more v w _ e
+  remove_gains key (Err refusal.Gone) e = entry_more v w _ e
+  remove_gains key (Err _) e = absurd e
 
 -- which refusals come first
 same_refusal : (x e : Refusal) → Some x ≡ Some e → x ≡ e
@@ -125,39 +125,40 @@ no_key f unbound bad tag (Some n) (reference.Name i) b e = number (key_shown tag
   number None e = let z : answer.Refused refusal.BadKey ≡ b = cc in subst (λ x. f x ≡ false) z bad
   number (Some k) e = absurd (let z : Ok k ≡ Err b = e in cc)
 
-on_key : (k : Result ℕ Answer) (v w : PassPart) (a : Answer) (C : ℕ → Answer → PassPart → Type 0) (f : Answer → Bool)
+key_gains : (k : Result ℕ Answer) (v w : PassPart) (a : Answer) (C : ℕ → Answer → PassPart → Type 0) (f : Answer → Bool)
     → ((b : Answer) → k ≡ Err b → f b ≡ false) → ((key : ℕ) → C key a w → More v w (f a)) → OnKey k v C a w
     → More v w (f a)
-on_key (Err b) v w a C f none some h = subst (More v w) (sym (ap f h.0 ∙ none b refl)) (same_part v w h.1)
-on_key (Ok key) v w a C f none some h = some key h
+key_gains (Err b) v w a C f none some h = subst (More v w) (sym (ap f h.0 ∙ none b refl)) (same_part v w h.1)
+key_gains (Ok key) v w a C f none some h = some key h
 
 -- as many entries as the answer says
 pub gains : (terms : RunTerms) (tag : Option ℕ) (pass : ℕ) (v : PassPart) (c : Call) (bound : Option ℕ) (a : Answer)
     (w : PassPart) → CallAnswers terms tag pass v c bound a w → Gains (adds_entry c a) v.log w.log
-gains terms tag pass v (call.Adopt shard) bound a w h = unless (adopt_refusal terms v.shard shard) v h.result w _ _
-    (λ _. false) (same_log v w) (λ e f. refl) (adopts v w shard h.result) h.does.0
-gains terms tag pass v call.Leave bound a w h = unless (needs_shard v.shard) v h.result w _ _ (λ _. false)
-    (same_log v w) (λ e f. refl) (leaves v w h.result) h.does.0
+gains terms tag pass v (call.Adopt shard) bound a w h =
+    unless_gains (adopt_refusal terms v.shard shard) v h.result w _ _ (λ _. false) (log_stays v w) (λ e f. refl)
+    (adopt_gains v w shard h.result) h.does.0
+gains terms tag pass v call.Leave bound a w h = unless_gains (needs_shard v.shard) v h.result w _ _ (λ _. false)
+    (log_stays v w) (λ e f. refl) (leave_gains v w h.result) h.does.0
 gains terms tag pass v (call.Insert words) bound a w h = subst (λ x. More v w (is_key x)) (sym h.is)
-    (unless (words_refusal words) v h.result w _ _ (λ r. is_key (key_answer tag r)) (same_part v w) (λ e f. refl)
-    (λ k. unless (needs_shard v.shard) v h.result w _ _ (λ r. is_key (key_answer tag r)) (same_log v w) (λ e f. refl)
-    (inserts terms tag pass v w words h.result) k.0) h.does)
-gains terms tag pass v (call.Get r) bound a w h = on_key (key_meant tag bound r) v w a _ is_done_gone_or_crowded
+    (unless_gains (words_refusal words) v h.result w _ _ (λ r. is_key (key_answer tag r)) (same_part v w) (λ e f. refl)
+    (λ k. unless_gains (needs_shard v.shard) v h.result w _ _ (λ r. is_key (key_answer tag r)) (log_stays v w)
+    (λ e f. refl) (insert_gains terms tag pass v w words h.result) k.0) h.does)
+gains terms tag pass v (call.Get r) bound a w h = key_gains (key_meant tag bound r) v w a _ is_done_gone_or_crowded
     (no_key is_done_gone_or_crowded refl refl tag bound r)
     (λ key k. subst (λ x. More v w (is_done_gone_or_crowded x)) (sym k.is)
-    (unless (get_refusal terms pass v key) v k.result w _ _ (λ r. is_done_gone_or_crowded (done_answer r))
-    (same_log v w) (get_first _ _) (gets terms tag pass v w key k.result) k.does.0)) h
-gains terms tag pass v (call.Read r) bound a w h = on_key (key_meant tag bound r) v w a _ (λ _. false)
-    (λ b e. refl) (λ key k. unless (hold_refusal pass v key) v k.result w _ _ (λ _. false) (same_log v w) (λ e f. refl)
-    (reads terms tag pass v w key k.result) k.does.0) h
-gains terms tag pass v (call.Remove r) bound a w h = on_key (key_meant tag bound r) v w a _ is_done_or_gone
+    (unless_gains (get_refusal terms pass v key) v k.result w _ _ (λ r. is_done_gone_or_crowded (done_answer r))
+    (log_stays v w) (get_first _ _) (get_gains terms tag pass v w key k.result) k.does.0)) h
+gains terms tag pass v (call.Read r) bound a w h = key_gains (key_meant tag bound r) v w a _ (λ _. false)
+    (λ b e. refl) (λ key k. unless_gains (hold_refusal pass v key) v k.result w _ _ (λ _. false) (log_stays v w)
+    (λ e f. refl) (read_gains terms tag pass v w key k.result) k.does.0) h
+gains terms tag pass v (call.Remove r) bound a w h = key_gains (key_meant tag bound r) v w a _ is_done_or_gone
     (no_key is_done_or_gone refl refl tag bound r) (λ key k. subst (λ x. More v w (is_done_or_gone x)) (sym k.is)
-    (unless (remove_refusal terms key) v k.result w _ _ (λ r. is_done_or_gone (done_answer r)) (same_log v w)
-    (remove_first _) (removes terms tag pass v w key k.result) k.does.0)) h
-gains terms tag pass v (call.Release r) bound a w h = on_key (key_meant tag bound r) v w a _ is_done
+    (unless_gains (remove_refusal terms key) v k.result w _ _ (λ r. is_done_or_gone (done_answer r)) (log_stays v w)
+    (remove_first _) (remove_gains terms tag pass v w key k.result) k.does.0)) h
+gains terms tag pass v (call.Release r) bound a w h = key_gains (key_meant tag bound r) v w a _ is_done
     (no_key is_done refl refl tag bound r) (λ key k. subst (λ x. More v w (is_done x)) (sym k.is)
-    (unless (hold_refusal pass v key) v k.result w _ _ (λ r. is_done (done_answer r)) (same_log v w) (λ e f. refl)
-    (releases terms tag pass v w key k.result) k.does.0)) h
+    (unless_gains (hold_refusal pass v key) v k.result w _ _ (λ r. is_done (done_answer r)) (log_stays v w)
+    (λ e f. refl) (release_gains terms tag pass v w key k.result) k.does.0)) h
 gains terms tag pass v call.Post bound a w h = same_part v w h.1
 gains terms tag pass v (call.Wait name) bound a w h = same_part v w h.1
 

@@ -1,6 +1,6 @@
 -- A read beside mode plain.
 use Rattle.std.proofs.Common.{◌≡◌, ℕ, ◌<◌, inl, Bool, true, false, cond, List, [], ◌∷◌}
-use Rattle.std.proofs.Common.{map, refl, ap, sym, ◌∙◌, subst, arith, Option, Some, None, Result, Ok, Err, ◌==◌}
+use Rattle.std.proofs.Common.{map, refl, ap, sym, ◌∙◌, subst, arith, Some, None, Result, Ok, Err, ◌==◌}
 use Rattle.std.specs.Prelude.{nat_lt, filter, count_by}
 use Rattle.std.specs.List.{AllZip}
 use Rattle.std.proofs.lemmas.Bool.Decides.{nat_tests}
@@ -13,22 +13,19 @@ use Rattle.sh_history.specs.declared.log.LogEntry.TheVariants.{Known, Unread}
 use Rattle.sh_history.specs.History.{Legal, value_of, holds_by, is_got_by, got_count_by}
 use Rattle.sh_history.specs.Log.{Agrees, pass_of, entries_of, logged_holds_by, HasValue, AllHaveValue}
 use Rattle.sh_history.proofs.LogLaws.{count_by-cons, gets_have_value, issued_when_got, both}
-use Rattle.sh_script.specs.BoundNames.{name_referred}
 use Rattle.sh_script.specs.declared.calls.Reference.{Reference}
 use Rattle.sh_script.specs.declared.calls.Call.TheVariants as call
 use Rattle.sh_output.specs.declared.answer.Answer.{Answer}
 use Rattle.sh_output.specs.declared.answer.Answer.TheVariants as answer
 use Rattle.sh_output.specs.Results.{value_answer}
-use Rattle.sh_models.specs.PlainRun.{Run, Reads}
-use Rattle.sh_calls.specs.Parts.{RunTerms, PassPart, Becomes}
-use Rattle.sh_calls.specs.Calls.{CallAnswers, AnswerSays, ReadAnswers, UnlessRefused}
-use Rattle.sh_calls.specs.Calls.{OnKey, ValueRead, key_meant}
-use Rattle.sh_calls.specs.Runs.{number_bound}
-use Rattle.sh_beside.proofs.Holds.{same_holds_by, own_count, got_own}
+use Rattle.sh_models.specs.PlainRun.{Reads}
+use Rattle.sh_calls.specs.Parts.{PassPart, Becomes}
+use Rattle.sh_calls.specs.Calls.{CallAnswers, AnswerSays, ReadAnswers, UnlessRefused, ValueRead}
+use Rattle.sh_beside.proofs.Holds.{own_count, got_own}
 use Rattle.sh_beside.proofs.Logs.{LogIs}
-use Rattle.sh_beside.proofs.Names.{key_by, same_meant}
-use Rattle.sh_beside.proofs.Issued.{issued_same}
-use Rattle.sh_beside.proofs.Steps.{state, Ready, Stepped, stays, shard_kept}
+use Rattle.sh_beside.proofs.Turns.{Turn, Ready, Stepped, plain_before, plain_after, stays, shard_kept, run_kept}
+use Rattle.sh_beside.proofs.Turns.{issued_kept}
+use Rattle.sh_beside.proofs.OnKeys.{key_here, number_here, heap_key, by_key, held_so}
 
 -- each get of the key in these entries has its value too
 kept_by_filter : (key : ℕ) (value : List ℕ) (p : Entry → Bool) (es : List Entry) → AllHaveValue key value (map Known es)
@@ -98,69 +95,47 @@ read_is passes guard_max pass key value log es legal is has some =
     (gets_have_value passes guard_max key given.0 [] es legal given.1)) own in
     given.1 ∙ ap (λ (x : List ℕ). Some x) (sym same)
 
-module _ (terms : RunTerms) (tag : Option ℕ) (pass : ℕ) (v w : PassPart) (before after : List Entry)
-    (owners : List Bool) (keys numbers : List (Option ℕ)) (r : Reference) (a : Answer)
-    (ready : Ready terms tag (call.Read r) a pass v w before after owners keys numbers) where
-  abbrev run : Run
-  run = state terms tag before pass owners keys
+module _ (t : Turn) (r : Reference) (a : Answer) (ready : Ready t (call.Read r) a) where
+  -- no read adds an entry
+  read_said : (k : Result ℕ Answer) → key_here t r ≡ k → t.w.shard ≡ t.v.shard
+      → Reads (plain_before t) k a (plain_after t) → Stepped t (call.Read r) a
+  read_said k e same h = stays t (call.Read r) a ready same ready.names (issued_kept t (call.Read r) a ready refl)
+      (inl (subst (λ (x : Result ℕ Answer). Reads (plain_before t) x a (plain_after t)) (sym e) h))
 
-  abbrev next : Run
-  next = state terms tag after pass owners keys
+  read_keyless : (b : Answer) → key_here t r ≡ Err b → heap_key t r ≡ Err b → a ≡ b → t.w ≡ t.v
+      → Stepped t (call.Read r) a
+  read_keyless b e f is same =
+      read_said (Err b) e (ap (λ (p : PassPart). p.shard) same) (is, run_kept t (call.Read r) a ready refl)
 
-  abbrev Done : Type 0
-  Done = Stepped terms tag (call.Read r) a pass w before after owners keys numbers
-
-  abbrev Says : Result ℕ Answer → Type 0
-  Says k = Reads run k a next
-
-  abbrev meant : Result ℕ Answer
-  meant = key_by tag keys r
-
-  says : w.shard ≡ v.shard → Says meant → Done
-  says same h = stays terms tag pass v w before after owners keys numbers (call.Read r) a ready same ready.names
-      (issued_same terms.layout before after ready.grown ready.issued) (inl h)
-
-  same_next : next ≡ run
-  same_next = ap (λ (es : List Entry). state terms tag es pass owners keys) ready.grown
-
-  module _ (key : ℕ) (e : meant ≡ Ok key) where
-    nothing_read : nat_lt 0 (logged_holds_by v.log pass key) ≡ false → a ≡ answer.Refused refusal.NotHeld → Becomes v w
-        → Done
+  module _ (key : ℕ) (e : key_here t r ≡ Ok key) where
+    nothing_read : nat_lt 0 (logged_holds_by t.v.log t.pass key) ≡ false → a ≡ answer.Refused refusal.NotHeld
+        → Becomes t.v t.w → Stepped t (call.Read r) a
     nothing_read f is same =
-        let none : nat_lt 0 (holds_by before pass key) ≡ false =
-        ap (nat_lt 0) (sym (same_holds_by pass v.log before ready.log key)) ∙ f in
-        says (shard_kept v w same) (subst Says (sym e) (rw none (is, same_next)))
+        let none = held_so t (call.Read r) a ready key false f in
+        read_said (Ok key) e (shard_kept t.v t.w same) (rw none (is, run_kept t (call.Read r) a ready refl))
 
-    was_read : nat_lt 0 (logged_holds_by v.log pass key) ≡ true → (x : Result (List ℕ) Refusal) → a ≡ value_answer x
-        → ValueRead v key x w → Done
+    was_read : nat_lt 0 (logged_holds_by t.v.log t.pass key) ≡ true → (x : Result (List ℕ) Refusal)
+        → a ≡ value_answer x → ValueRead t.v key x t.w → Stepped t (call.Read r) a
     was_read f (Ok value) is h =
-        let some : nat_lt 0 (holds_by before pass key) ≡ true =
-        ap (nat_lt 0) (sym (same_holds_by pass v.log before ready.log key)) ∙ f in
-        let here : value_of before key ≡ Some value =
-        read_is terms.shape.passes terms.layout.guard_max pass key value w.log before
-        (subst (Legal terms.shape.passes terms.layout.guard_max) ready.grown ready.legal)
-        (subst (LogIs pass w.log) ready.grown ready.log_after) h.1 some in
-        says (ap (λ (p : PassPart). p.shard) h.0) (subst Says (sym e) (rw (some, here) (is, same_next)))
+        let some = held_so t (call.Read r) a ready key true f in
+        let passes = t.terms.shape.passes in
+        let most = t.terms.layout.guard_max in
+        let here : value_of t.before key ≡ Some value = read_is passes most t.pass key value t.w.log t.before
+        (subst (Legal passes most) ready.grown ready.legal) (subst (LogIs t.pass t.w.log) ready.grown ready.log_after)
+        h.1 some in
+        read_said (Ok key) e (ap (λ (p : PassPart). p.shard) h.0)
+        (rw (some, here) (is, run_kept t (call.Read r) a ready refl))
     was_read f (Err _) is h = absurd h
 
-    on_key : AnswerSays value_answer (ReadAnswers terms pass v key) a w → Done
-    on_key h = go (nat_lt 0 (logged_holds_by v.log pass key)) refl h.does.0
+    read_on_key : AnswerSays value_answer (ReadAnswers t.terms t.pass t.v key) a t.w → Stepped t (call.Read r) a
+    read_on_key h = go (nat_lt 0 (logged_holds_by t.v.log t.pass key)) refl h.does.0
       where
-        go : (b : Bool) → nat_lt 0 (logged_holds_by v.log pass key) ≡ b
-            → UnlessRefused (cond b None (Some refusal.NotHeld)) h.result (Becomes v w)
-            (ValueRead v key h.result w) → Done
+        go : (b : Bool) → nat_lt 0 (logged_holds_by t.v.log t.pass key) ≡ b
+            → UnlessRefused (cond b None (Some refusal.NotHeld)) h.result (Becomes t.v t.w)
+            (ValueRead t.v key h.result t.w) → Stepped t (call.Read r) a
         go true f d = was_read f h.result h.is d
         go false f d = nothing_read f (h.is ∙ ap value_answer d.0) d.1
 
-  pub read_step : CallAnswers terms tag pass v (call.Read r) (number_bound numbers (name_referred r)) a w → Done
-  read_step h = go meant refl (sym (same_meant tag keys numbers r ready.names))
-    where
-      go : (k : Result ℕ Answer) → meant ≡ k
-          → key_meant tag (number_bound numbers (name_referred r)) r ≡ meant → Done
-      go (Err b) e f =
-          let d = subst (λ (z : Result ℕ Answer). OnKey z v (λ key. AnswerSays value_answer
-          (ReadAnswers terms pass v key)) a w) (f ∙ e) h in
-          says (ap (λ (p : PassPart). p.shard) d.1) (subst Says (sym e) (d.0, same_next))
-      go (Ok key) e f =
-          let d = subst (λ (z : Result ℕ Answer). OnKey z v (λ key. AnswerSays value_answer
-          (ReadAnswers terms pass v key)) a w) (f ∙ e) h in on_key key e d
+  pub read_step : CallAnswers t.terms t.tag t.pass t.v (call.Read r) (number_here t r) a t.w → Stepped t (call.Read r) a
+  read_step h = by_key t r a (λ key. AnswerSays value_answer (ReadAnswers t.terms t.pass t.v key))
+      (Stepped t (call.Read r) a) ready.names read_keyless read_on_key h

@@ -1,8 +1,9 @@
 -- A history under other numbers of its keys says the same of them.
-use Rattle.std.proofs.Common.{◌≡◌, ℕ, suc, ◌+◌, ◌-◌, ◌==◌, ◌&&◌, ◌||◌, Bool, true, false, cond, List, []}
+use Rattle.std.proofs.Common.{◌≡◌, ℕ, suc, ◌-◌, ◌==◌, ◌&&◌, ◌||◌, Bool, true, false, cond, List, []}
 use Rattle.std.proofs.Common.{◌∷◌, ◌++◌, map, refl, ap, sym, ◌∙◌, arith, Some, None, eq-eqb}
 use Rattle.std.proofs.Common.{ne_eqb, eqb-true}
 use Rattle.std.specs.Prelude.{count_by}
+use Rattle.std.proofs.lemmas.Bool.{eqb-false}
 use Rattle.sh_history.specs.declared.entry.Entry.{Entry}
 use Rattle.sh_history.specs.declared.entry.Entry.TheVariants.{Insert, Got, Gone, Crowded, Removed, Released}
 use Rattle.sh_history.specs.History.{value_of, is_removed, present_value, is_got_of, is_release_of, is_got_by}
@@ -88,10 +89,7 @@ module _ (f : ℕ → ℕ) (one : (i j : ℕ) → f i ≡ f j → i ≡ j) where
     where
       go : (b : Bool) → (k == j) ≡ b → (f k == f j) ≡ b
       go true e = eq-eqb (f k) (f j) (ap f (eqb-true k j e))
-      go false e = ne_eqb (f k) (f j) (λ same. differ (k == j) (eq-eqb k j (one k j same)) e)
-        where
-          differ : (b : Bool) → b ≡ true → b ≡ false → ⊥
-          differ b p q = cc
+      go false e = ne_eqb (f k) (f j) (λ same. eqb-false k j e (one k j same))
 
   abbrev all : List Entry → List Entry
   all es = map (renumbered f) es

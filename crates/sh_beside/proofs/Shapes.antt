@@ -19,7 +19,7 @@ use Rattle.sh_calls.specs.Standing.{InsertServed}
 use Rattle.sh_calls.specs.Parts.{RunTerms, PassPart, is_placed_key}
 use Rattle.sh_calls.specs.Receipts.{MayHeed}
 use Rattle.sh_calls.specs.Calls.{CallAnswers, OnKey, UnlessRefused, key_meant, words_refusal}
-use Rattle.sh_calls.proofs.RunningLaws.{placed}
+use Rattle.sh_calls.proofs.PlacedKeys.{placed}
 
 abbrev pub KnowsShape : Numbers → Standing → Type 0
 KnowsShape n (Alone c) = c.view.shape ≡ n
@@ -62,28 +62,28 @@ release_same layout key v w (Err _) h = absurd h
 -- ---- what stands of a pass
 
 module _ (n : Numbers) where
-  still : (s t : Standing) → t ≡ s → KnowsShape n s → KnowsShape n t
-  still s t e k = subst (KnowsShape n) (sym e) k
+  knows_still : (s t : Standing) → t ≡ s → KnowsShape n s → KnowsShape n t
+  knows_still s t e k = subst (KnowsShape n) (sym e) k
 
-  serves : (layout : Layout) (Does : Caller → Caller → Type 0) (s t : Standing)
+  serve_keeps : (layout : Layout) (Does : Caller → Caller → Type 0) (s t : Standing)
       → ((v w : Caller) → Does v w → w.view.shape ≡ v.view.shape) → Serves layout Does s t → KnowsShape n s
       → KnowsShape n t
-  serves layout Does (Alone v) (Alone w) same h k = same v w h ∙ k
-  serves layout Does (Owning o) (Owning m) same h k = h.1.same.shape ∙ k
-  serves layout Does (Alone v) (Owning m) same h k = absurd h
-  serves layout Does (Alone v) Nowhere same h k = absurd h
-  serves layout Does (Owning o) (Alone w) same h k = absurd h
-  serves layout Does (Owning o) Nowhere same h k = absurd h
-  serves layout Does Nowhere t same h k = absurd h
+  serve_keeps layout Does (Alone v) (Alone w) same h k = same v w h ∙ k
+  serve_keeps layout Does (Owning o) (Owning m) same h k = h.1.same.shape ∙ k
+  serve_keeps layout Does (Alone v) (Owning m) same h k = absurd h
+  serve_keeps layout Does (Alone v) Nowhere same h k = absurd h
+  serve_keeps layout Does (Owning o) (Alone w) same h k = absurd h
+  serve_keeps layout Does (Owning o) Nowhere same h k = absurd h
+  serve_keeps layout Does Nowhere t same h k = absurd h
 
-  heeds : (r : Caller) (s t : Standing) → StandingHeeds r s t → KnowsShape n s → KnowsShape n t
-  heeds r (Alone v) (Alone w) h k = ap (λ (c : Caller). c.view.shape) h ∙ k
-  heeds r (Owning o) (Owning m) h k = ap (λ (c : Sharded). c.pages.owner.view.shape) h ∙ k
-  heeds r (Alone v) (Owning m) h k = absurd h
-  heeds r (Alone v) Nowhere h k = absurd h
-  heeds r (Owning o) (Alone w) h k = absurd h
-  heeds r (Owning o) Nowhere h k = absurd h
-  heeds r Nowhere t h k = absurd h
+  heed_keeps : (r : Caller) (s t : Standing) → StandingHeeds r s t → KnowsShape n s → KnowsShape n t
+  heed_keeps r (Alone v) (Alone w) h k = ap (λ (c : Caller). c.view.shape) h ∙ k
+  heed_keeps r (Owning o) (Owning m) h k = ap (λ (c : Sharded). c.pages.owner.view.shape) h ∙ k
+  heed_keeps r (Alone v) (Owning m) h k = absurd h
+  heed_keeps r (Alone v) Nowhere h k = absurd h
+  heed_keeps r (Owning o) (Alone w) h k = absurd h
+  heed_keeps r (Owning o) Nowhere h k = absurd h
+  heed_keeps r Nowhere t h k = absurd h
 
   refused_same : (shard : ℕ) (v w : Caller) (e : Refusal) → AdoptRefused shard v w e → w.view.shape ≡ v.view.shape
   refused_same shard v w refusal.NoShard h = unmoved v w h.1
@@ -91,29 +91,29 @@ module _ (n : Numbers) where
   refused_same shard v w refusal.Memory h = h.1.same.shape
   refused_same shard v w _ h = absurd h
 
-  adopts : (o : Option ℕ) (shard : ℕ) (s : Standing) (r : Result (Unit {0}) Refusal) (t : Standing)
+  adopt_keeps : (o : Option ℕ) (shard : ℕ) (s : Standing) (r : Result (Unit {0}) Refusal) (t : Standing)
       → AdoptServed o shard s r t → KnowsShape n s → KnowsShape n t
-  adopts (Some own) shard s r t h k = still s t h k
-  adopts None shard (Alone v) (Ok x) (Owning m) h k = h.1.same.shape ∙ k
-  adopts None shard (Alone v) (Err e) (Alone w) h k = refused_same shard v w e h ∙ k
-  adopts None shard (Alone v) (Ok x) (Alone w) h k = absurd h
-  adopts None shard (Alone v) (Ok x) Nowhere h k = absurd h
-  adopts None shard (Alone v) (Err e) (Owning m) h k = absurd h
-  adopts None shard (Alone v) (Err e) Nowhere h k = absurd h
-  adopts None shard (Owning o) r t h k = absurd h
-  adopts None shard Nowhere r t h k = absurd h
+  adopt_keeps (Some own) shard s r t h k = knows_still s t h k
+  adopt_keeps None shard (Alone v) (Ok x) (Owning m) h k = h.1.same.shape ∙ k
+  adopt_keeps None shard (Alone v) (Err e) (Alone w) h k = refused_same shard v w e h ∙ k
+  adopt_keeps None shard (Alone v) (Ok x) (Alone w) h k = absurd h
+  adopt_keeps None shard (Alone v) (Ok x) Nowhere h k = absurd h
+  adopt_keeps None shard (Alone v) (Err e) (Owning m) h k = absurd h
+  adopt_keeps None shard (Alone v) (Err e) Nowhere h k = absurd h
+  adopt_keeps None shard (Owning o) r t h k = absurd h
+  adopt_keeps None shard Nowhere r t h k = absurd h
 
-  leaves : (o : Option ℕ) (s : Standing) (r : Result (Unit {0}) Refusal) (t : Standing) → LeaveServed o s r t
+  leave_keeps : (o : Option ℕ) (s : Standing) (r : Result (Unit {0}) Refusal) (t : Standing) → LeaveServed o s r t
       → KnowsShape n s → KnowsShape n t
-  leaves None s r t h k = still s t h k
-  leaves (Some own) (Owning o) (Ok x) (Alone w) h k = h.same.shape ∙ k
-  leaves (Some own) (Owning o) (Err e) (Owning m) h k = h.1.collects.through.aside.same.shape ∙ k
-  leaves (Some own) (Owning o) (Ok x) (Owning m) h k = absurd h
-  leaves (Some own) (Owning o) (Ok x) Nowhere h k = absurd h
-  leaves (Some own) (Owning o) (Err e) (Alone w) h k = absurd h
-  leaves (Some own) (Owning o) (Err e) Nowhere h k = absurd h
-  leaves (Some own) (Alone v) r t h k = absurd h
-  leaves (Some own) Nowhere r t h k = absurd h
+  leave_keeps None s r t h k = knows_still s t h k
+  leave_keeps (Some own) (Owning o) (Ok x) (Alone w) h k = h.same.shape ∙ k
+  leave_keeps (Some own) (Owning o) (Err e) (Owning m) h k = h.1.collects.through.aside.same.shape ∙ k
+  leave_keeps (Some own) (Owning o) (Ok x) (Owning m) h k = absurd h
+  leave_keeps (Some own) (Owning o) (Ok x) Nowhere h k = absurd h
+  leave_keeps (Some own) (Owning o) (Err e) (Alone w) h k = absurd h
+  leave_keeps (Some own) (Owning o) (Err e) Nowhere h k = absurd h
+  leave_keeps (Some own) (Alone v) r t h k = absurd h
+  leave_keeps (Some own) Nowhere r t h k = absurd h
 
   insert_same : (layout : Layout) (c : ℕ) (words : List ℕ) (o m : Sharded) (r : Result ℕ Refusal)
       → InsertServes layout c words o r m → m.pages.owner.view.shape ≡ o.pages.owner.view.shape
@@ -122,15 +122,15 @@ module _ (n : Numbers) where
   insert_same layout c words o m (Err refusal.Memory) h = h.0.aside.same.shape
   insert_same layout c words o m (Err _) h = absurd h
 
-  inserts : (layout : Layout) (o : Option ℕ) (words : List ℕ) (s : Standing) (r : Result ℕ Refusal) (t : Standing)
+  insert_keeps : (layout : Layout) (o : Option ℕ) (words : List ℕ) (s : Standing) (r : Result ℕ Refusal) (t : Standing)
       → InsertServed layout o words s r t → KnowsShape n s → KnowsShape n t
-  inserts layout None words s r t h k = still s t h k
-  inserts layout (Some own) words (Owning o) r (Owning m) h k =
+  insert_keeps layout None words s r t h k = knows_still s t h k
+  insert_keeps layout (Some own) words (Owning o) r (Owning m) h k =
       insert_same layout (value_class words) words o m r h ∙ k
-  inserts layout (Some own) words (Owning o) r (Alone w) h k = absurd h
-  inserts layout (Some own) words (Owning o) r Nowhere h k = absurd h
-  inserts layout (Some own) words (Alone v) r t h k = absurd h
-  inserts layout (Some own) words Nowhere r t h k = absurd h
+  insert_keeps layout (Some own) words (Owning o) r (Alone w) h k = absurd h
+  insert_keeps layout (Some own) words (Owning o) r Nowhere h k = absurd h
+  insert_keeps layout (Some own) words (Alone v) r t h k = absurd h
+  insert_keeps layout (Some own) words Nowhere r t h k = absurd h
 
   -- the key that was given has a place
   pub placed_key : (layout : Layout) (own : ℕ) (words : List ℕ) (s : Standing) (key : ℕ) (t : Standing)
@@ -147,40 +147,42 @@ module _ (n : Numbers) where
   -- ---- a line
 
   pub heeding : (v w : PassPart) → MayHeed v w → KnowsShape n v.stands → KnowsShape n w.stands
-  heeding v w (inl e) k = still v.stands w.stands (ap (λ (p : PassPart). p.stands) e) k
-  heeding v w (inr h) k = heeds h.0 v.stands w.stands h.1.stands k
+  heeding v w (inl e) k = knows_still v.stands w.stands (ap (λ (p : PassPart). p.stands) e) k
+  heeding v w (inr h) k = heed_keeps h.0 v.stands w.stands h.1.stands k
 
-  on_key : (m : Result ℕ Answer) (v w : PassPart) (a : Answer) (C : ℕ → Answer → PassPart → Type 0)
+  key_keeps : (m : Result ℕ Answer) (v w : PassPart) (a : Answer) (C : ℕ → Answer → PassPart → Type 0)
       → ((key : ℕ) → C key a w → KnowsShape n v.stands → KnowsShape n w.stands) → OnKey m v C a w
       → KnowsShape n v.stands → KnowsShape n w.stands
-  on_key (Err b) v w a C some h k = still v.stands w.stands (ap (λ (p : PassPart). p.stands) h.1) k
-  on_key (Ok key) v w a C some h k = some key h k
+  key_keeps (Err b) v w a C some h k = knows_still v.stands w.stands (ap (λ (p : PassPart). p.stands) h.1) k
+  key_keeps (Ok key) v w a C some h k = some key h k
 
-  unless : {A : Type 0} (first : Option Refusal) (r : Result A Refusal) (v w : PassPart) (Rest : Type 0)
+  unless_keeps : {A : Type 0} (first : Option Refusal) (r : Result A Refusal) (v w : PassPart) (Rest : Type 0)
       → (Rest → KnowsShape n v.stands → KnowsShape n w.stands) → UnlessRefused first r (w ≡ v) Rest
       → KnowsShape n v.stands → KnowsShape n w.stands
-  unless None r v w Rest rest h k = rest h k
-  unless (Some e) r v w Rest rest h k = still v.stands w.stands (ap (λ (p : PassPart). p.stands) h.1) k
+  unless_keeps None r v w Rest rest h k = rest h k
+  unless_keeps (Some e) r v w Rest rest h k = knows_still v.stands w.stands (ap (λ (p : PassPart). p.stands) h.1) k
 
   pub keeps_shape : (terms : RunTerms) (tag : Option ℕ) (pass : ℕ) (v : PassPart) (c : Call) (bound : Option ℕ)
       (a : Answer) (w : PassPart) → CallAnswers terms tag pass v c bound a w → KnowsShape n v.stands
       → KnowsShape n w.stands
-  keeps_shape terms tag pass v (call.Adopt shard) bound a w h = adopts v.shard shard v.stands h.result w.stands h.does.1
-  keeps_shape terms tag pass v call.Leave bound a w h = leaves v.shard v.stands h.result w.stands h.does.1
-  keeps_shape terms tag pass v (call.Insert words) bound a w h = unless (words_refusal words) h.result v w _
-      (λ i. inserts terms.layout v.shard words v.stands h.result w.stands i.1) h.does
-  keeps_shape terms tag pass v (call.Get r) bound a w h = on_key (key_meant tag bound r) v w a _
-      (λ key g. serves terms.layout (λ x y. GetDoes terms.layout key x g.result y) v.stands w.stands
+  keeps_shape terms tag pass v (call.Adopt shard) bound a w h =
+      adopt_keeps v.shard shard v.stands h.result w.stands h.does.1
+  keeps_shape terms tag pass v call.Leave bound a w h = leave_keeps v.shard v.stands h.result w.stands h.does.1
+  keeps_shape terms tag pass v (call.Insert words) bound a w h = unless_keeps (words_refusal words) h.result v w _
+      (λ i. insert_keeps terms.layout v.shard words v.stands h.result w.stands i.1) h.does
+  keeps_shape terms tag pass v (call.Get r) bound a w h = key_keeps (key_meant tag bound r) v w a _
+      (λ key g. serve_keeps terms.layout (λ x y. GetDoes terms.layout key x g.result y) v.stands w.stands
       (λ x y d. get_same terms.layout key x y g.result d) g.does.1) h
-  keeps_shape terms tag pass v (call.Read r) bound a w h = on_key (key_meant tag bound r) v w a _
-      (λ key g. serves terms.layout (λ x y. ReadDoes key x g.result y) v.stands w.stands
+  keeps_shape terms tag pass v (call.Read r) bound a w h = key_keeps (key_meant tag bound r) v w a _
+      (λ key g. serve_keeps terms.layout (λ x y. ReadDoes key x g.result y) v.stands w.stands
       (λ x y d. read_same key x y g.result d) g.does.1) h
-  keeps_shape terms tag pass v (call.Remove r) bound a w h = on_key (key_meant tag bound r) v w a _
-      (λ key g. serves terms.layout (λ x y. RemoveDoes terms.layout key x g.result y) v.stands w.stands
+  keeps_shape terms tag pass v (call.Remove r) bound a w h = key_keeps (key_meant tag bound r) v w a _
+      (λ key g. serve_keeps terms.layout (λ x y. RemoveDoes terms.layout key x g.result y) v.stands w.stands
       (λ x y d. remove_same terms.layout key x y g.result d) g.does.1) h
-  keeps_shape terms tag pass v (call.Release r) bound a w h = on_key (key_meant tag bound r) v w a _
-      (λ key g. serves terms.layout (λ x y. ReleaseDoes terms.layout key x g.result y) v.stands w.stands
+  keeps_shape terms tag pass v (call.Release r) bound a w h = key_keeps (key_meant tag bound r) v w a _
+      (λ key g. serve_keeps terms.layout (λ x y. ReleaseDoes terms.layout key x g.result y) v.stands w.stands
       (λ x y d. release_same terms.layout key x y g.result d) g.does.1) h
-  keeps_shape terms tag pass v call.Post bound a w h = still v.stands w.stands (ap (λ (p : PassPart). p.stands) h.1)
-  keeps_shape terms tag pass v (call.Wait name) bound a w h = still v.stands w.stands
+  keeps_shape terms tag pass v call.Post bound a w h = knows_still v.stands w.stands
+      (ap (λ (p : PassPart). p.stands) h.1)
+  keeps_shape terms tag pass v (call.Wait name) bound a w h = knows_still v.stands w.stands
       (ap (λ (p : PassPart). p.stands) h.1)

@@ -1,8 +1,9 @@
 -- Lines of the running heap beside mode plain, one after the other.
-use Rattle.std.proofs.Common.{◌≡◌, ◌≢◌, ℕ, suc, ◌+◌, ◌<◌, ◌≤◌, ◌==◌, Bool, true, false, cond, List, [], ◌∷◌, ◌++◌}
+use Rattle.std.proofs.Common.{◌≡◌, ◌≢◌, ℕ, suc, ◌<◌, ◌≤◌, ◌==◌, Bool, true, false, cond, List, [], ◌∷◌, ◌++◌}
 use Rattle.std.proofs.Common.{length, map, refl, ap, sym, ◌∙◌, subst, arith, append-nil, append_assoc, eqb-true, eq-eqb}
 use Rattle.std.proofs.Common.{ne_eqb, Option, None, slice_index_or, inl, inr}
 use Rattle.std.specs.Prelude.{is_some}
+use Rattle.std.proofs.lemmas.Bool.{eqb-false}
 use Rattle.std.specs.List.{All}
 use Rattle.sh_history.specs.declared.entry.Entry.{Entry}
 use Rattle.sh_history.specs.History.{Legal}
@@ -22,13 +23,14 @@ use Rattle.sh_calls.specs.Runs.{CallsRun, LineAnswered, LinesAnswered, number_me
 use Rattle.sh_beside.specs.Beside.{CallBeside, RanBeside}
 use Rattle.sh_beside.specs.Along.{RanAlong, NamesKey}
 use Rattle.sh_beside.proofs.Along.{own, KeysAre}
-use Rattle.sh_beside.proofs.AlongLines.{number_of, one_number, number_now, call_along}
+use Rattle.sh_beside.proofs.AlongLines.{numbering, number_now, call_along}
 use Rattle.sh_beside.proofs.Logs.{Grown, LogIs, gains, own_before, other_before}
 use Rattle.sh_beside.proofs.Names.{AreNames}
 use Rattle.sh_beside.proofs.Issued.{AreIssued}
 use Rattle.sh_beside.proofs.Fewness.{FewAlong}
 use Rattle.sh_beside.proofs.Shapes.{KnowsShape, heeding, keeps_shape}
-use Rattle.sh_beside.proofs.Steps.{state, Ready, Stepped, adopt_step, leave_step, post_step, wait_step}
+use Rattle.sh_beside.proofs.Turns.{Turn, Ready, Stepped, state}
+use Rattle.sh_beside.proofs.Steps.{adopt_step, leave_step, post_step, wait_step}
 use Rattle.sh_beside.proofs.Inserting.{insert_step}
 use Rattle.sh_beside.proofs.Getting.{get_step}
 use Rattle.sh_beside.proofs.Removing.{remove_step}
@@ -76,16 +78,29 @@ part_here parts pass q u e = ap (λ (b : Bool). cond b u (parts q)) (eq-eqb q pa
 part_there : (parts : ℕ → PassPart) (pass q : ℕ) (u : PassPart) → q ≢ pass → with_part parts pass u q ≡ parts q
 part_there parts pass q u ne = ap (λ (b : Bool). cond b u (parts q)) (ne_eqb q pass ne)
 
-same_log : (v w : PassPart) → MayHeed v w → w.log ≡ v.log
-same_log v w (inl e) = ap (λ (p : PassPart). p.log) e
-same_log v w (inr h) = ap (λ (p : PassPart). p.log) h.1.is
+log_heeded : (v w : PassPart) → MayHeed v w → w.log ≡ v.log
+log_heeded v w (inl e) = ap (λ (p : PassPart). p.log) e
+log_heeded v w (inr h) = ap (λ (p : PassPart). p.log) h.1.is
 
-same_shard : (v w : PassPart) → MayHeed v w → w.shard ≡ v.shard
-same_shard v w (inl e) = ap (λ (p : PassPart). p.shard) e
-same_shard v w (inr h) = ap (λ (p : PassPart). p.shard) h.1.is
+shard_heeded : (v w : PassPart) → MayHeed v w → w.shard ≡ v.shard
+shard_heeded v w (inl e) = ap (λ (p : PassPart). p.shard) e
+shard_heeded v w (inr h) = ap (λ (p : PassPart). p.shard) h.1.is
 
-true_false : (b : Bool) → b ≡ true → b ≡ false → ⊥
-true_false b p q = cc
+-- ---- a call
+
+call_step : (t : Turn) → HasTagRoom t.terms.layout t.tag → (c : Call) (a : Answer) → Ready t c a
+    → CallAnswers t.terms t.tag t.pass t.v c (number_meant t.numbers c) a t.w → Stepped t c a
+call_step t room (call.Adopt shard) a ready h = adopt_step t shard a ready None h
+call_step t room call.Leave a ready h = leave_step t a ready None h
+call_step t room (call.Insert words) a ready h = insert_step t words a room ready None h
+call_step t room (call.Get r) a ready h = get_step t r a ready h
+call_step t room (call.Read r) a ready h = read_step t r a ready h
+call_step t room (call.Remove r) a ready h = remove_step t r a ready h
+call_step t room (call.Release r) a ready h = release_step t r a ready h
+call_step t room call.Post a ready h = post_step t a None ready h
+call_step t room (call.Wait name) a ready h = wait_step t name a None ready h
+
+-- ---- a line, and lines
 
 module _ (terms : RunTerms) (tag : Option ℕ) where
   module _ (r next : CallsRun) (l : CallLine) (a : Answer) (h : LineAnswered terms tag r l a next) where
@@ -109,9 +124,9 @@ module _ (terms : RunTerms) (tag : Option ℕ) where
             own_before (adds_entry l.call a) l.pass h.begins.log h.part.log before after
             (gains terms tag l.pass h.begins l.call (number_meant r.numbers l.call) a h.part h.does) grown at in
             subst (λ (p : ℕ). LogIs p (r.parts p).log before) (sym is)
-            (subst (λ (x : List _). LogIs l.pass x before) (same_log (r.parts l.pass) h.begins h.heeds) begun)
+            (subst (λ (x : List _). LogIs l.pass x before) (log_heeded (r.parts l.pass) h.begins h.heeds) begun)
         go false e =
-            let ne : q ≢ l.pass = λ same. true_false (q == l.pass) (eq-eqb q l.pass same) e in
+            let ne : q ≢ l.pass = eqb-false q l.pass e in
             other_before (adds_entry l.call a) l.pass q (r.parts q).log before after ne grown
             (subst (λ (p : PassPart). LogIs q p.log after) (there q ne) (logs q below))
 
@@ -145,34 +160,8 @@ module _ (terms : RunTerms) (tag : Option ℕ) where
           (keeps_shape terms.shape terms tag l.pass h.begins l.call (number_meant r.numbers l.call) a h.part h.does
           (heeding terms.shape (r.parts l.pass) h.begins h.heeds (k.each l.pass)))
       go q false e =
-          let ne : q ≢ l.pass = λ same. true_false (q == l.pass) (eq-eqb q l.pass same) e in
+          let ne : q ≢ l.pass = eqb-false q l.pass e in
           subst (λ (p : PassPart). KnowsShape terms.shape p.stands) (sym (there r next l a h q ne)) (k.each q)
-
-  -- ---- a call
-
-  call_step : HasTagRoom terms.layout tag → (c : Call) (a : Answer) (pass : ℕ) (v w : PassPart)
-      (before after : List Entry) (owners : List Bool) (keys numbers : List (Option ℕ))
-      → Ready terms tag c a pass v w before after owners keys numbers
-      → CallAnswers terms tag pass v c (number_meant numbers c) a w
-      → Stepped terms tag c a pass w before after owners keys numbers
-  call_step room (call.Adopt shard) a pass v w before after owners keys numbers ready h =
-      adopt_step terms tag pass v w before after owners keys numbers shard a ready None h
-  call_step room call.Leave a pass v w before after owners keys numbers ready h =
-      leave_step terms tag pass v w before after owners keys numbers a ready None h
-  call_step room (call.Insert words) a pass v w before after owners keys numbers ready h =
-      insert_step terms tag pass v w before after owners keys numbers words a room ready None h
-  call_step room (call.Get r) a pass v w before after owners keys numbers ready h =
-      get_step terms tag pass v w before after owners keys numbers r a ready h
-  call_step room (call.Read r) a pass v w before after owners keys numbers ready h =
-      read_step terms tag pass v w before after owners keys numbers r a ready h
-  call_step room (call.Remove r) a pass v w before after owners keys numbers ready h =
-      remove_step terms tag pass v w before after owners keys numbers r a ready h
-  call_step room (call.Release r) a pass v w before after owners keys numbers ready h =
-      release_step terms tag pass v w before after owners keys numbers r a ready h
-  call_step room call.Post a pass v w before after owners keys numbers ready h =
-      post_step terms tag pass v w before after owners keys numbers a None ready h
-  call_step room (call.Wait name) a pass v w before after owners keys numbers ready h =
-      wait_step terms tag pass v w before after owners keys numbers name a None ready h
 
   -- ---- lines
 
@@ -196,17 +185,15 @@ module _ (terms : RunTerms) (tag : Option ℕ) where
               ap (λ (p : ℕ). slice_index_or now p false) is
               ∙ (own ∙ sym (ap (λ (p : PassPart). is_some p.shard) (here r next l a h q is)))
           go false e =
-              let ne : q ≢ l.pass = λ same. true_false (q == l.pass) (eq-eqb q l.pass same) e in
+              let ne : q ≢ l.pass = eqb-false q l.pass e in
               others q ne ∙ (owns.each q below ∙ sym (ap (λ (p : PassPart). is_some p.shard) (there r next l a h q ne)))
 
   -- mode plain's own run, where the keys of this history have the numbers in which they were given
   abbrev pub own_of : List Entry → Run → Run
-  own_of history run = own terms.layout terms.shape (number_of terms.layout history)
-      (one_number terms.layout history) run
+  own_of history run = own (numbering terms.layout terms.shape history) run
 
   abbrev pub KeysOf : List Entry → List (Option ℕ) → Type 0
-  KeysOf history keys = KeysAre terms.layout terms.shape (number_of terms.layout history)
-      (one_number terms.layout history) keys
+  KeysOf history keys = KeysAre (numbering terms.layout terms.shape history) keys
 
   -- the lines beside mode plain, and along with its own run
   pub record Walked (history : List Entry) (run : Run) (lines : List CallLine) (answers : List Answer) : Type 0 where
@@ -233,9 +220,8 @@ module _ (terms : RunTerms) (tag : Option ℕ) where
         after = rest.after;
         beside = (next, at, rest.beside);
         along = λ named known.
-            let found = call_along terms.layout terms.shape (number_of terms.layout history)
-            (one_number terms.layout history) (state terms tag before l.pass owners keys) next a known l.call
-            (named 0 l (omega arith)) at
+            let found = call_along (numbering terms.layout terms.shape history)
+            (state terms tag before l.pass owners keys) next a known l.call (named 0 l (omega arith)) at
             (λ words given. number_now terms.layout before after later history l.pass given.key words
             (ap (λ (m : Run). m.store.entries) given.next_is) whole given.new.not_issued) in (
               own_of history next,
@@ -273,14 +259,26 @@ module _ (terms : RunTerms) (tag : Option ℕ) where
         let logs_now : LogsAre terms r.parts before = logs_before_line r ran.0 l a h before g.after g.grown logs_next in
         let inside : l.pass < terms.shape.passes = below 0 l (omega arith) in
         let small : l.pass < 64 = omega (arith, inside, few) in
-        let ready : Ready terms tag l.call a l.pass h.begins h.part before g.after owners keys r.numbers = record {
+        let t : Turn = record {
+          terms = terms;
+          tag = tag;
+          pass = l.pass;
+          v = h.begins;
+          w = h.part;
+          before = before;
+          after = g.after;
+          owners = owners;
+          keys = keys;
+          numbers = r.numbers;
+        } in
+        let ready : Ready t l.call a = record {
           grown = g.grown;
-          log = subst (λ (x : List _). LogIs l.pass x before) (sym (same_log (r.parts l.pass) h.begins h.heeds))
+          log = subst (λ (x : List _). LogIs l.pass x before) (sym (log_heeded (r.parts l.pass) h.begins h.heeds))
               (logs_now l.pass inside);
           log_after = subst (λ (p : PassPart). LogIs l.pass p.log g.after) (here r ran.0 l a h l.pass refl)
               (logs_next l.pass inside);
           legal = (legal_after_parts terms.shape.passes terms.layout.guard_max [] g.after g.later legal_end).0;
-          owner = owns.each l.pass small ∙ sym (ap is_some (same_shard (r.parts l.pass) h.begins h.heeds));
+          owner = owns.each l.pass small ∙ sym (ap is_some (shard_heeded (r.parts l.pass) h.begins h.heeds));
           inside = let f = owns.few in omega (arith, small, f);
           names = names;
           issued = issued;
@@ -289,7 +287,7 @@ module _ (terms : RunTerms) (tag : Option ℕ) where
           few = holds before todo refl;
           few_after = holds g.after g.later g.same;
         } in
-        let s = call_step room l.call a l.pass h.begins h.part before g.after owners keys r.numbers ready h.does in
+        let s = call_step t room l.call a ready h.does in
         let rest = walk lines answers ran.0 end g.after g.later l.pass s.owners_after s.keys_after ran.2 legal_end
         logs_end g.passes (λ k d inside. below (suc k) d (omega (arith, inside)))
         (owners_next r ran.0 l a h owners s.owners_after owns s.few s.own s.others)

@@ -1,6 +1,5 @@
 -- Mode plain's own run along with mode heap, for scripts in which no line has a key as a number: then the numbers of
--- keys
--- are in what inserts are answered alone.
+-- keys are in what inserts are answered alone.
 use Rattle.std.specs.Prelude.{◌≡◌, ℕ, ◌+◌, ◌<◌, List, [], ◌∷◌, ◌⊎◌, Option, Some, Ok, IsSome}
 use Rattle.sh_value.specs.declared.refusal.Refusal.TheVariants as refusal
 use Rattle.sh_key.specs.Layout.{Layout}

@@ -56,8 +56,7 @@ WherePlaced layout shape (Err a) Does run told next = Does
 -- ---- Crowded
 
 -- A key with so many holds is crowded for this get. To mode plain that is a key with as many holds as the layout
--- allows.
--- The running heap counts the passes too that are on their way to the slot, all but one of them at most.
+-- allows. The running heap counts the passes too that are on their way to the slot, all but one of them at most.
 pub record IsLimit (layout : Layout) (run : Run) (limit : ℕ) : Type 0 where
   pub most : limit ≤ layout.guard_max
   pub least : layout.guard_max < limit + run.store.passes
@@ -81,13 +80,10 @@ AsPlain layout shape run (call.Remove r) told next =
 AsPlain layout shape run c told next = CallDoes layout run c told next
 
 -- A refusal that the running heap alone has, of what mode plain would do; the line then changes nothing. By the
--- contracts
--- of passes and shards, which the answers of mode heap keep: Taken, where a step met an owner of the shard (that
--- another
--- pass owns it by the lines before is not said, since no entry tells of owners); Memory, where room for what is kept of
--- pages was refused; Waiting, where others have begun to free slots of the shard; Full, where its pages have no slot
--- for
--- such a value.
+-- contracts of passes and shards, which the answers of mode heap keep: Taken, where a step met an owner of the shard
+-- (that another pass owns it by the lines before is not said, since no entry tells of owners); Memory, where room for
+-- what is kept of pages was refused; Waiting, where others have begun to free slots of the shard; Full, where its pages
+-- have no slot for such a value.
 abbrev pub RefusedAlone : Layout → Run → Call → Answer → Run → Type 0
 RefusedAlone layout run (call.Adopt shard) told next = (adopt_answer run shard ≡ answer.Done)
     × ((told ≡ answer.Refused refusal.Taken) ⊎ (told ≡ answer.Refused refusal.Memory)) × (next ≡ run)

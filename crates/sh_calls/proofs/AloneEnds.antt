@@ -1,18 +1,17 @@
 -- All lines ran one after the other, and the carrier heeded the last receipt.
-use Rattle.std.proofs.Common.{◌≡◌, ◌≢◌, ℕ, zero, suc, ◌<◌, ◌≤◌, Bool, true, false, cond, List, [], ◌∷◌}
-use Rattle.std.proofs.Common.{length, take, map, Option, Some, None, sym, refl, ap, ◌∙◌, subst, arith}
-use Rattle.std.proofs.Common.{ne_eqb, ◌⊎◌, inl, inr, ⊎_elim}
+use Rattle.std.proofs.Common.{◌≡◌, ◌≢◌, ℕ, ◌<◌, ◌≤◌, Bool, true, false, cond, List, [], ◌∷◌, length, take, map, Option}
+use Rattle.std.proofs.Common.{Some, None, sym, refl, ap, ◌∙◌, subst, arith, ne_eqb, ◌⊎◌, ⊎_elim}
 use Rattle.std.specs.Prelude.{nat_lt, not, IfNone}
 use Rattle.std.specs.Option.{option_map}
 use Rattle.std.specs.List.{All}
 use Rattle.std.proofs.lemmas.Bool.Decides.{nat_tests}
+use Rattle.std.proofs.lemmas.Bool.{cases_lt}
 use Rattle.sh_history.specs.declared.entry.Entry.{Entry}
 use Rattle.sh_history.specs.History.{Legal}
 use Rattle.sh_history.specs.Log.{Agrees, pass_of, entries_of}
 use Rattle.sh_script.specs.declared.calls.CallLine.{CallLine}
 use Rattle.sh_pass.specs.Passes.{Caller}
-use Rattle.sh_calls.specs.Parts.{RunTerms, PassPart, SeenPass, HasAllLogs}
-use Rattle.sh_calls.specs.Parts.{tale_told, told_pass, passes_below}
+use Rattle.sh_calls.specs.Parts.{RunTerms, PassPart, SeenPass, HasAllLogs, tale_told, told_pass, passes_below}
 use Rattle.sh_calls.specs.Told.{part_told}
 use Rattle.sh_calls.specs.Receipts.{HasOrderedTale}
 use Rattle.sh_calls.specs.InOrder.{adding_passes, times, AllHeard}
@@ -22,8 +21,7 @@ use Rattle.sh_calls.specs.Meeting.{HasMet, SomeWaits, tales_told, orders_of}
 use Rattle.sh_calls.proofs.ListLemmas.{take_past, up_get}
 use Rattle.sh_calls.proofs.NameLaws.{log_at, named_by}
 use Rattle.sh_calls.proofs.OrderLemmas.{in_order}
-use Rattle.sh_calls.proofs.InTurn.{ends_alone, tale_of_parts, lines_wait}
-use Rattle.sh_calls.proofs.InTurn.{all_speak}
+use Rattle.sh_calls.proofs.InTurn.{ends_alone, tale_of_parts, lines_wait, all_speak}
 use Rattle.sh_table.specs.Seats.{Heap}
 use Rattle.sh_table.specs.Tales.{by}
 use Rattle.sh_table.proofs.Zips.{zip_length}
@@ -68,16 +66,10 @@ ordered_by heap terms tag lines i numbers sides output last was past s c heeds t
     (λ (less : p < n). was.counts p ∙ zip_length Agrees (was.so_far.run.parts p).log (by p history)
     (log_at history was.so_far.run.parts (passes_below n) logs p p (up_get n p less)))
     (λ (le : n ≤ p). ap (λ (q : List ℕ). length q) (was.few p le)
-    ∙ sym (ap (λ (q : List Entry). length q) (none_by n p le history only))) (below p n) in
+    ∙ sym (ap (λ (q : List Entry). length q) (none_by n p le history only))) (cases_lt p n) in
     let heard : AllHeard history who = all_heard heap who last s c was.last_heard heeds history each in
     in_order history who many heard
     ∙ ap (λ (ls : List CallLine). adding_passes ls was.so_far.answers) (take_past lines i past)
-  where
-    below : (p n : ℕ) → (p < n) ⊎ (n ≤ p)
-    below p zero = inr (omega arith)
-    below zero (suc n) = inl (omega arith)
-    below (suc p) (suc n) = ⊎_elim (λ (h : p < n). inl (omega (arith, h))) (λ (h : n ≤ p). inr (omega (arith, h)))
-        (below p n)
 
 module _ (heap : Option Heap) (terms : RunTerms) (tag : Option ℕ) (lines : List CallLine) (i : ℕ)
     (numbers : List (Option ℕ)) (sides : List SeenPass) (output : List ℕ) (last : Option Caller)
@@ -89,12 +81,12 @@ module _ (heap : Option Heap) (terms : RunTerms) (tag : Option ℕ) (lines : Lis
   same_terms : c.terms ≡ terms
   same_terms = ap (λ (z : SeenPass). z.terms) only_orders ∙ m.carries.1
 
-  same_tale : tale_told c ≡ tales_told sides
-  same_tale = tale_heeds last s c heeds ∙ m.carries.2
+  tale_of_all : tale_told c ≡ tales_told sides
+  tale_of_all = tale_heeds last s c heeds ∙ m.carries.2
 
   -- the carrier, which heeded the last receipt, speaks for all passes
   pub carrier_speaks : map told_pass (tale_told c) ≡ passes_below c.terms.shape.passes
-  carrier_speaks = ap (map told_pass) same_tale
+  carrier_speaks = ap (map told_pass) tale_of_all
       ∙ (all_speak heap terms tag lines i numbers sides output was.so_far
       ∙ ap (λ (t : RunTerms). passes_below t.shape.passes) (sym same_terms))
 
@@ -109,12 +101,12 @@ module _ (heap : Option Heap) (terms : RunTerms) (tag : Option ℕ) (lines : Lis
       let ordered : IsOrderedBy terms lines was.so_far.answers c = ordered_by heap terms tag lines i numbers sides
       output last was past s c heeds (m.carries.2 ∙ tale) in
       let named : IsNamedBy terms tag lines was.so_far.answers c = named_by heap terms tag lines i numbers sides output
-      was.so_far past fits c (same_tale ∙ tale) (λ o h. orders_heed last s c heeds o (m.heard o h)) in
+      was.so_far past fits c (tale_of_all ∙ tale) (λ o h. orders_heed last s c heeds o (m.heard o h)) in
       record {
         met = record {
           told = record {
             replies = ends_alone heap terms tag lines i numbers sides output past was.so_far;
-            tale_is = same_tale ∙ tale;
+            tale_is = tale_of_all ∙ tale;
             whole = record {
               history = history;
               legal = subst (λ (t : RunTerms). Legal t.shape.passes t.layout.guard_max history) same_terms

@@ -1,7 +1,7 @@
 -- Lines one after the other, each pass with a receipt of the line before: the history has their entries in that order.
 use Rattle.std.proofs.Common.{◌≡◌, ◌≢◌, ℕ, zero, suc, ◌+◌, ◌<◌, ◌≤◌, Bool, true, false, cond, List, [], ◌∷◌, ◌++◌}
 use Rattle.std.proofs.Common.{length, take, set, map, slice_get, Option, Some, None, sym, refl, ap, ◌∙◌, subst, arith}
-use Rattle.std.proofs.Common.{append_assoc, append-nil, length-append, ◌⊎◌, inl, inr, ⊎_elim}
+use Rattle.std.proofs.Common.{append_assoc, append-nil, length-append, ◌⊎◌, inl, inr, ⊎_elim, add-one}
 use Rattle.std.specs.List.{Contains}
 use Rattle.std.proofs.lemmas.List.Elements.{Contains-append_left, Contains-append_right, Contains-push}
 use Rattle.std.proofs.lemmas.Option.{none-some}
@@ -23,11 +23,10 @@ use Rattle.sh_calls.specs.Receipts.{SeenReceipt, seen_of_receipt, receipt_seen, 
 use Rattle.sh_calls.specs.InOrder.{adds_entry, adding_passes, times, Cut, AllHeard, LastHeard}
 use Rattle.sh_calls.specs.Alone.{seen_with_part, OrderedSoFar, HeedsLast, IsLastOf, LastTells}
 use Rattle.sh_calls.specs.Meeting.{KeepsOrders, orders_of}
-use Rattle.sh_calls.proofs.ListLemmas.{get_set_same, take_at, next, within, get_snoc, contains_map, each_in, each_left}
+use Rattle.sh_calls.proofs.ListLemmas.{get_set_same, take_at, within, get_snoc, contains_map, each_in, each_left}
 use Rattle.sh_calls.proofs.ListLemmas.{each_right}
-use Rattle.sh_calls.proofs.NameLemmas.{numbers_after, meant_at, heard_more as names_heard_more, heard_kept, orders_at}
-use Rattle.sh_calls.proofs.NameLemmas.{orders_set, heeds_keeps, heard_by_heeding}
-use Rattle.sh_calls.proofs.NameLemmas.{tells_on, tells_own}
+use Rattle.sh_calls.proofs.NameLemmas.{numbers_after, meant_at, heard_more, heard_kept, orders_at, orders_set}
+use Rattle.sh_calls.proofs.NameLemmas.{heeds_keeps, heard_by_heeding, tells_on, tells_own, may_log}
 use Rattle.sh_calls.proofs.LineLemmas.{part_here, part_there}
 use Rattle.sh_calls.proofs.OrderLemmas.{times_append, times_length, times_here, times_else}
 use Rattle.sh_calls.proofs.GrowLemmas.{grows}
@@ -63,7 +62,8 @@ adding_more terms tag before after [] [] l a h = append-nil (cond (adds_entry l.
 adding_more terms tag before after [] (b ∷ bs) l a h = absurd h
 adding_more terms tag before after (k ∷ ks) [] l a h = absurd h
 adding_more terms tag before after (k ∷ ks) (b ∷ bs) l a h =
-    ap (λ (t : List ℕ). cond (adds_entry k.call b) (k.pass ∷ []) [] ++ t) (adding_more terms tag h.0 after ks bs l a h.2)
+    ap (λ (t : List ℕ). cond (adds_entry k.call b) (k.pass ∷ []) [] ++ t)
+    (adding_more terms tag h.0 after ks bs l a h.2)
     ∙ sym (append_assoc (cond (adds_entry k.call b) (k.pass ∷ []) []) (adding_passes ks bs)
     (cond (adds_entry l.call a) (l.pass ∷ []) []))
 
@@ -106,10 +106,6 @@ orders_only (Some r) side mid e = e.is ∙ ap (λ (z : SeenPass). record side { 
 may_heed : (last : Option Caller) (side mid : SeenPass) → HeedsLast last side mid → MayHeed side.part mid.part
 may_heed None side mid e = inl (ap (λ (z : SeenPass). z.part) e)
 may_heed (Some r) side mid e = inr (r, e.part)
-
-same_log : (last : Option Caller) (side mid : SeenPass) → HeedsLast last side mid → mid.part.log ≡ side.part.log
-same_log None side mid e = ap (λ (z : SeenPass). z.part.log) e
-same_log (Some r) side mid e = ap (λ (u : PassPart). u.log) e.part.is
 
 pub orders_heed : (last : Option Caller) (s c : SeenPass) → HeedsLast last s c → KeepsOrders s.orders c.orders
 orders_heed None s c e o h = subst (λ (z : SeenPass). Contains z.orders o) (sym e) h
@@ -169,7 +165,7 @@ module _ (heap : Option Heap) (terms : RunTerms) (tag : Option ℕ) (lines : Lis
 
   who_is : who' ≡ who ++ new
   who_is = ap (λ (ls : List CallLine). adding_passes ls (was.so_far.answers ++ a ∷ []))
-      (ap (λ (k : ℕ). take k lines) (sym (next i)) ∙ take_at lines i l at)
+      (ap (λ (k : ℕ). take k lines) (add-one i) ∙ take_at lines i l at)
       ∙ adding_more terms tag _ was.so_far.run (take i lines) was.so_far.answers l a was.so_far.ran
 
   side_pass : side.pass ≡ l.pass
@@ -191,7 +187,8 @@ module _ (heap : Option Heap) (terms : RunTerms) (tag : Option ℕ) (lines : Lis
 
   grown : length now.part.log ≡ length side.part.log + cond (adds_entry l.call a) 1 0
   grown = grows mid.terms tag mid.pass mid.part l.call (number_meant numbers l.call) a now.part does
-      ∙ ap (λ (z : List LogEntry). length z + cond (adds_entry l.call a) 1 0) (same_log last side mid heeds)
+      ∙ ap (λ (z : List LogEntry). length z + cond (adds_entry l.call a) 1 0)
+      (may_log side.part mid.part (may_heed last side mid heeds))
 
   new_here : length (times l.pass new) ≡ cond (adds_entry l.call a) 1 0
   new_here = go (adds_entry l.call a) where
@@ -246,14 +243,15 @@ module _ (heap : Option Heap) (terms : RunTerms) (tag : Option ℕ) (lines : Lis
       let k = h.heard p some in
       let in_mid : Contains mid.orders (order_seen side k.0) = subst
       (λ (z : SeenPass). Contains z.orders (order_seen side k.0)) (sym e.is)
-      (Contains-append_right side.orders (r.view.orders ++ map (order_seen side) (heard_in r.view)) (order_seen side k.0)
+      (Contains-append_right side.orders (r.view.orders ++ map (order_seen side) (heard_in r.view))
+      (order_seen side k.0)
       (Contains-append_right r.view.orders (map (order_seen side) (heard_in r.view)) (order_seen side k.0)
       (contains_map (order_seen side) (heard_in r.view) k.0 k.1))) in
       (k.0, mid_has (order_seen side k.0) in_mid, k.2, k.3)
 
-  heard_more : (p : ℕ) → 0 < length (times p who') → (h : Heard) × Contains (receipt_seen now).heard h × (h.pass ≡ p)
-      × (length (times p who') ≤ length h.log)
-  heard_more p some = dite (ℕ_discrete p l.pass)
+  last_heard_more : (p : ℕ) → 0 < length (times p who') → (h : Heard) × Contains (receipt_seen now).heard h
+      × (h.pass ≡ p) × (length (times p who') ≤ length h.log)
+  last_heard_more p some = dite (ℕ_discrete p l.pass)
       (λ (e : p ≡ l.pass).
       let c : length (times p who') ≡ length now.part.log = ap (λ (q : ℕ). length (times q who')) e ∙ told_mine in (
         record { pass = now.pass; log = now.part.log },
@@ -269,8 +267,8 @@ module _ (heap : Option Heap) (terms : RunTerms) (tag : Option ℕ) (lines : Lis
       let m = k.3 in
       (k.0, k.1, k.2, omega (arith, c, m)))
 
-  orders_more : (history : List Entry) → Each (Before history) now.orders → AllHeard history who'
-  orders_more history each =
+  all_heard_more : (history : List Entry) → Each (Before history) now.orders → AllHeard history who'
+  all_heard_more history each =
       let es : Each (Before history) mid.orders = subst (Each (Before history)) now_orders each in
       let old : AllHeard history who = all_heard heap who last side mid was.last_heard heeds history es in
       let cut : (p : ℕ) → Cut history who p l.pass = λ p. subst (λ (q : ℕ). Cut history who p q) side_pass
@@ -318,7 +316,7 @@ module _ (heap : Option Heap) (terms : RunTerms) (tag : Option ℕ) (lines : Lis
       let H : List Order × ℕ × ℕ → Type 0 = λ z. HeardOfNumber tag z.0 z.1 z.2 n in
       let here : HeardOfNumber tag now.orders l.pass (length (times l.pass who)) n = subst H
       (λ j. (sym now_orders j, side_pass j, (sym side_log ∙ ap (λ (q : ℕ). length (times q who)) side_pass) j)) it in
-      names_heard_more terms tag (opening_calls heap) was.so_far.run (take i lines) was.so_far.answers
+      heard_more terms tag (opening_calls heap) was.so_far.run (take i lines) was.so_far.answers
       (orders_of sides) (orders_of (set sides l.pass now)) l a was.so_far.ran was.so_far.heard keeps
       (heard_kept tag now.orders (orders_of (set sides l.pass now)) l.pass (length (times l.pass who)) n
       (orders_at (set sides l.pass now) l.pass now (get_set_same sides l.pass side now own)) here)
@@ -361,9 +359,9 @@ module _ (heap : Option Heap) (terms : RunTerms) (tag : Option ℕ) (lines : Lis
     few = few_more;
     last_heard = record {
       heap_is = ap (λ (z : SeenReceipt). z.heap) tells ∙ now_heap;
-      heard = λ p some. let m = heard_more p some in
+      heard = λ p some. let m = last_heard_more p some in
           (m.0, subst (λ (z : SeenReceipt). Contains z.heard m.0) (sym tells) m.1, m.2, m.3);
-      orders = λ history each. orders_more history
+      orders = λ history each. all_heard_more history
           (subst (λ (z : SeenReceipt). Each (Before history) z.orders) tells each);
     };
     last_tells = λ k n at. subst (λ (z : SeenReceipt). tells_number tag z.heard (Some n) ≡ true) (sym tells)

@@ -1,8 +1,7 @@
 -- A line on a name is answered Gone only where the key was removed before.
-use Rattle.std.proofs.Common.{◌≡◌, ◌≢◌, ℕ, zero, suc, ◌+◌, ◌<◌, Bool, true, false, cond, List, [], ◌∷◌, ◌++◌}
-use Rattle.std.proofs.Common.{length, take, map, slice_get, Option, Some, None, Result, Ok, Err, sym, refl, ap, ◌∙◌}
-use Rattle.std.proofs.Common.{subst}
-use Rattle.std.proofs.Common.{arith, append_assoc, append-nil, ◌⊎◌, ⊎_elim}
+use Rattle.std.proofs.Common.{◌≡◌, ◌≢◌, ℕ, zero, suc, ◌+◌, ◌<◌, Bool, true, false, cond, List, [], ◌∷◌, ◌++◌, length}
+use Rattle.std.proofs.Common.{take, map, slice_get, Option, Some, None, Result, Ok, Err, sym, refl, ap, ◌∙◌, subst}
+use Rattle.std.proofs.Common.{arith, append_assoc, append-nil, ⊎_elim}
 use Rattle.std.specs.Prelude.{nat_lt, not, ok_or}
 use Rattle.std.specs.List.{AllZip}
 use Rattle.std.proofs.lemmas.Bool.Decides.{nat_tests}
@@ -33,10 +32,9 @@ use Rattle.sh_output.specs.declared.answer.Answer.TheVariants as answer
 use Rattle.sh_output.specs.Keys.{key_shown}
 use Rattle.sh_output.specs.Results.{done_answer, value_answer}
 use Rattle.sh_calls.specs.Parts.{RunTerms, PassPart, Becomes, with_entry, HasAllLogs, passes_below}
-use Rattle.sh_calls.specs.Calls.{CallAnswers, UnlessRefused, OnKey, name_used, binds, number_told}
-use Rattle.sh_calls.specs.Calls.{GetAnswers, ReadAnswers, RemoveAnswers, ReleaseAnswers}
-use Rattle.sh_calls.specs.Calls.{HoldGot, ValueRead, HoldReleased, KeyRemoved, get_refusal, hold_refusal}
-use Rattle.sh_calls.specs.Calls.{remove_refusal}
+use Rattle.sh_calls.specs.Calls.{CallAnswers, UnlessRefused, OnKey, name_used, binds, number_told, GetAnswers}
+use Rattle.sh_calls.specs.Calls.{ReadAnswers, RemoveAnswers, ReleaseAnswers, HoldGot, ValueRead, HoldReleased}
+use Rattle.sh_calls.specs.Calls.{KeyRemoved, get_refusal, hold_refusal, remove_refusal}
 use Rattle.sh_calls.specs.Runs.{CallsRun, LineAnswered, LinesAnswered, opening_calls, number_bound, number_meant}
 use Rattle.sh_calls.specs.Told.{part_told, NamedIsRemoved}
 use Rattle.sh_calls.specs.InOrder.{adds_entry, adding_passes, times}

@@ -88,7 +88,8 @@ module _ (terms : RunTerms) (tag : Option ℕ) (pass : ℕ) (v w : PassPart) whe
   inserts words (Err refusal.Memory) e = same_log v w e
   inserts words (Err _) e = absurd e
 
-  gets : (key : ℕ) (r : Result Hold Refusal) → HoldGot pass v key r w → Grows v w (is_done_gone_or_crowded (done_answer r))
+  gets : (key : ℕ) (r : Result Hold Refusal) → HoldGot pass v key r w
+      → Grows v w (is_done_gone_or_crowded (done_answer r))
   gets key (Ok hold) h = entry_more v w h.1.0 h.1.2
   gets key (Err refusal.Gone) e = entry_more v w _ e
   gets key (Err refusal.Crowded) e = entry_more v w _ e
@@ -103,7 +104,8 @@ module _ (terms : RunTerms) (tag : Option ℕ) (pass : ℕ) (v w : PassPart) whe
   )
   reads key (Err _) e = absurd e
 
-  releases : (key : ℕ) (r : Result (Unit {0}) Refusal) → HoldReleased pass v key r w → Grows v w (is_done (done_answer r))
+  releases : (key : ℕ) (r : Result (Unit {0}) Refusal) → HoldReleased pass v key r w
+      → Grows v w (is_done (done_answer r))
   releases key (Ok x) e = entry_more v w _ e
   releases key (Err _) e = absurd e
 
@@ -119,8 +121,10 @@ same_refusal x e h = cc
 
 get_first : (b c : Bool) (e : Refusal) → cond b (Some refusal.BadKey) (cond c (Some refusal.HoldsFull) None) ≡ Some e
     → is_done_gone_or_crowded (answer.Refused e) ≡ false
-get_first true c e h = subst (λ z. is_done_gone_or_crowded (answer.Refused z) ≡ false) (same_refusal refusal.BadKey e h) refl
-get_first false true e h = subst (λ z. is_done_gone_or_crowded (answer.Refused z) ≡ false) (same_refusal refusal.HoldsFull e h) refl
+get_first true c e h = subst (λ z. is_done_gone_or_crowded (answer.Refused z) ≡ false)
+    (same_refusal refusal.BadKey e h) refl
+get_first false true e h = subst (λ z. is_done_gone_or_crowded (answer.Refused z) ≡ false)
+    (same_refusal refusal.HoldsFull e h) refl
 get_first false false e h = absurd (let z : None ≡ Some e = h in cc)
 
 remove_first : (b : Bool) (e : Refusal) → cond b None (Some refusal.BadKey) ≡ Some e
@@ -148,41 +152,41 @@ on_key : (k : Result ℕ Answer) (v w : PassPart) (a : Answer) (C : ℕ → Answ
 on_key (Err b) v w a C f none some h = subst (Grows v w) (sym (ap f h.0 ∙ none b refl)) (same_part v w h.1)
 on_key (Ok key) v w a C f none some h = some key h
 
-grown : (terms : RunTerms) (tag : Option ℕ) (pass : ℕ) (v : PassPart) (c : Call) (bound : Option ℕ) (a : Answer)
+call_grows : (terms : RunTerms) (tag : Option ℕ) (pass : ℕ) (v : PassPart) (c : Call) (bound : Option ℕ) (a : Answer)
     (w : PassPart) → CallAnswers terms tag pass v c bound a w → Grows v w (adds_entry c a)
-grown terms tag pass v (call.Adopt shard) bound a w h = unless (adopt_refusal terms v.shard shard) v h.result w _ _
+call_grows terms tag pass v (call.Adopt shard) bound a w h = unless (adopt_refusal terms v.shard shard) v h.result w _ _
     (λ _. false) (same_log v w) (λ e f. refl) (adopts v w shard h.result) h.does.0
-grown terms tag pass v call.Leave bound a w h = unless (needs_shard v.shard) v h.result w _ _ (λ _. false)
+call_grows terms tag pass v call.Leave bound a w h = unless (needs_shard v.shard) v h.result w _ _ (λ _. false)
     (same_log v w) (λ e f. refl) (leaves v w h.result) h.does.0
-grown terms tag pass v (call.Insert words) bound a w h = subst (λ x. Grows v w (is_key x)) (sym h.is)
+call_grows terms tag pass v (call.Insert words) bound a w h = subst (λ x. Grows v w (is_key x)) (sym h.is)
     (unless (words_refusal words) v h.result w _ _ (λ r. is_key (key_answer tag r)) (same_part v w) (λ e f. refl)
     (λ k. unless (needs_shard v.shard) v h.result w _ _ (λ r. is_key (key_answer tag r)) (same_log v w) (λ e f. refl)
     (inserts terms tag pass v w words h.result) k.0) h.does)
-grown terms tag pass v (call.Get r) bound a w h = on_key (key_meant tag bound r) v w a _ is_done_gone_or_crowded
+call_grows terms tag pass v (call.Get r) bound a w h = on_key (key_meant tag bound r) v w a _ is_done_gone_or_crowded
     (no_key is_done_gone_or_crowded refl refl tag bound r)
     (λ key k. subst (λ x. Grows v w (is_done_gone_or_crowded x)) (sym k.is)
     (unless (get_refusal terms pass v key) v k.result w _ _ (λ r. is_done_gone_or_crowded (done_answer r))
     (same_log v w) (get_first _ _) (gets terms tag pass v w key k.result) k.does.0)) h
-grown terms tag pass v (call.Read r) bound a w h = on_key (key_meant tag bound r) v w a _ (λ _. false)
+call_grows terms tag pass v (call.Read r) bound a w h = on_key (key_meant tag bound r) v w a _ (λ _. false)
     (λ b e. refl) (λ key k. unless (hold_refusal pass v key) v k.result w _ _ (λ _. false) (same_log v w) (λ e f. refl)
     (reads terms tag pass v w key k.result) k.does.0) h
-grown terms tag pass v (call.Remove r) bound a w h = on_key (key_meant tag bound r) v w a _ is_done_or_gone
+call_grows terms tag pass v (call.Remove r) bound a w h = on_key (key_meant tag bound r) v w a _ is_done_or_gone
     (no_key is_done_or_gone refl refl tag bound r) (λ key k. subst (λ x. Grows v w (is_done_or_gone x)) (sym k.is)
     (unless (remove_refusal terms key) v k.result w _ _ (λ r. is_done_or_gone (done_answer r)) (same_log v w)
     (remove_first _) (removes terms tag pass v w key k.result) k.does.0)) h
-grown terms tag pass v (call.Release r) bound a w h = on_key (key_meant tag bound r) v w a _ is_done
+call_grows terms tag pass v (call.Release r) bound a w h = on_key (key_meant tag bound r) v w a _ is_done
     (no_key is_done refl refl tag bound r) (λ key k. subst (λ x. Grows v w (is_done x)) (sym k.is)
     (unless (hold_refusal pass v key) v k.result w _ _ (λ r. is_done (done_answer r)) (same_log v w) (λ e f. refl)
     (releases terms tag pass v w key k.result) k.does.0)) h
-grown terms tag pass v call.Post bound a w h = same_part v w h.1
-grown terms tag pass v (call.Wait name) bound a w h = same_part v w h.1
+call_grows terms tag pass v call.Post bound a w h = same_part v w h.1
+call_grows terms tag pass v (call.Wait name) bound a w h = same_part v w h.1
 
 -- as many entries as the answer says
 pub grows : (terms : RunTerms) (tag : Option ℕ) (pass : ℕ) (v : PassPart) (c : Call) (bound : Option ℕ) (a : Answer)
     (w : PassPart) → CallAnswers terms tag pass v c bound a w → length w.log ≡ length v.log + cond (adds_entry c a) 1 0
-grows terms tag pass v c bound a w h = (grown terms tag pass v c bound a w h).0
+grows terms tag pass v c bound a w h = (call_grows terms tag pass v c bound a w h).0
 
 -- what was known stays
 pub keeps_known : (terms : RunTerms) (tag : Option ℕ) (pass : ℕ) (v : PassPart) (c : Call) (bound : Option ℕ)
     (a : Answer) (w : PassPart) → CallAnswers terms tag pass v c bound a w → KeepsKnown v.log w.log
-keeps_known terms tag pass v c bound a w h = (grown terms tag pass v c bound a w h).1
+keeps_known terms tag pass v c bound a w h = (call_grows terms tag pass v c bound a w h).1

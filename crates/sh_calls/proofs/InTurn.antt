@@ -1,8 +1,7 @@
 -- All passes in one thread: a line more, and the end.
 use Rattle.std.proofs.Common.{◌≡◌, ◌≢◌, ℕ, zero, suc, ◌+◌, ◌<◌, ◌≤◌, true, false, List, [], ◌∷◌, ◌++◌, length, take}
-use Rattle.std.proofs.Common.{set, map}
-use Rattle.std.proofs.Common.{slice_get, Option, Some, None, sym, refl, ap, ◌∙◌, subst, arith}
-use Rattle.std.proofs.Common.{IfSome, length-set, ◌⊎◌, inl, inr, ⊎_elim}
+use Rattle.std.proofs.Common.{set, map, slice_get, Option, Some, None, sym, refl, ap, ◌∙◌, subst, arith, IfSome}
+use Rattle.std.proofs.Common.{length-set, ◌⊎◌, inl, inr, ⊎_elim, add-one}
 use Rattle.std.specs.Prelude.{IfNone, Err}
 use Rattle.std.specs.List.{All}
 use Rattle.sh_value.specs.declared.refusal.Refusal.TheVariants as refusal
@@ -13,21 +12,19 @@ use mathlib.Core.Logic.{dite}
 use native.Mathlib.Decide.{ℕ_discrete}
 use Rattle.sh_script.specs.declared.calls.CallLine.{CallLine}
 use Rattle.sh_output.specs.declared.answer.Answer.{Answer}
-use Rattle.sh_calls.specs.Parts.{RunTerms, PassPart, SeenPass, PassTold, SamePass, new_pass, new_passes}
-use Rattle.sh_calls.specs.Parts.{HasAllLogs, tale_told, told_pass, passes_below}
+use Rattle.sh_calls.specs.Parts.{RunTerms, PassPart, SeenPass, PassTold, SamePass, new_pass, new_passes, HasAllLogs}
+use Rattle.sh_calls.specs.Parts.{tale_told, told_pass, passes_below}
 use Rattle.sh_calls.specs.Calls.{CallAnswers}
 use Rattle.sh_output.specs.Replies.{reply_line, replies_text}
 use Rattle.sh_calls.specs.Runs.{CallsRun, LineAnswered, LinesAnswered, opening_calls, next_run, with_part, with_number}
 use Rattle.sh_calls.specs.Runs.{number_meant}
 use Rattle.sh_calls.specs.Receipts.{MayHeed}
 use Rattle.sh_calls.specs.Told.{AreReplies, part_told}
-use Rattle.sh_calls.specs.Meeting.{HasMet, SomeWaits, tales_told, AllOfHeap}
-use Rattle.sh_calls.specs.Meeting.{orders_of}
+use Rattle.sh_calls.specs.Meeting.{HasMet, SomeWaits, tales_told, AllOfHeap, orders_of}
 use Rattle.sh_calls.specs.Named.{NamesWereHeard}
 use Rattle.sh_calls.specs.Alone.{seen_with_part, AnsweredSoFar}
 use Rattle.sh_calls.specs.Finished.{CarrierRan, AreWaiting, LinesRan, IsNamedBy}
-use Rattle.sh_calls.proofs.ListLemmas.{get_set_same, get_set_other, take_at, take_past, next, up_length}
-use Rattle.sh_calls.proofs.ListLemmas.{within, up_get}
+use Rattle.sh_calls.proofs.ListLemmas.{get_set_same, get_set_other, take_at, take_past, up_length, within, up_get}
 use Rattle.sh_calls.proofs.NameLaws.{named_by}
 use Rattle.sh_calls.proofs.LineLemmas.{one_more, part_here, part_there}
 use Rattle.sh_calls.proofs.Newcomers.{newcomers_length, newcomers_get, length_map}
@@ -62,7 +59,7 @@ module _ (heap : Option Heap) (terms : RunTerms) (tag : Option ℕ) (lines : Lis
   is = only ∙ ap (λ (z : SeenPass). record z { part = mid.part; orders = mid.orders }) (was.each l.pass side own)
 
   pub took : take (i + 1) lines ≡ take i lines ++ l ∷ []
-  took = ap (λ (k : ℕ). take k lines) (sym (next i)) ∙ take_at lines i l at
+  took = ap (λ (k : ℕ). take k lines) (add-one i) ∙ take_at lines i l at
 
   abbrev then : CallsRun
   then = next_run was.run l a now.part
@@ -106,7 +103,8 @@ module _ (heap : Option Heap) (terms : RunTerms) (tag : Option ℕ) (lines : Lis
       → AnsweredSoFar heap terms tag lines (i + 1) after new longer
   answered_more after new longer named put printed heard =
       let more = one_more terms tag (opening_calls heap) was.run then (take i lines) was.answers l a was.ran steps in
-      let R : List CallLine → Type 0 = λ ls. LinesAnswered terms tag (opening_calls heap) ls (was.answers ++ a ∷ []) then in
+      let R : List CallLine → Type 0 = λ ls. LinesAnswered terms tag (opening_calls heap) ls
+      (was.answers ++ a ∷ []) then in
       record {
         answers = was.answers ++ a ∷ [];
         run = then;
@@ -252,7 +250,8 @@ lines_wait seen heap terms tag lines i numbers sides output carrier past h stays
       replies = ends_alone heap terms tag lines i numbers sides output past h;
       pass = o.0;
       stays = o.3.0;
-      waits = subst (λ (s : SeenPass). ShardLeaves s.part.stands (Err refusal.Waiting) o.3.0) (h.each o.0 o.1 o.2) o.3.1;
+      waits = subst (λ (s : SeenPass). ShardLeaves s.part.stands (Err refusal.Waiting) o.3.0) (h.each o.0 o.1 o.2)
+          o.3.1;
     })) (λ (e : sides ≡ []). inr (sym h.all ∙ ap length e))) carrier stays
 
 -- what the carrier has, if all could meet, and else whose leave was refused, where each pass ran its lines

@@ -11,5 +11,9 @@ pub mod InTurn
 pub mod AloneLaws
 pub mod AloneEnds
 pub mod GoneLaws
+pub mod PlacedKeys
 pub mod RunningLaws
+pub mod OwningLaws
+pub mod JoinLaws
+pub mod ReceiptLaws
 pub mod TaleLaws

@@ -1,5 +1,5 @@
 -- Lists by their numbers, and the beginnings of lists.
-use Rattle.std.proofs.Common.{◌≡◌, ◌≢◌, ℕ, zero, suc, ◌+◌, ◌<◌, ◌≤◌, ◌⊎◌, List, [], ◌∷◌, ◌++◌, length, map, take, set}
+use Rattle.std.proofs.Common.{◌≡◌, ◌≢◌, ℕ, zero, suc, ◌<◌, ◌≤◌, ◌⊎◌, List, [], ◌∷◌, ◌++◌, length, map, take, set}
 use Rattle.std.proofs.Common.{slice_get, Some, refl, ap, sym, ◌∙◌, subst, inl, inr, ⊎_elim, arith, length-append}
 use Rattle.std.specs.List.{Contains}
 use Rattle.std.proofs.lemmas.List.{map-append}
@@ -29,9 +29,6 @@ pub take_at : {A : Type 0} (xs : List A) (i : ℕ) (x : A) → slice_get xs i �
 take_at [] i x e = absurd (none-some x e)
 take_at (y ∷ ys) zero x e = ap (λ z. z ∷ []) (same_Some y x e)
 take_at (y ∷ ys) (suc i) x e = ap (λ z. y ∷ z) (take_at ys i x e)
-
-pub next : (i : ℕ) → suc i ≡ i + 1
-next i = omega arith
 
 pub get_snoc : {A : Type 0} (l : List A) (a b : A) (j : ℕ) → slice_get (l ++ a ∷ []) j ≡ Some b
     → (slice_get l j ≡ Some b) ⊎ ((j ≡ length l) × (a ≡ b))

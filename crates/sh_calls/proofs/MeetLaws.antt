@@ -1,7 +1,6 @@
 -- Passes that meet: what their carrier carries.
-use Rattle.std.proofs.Common.{◌≡◌, ℕ, suc, ◌+◌, List, [], ◌∷◌, ◌++◌, length, map}
-use Rattle.std.proofs.Common.{slice_get, Option, Some, None, sym, refl, ap, ◌∙◌, subst, arith, append_assoc, append-nil}
-use Rattle.std.proofs.Common.{length-append, ◌⊎◌, ⊎_elim}
+use Rattle.std.proofs.Common.{◌≡◌, ℕ, suc, ◌+◌, List, [], ◌∷◌, ◌++◌, length, map, slice_get, Option, Some, None, sym}
+use Rattle.std.proofs.Common.{refl, ap, ◌∙◌, subst, arith, append_assoc, append-nil, length-append, ⊎_elim}
 use Rattle.std.specs.Prelude.{Err, nat_lt, not}
 use Rattle.std.specs.List.{Contains}
 use Rattle.std.proofs.lemmas.List.Elements.{Contains-append_left, Contains-append_right, Contains-append_cases}
@@ -12,12 +11,11 @@ use Rattle.sh_value.specs.declared.refusal.Refusal.TheVariants as refusal
 use Rattle.sh_calls.specs.Standing.{Standing, ShardLeaves}
 use Rattle.std.specs.Option.{option_map}
 use Rattle.std.proofs.lemmas.Option.{slice_get-map}
-use Rattle.sh_calls.specs.Parts.{RunTerms, SeenPass, PassTold, SamePass}
-use Rattle.sh_calls.specs.Parts.{HasAllLogs, tale_told, told_pass, passes_below}
+use Rattle.sh_calls.specs.Parts.{RunTerms, SeenPass, PassTold, SamePass, HasAllLogs, tale_told, told_pass, passes_below}
 use Rattle.sh_calls.specs.Receipts.{HasOrderedTale}
-use Rattle.sh_calls.specs.Meeting.{CarriesTale, MeetsCarrier, HasMet, SomeWaits, tales_told, AllOfHeap}
-use Rattle.sh_calls.specs.Meeting.{KeepsOrders, CarriesOrders, OwnsNone, orders_of}
-use Rattle.sh_calls.proofs.ListLemmas.{next, map_more}
+use Rattle.sh_calls.specs.Meeting.{CarriesTale, MeetsCarrier, HasMet, SomeWaits, tales_told, AllOfHeap, KeepsOrders}
+use Rattle.sh_calls.specs.Meeting.{CarriesOrders, OwnsNone, orders_of}
+use Rattle.sh_calls.proofs.ListLemmas.{map_more}
 use Rattle.sh_calls.proofs.Newcomers.{get_middle}
 use Rattle.sh_table.specs.Seats.{Heap}
 

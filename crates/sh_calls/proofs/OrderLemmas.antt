@@ -134,7 +134,8 @@ module _ (history : List Entry) (ts : List ℕ)
       ∙ times_length a done [] in
       let y : length (by a history) ≡ length (by a early) + length (by a (e ∷ late)) = ap
       (λ (l : List Entry). length (by a l)) splits ∙ by_length a early (e ∷ late) in
-      let z : length (by a (e ∷ late)) ≡ suc (length (by a late)) = ap (λ (l : List Entry). length l) (by_here e late) in
+      let z : length (by a (e ∷ late)) ≡ suc (length (by a late)) = ap (λ (l : List Entry). length l)
+      (by_here e late) in
       absurd (omega (arith, m, s, x, y, z))
   goes (t ∷ rest) done early [] is splits same =
       let m = many t in

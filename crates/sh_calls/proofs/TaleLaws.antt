@@ -84,7 +84,8 @@ named_last a (y ∷ ys) x = ap (λ b. (y == a) || b) (named_last a ys x) ∙ go 
 all_named : (n a : ℕ) → a < n → named a (passes_below n) ≡ true
 all_named zero a below = absurd (let e : a < 0 = below in omega (arith, e))
 all_named (suc n) a below = named_last a (passes_below n) n
-    ∙ go (n == a) refl (λ differ. all_named n a (let e : a < suc n = below in let d = differ in grind (arith, nat_tests)))
+    ∙ go (n == a) refl (λ differ. all_named n a (let e : a < suc n = below in let d = differ in
+    grind (arith, nat_tests)))
   where
     either : (b : Bool) → (b || true) ≡ true
     either true = refl

@@ -1,6 +1,6 @@
 -- Each key of a page stands once among the page's keys, and no other key does.
 use Rattle.std.proofs.Common.{◌≡◌, ℕ, zero, suc, ◌+◌, ◌*◌, ◌<◌, ◌≤◌, ◌==◌, ◌&&◌, Bool, true, false, cond, sym, refl, ap}
-use Rattle.std.proofs.Common.{◌∙◌, subst, arith, Option, Some, None}
+use Rattle.std.proofs.Common.{◌∙◌, subst, arith, Option, Some, None, eqb-true}
 use Rattle.std.specs.Prelude.{nat_lt, not}
 use Rattle.std.proofs.lemmas.Bool.Decides.{nat_tests}
 use Rattle.sh_key.specs.declared.parts.Parts.{Parts}
@@ -14,7 +14,6 @@ use Rattle.sh_step.specs.Plans.{Plan, Lawful, heap_pages, plan_of, keys_of, name
 use Rattle.sh_core.specs.Lists.{times}
 use Rattle.sh_core.specs.Stacks.{spot}
 use Rattle.sh_core.proofs.More.{spots_total}
-use Rattle.sh_core.proofs.StackSteps.{same_page}
 use Rattle.sh_core.proofs.Slots.{same_spot-true, same_spot-refl}
 use Rattle.sh_core.proofs.Totals.{total_append}
 use Rattle.sh_table.specs.Reached.{PlansAreLawful}
@@ -55,7 +54,7 @@ module _ (plan : Plan) (laws : Lawful plan) (ranges : (k : ℕ) (n : Name) → p
             → 0 < if1 b + times k (keys_of_slot plan (spot q t) m) →
             (0 < times k (keys_of_slot plan (spot q t) m) → (n : Name) × (plan.keys.unpack k ≡ Some n) × (n.page ≡ q)
             × (n.slot < 48)) → (n : Name) × (plan.keys.unpack k ≡ Some n) × (n.page ≡ q) × (n.slot < 48)
-        go true e s rest = let i = same_page (plan.keys.pack (name_at (spot q t) (suc m))) k e
+        go true e s rest = let i = eqb-true (plan.keys.pack (name_at (spot q t) (suc m))) k e
             in (
               name_at (spot q t) (suc m),
               subst (λ (j : ℕ). plan.keys.unpack j ≡ Some (name_at (spot q t) (suc m))) i
@@ -93,7 +92,7 @@ module _ (plan : Plan) (laws : Lawful plan) (ranges : (k : ℕ) (n : Name) → p
       go : (b : Bool) → (plan.keys.pack (name_at (spot q t) g) == k) ≡ b → if1 b ≡ 0
       go false e = refl
       go true e =
-          let i = same_page (plan.keys.pack (name_at (spot q t) g)) k e in
+          let i = eqb-true (plan.keys.pack (name_at (spot q t) g)) k e in
           let j : Some (name_at (spot q t) g) ≡ Some n = sym (laws.names (name_at (spot q t) g) some le page small)
           ∙ (ap plan.keys.unpack i ∙ unpacks) in
           absurd (ne (let z : name_at (spot q t) g ≡ n = cc in z))

@@ -1,6 +1,6 @@
 -- What the log says of a slot's keys is what its state word says, where no pass has anything in hand or of its own.
 use Rattle.std.proofs.Common.{◌≡◌, ◌≢◌, ℕ, zero, suc, ◌<◌, ◌≤◌, ◌==◌, ◌&&◌, ◌||◌, Bool, true, false, List, [], ◌∷◌, sym}
-use Rattle.std.proofs.Common.{refl, ap, ◌∙◌, arith, Option, Some, None, slice_get}
+use Rattle.std.proofs.Common.{refl, ap, ◌∙◌, arith, Option, Some, None, slice_get, eqb-true}
 use Rattle.std.specs.Prelude.{not, nat_lt, IsSome, is_some}
 use Rattle.std.proofs.lemmas.Bool.Decides.{nat_tests}
 use mathlib.Core.Logic.{dite}
@@ -19,7 +19,6 @@ use Rattle.sh_core.specs.Refines.{Refines, KeyTold, holds_now}
 use Rattle.sh_core.specs.Tallies.{visits, finishing, at_spot, current}
 use Rattle.sh_core.specs.Worlds.{World, value_at}
 use Rattle.sh_core.proofs.Slots.{same_spot-true}
-use Rattle.sh_core.proofs.StackSteps.{same_page}
 use Rattle.sh_core.proofs.Totals.{total_le}
 use Rattle.sh_gather.specs.PageKeys.{keys_of_slot, is_last_key, is_live_key, is_marked_key, is_retired_key}
 
@@ -135,7 +134,7 @@ module _ (plan : Plan) (w : World) (l : PutLists) (laws : Lawful plan) (core : R
             → if1 (b && (c && d)) ≤ if1 (j == key g)
         by true true true h i =
             let s : x ≡ spot_of z = same_spot-true (spot_of z) x h in
-            let n : z.generation ≡ g = same_page z.generation st.generation i ∙ sym now in
+            let n : z.generation ≡ g = eqb-true z.generation st.generation i ∙ sym now in
             let y : name_at x g ≡ z = λ k. record { page = (s k).page; slot = (s k).slot; generation = sym n k } in
             let k : j ≡ key g = laws.keys j z e ∙ ap plan.keys.pack (sym y) in
             let t : if1 (j == key g) ≡ 1 = ap if1 (same_is j (key g) k) in omega arith
@@ -149,7 +148,7 @@ module _ (plan : Plan) (w : World) (l : PutLists) (laws : Lawful plan) (core : R
 
     go : (b : Bool) → (st.count == 0) ≡ b → 0 < holds_on w.log (key g)
     go true i =
-        let due = core.finished x p m (same_page st.count 0 i) in
+        let due = core.finished x p m (eqb-true st.count 0 i) in
         let none = total_zero (finishing x st.generation) w.parts (λ a u at. let i = (rest a u at).0 in rw i refl)
         in absurd (omega arith)
     go false i =

@@ -223,30 +223,32 @@ walk_first layout v q word core gathered known es h =
 
 module _ (layout : Layout) (v : View) (q n t : ℕ) (core : Core) (gathered : IsGathered v) (known : Known layout v)
     (at : Sure layout v (WalkedTo q n t)) where
-  abbrev plan : Plan
-  plan = plan_of layout v.shape
-
-  goes : (es : List Event) → LeadsHere layout v es → 0 < t → (t - 1 < 48) × (0 < (run plan es).words.link_at q (t - 1))
-      × WalkedTo q (n + 1) ((run plan es).words.link_at q (t - 1) - 1) (run plan es) (lists_of plan es)
-  goes es h some = walk_goes plan (run plan es) (lists_of plan es) (laws layout v core gathered known)
+  goes : 0 < t → Sure layout v (λ w l. (t - 1 < 48) × (0 < w.words.link_at q (t - 1))
+      × WalkedTo q (n + 1) (w.words.link_at q (t - 1) - 1) w l)
+  goes some es h =
+      let plan : Plan = plan_of layout v.shape in
+      walk_goes plan (run plan es) (lists_of plan es) (laws layout v core gathered known)
       (refined layout v core gathered known es) (rests layout v core gathered known es h) q n t (at es h) some
 
   pub walk_place : 0 < t → t - 1 < 48
-  walk_place some = let first = leading layout v core known in (goes first.0 first.1 some).0
+  walk_place some = let first = leading layout v core known in (goes some first.0 first.1).0
 
   walk_word : (word : ℕ) → Known layout (noting v (Link q (t - 1)) word) → 0 < t → 1 ≤ word
   walk_word word known' some =
       let first = leading layout (noting v (Link q (t - 1)) word) core known' in
       let b = leads_before layout v (Link q (t - 1)) word first.0 first.1 in
-      let g = (goes first.0 b.0 some).1 in let e = b.1 in omega arith
+      let g = (goes some first.0 b.0).1 in let e = b.1 in omega arith
 
   walk_next : (word : ℕ) → 0 < t → Sure layout (noting v (Link q (t - 1)) word) (WalkedTo q (n + 1) (word - 1))
   walk_next word some es h =
+      let plan : Plan = plan_of layout v.shape in
       let b = leads_before layout v (Link q (t - 1)) word es h in
-      subst (λ (m : ℕ). WalkedTo q (n + 1) (m - 1) (run plan es) (lists_of plan es)) b.1 (goes es b.0 some).2
+      subst (λ (m : ℕ). WalkedTo q (n + 1) (m - 1) (run plan es) (lists_of plan es)) b.1 (goes some es b.0).2
 
   pub walk_done : t ≡ 0 → Sure layout v (λ w l. n ≡ length (l.stack q))
-  walk_done none es h = walk_ends plan (run plan es) (lists_of plan es) (laws layout v core gathered known)
+  walk_done none es h =
+      let plan : Plan = plan_of layout v.shape in
+      walk_ends plan (run plan es) (lists_of plan es) (laws layout v core gathered known)
       (refined layout v core gathered known es) (rests layout v core gathered known es h) q n t (at es h) none
 
 -- behind 48 slots there is none

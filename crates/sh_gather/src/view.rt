@@ -41,6 +41,15 @@ impl<L: KeyLayout, H: KeepsHeap<L>> Whole<L, H> {
         self.pass.shape()
     }
 
+    /// The pass that carries the tales, to go on with. It is whole for good, since nobody else has a pass; what it noted
+    /// holds until its next step.
+    pub fn into_pass(self) -> Pass<L, H>
+        ensures { result ≡ self }
+    {
+        let Whole { pass } = self;
+        pass
+    }
+
     /// The accounts of a shard's page: its class, and how many of the slots of the class are live, marked, retired and
     /// queued. Words of the page are looked at, 98 at most, and what is queued is found by walking its stack. None
     /// where the heap has no such page.

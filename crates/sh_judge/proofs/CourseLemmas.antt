@@ -1,5 +1,6 @@
 -- What is decided of a key.
-use Rattle.std.proofs.Common.{◌≡◌, ◌∙◌, ℕ, ◌≤◌, ◌⊎◌, inl, inr, true, false, List, Option, Some, None, get_or, refl, sym, subst, ap, arith}
+use Rattle.std.proofs.Common.{◌≡◌, ◌∙◌, ℕ, ◌≤◌, ◌⊎◌, inl, inr, true, false, List, Option, Some, None, get_or, refl, sym}
+use Rattle.std.proofs.Common.{subst, ap, arith}
 use Rattle.std.specs.Prelude.{All}
 use Rattle.std.specs.List.{list_any}
 use Rattle.std.proofs.lemmas.List.Folds.{list_any_none}
@@ -27,7 +28,8 @@ no_insert Released none = refl
 -- where no answer needs the value, none is an insert
 pub none_inserted : (lines : List Line) → All (λ (line : Line). needs_value line.told ≡ false) lines
     → list_any tells_insert lines ≡ false
-none_inserted lines none = list_any_none tells_insert lines (λ i d below. no_insert (get_or lines i d).told (none i d below))
+none_inserted lines none = list_any_none tells_insert lines
+    (λ i d below. no_insert (get_or lines i d).told (none i d below))
 
 -- what is so of a point is so of each later one
 pub begun_later : (line : Line) (p q : Point) → time p ≤ time q → IsBegun line p → IsBegun line q
@@ -61,8 +63,8 @@ pub removal : (lines : List Line) (insert : Option Point) (place : ℕ) (line : 
 removal lines insert place line point remover is is_rank begun behind used = record {
   remover = remover;
   is_rank = is_rank;
-  begun = subst (λ (l : Line). IsBegun l point) (is ∙ get_or_from_slice_get lines place remover.line line remover.stands)
-      begun;
+  begun = subst (λ (l : Line). IsBegun l point)
+      (is ∙ get_or_from_slice_get lines place remover.line line remover.stands) begun;
   behind = behind;
   used = used;
 }

@@ -1,6 +1,6 @@
 //! What is kept of a pass: what it was answered, what it holds, and what was found wrong.
-ghost use Rattle.std.specs.Prelude.{◌≡◌, ◌≢◌, ℕ, ◌<◌, ◌≤◌, ◌↔◌, ◌⊎◌, [], List, IsTrue, Some, None, swap_remove, vec_len};
-ghost use Rattle.std.specs.Prelude.{slice_get};
+ghost use Rattle.std.specs.Prelude.{◌≡◌, ◌≢◌, ℕ, ◌<◌, ◌≤◌, ◌↔◌, ◌⊎◌, [], List, IsTrue, Some, None, swap_remove};
+ghost use Rattle.std.specs.Prelude.{vec_len, slice_get};
 ghost use Rattle.std.specs.Bool.{OnTrue, OnFalse};
 ghost use Rattle.std.specs.Option.{option_copied};
 ghost use Rattle.sh_judge.specs.Counts.{counted};

@@ -65,6 +65,9 @@ wrote_and_failed a b c bytes rest w some h = record {
   };
 }
 
+-- of bytes that are written piece by piece: none, one piece more, and a piece that failed
+pub ruleset writes_pieces = (wrote_none, wrote_more, wrote_and_failed)
+
 -- ---- how many bytes were read
 
 consumes_none : (a b : Option (List ℕ)) → Keeps a b → Consumes a b []

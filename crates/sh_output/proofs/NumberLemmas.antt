@@ -1,6 +1,6 @@
 -- The text of words, word by word.
-use Rattle.std.proofs.Common.{◌≡◌, ℕ, zero, suc, ◌+◌, ◌<◌, ◌≤◌, List, [], ◌∷◌, ◌++◌, length, take, slice_index_or, arith}
-use Rattle.std.proofs.Common.{length-append, codes, decimal, Result, Ok, Err, OnErr}
+use Rattle.std.proofs.Common.{◌≡◌, ℕ, zero, suc, ◌+◌, ◌<◌, ◌≤◌, List, [], ◌∷◌, ◌++◌, length, take, slice_index_or}
+use Rattle.std.proofs.Common.{arith, length-append, codes, decimal, Result, Ok, Err, OnErr}
 use Rattle.sh_output.specs.Numbers.{words_text}
 
 -- the text of a word, and of all before it, is no longer than that of all words

@@ -58,7 +58,8 @@ fn push_answer(out: &mut Vec<u8>, answer: &Answer) -> Result<(), AllocError>
 fn push_refusal(out: &mut Vec<u8>, refusal: Refusal) -> Result<(), AllocError>
     ensures text { OnOk result (out.new.items ≡ out.old.items ++ answer_text (Answer.Refused refusal)) }
     ensures room { vec_capacity out.old ≤ vec_capacity out.new }
-    ensures full { OnErr result (vec_capacity out.old < vec_len out.old + length (answer_text (Answer.Refused refusal))) }
+    ensures full { OnErr result
+        (vec_capacity out.old < vec_len out.old + length (answer_text (Answer.Refused refusal))) }
 {
     out.extend_from_slice(b"refused ")?;
     push_number(out, refusal.number() as u64)?;

@@ -54,7 +54,7 @@ pub fn read_text<R: Read>(alloc: Global, reader: &mut R) -> Result<Vec<u8>, Faul
 
 /// Writes all bytes, by one write after the other. A write that takes no byte is a fault like one that fails; what was
 /// written until then is a beginning of the bytes, and not all of them.
-#[tactic(auto, using(crate::proofs::EndLemmas::wrote_none, crate::proofs::EndLemmas::wrote_more, crate::proofs::EndLemmas::wrote_and_failed))]
+#[tactic(auto, using(crate::proofs::EndLemmas::writes_pieces))]
 pub fn write_text<W: Write>(writer: &mut W, bytes: &[u8]) -> Result<(), Fault>
     ensures ok { OnOk result (Appends (W.contents writer.old) (W.contents writer.new) bytes.now) }
     ensures fault { IfErr result (λ fault. fault ≡ Fault.Io) }

@@ -5,6 +5,8 @@ ghost use Rattle.sh_history.specs.declared.entry.Entry.TheVariants.{Got, Removed
 ghost use Rattle.sh_history.specs.History.{Allowed, Legal, value_of, present_value, hold_count, holds_by, holds_on};
 ghost use Rattle.sh_history.specs.Log.{logged_holds_by};
 
+mod replies;
+
 use crate::index::{Held, Issued, find_hold, hold_count, holds_on, issued_at};
 use crate::{Lookup, Store};
 use sh_history::Entry;
@@ -177,117 +179,6 @@ impl<L: KeyLayout> PlainStore<L> {
                 Ok(())
             }
             Err(_) => Err(Refusal::Memory),
-        }
-    }
-}
-
-impl<L: KeyLayout> PlainStore<L> {
-    ghost use Rattle.sh_plain.specs.Plain.{Replied, insert_reply, got_reply, get_reply, read_answer, removed_reply};
-    ghost use Rattle.sh_plain.specs.Plain.{remove_reply, release_reply};
-
-    fn plain_insert(&mut self, value: &Value) -> Result<u64, Refusal>
-        ensures { Replied (insert_reply L.layout self.old value.now) self.old result self.new }
-    {
-        let inserted = self.issued.len() as u64;
-        if inserted >= L::key_count() {
-            return Err(Refusal::Full);
-        }
-        let key = L::first_key() + inserted;
-        if self.issued.reserve(1).is_err() {
-            return Err(Refusal::Memory);
-        }
-        match self
-            .entries
-            .push(Entry::Insert(self.pass, key, value.copy()))
-        {
-            Ok(()) => {
-                self.issued.push_reserved(Issued {
-                    value: value.copy(),
-                    removed: false,
-                });
-                Ok(key)
-            }
-            Err(_) => Err(Refusal::Memory),
-        }
-    }
-
-    fn plain_get(&mut self, key: u64) -> Result<Hold, Refusal>
-        ensures { Replied (get_reply L.layout self.old key) self.old result self.new }
-    {
-        if L::unpack(key).is_none() {
-            return Err(Refusal::BadKey);
-        }
-        if self.has_all_holds() {
-            return Err(Refusal::HoldsFull);
-        }
-        self.get_key(key)
-    }
-
-    // A get of a key, where the pass has room for a hold.
-    fn get_key(&mut self, key: u64) -> Result<Hold, Refusal>
-        ensures { Replied (got_reply L.layout self.old key (present_value self.old.entries key)) self.old result
-            self.new }
-    {
-        let pass = self.pass;
-        let crowded = self.is_full_of_holds(key);
-        match self.present_value(key) {
-            Some(_) if crowded => {
-                self.note(Entry::Crowded(pass, key))?;
-                Err(Refusal::Crowded)
-            }
-            Some(value) => {
-                let value = value.copy();
-                self.note_got(key, value)?;
-                Ok(Hold { key })
-            }
-            None => {
-                self.note(Entry::Gone(pass, key))?;
-                Err(Refusal::Gone)
-            }
-        }
-    }
-
-    fn plain_read(&self, hold: Hold) -> Result<Value, Refusal>
-        ensures { result ≡ read_answer self.now hold.key }
-    {
-        if !self.has_hold(hold.key) {
-            return Err(Refusal::NotHeld);
-        }
-        match self.value_of(hold.key) {
-            Some(value) => Ok(value.copy()),
-            // No history has a hold on a key that was not issued.
-            None => Err(Refusal::NotHeld),
-        }
-    }
-
-    fn plain_remove(&mut self, key: u64) -> Result<(), Refusal>
-        ensures { Replied (remove_reply L.layout self.old key) self.old result self.new }
-    {
-        if L::unpack(key).is_none() {
-            return Err(Refusal::BadKey);
-        }
-        self.remove_key(key)
-    }
-
-    fn remove_key(&mut self, key: u64) -> Result<(), Refusal>
-        ensures { Replied (removed_reply self.old key (present_value self.old.entries key)) self.old result self.new }
-    {
-        let pass = self.pass;
-        if self.present_value(key).is_some() {
-            self.note_removed(key)
-        } else {
-            self.note(Entry::Gone(pass, key))?;
-            Err(Refusal::Gone)
-        }
-    }
-
-    fn plain_release(&mut self, hold: Hold) -> Result<(), Refusal>
-        ensures { Replied (release_reply self.old hold.key) self.old result self.new }
-    {
-        if self.has_hold(hold.key) {
-            self.note_released(hold.key)
-        } else {
-            Err(Refusal::NotHeld)
         }
     }
 }

@@ -21,7 +21,8 @@ pub replays : (m : Mode) (accounts : Bool) (text output : List ℕ) (waiting : B
     → OnOk result ((waiting ≡ false) × Appends old new output)
     → IfErr result (λ f. EndsWriting output waiting f old new)
     → Replays m accounts text result old new
-replays m accounts text output false (Ok x) old new is ok err = record { output = output; is_output = is; written = ok.1 }
+replays m accounts text output false (Ok x) old new is ok err =
+    record { output = output; is_output = is; written = ok.1 }
 replays m accounts text output true (Ok x) old new is ok err = absurd (let e : true ≡ false = ok.0 in cc)
 replays m accounts text output false (Err fault.Waiting) old new is ok err =
     absurd (let e : false ≡ true = err.0 in cc)

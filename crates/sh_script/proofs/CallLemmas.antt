@@ -262,14 +262,14 @@ call_is names command.Wait ws c binds e =
       binds_none = p.1;
     })
 
-record IsRead (names : List Binding) (words : List Word) (c : Call) (binds : Option Binding) : Type 0 where
+record IsCallRead (names : List Binding) (words : List Word) (c : Call) (binds : Option Binding) : Type 0 where
   command : Command
   others : List Word
   says : words ≡ spelled command ∷ others
   reads : call_of names command others ≡ Ok (c, binds)
 
 call_gives : (names : List Binding) (words : List Word) (c : Call) (binds : Option Binding) → IsCall names words c binds
-    → IsRead names words c binds
+    → IsCallRead names words c binds
 unfolding call_of
 call_gives names words (call.Adopt shard) binds x = record {
   command = command.Adopt;
@@ -366,9 +366,9 @@ line_gives passes names ws line binds x =
 
 -- ---- the calls so far
 
-added_is : (passes : ℕ) (before : CallsSoFar) (ws : List Word) (now : CallsSoFar) → call_added passes before ws ≡ Ok now
-    → SaysCall passes before ws now
-added_is passes before ws now e =
+call_added_is : (passes : ℕ) (before : CallsSoFar) (ws : List Word) (now : CallsSoFar) → call_added passes before ws
+    ≡ Ok now → SaysCall passes before ws now
+call_added_is passes before ws now e =
     let a = bind_ok _ _ now e in
     record {
       line = (a.0).0;
@@ -378,10 +378,10 @@ added_is passes before ws now e =
           (ok_is (with_call before (a.0).0 (a.0).1) now a.2);
     }
 
-added_gives : (passes : ℕ) (before : CallsSoFar) (ws : List Word) (now : CallsSoFar) → SaysCall passes before ws now
-    → call_added passes before ws ≡ Ok now
-added_gives passes before ws now x = rw (line_gives passes before.names ws x.line x.binds x.is)
+call_added_gives : (passes : ℕ) (before : CallsSoFar) (ws : List Word) (now : CallsSoFar)
+    → SaysCall passes before ws now → call_added passes before ws ≡ Ok now
+call_added_gives passes before ws now x = rw (line_gives passes before.names ws x.line x.binds x.is)
     (ap ok_of (sym x.now_is))
 
 pub calls_agree : Agrees call_added SaysCall
-calls_agree = record { is = added_is; gives = added_gives }
+calls_agree = record { is = call_added_is; gives = call_added_gives }

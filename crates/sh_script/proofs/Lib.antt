@@ -9,6 +9,9 @@ pub mod ArgumentLemmas
 pub mod HeaderLemmas
 pub mod CallLemmas
 pub mod PlaceLemmas
+pub mod KindLemmas
+pub mod ActionLemmas
+pub mod ActionWordLemmas
 pub mod EventLemmas
 pub mod LineLemmas
 pub mod Reading

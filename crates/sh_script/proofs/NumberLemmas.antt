@@ -24,7 +24,7 @@ grows : (n : ℕ) (w : List ℕ) → n ≤ value_from n w
 grows n [] = omega arith
 grows n (b ∷ bs) = omega (arith, grows (n * 10 + (b - 48)) bs)
 
-record IsRead (n m : ℕ) (w : List ℕ) : Type 0 where
+record AreDigitsRead (n m : ℕ) (w : List ℕ) : Type 0 where
   digits : all_ascii_digits w ≡ true
   value : value_from n w ≡ m
   small : n < 2 ^ 64 → m < 2 ^ 64
@@ -33,7 +33,7 @@ pub both_true : (a b : Bool) → (a && b) ≡ true → (a ≡ true) × (b ≡ tr
 both_true true b e = (refl, e)
 both_true false b e = cc
 
-read_digits : (w : List ℕ) (n m : ℕ) → number_from n w ≡ Some m → IsRead n m w
+read_digits : (w : List ℕ) (n m : ℕ) → number_from n w ≡ Some m → AreDigitsRead n m w
 read_digits [] n m e = let same : n ≡ m = cc in record { digits = refl; value = same; small = λ h. omega arith }
 read_digits (b ∷ bs) n m e =
     let next = n * 10 + (b - 48) in

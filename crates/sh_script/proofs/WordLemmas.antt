@@ -64,8 +64,8 @@ ends_all (b ∷ bs) h = All-head IsSpace b bs h
 not_nil : (b : ℕ) (bs : List ℕ) → b ∷ bs ≢ []
 not_nil b bs e = cc
 
-alone : (b : ℕ) → b ≢ 32 → IsWord (b ∷ [])
-alone b ne = record { some = not_nil b []; no_space = All-cons IsOther b [] ne (All-nil IsOther) }
+byte_is_word : (b : ℕ) → b ≢ 32 → IsWord (b ∷ [])
+byte_is_word b ne = record { some = not_nil b []; no_space = All-cons IsOther b [] ne (All-nil IsOther) }
 
 longer : (b : ℕ) (w : Word) → b ≢ 32 → IsWord w → IsWord (b ∷ w)
 longer b w ne h = record { some = not_nil b w; no_space = All-cons IsOther b w ne h.no_space }
@@ -75,7 +75,7 @@ new_word b bs ws ne ends h = record {
   words = (b ∷ []) ∷ ws;
   are = (
     bs,
-    record { spaces = []; spelled = refl; spaces_are = All-nil IsSpace; is_word = alone b ne; ends = ends },
+    record { spaces = []; spelled = refl; spaces_are = All-nil IsSpace; is_word = byte_is_word b ne; ends = ends },
     h,
   );
 }

@@ -13,7 +13,8 @@ pub fn next<'w, 'a>(
     cause: Cause,
     words: &'w [&'a [u8]],
 ) -> Result<(&'a [u8], &'w [&'a [u8]]), Trouble>
-    ensures { Gives (λ x. (x.0.now, map (λ w. w.now) x.1.now)) result (next_of cause (map (λ w. w.now) words.entry.now)) }
+    ensures { Gives (λ x. (x.0.now, map (λ w. w.now) x.1.now)) result
+        (next_of cause (map (λ w. w.now) words.entry.now)) }
 {
     match words.split_first() {
         Some((first, others)) => Ok((*first, others)),

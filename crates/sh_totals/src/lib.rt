@@ -1,5 +1,5 @@
-//! What stands on the pages of a heap of which all passes met: the accounts of each page, one after the other, and their
-//! sums.
+//! What stands on the pages of a heap of which all passes met: the accounts of each page, one after the other, and
+//! their sums.
 #![tactic(auto)]
 
 pub mod pages;

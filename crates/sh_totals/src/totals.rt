@@ -69,7 +69,8 @@ impl Totals {
 pub fn total<L: KeyLayout, H: KeepsHeap<L>>(whole: &mut Whole<L, H>) -> Totals
     ensures heap { whole.new.heap ≡ whole.old.heap }
     ensures tale { NotedMore whole.old.view whole.new.view }
-    ensures are { (pages : List PageAccounts) × AreFirst L.layout whole.old whole.new (all_pages whole.old.heap.shape) pages
+    ensures are { (pages : List PageAccounts)
+        × AreFirst L.layout whole.old whole.new (all_pages whole.old.heap.shape) pages
         × (result ≡ sums pages) }
 {
     let mut sums = Totals::new();

@@ -35,6 +35,9 @@ returned_stands value = record {
   agrees = (refl, (refl, tt));
 }
 
+-- what stands at each stage
+pub ruleset stages_stand = (idle_stands, lent_stands, read_stands, returned_stands)
+
 -- giving the key leaves its get, with a value that is open
 pub gives_lent : (key : ℕ) (book : List LogEntry) → key ≡ 4096 → book ≡ []
     → (key ≡ key) × ((got : LogEntry) × IsGotBy 1 key got × (Unread 1 4096 ∷ [] ≡ book ++ got ∷ []))

@@ -1,7 +1,7 @@
 -- A line more whose answer is put among the replies.
 use Rattle.std.proofs.Common.{◌≡◌, ◌≢◌, ℕ, zero, suc, ◌+◌, ◌<◌, ◌≤◌, eq-eqb, ne_eqb, Bool, cond, List, [], ◌∷◌, ◌++◌}
 use Rattle.std.proofs.Common.{length, take, drop, set, slice_get, Option, Some, sym, refl, ap, ◌∙◌, subst, arith}
-use Rattle.std.proofs.Common.{length-set}
+use Rattle.std.proofs.Common.{length-set, add-one}
 use Rattle.std.proofs.lemmas.Option.{none-some, same_Some}
 use mathlib.Core.Logic.{dite}
 use native.Mathlib.Decide.{ℕ_discrete}
@@ -17,7 +17,7 @@ use Rattle.sh_calls.specs.InOrder.{adding_passes, times}
 use Rattle.sh_calls.specs.Meeting.{orders_of}
 use Rattle.sh_calls.specs.Named.{numbers_told, HeardOfNumber, NamesWereHeard}
 use Rattle.sh_calls.proofs.NameLemmas.{numbers_after, counts_after, heard_more, heard_kept, orders_at}
-use Rattle.sh_calls.proofs.ListLemmas.{get_set_same, get_set_other, take_at, take_past, next}
+use Rattle.sh_calls.proofs.ListLemmas.{get_set_same, get_set_other, take_at, take_past}
 use Rattle.sh_calls.proofs.LineLemmas.{OneMore, one_more, part_here, part_there}
 use Rattle.sh_workers.specs.declared.worker.Made.{Made}
 use Rattle.sh_workers.specs.Works.{own_calls, CallMade, CallsMade, IsWork}
@@ -89,10 +89,10 @@ module _ (heap : Option Heap) (terms : RunTerms) (tag : Option ℕ) (lines : Lis
   rest = drop (i + 1) lines
 
   dropped : drop i lines ≡ l ∷ rest
-  dropped = drop_at lines i l at ∙ ap (λ (k : ℕ). l ∷ drop k lines) (next i)
+  dropped = drop_at lines i l at ∙ ap (λ (k : ℕ). l ∷ drop k lines) (sym (add-one i))
 
   took : take (i + 1) lines ≡ take i lines ++ l ∷ []
-  took = ap (λ (k : ℕ). take k lines) (sym (next i)) ∙ take_at lines i l at
+  took = ap (λ (k : ℕ). take k lines) (add-one i) ∙ take_at lines i l at
 
   owner : (side : SeenPass) × (slice_get sides l.pass ≡ Some side)
   owner = let few = within rests l.pass (m ∷ ms) own in get_some sides l.pass (omega (
@@ -166,8 +166,8 @@ module _ (heap : Option Heap) (terms : RunTerms) (tag : Option ℕ) (lines : Lis
       → after ≡ with_number numbers l.call m.answer → new ≡ set rests l.pass ms
       → longer ≡ output ++ reply_line l m.answer → MergedSoFar heap terms tag lines (i + 1) after sides new longer
   merged_more after new longer named popped printed =
-      let R : List CallLine → Type 0 = λ ls. LinesAnswered terms tag (opening_calls heap) ls (was.answers ++ m.answer ∷ [])
-      then in
+      let R : List CallLine → Type 0 = λ ls. LinesAnswered terms tag (opening_calls heap) ls
+      (was.answers ++ m.answer ∷ []) then in
       record {
         answers = was.answers ++ m.answer ∷ [];
         run = then;

@@ -1,7 +1,7 @@
 -- A line more for a worker.
 use Rattle.std.proofs.Common.{◌≡◌, ◌≢◌, ℕ, zero, suc, ◌+◌, eqb, eq-eqb, ne_eqb, append-nil, Bool, true, false, cond}
 use Rattle.std.proofs.Common.{List, [], ◌∷◌, ◌++◌, length, take, slice_get, Some, Option, sym, refl, ap, ◌∙◌, subst}
-use Rattle.std.proofs.Common.{◌<◌, ◌==◌, arith, map}
+use Rattle.std.proofs.Common.{◌<◌, ◌==◌, arith, map, add-one}
 use Rattle.std.specs.Prelude.{filter, count_by}
 use Rattle.std.proofs.lemmas.List.Sums.{length-filter}
 use Rattle.std.proofs.lemmas.Option.{none-some, same_Some}
@@ -14,7 +14,6 @@ use Rattle.sh_calls.specs.Meeting.{KeepsOrders}
 use Rattle.sh_calls.specs.Named.{HeardOfNumber, tells_number}
 use Rattle.sh_calls.specs.Receipts.{receipt_seen, told_heard}
 use Rattle.sh_calls.proofs.NameLemmas.{heard_kept, tells_own}
-use Rattle.sh_calls.proofs.ListLemmas.{next}
 use Rattle.sh_workers.specs.declared.worker.Made.{Made}
 use Rattle.sh_workers.specs.Boards.{MayHearName}
 use Rattle.sh_workers.specs.Works.{own_calls, CallMade, CallsMade, IsWork}
@@ -39,12 +38,12 @@ own_take p (x ∷ xs) (suc i) l e = elim (eqb x.pass p)
 
 own_then : (p : ℕ) (ls : List CallLine) (i : ℕ) (l : CallLine) → slice_get ls i ≡ Some l → l.pass ≡ p
     → own_calls p (take (i + 1) ls) ≡ own_calls p (take i ls) ++ l.call ∷ []
-own_then p ls i l at e = ap (λ (k : ℕ). own_calls p (take k ls)) (sym (next i)) ∙ (own_take p ls i l at
+own_then p ls i l at e = ap (λ (k : ℕ). own_calls p (take k ls)) (add-one i) ∙ (own_take p ls i l at
     ∙ ap (λ (b : Bool). own_calls p (take i ls) ++ cond b (l.call ∷ []) []) (eq-eqb l.pass p e))
 
 own_else : (p : ℕ) (ls : List CallLine) (i : ℕ) (l : CallLine) → slice_get ls i ≡ Some l → l.pass ≢ p
     → own_calls p (take (i + 1) ls) ≡ own_calls p (take i ls)
-own_else p ls i l at e = ap (λ (k : ℕ). own_calls p (take k ls)) (sym (next i)) ∙ (own_take p ls i l at
+own_else p ls i l at e = ap (λ (k : ℕ). own_calls p (take k ls)) (add-one i) ∙ (own_take p ls i l at
     ∙ (ap (λ (b : Bool). own_calls p (take i ls) ++ cond b (l.call ∷ []) []) (ne_eqb l.pass p e)
     ∙ append-nil (own_calls p (take i ls))))
 
@@ -113,8 +112,8 @@ calls_next terms tag p orders v u w (k ∷ ks) (x ∷ xs) c m h d =
     (h.0, h.1, calls_next terms tag p orders h.0 u w ks xs c m h.2 d)
 
 module _ (heap : Option Heap) (terms : RunTerms) (tag : Option ℕ) (lines : List CallLine) (n i : ℕ)
-    (side : SeenPass) (ms : List Made) (h : IsWork heap terms tag (take i lines) n (new_part heap n) side ms) (l : CallLine)
-    (at : slice_get lines i ≡ Some l) where
+    (side : SeenPass) (ms : List Made) (h : IsWork heap terms tag (take i lines) n (new_part heap n) side ms)
+    (l : CallLine) (at : slice_get lines i ≡ Some l) where
   -- there is room for the answer to a line of its own
   pub work_room : l.pass ≡ n → length ms < length (own_calls n lines)
   work_room own =

@@ -98,8 +98,8 @@ impl<B: Room> Names<B> {
         }
     }
 
-    // The number that the name stands for, once the pass heeded what its binding tells. A name that was bound before the
-    // board was closed is still answered.
+    // The number that the name stands for, once the pass heeded what its binding tells. A name that was bound before
+    // the board was closed is still answered.
     fn told<S: Side>(&mut self, name: usize, side: &mut S) -> Option<Option<u64>>
         requires heap { (S.seen side.old).heap ≡ B.heap }
         ensures heard { MatchOption result (S.seen side.new ≡ S.seen side.old)

@@ -45,8 +45,8 @@ impl From<Unmerged> for Fault {
 }
 
 /// The reply lines in the order of the script's lines, and the passes. The number that each name stood for is compared
-/// with what its insert was answered: `Differ` where they differ, which a board that keeps what was bound never comes to.
-/// `NoRoom` where a line finds no room.
+/// with what its insert was answered: `Differ` where they differ, which a board that keeps what was bound never comes
+/// to. `NoRoom` where a line finds no room.
 pub fn merged<S: Side, B: Room>(
     alloc: Global,
     lines: &[CallLine],

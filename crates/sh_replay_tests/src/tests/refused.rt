@@ -113,8 +113,8 @@ fn refused_memory_in_mode_threads(rt: HostRuntime) -> Result<(), Fail> {
 }
 
 /// Runs the script of two owners once. It ends well, and the output is as ever, or the one in which this growth was
-/// refused and told as a reply. So it must be where an allocation of that growth is refused: `scripts/refuse-memory` has
-/// their numbers.
+/// refused and told as a reply. So it must be where an allocation of that growth is refused: `scripts/refuse-memory`
+/// has their numbers.
 fn tells<R: Threads + Wait + Sync + Abort>(rt: &R, alloc: Global, mode: Mode, growth: usize) {
     let mut reader = OWNERS.as_bytes();
     let mut out = Vec::new(alloc);

@@ -44,7 +44,8 @@ fn the_first_script(rt: HostRuntime) {
 #[test]
 fn spaces_comments_and_blank_lines(rt: HostRuntime) {
     let text =
-        b"\n; a heap\n  heap  tiny 4 2 64 \n   \n;x 0 get b\n 63  insert  b_9 0 18446744073709551615\n0 insert c\n1 get #4096\n2 read c\n";
+        b"\n; a heap\n  heap  tiny 4 2 64 \n   \n;x 0 get b\n 63  insert  b_9 0 18446744073709551615\n\
+        0 insert c\n1 get #4096\n2 read c\n";
     let calls = parse_calls(rt.alloc(), text).expect(&rt, "it is a script");
     assert_eq!(rt; calls.header.shape.passes(), 64);
     assert_eq!(rt; calls.lines.len(), 4);
@@ -57,7 +58,8 @@ fn spaces_comments_and_blank_lines(rt: HostRuntime) {
 #[test]
 fn each_command(rt: HostRuntime) {
     let text =
-        b"heap tiny 1 1 2\n1 post p\n0 wait p\n0 insert a\n0 wait a\n0 remove a\n1 release a\n0 remove #4096\n1 release #0\n0 leave\n";
+        b"heap tiny 1 1 2\n1 post p\n0 wait p\n0 insert a\n0 wait a\n0 remove a\n1 release a\n0 remove #4096\n\
+        1 release #0\n0 leave\n";
     let calls = parse_calls(rt.alloc(), text).expect(&rt, "it is a script");
     assert_eq!(rt; calls.lines.len(), 9);
     assert!(rt; matches!(calls.lines[0].call, Call::Post));
@@ -71,8 +73,8 @@ fn each_command(rt: HostRuntime) {
     assert!(rt; matches!(calls.lines[8].call, Call::Leave));
 }
 
-// The search for a name takes no longer where many are bound: as many as a script of 1,048,576 bytes has room for, where
-// each is n and its number.
+// The search for a name takes no longer where many are bound: as many as a script of 1,048,576 bytes has room for,
+// where each is n and its number.
 #[test]
 fn many_names(rt: HostRuntime) -> Result<(), Fail> {
     let alloc = rt.alloc();

@@ -1,6 +1,6 @@
 use Rattle.std.specs.List.{All}
 use Rattle.std.proofs.Common.{rules, arith, ◌≡◌, ◌<◌, ◌≤◌, ◌∙◌, ℕ, sym, ap, subst, map, ◌++◌, length, set}
-use Rattle.std.proofs.Common.{true, Some, None, Option, slice_get}
+use Rattle.std.proofs.Common.{Some, None, Option, slice_get}
 use Rattle.std.specs.Option.{option_map}
 use Rattle.std.proofs.lemmas.Grind.{common_steps}
 use Rattle.std.proofs.lemmas.Option.{gets, slice_get-map}
@@ -26,10 +26,12 @@ heed_last-requires g c =
     let own : slice_get (map g.S.Side.seen c.loop-line.sides.items) c.line-item.result.pass
     ≡ Some (g.S.Side.seen c.in-Some.side.now) = (let found : slice_get c.loop-line.sides.items c.line-item.result.pass
     ≡ Some c.in-Some.side.now = grind (arith, common_steps, gets) in
-    slice_get-map g.S.Side.seen c.loop-line.sides.items c.line-item.result.pass ∙ ap (option_map g.S.Side.seen) found) in
+    slice_get-map g.S.Side.seen c.loop-line.sides.items c.line-item.result.pass
+    ∙ ap (option_map g.S.Side.seen) found) in
     last_of g.at.0 (g.S.Side.seen c.in-Some.side.now).heap _ c.loop-line.last
     (heap_at g.at.0 g.at.1 c.args.tag c.args.lines.now c.loop-line.line-index c.loop-line.numbers.items _
-    c.loop-line.output.items c.loop-line.invariant.so_far c.line-item.result.pass (g.S.Side.seen c.in-Some.side.now) own)
+    c.loop-line.output.items c.loop-line.invariant.so_far c.line-item.result.pass
+    (g.S.Side.seen c.in-Some.side.now) own)
     c.loop-line.invariant.last_heard
 
 pub answered-answer-requires : goal.answered-answer-requires
@@ -101,9 +103,9 @@ returns-in_default-met g c =
     let past : length c.args.lines.now ≤ c.loop-line.line-index = search rules in
     let none : c.met.result ≡ None = search rules in
     record {
-      ran = ran_to_none g.S.Side.seen g.at.0 g.at.1 c.args.tag c.args.lines.now c.loop-line.line-index c.loop-line.numbers.items
-          (map g.S.Side.seen c.loop-line.sides.items) c.loop-line.output.items c.loop-line.last
-          c.met.result c.loop-line.invariant past none c.met.ensures.stays;
+      ran = ran_to_none g.S.Side.seen g.at.0 g.at.1 c.args.tag c.args.lines.now c.loop-line.line-index
+          c.loop-line.numbers.items (map g.S.Side.seen c.loop-line.sides.items) c.loop-line.output.items
+          c.loop-line.last c.met.result c.loop-line.invariant past none c.met.ensures.stays;
     }
 
 pub returns : goal.returns

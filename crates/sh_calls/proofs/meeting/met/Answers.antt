@@ -6,7 +6,7 @@ use Rattle.sh_calls.specs.Standing.{ShardLeaves}
 use Rattle.std.specs.Vec.Iter.{into_iter_len}
 use Rattle.sh_calls.specs.Meeting.{CarriesTale, tales_told}
 use Rattle.std.specs.Option.{option_map}
-use Rattle.sh_calls.proofs.MeetLaws.{carries_more, orders_more, has_met, met_all, rest_of, next_waits, none_there}
+use Rattle.sh_calls.proofs.MeetLaws.{carries_more, orders_more, has_met, rest_of, next_waits, none_there}
 use Rattle.sh_calls.proofs.meeting.met.Goals as goal
 
 pub loop-side-preserved : goal.loop-side-preserved

@@ -32,8 +32,8 @@ returns g c =
     (sym p.ensures) c.requires.1.1 in
     elim c.if-asked.branch [
       | then-asked+in_ok-push_whole w ↦
-          let done = with_accounts g.at.3 layout g.at.0 g.at.1 g.at.2 c.args.output.items p.result ran w.push_whole.new.output.items
-          w.in_ok-push_whole.ensures in
+          let done = with_accounts g.at.3 layout g.at.0 g.at.1 g.at.2 c.args.output.items p.result ran
+          w.push_whole.new.output.items w.in_ok-push_whole.ensures in
           rw (w.output-is, w.if-asked.true) done
       | else-asked w ↦
           let led = w.look.ensures in

@@ -20,6 +20,6 @@ returns c =
       within = All-permutation (λ (p : Placed). IsWithin p.point p.line.now.span) _ _ c.sort_by_key.ensures.permutation
           c.loop-place.invariant.within;
       in_time = rises_from_sort _ total-law
-          (falls_in_time _ (λ x y h. first_less y.moment x.moment _ h) (λ m r s. equal_then m _)) _ c.in_ok-sort_by_key.ensures.sorted
-          (λ a r q k. search rules);
+          (falls_in_time _ (λ x y h. first_less y.moment x.moment _ h) (λ m r s. equal_then m _)) _
+          c.in_ok-sort_by_key.ensures.sorted (λ a r q k. search rules);
     }

@@ -17,4 +17,5 @@ loop-place-preserved c =
     c.loop-place.invariant
 
 pub returns : goal.returns
-returns c = λ yes. all_marks c.loop-place.place c.args.placed.now c.args.entries.now (search rules) c.loop-place.invariant
+returns c = λ yes. all_marks c.loop-place.place c.args.placed.now c.args.entries.now (search rules)
+    c.loop-place.invariant

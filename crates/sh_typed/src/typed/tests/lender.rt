@@ -64,7 +64,7 @@ impl Lookup for Lender {
           ↦ Err NotHeld
     ] else Err NotHeld) };
 
-    #[tactic(auto, using(crate::proofs::Lending::idle_stands, crate::proofs::Lending::lent_stands, crate::proofs::Lending::read_stands, crate::proofs::Lending::returned_stands))]
+    #[tactic(auto, using(crate::proofs::Lending::stages_stand))]
     fn get(&mut self, key: u64) -> Result<Hold, Refusal> {
         if key != LENT_KEY {
             return Err(Refusal::BadKey);
@@ -79,7 +79,7 @@ impl Lookup for Lender {
         }
     }
 
-    #[tactic(auto, using(crate::proofs::Lending::idle_stands, crate::proofs::Lending::lent_stands, crate::proofs::Lending::read_stands, crate::proofs::Lending::returned_stands))]
+    #[tactic(auto, using(crate::proofs::Lending::stages_stand))]
     fn read(&mut self, hold: Hold) -> Result<Value, Refusal> {
         if hold.key != LENT_KEY {
             return Err(Refusal::NotHeld);
@@ -93,7 +93,7 @@ impl Lookup for Lender {
         }
     }
 
-    #[tactic(auto, using(crate::proofs::Lending::idle_stands, crate::proofs::Lending::lent_stands, crate::proofs::Lending::read_stands, crate::proofs::Lending::returned_stands))]
+    #[tactic(auto, using(crate::proofs::Lending::stages_stand))]
     fn remove(&mut self, key: u64) -> Result<(), Refusal> {
         Err(if key == LENT_KEY {
             Refusal::Memory
@@ -102,7 +102,7 @@ impl Lookup for Lender {
         })
     }
 
-    #[tactic(auto, using(crate::proofs::Lending::idle_stands, crate::proofs::Lending::lent_stands, crate::proofs::Lending::read_stands, crate::proofs::Lending::returned_stands))]
+    #[tactic(auto, using(crate::proofs::Lending::stages_stand))]
     fn release(&mut self, hold: Hold) -> Result<(), Refusal> {
         if hold.key != LENT_KEY {
             return Err(Refusal::NotHeld);
@@ -121,7 +121,7 @@ impl Lookup for Lender {
 impl Store for Lender {
     ghost inserts = { λ old _ result new. (result ≡ Err (if old.has_memory then Full else Memory)) × (new ≡ old) };
 
-    #[tactic(auto, using(crate::proofs::Lending::idle_stands, crate::proofs::Lending::lent_stands, crate::proofs::Lending::read_stands, crate::proofs::Lending::returned_stands))]
+    #[tactic(auto, using(crate::proofs::Lending::stages_stand))]
     fn insert(&mut self, _: &Value) -> Result<u64, Refusal> {
         Err(if self.has_memory {
             Refusal::Full

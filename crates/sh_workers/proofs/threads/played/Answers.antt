@@ -44,7 +44,8 @@ returns-clause-ran g c =
     let output = c.in_ok-output.output.items in
     let answered = c.in_ok-output.ensures.answered in
     let past : length lines ≤ length lines = omega arith in
-    let R : Option ℕ → Type 0 = λ tag. LinesRan false room.heap room.terms tag lines output (option_map seen c.met.result) in
+    let R : Option ℕ → Type 0 = λ tag. LinesRan false room.heap room.terms tag lines output
+    (option_map seen c.met.result) in
     subst R (sym c.requires.tag) (lines_ran seen room.heap room.terms room.tag lines (length lines) answered.0
     (map seen c.in_ok-output.sides.items) output c.met.result past c.requires.passes answered.1 c.met.ensures.met
     c.met.ensures.stays)

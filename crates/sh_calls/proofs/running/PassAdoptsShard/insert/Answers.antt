@@ -1,4 +1,4 @@
-use Rattle.sh_calls.proofs.RunningLaws.{insert_answers, key_is_small}
+use Rattle.sh_calls.proofs.OwningLaws.{insert_answers, key_is_small}
 use Rattle.sh_shard.specs.Shards.{value_class}
 use Rattle.sh_calls.proofs.running.PassAdoptsShard.insert.Goals as goal
 

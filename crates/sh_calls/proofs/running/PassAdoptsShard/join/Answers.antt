@@ -1,4 +1,4 @@
-use Rattle.sh_calls.proofs.RunningLaws.{joined_orders}
+use Rattle.sh_calls.proofs.JoinLaws.{joined_orders}
 use Rattle.sh_calls.proofs.running.PassAdoptsShard.join.Goals as goal
 
 pub returns-clause-orders : goal.returns-clause-orders

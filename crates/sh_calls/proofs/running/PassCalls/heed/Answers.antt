@@ -1,4 +1,4 @@
-use Rattle.sh_calls.proofs.RunningLaws.{pass_heeds}
+use Rattle.sh_calls.proofs.ReceiptLaws.{pass_heeds}
 use Rattle.sh_calls.proofs.running.PassCalls.heed.Goals as goal
 
 pub returns : goal.returns

@@ -1,4 +1,4 @@
-use Rattle.sh_calls.proofs.RunningLaws.{owner_heeds}
+use Rattle.sh_calls.proofs.ReceiptLaws.{owner_heeds}
 use Rattle.sh_calls.proofs.running.ShardCalls.heed.Goals as goal
 
 pub returns : goal.returns

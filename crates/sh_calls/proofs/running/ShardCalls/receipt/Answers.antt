@@ -1,5 +1,5 @@
 use Rattle.sh_calls.specs.Standing.{Owning}
-use Rattle.sh_calls.proofs.RunningLaws.{receipt_told}
+use Rattle.sh_calls.proofs.ReceiptLaws.{receipt_told}
 use Rattle.sh_calls.proofs.running.ShardCalls.receipt.Goals as goal
 
 pub returns-clause-tells : goal.returns-clause-tells
