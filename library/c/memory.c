@@ -1,6 +1,6 @@
 /* Each allocation refused in turn: a call that takes memory answers MEMORY and leaves all as it was, so that it may be
-   tried again, and in the end no block is left over. It is linked with --wrap=malloc, --wrap=realloc and --wrap=free, so that what the library asks for is
-   counted here. */
+   tried again, and in the end no block is left over. It is linked with --wrap=malloc, --wrap=realloc and --wrap=free,
+   so that what the library asks for is counted here. */
 #include "check.h"
 
 static long budget = -1, blocks, granted; /* how many allocations are still granted; no bound below 0 */
@@ -40,15 +40,15 @@ static uint64_t words[16] = {1, 2, 3};
 
 /* A call that was refused memory, or not. A refused one is tried again with memory, and then it does what it does. */
 static int refused;
-#define TRY(call, stands)                \
-    do {                                 \
-        uint32_t code = (call);          \
-        if (code == SHARDHEAP_MEMORY) {  \
-            refused++;                   \
-            TRUE(stands);                \
-            budget = -1;                 \
-            code = (call);               \
-        }                                \
+#define TRY(call, stands)                                         \
+    do {                                                          \
+        uint32_t code = (call);                                   \
+        if (code == SHARDHEAP_MEMORY) {                           \
+            refused++;                                            \
+            TRUE(stands);                                         \
+            budget = -1;                                          \
+            code = (call);                                        \
+        }                                                         \
         same_code(code, SHARDHEAP_OK, #call, __FILE__, __LINE__); \
     } while (0)
 
@@ -68,18 +68,42 @@ static void owns(shardheap_pass *one, shardheap_pass *two) {
     IS(shardheap_leave(one), SHARDHEAP_OK);
 }
 
+/* An owner of the other shard, whose first insert opens a segment. */
+static void owns_another(shardheap_pass *one) {
+    uint64_t key = 77;
+    TRY(shardheap_adopt(one, 1), shardheap_leave(one) == SHARDHEAP_NO_SHARD);
+    TRY(shardheap_insert_once(one, words, 16, &key), key == 77);
+    IS(shardheap_remove(one, key), SHARDHEAP_OK);
+    IS(shardheap_leave(one), SHARDHEAP_OK);
+}
+
+/* A heap that is opened for so many values. */
+static void opens_for(uint32_t layout) {
+    shardheap heap = SHARDHEAP_INIT;
+    TRY(shardheap_open_for(&heap, layout, 2, 100, 2, 2), !heap.full);
+    TRUE(shardheap_passes(&heap) == 2);
+    shardheap_close(&heap);
+    TRUE(blocks == 0);
+}
+
 /* A heap's whole life. */
 static void lives(uint32_t layout) {
     shardheap heap = SHARDHEAP_INIT;
     shardheap_pass one = SHARDHEAP_INIT, two = SHARDHEAP_INIT;
+    shardheap_sums sums = {9, 9, 9, 9, 9, 9};
     TRY(shardheap_open(&heap, layout, 2, 2, 2), !heap.full);
     TRY(shardheap_take(&heap, &one), !one.full && heap.full);
     TRY(shardheap_take(&heap, &two), !two.full && heap.full);
     owns(&one, &two);
+    owns_another(&one);
     IS(shardheap_give(&one), SHARDHEAP_OK);
     IS(shardheap_give(&two), SHARDHEAP_OK);
+    TRY(shardheap_gather(&heap), shardheap_totals(&heap, &sums) == SHARDHEAP_AWAY);
+    IS(shardheap_totals(&heap, &sums), SHARDHEAP_OK);
+    TRUE(sums.live == 1);
     shardheap_close(&heap);
     TRUE(blocks == 0);
+    opens_for(layout);
 }
 
 /* How many allocations a life in this layout takes, each of which is refused in turn. */

@@ -32,6 +32,8 @@ static void null_pointers(void) {
     IS(shardheap_insert(&pass, 0, 1, &key), SHARDHEAP_NULL);
     IS(shardheap_insert(&pass, words, 1, 0), SHARDHEAP_NULL);
     IS(shardheap_insert_once(0, words, 1, &key), SHARDHEAP_NULL);
+    IS(shardheap_insert_once(&pass, 0, 1, &key), SHARDHEAP_NULL);
+    IS(shardheap_insert_once(&pass, words, 1, 0), SHARDHEAP_NULL);
     TRUE(shardheap_passes(0) == 0);
     shardheap_close(0);
     shardheap_pass_close(0);
@@ -54,6 +56,7 @@ static void empty_handles(void) {
     IS(shardheap_collect(&pass), SHARDHEAP_EMPTY);
     IS(shardheap_prepare(&pass, 1, &page), SHARDHEAP_EMPTY);
     IS(shardheap_insert(&pass, words, 1, &key), SHARDHEAP_EMPTY);
+    IS(shardheap_insert_once(&pass, words, 1, &key), SHARDHEAP_EMPTY);
     TRUE(key == 77 && length == 99 && page == 55 && room[0] == 0);
     TRUE(shardheap_passes(&heap) == 0);
     shardheap_close(&heap);
@@ -144,6 +147,7 @@ static void owners(shardheap_pass *one, shardheap_pass *two, uint64_t *key, uint
     uint32_t page = 55;
     *key = 77;
     IS(shardheap_insert(one, words, 3, key), SHARDHEAP_NO_SHARD);
+    IS(shardheap_insert_once(one, words, 3, key), SHARDHEAP_NO_SHARD);
     IS(shardheap_prepare(one, 3, &page), SHARDHEAP_NO_SHARD);
     IS(shardheap_collect(one), SHARDHEAP_NO_SHARD);
     IS(shardheap_leave(one), SHARDHEAP_NO_SHARD);
@@ -154,6 +158,7 @@ static void owners(shardheap_pass *one, shardheap_pass *two, uint64_t *key, uint
     IS(shardheap_adopt(two, 0), SHARDHEAP_TAKEN);
     IS(shardheap_give(one), SHARDHEAP_OWNS);
     IS(shardheap_insert(one, words, 17, key), SHARDHEAP_TOO_LONG);
+    IS(shardheap_insert_once(one, words, 17, key), SHARDHEAP_TOO_LONG);
     IS(shardheap_prepare(one, 17, &page), SHARDHEAP_TOO_LONG);
     TRUE(*key == 77 && page == 55);
     IS(shardheap_prepare(one, 3, &page), SHARDHEAP_OK);
@@ -166,10 +171,12 @@ static void owners(shardheap_pass *one, shardheap_pass *two, uint64_t *key, uint
 
 static void hands(shardheap *heap, shardheap_pass *one, shardheap_pass *two) {
     uint64_t last = 0, key = 77;
-    uint32_t code, held = 0;
+    uint32_t code, held = 0, page = 55;
     while ((code = shardheap_insert(one, words, 16, &key)) == SHARDHEAP_OK) last = key, held++;
     IS(code, SHARDHEAP_FULL);
-    TRUE(held > 0 && key == last);
+    IS(shardheap_insert_once(one, words, 16, &key), SHARDHEAP_FULL);
+    IS(shardheap_prepare(one, 1, &page), SHARDHEAP_FULL);
+    TRUE(held > 0 && key == last && page == 55);
     IS(shardheap_leave(one), SHARDHEAP_OK);
     IS(shardheap_insert(one, words, 1, &key), SHARDHEAP_NO_SHARD);
     IS(shardheap_adopt(two, 0), SHARDHEAP_OK);

@@ -1,4 +1,4 @@
-/* A value is stored by one thread, and read and removed by another. */
+/* A value is stored by one thread, and got, read and removed by another. */
 #include "shardheap.h"
 #include <pthread.h>
 #include <stdio.h>
@@ -9,12 +9,17 @@ static uint64_t key;
 static void *reads(void *arg) {
     shardheap_pass *pass = arg;
     uint64_t words[16], length = 99;
-    if (shardheap_load(pass, key, words, 16, &length) != SHARDHEAP_OK) return NULL;
-    printf("read %llu words: %llu %llu\n", (unsigned long long)length, (unsigned long long)words[0],
+    uint32_t code = shardheap_get(pass, key);
+    if (code == SHARDHEAP_OK) code = shardheap_remove(pass, key); /* the hold keeps the value */
+    if (code == SHARDHEAP_OK) code = shardheap_read(pass, key, words, 16, &length);
+    if (code == SHARDHEAP_OK) code = shardheap_release(pass, key);
+    printf("get, remove, read, release: %s\n", shardheap_name(code));
+    if (code != SHARDHEAP_OK) return NULL;
+    printf("%llu words: %llu %llu\n", (unsigned long long)length, (unsigned long long)words[0],
            (unsigned long long)words[1]);
-    printf("remove: %s\n", shardheap_name(shardheap_remove(pass, key)));
-    printf("load: %s\n", shardheap_name(shardheap_load(pass, key, words, 16, &length)));
-    return arg;
+    code = shardheap_load(pass, key, words, 16, &length);
+    printf("load: %s\n", shardheap_name(code));
+    return code == SHARDHEAP_GONE ? arg : NULL;
 }
 
 int main(void) {
@@ -27,8 +32,8 @@ int main(void) {
     if (code == SHARDHEAP_OK) code = shardheap_take(&heap, &other);
     if (code == SHARDHEAP_OK) code = shardheap_adopt(&owner, 0);
     if (code == SHARDHEAP_OK) code = shardheap_insert(&owner, words, 2, &key);
-    if (code == SHARDHEAP_OK && pthread_create(&thread, NULL, reads, &other) == 0) pthread_join(thread, &done);
     printf("insert: %s\n", shardheap_name(code));
+    if (code == SHARDHEAP_OK && pthread_create(&thread, NULL, reads, &other) == 0) pthread_join(thread, &done);
     shardheap_leave(&owner);
     shardheap_give(&owner);
     shardheap_give(&other);

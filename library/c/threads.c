@@ -1,9 +1,9 @@
 /* Owners and remote freers in threads, and owners that change.
 
-   threads PAIRS ROUNDS: each pair has a producer, which owns a shard, inserts and hands keys over a ring, and a consumer
-   in another thread, which holds, reads, checks and removes them. Every 4,096 rounds the producer leaves its shard, brings
-   its pass home, takes one that is at home and adopts the shard again. At the end each value that was inserted was read
-   with the right words and removed once, and all passes are at home. */
+   threads PAIRS ROUNDS: each pair has a producer, which owns a shard, inserts and hands keys over a ring, and a
+   consumer in another thread, which holds, reads, checks and removes them. Every 4,096 rounds the producer leaves its
+   shard, brings its pass home, takes one that is at home and adopts the shard again. At the end each value that was
+   inserted was read with the right words and removed once, and all passes are at home. */
 #include "check.h"
 #include <pthread.h>
 #include <sched.h>

@@ -25,6 +25,12 @@ pub const BAD_LAYOUT: u32 = 19;
 /// The pass owns a shard, which it has to leave first.
 pub const OWNS: u32 = 20;
 
+/// A pass is away, so that the heap tells nothing of itself as a whole.
+pub const AWAY: u32 = 21;
+
+/// The heap has no such page.
+pub const NO_PAGE: u32 = 22;
+
 /// The code of an answer.
 pub(crate) fn code<T>(answer: &Result<T, Refusal>) -> u32
     ensures { result ≡ code_of answer.now }

@@ -9,4 +9,6 @@ pub mod calls;
 pub mod codes;
 pub mod opening;
 pub mod passes;
+pub mod tags;
+pub mod telling;
 pub mod values;

@@ -1,5 +1,5 @@
 //! The calls that name a value: what they store, and what they write into the caller's room.
-ghost use Rattle.std.specs.Prelude.{◌≡◌, length};
+ghost use Rattle.std.specs.Prelude.{◌≡◌, ◌≤◌, ◌+◌, ◌++◌, length};
 ghost use Rattle.sh_pass.specs.Passes.{ReadDoes};
 ghost use Rattle.sh_readers.specs.Readers.{FetchDoes};
 ghost use Rattle.sh_c.specs.Told.{InsertTold, InsertsWords, PrepareTold, PreparesFor, ReadTold, WordsTold, number_told};
@@ -39,10 +39,11 @@ pub extern "C" fn shardheap_raw_read(
     let Some(mut held) = pass.take(alloc) else {
         return EMPTY;
     };
-    let answer = held.read(Hold { key });
+    let mut value = Value::empty();
+    let answer = held.read_into(Hold { key }, &mut value);
     *pass = PassHandle::of(held);
     match answer {
-        Ok(value) => tell_words(&value, words, count),
+        Ok(()) => tell_words(&value, words, count),
         Err(refusal) => refusal.number(),
     }
 }
@@ -62,11 +63,25 @@ pub extern "C" fn shardheap_raw_load(
     let Some(mut held) = pass.take(alloc) else {
         return EMPTY;
     };
-    let answer = held.fetch(key);
+    let mut value = Value::empty();
+    let answer = held.fetch_into(key, &mut value);
     *pass = PassHandle::of(held);
     match answer {
-        Ok(value) => tell_words(&value, words, count),
+        Ok(()) => tell_words(&value, words, count),
         Err(refusal) => refusal.number(),
+    }
+}
+
+// The most words of a value.
+const MOST_WORDS: usize = 16;
+
+// Puts the words behind those of the value, where it is, so that the value is copied nowhere.
+fn put_words(value: &mut Value, words: &[u64])
+    requires { length value.old + length words.now ≤ 16 }
+    ensures { value.new ≡ value.old ++ words.now }
+{
+    for word in words {
+        value.push(*word);
     }
 }
 
@@ -74,10 +89,12 @@ pub extern "C" fn shardheap_raw_load(
 fn insert_words(member: &mut AnyMember, words: &[u64]) -> Result<u64, Refusal>
     ensures { InsertsWords words.now member.old result member.new }
 {
-    match Value::new(words) {
-        Ok(value) => member.insert(&value),
-        Err(refusal) => Err(refusal),
+    if words.len() > MOST_WORDS {
+        return Err(Refusal::TooLong);
     }
+    let mut value = Value::empty();
+    put_words(&mut value, words);
+    member.insert(&value)
 }
 
 // Tells the key of a value that was stored.

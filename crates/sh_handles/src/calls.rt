@@ -1,7 +1,7 @@
 // The calls of a member by which it stays a pass, or the owner of its shard.
 ghost use Rattle.std.specs.Prelude.{◌<◌};
-ghost use Rattle.sh_pass.specs.Passes.{GetDoes, ReadDoes, RemoveDoes, ReleaseDoes};
-ghost use Rattle.sh_readers.specs.Readers.{FetchDoes};
+ghost use Rattle.sh_pass.specs.Passes.{GetDoes, ReadDoes, ReadIntoDoes, RemoveDoes, ReleaseDoes};
+ghost use Rattle.sh_readers.specs.Readers.{FetchDoes, FetchIntoDoes};
 ghost use Rattle.sh_member.specs.Sides.{SideDoes, SideInserts, SidePrepares, SideCollects};
 ghost use Rattle.sh_handles.specs.Members.{AnyDoes};
 
@@ -33,6 +33,19 @@ impl AnyMember {
         }
     }
 
+    /// The same into a value of the caller's, which is as it was where it is refused.
+    pub fn read_into(&mut self, hold: Hold, value: &mut Value) -> Result<(), Refusal>
+        ensures { AnyDoes (λ l. SideDoes l (λ v answer w. ReadIntoDoes hold.key v value.old answer value.new w))
+            self.old result self.new }
+    {
+        match self {
+            AnyMember::Wide(member, _) => member.read_into(hold, value),
+            AnyMember::Tagged(member, _) => member.read_into(hold, value),
+            AnyMember::Deep(member, _) => member.read_into(hold, value),
+            AnyMember::Tiny(member, _) => member.read_into(hold, value),
+        }
+    }
+
     /// The value of a key: a get, a read and a release in one. Refused as a get is. It leaves the holds as they were.
     pub fn fetch(&mut self, key: u64) -> Result<Value, Refusal>
         ensures { AnyDoes (λ l. SideDoes l (FetchDoes l key)) self.old result self.new }
@@ -42,6 +55,19 @@ impl AnyMember {
             AnyMember::Tagged(member, _) => member.fetch(key),
             AnyMember::Deep(member, _) => member.fetch(key),
             AnyMember::Tiny(member, _) => member.fetch(key),
+        }
+    }
+
+    /// The same into a value of the caller's, which is as it was where it is refused.
+    pub fn fetch_into(&mut self, key: u64, value: &mut Value) -> Result<(), Refusal>
+        ensures { AnyDoes (λ l. SideDoes l (λ v answer w. FetchIntoDoes l key v value.old answer value.new w)) self.old
+            result self.new }
+    {
+        match self {
+            AnyMember::Wide(member, _) => member.fetch_into(key, value),
+            AnyMember::Tagged(member, _) => member.fetch_into(key, value),
+            AnyMember::Deep(member, _) => member.fetch_into(key, value),
+            AnyMember::Tiny(member, _) => member.fetch_into(key, value),
         }
     }
 

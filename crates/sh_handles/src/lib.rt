@@ -10,6 +10,7 @@ pub mod heap_handle;
 pub mod member;
 mod moving;
 pub mod pass_handle;
+mod telling;
 
 pub use heap::AnyHeap;
 pub use heap_handle::HeapHandle;

@@ -3,7 +3,7 @@ ghost use Rattle.std.specs.Prelude.{◌<◌};
 ghost use Rattle.sh_pass.specs.Passes.{GetDoes, ReadDoes, ReadIntoDoes, RemoveDoes, ReleaseDoes};
 ghost use Rattle.sh_shard.specs.Shards.{StaysOwner};
 ghost use Rattle.sh_member.specs.Sides.{SideDoes, SideInserts, SidePrepares, SideCollects};
-ghost use Rattle.sh_readers.specs.Readers.{FetchDoes};
+ghost use Rattle.sh_readers.specs.Readers.{FetchDoes, FetchIntoDoes};
 
 use crate::member::{Member, Side};
 use sh_key::KeyLayout;
@@ -16,13 +16,15 @@ use sh_value::{Hold, Refusal, Value};
 fn fetch_by_owner<L: KeyLayout, H: KeepsHeap<L>>(
     owner: &mut Shard<L, H>,
     key: u64,
-) -> Result<Value, Refusal>
-    ensures does { FetchDoes L.layout key owner.old.pages.owner result owner.new.pages.owner }
+    value: &mut Value,
+) -> Result<(), Refusal>
+    ensures does { FetchIntoDoes L.layout key owner.old.pages.owner value.old result value.new
+        owner.new.pages.owner }
     ensures stays { StaysOwner L.layout owner.old owner.new }
 {
     // (that the shard is the owner's is known of it before and after)
     owner.shape();
-    let answer = owner.fetch(key);
+    let answer = owner.fetch_into(key, value);
     owner.shape();
     answer
 }
@@ -66,9 +68,19 @@ impl<L: KeyLayout, H: KeepsHeap<L>> Member<L, H> {
     pub fn fetch(&mut self, key: u64) -> Result<Value, Refusal>
         ensures { SideDoes L.layout (FetchDoes L.layout key) self.old result self.new }
     {
+        let mut value = Value::empty();
+        self.fetch_into(key, &mut value)?;
+        Ok(value)
+    }
+
+    /// The same into a value of the caller's, which is as it was where it is refused.
+    pub fn fetch_into(&mut self, key: u64, value: &mut Value) -> Result<(), Refusal>
+        ensures { SideDoes L.layout (λ v answer w. FetchIntoDoes L.layout key v value.old answer value.new w) self.old
+            result self.new }
+    {
         match &mut self.side {
-            Side::Pass(pass) => pass.fetch(key),
-            Side::Shard(shard) => fetch_by_owner(shard, key),
+            Side::Pass(pass) => pass.fetch_into(key, value),
+            Side::Shard(shard) => fetch_by_owner(shard, key, value),
             Side::Moving => unreachable!(),
         }
     }

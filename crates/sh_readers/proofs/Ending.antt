@@ -19,7 +19,8 @@ use Rattle.sh_step.specs.declared.footstep.Footstep.{Footstep}
 use Rattle.sh_step.specs.Collections.{without}
 use Rattle.sh_pass.specs.Growing.{SameTale}
 use Rattle.sh_pass.specs.Deciding.{InOneStep, DropsHold, RemovalDecided}
-use Rattle.sh_pass.specs.Passes.{Caller, holds, CallAdds, CallReads, GetDoes, ReadDoes, ReleaseDoes, RemoveDoes, plan_for}
+use Rattle.sh_pass.specs.Passes.{Caller, holds, CallAdds, CallReads, GetDoes, ReadDoes, ReleaseDoes, RemoveDoes}
+use Rattle.sh_pass.specs.Passes.{plan_for}
 use Rattle.sh_table.specs.declared.view.View.{View}
 use Rattle.sh_readers.specs.Readers.{ReadsAndAdds, FetchDoes, TakeDoes}
 use Rattle.sh_readers.proofs.Holding.{without_first}
@@ -126,7 +127,8 @@ fetch_does layout k hold value v a b c got read released =
     let reads : ReadDoes k a (Ok value) b = subst R got.0 read in
     let releases : ReleaseDoes layout k b (Ok tt) c = subst S got.0 released in (
       (got.1, got.2),
-      fetches k value (InOneStep (plan_for layout v) k) (DropsHold (plan_for layout b) k) v a b c got.3 reads.1 releases.1,
+      fetches k value (InOneStep (plan_for layout v) k) (DropsHold (plan_for layout b) k) v a b c got.3 reads.1
+          releases.1,
     )
 
 pub take_does : (layout : Layout) (k : ℕ) (hold : Hold) (value : List ℕ) (v a b c d : Caller)
@@ -139,8 +141,8 @@ take_does layout k hold value v a b c d got removed read released =
     let releases : ReleaseDoes layout k c (Ok tt) d = subst S got.0 released in (
       (got.1, got.2),
       takes k value (λ p. entry.Removed p k) (InOneStep (plan_for layout v) k)
-          (RemovalDecided (plan_for layout a) k true) (DropsHold (plan_for layout c) k) v a b c d got.3 removed.1 reads.1
-          releases.1,
+          (RemovalDecided (plan_for layout a) k true) (DropsHold (plan_for layout c) k) v a b c d got.3 removed.1
+          reads.1 releases.1,
     )
 
 no_key : {A : Type 0} (o : Option A) → IsSome o → o ≡ None → ⊥

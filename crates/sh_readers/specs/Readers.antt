@@ -39,6 +39,12 @@ FetchDoes layout key v (Ok value) w =
     (Known (entry.Got v.view.pass key value) ∷ Known (entry.Released v.view.pass key) ∷ []) (length value + 9) v w
 FetchDoes layout key v (Err why) w = GetDoes layout key v (Err why) w
 
+-- the same of a fetch into a value of the caller's, in place of the one before; a refusal leaves that
+abbrev pub FetchIntoDoes : Layout → ℕ → Caller → (before : List ℕ) → Result (Unit {0}) Refusal → (after : List ℕ)
+    → Caller → Type 0
+FetchIntoDoes layout key v before (Ok _) after w = FetchDoes layout key v (Ok after) w
+FetchIntoDoes layout key v before (Err why) after w = FetchDoes layout key v (Err why) w × (after ≡ before)
+
 -- a fetch whose value was given to a call that gave this, or that is refused as the get is
 abbrev pub WithDoes : {T : Type 0} → (gives : List ℕ → T → Type 0) → Layout → ℕ → Caller → Result T Refusal → Caller
     → Type 0

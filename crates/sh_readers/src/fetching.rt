@@ -1,23 +1,34 @@
 //! A get, a read and a release in one.
 ghost use Rattle.std.specs.Fn.{FnOnceReturnsAt};
-ghost use Rattle.sh_readers.specs.Readers.{Remains, FetchDoes, WithDoes};
+ghost use Rattle.sh_readers.specs.Readers.{Remains, FetchDoes, FetchIntoDoes, WithDoes};
 
 use crate::reader::Reader;
 use sh_value::{Refusal, Value};
 
-/// The value of a key. Refused as a get is. No hold is left behind, whatever it answers.
+/// The value of a key, in place of what the value was. Refused as a get is, and that leaves it as it was. No hold is
+/// left behind, whatever it answers.
 #[tactic(auto, using(crate::proofs::Holding::has_first, crate::proofs::Holding::without_first))]
-pub fn fetch<R: Reader>(reader: &mut R, key: u64) -> Result<Value, Refusal>
-    ensures does { FetchDoes R.layout key (R.caller reader.old) result (R.caller reader.new) }
+pub fn fetch_into<R: Reader>(reader: &mut R, key: u64, value: &mut Value) -> Result<(), Refusal>
+    ensures does { FetchIntoDoes R.layout key (R.caller reader.old) value.old result value.new (R.caller reader.new) }
     ensures remains { Remains R.layout (R.caller reader.old) (R.caller reader.new) }
 {
     let hold = reader.get(key)?;
-    let Ok(value) = reader.read(hold) else {
+    let Ok(()) = reader.read_into(hold, value) else {
         unreachable!()
     };
     let Ok(()) = reader.release(hold) else {
         unreachable!()
     };
+    Ok(())
+}
+
+/// The value of a key. Refused as a get is. No hold is left behind, whatever it answers.
+pub fn fetch<R: Reader>(reader: &mut R, key: u64) -> Result<Value, Refusal>
+    ensures does { FetchDoes R.layout key (R.caller reader.old) result (R.caller reader.new) }
+    ensures remains { Remains R.layout (R.caller reader.old) (R.caller reader.new) }
+{
+    let mut value = Value::empty();
+    fetch_into(reader, key, &mut value)?;
     Ok(value)
 }
 

@@ -3,10 +3,10 @@ ghost use Rattle.std.specs.Prelude.{◌≡◌, ℕ, Result};
 ghost use Rattle.sh_key.specs.Layout.{Layout};
 ghost use Rattle.sh_pass.specs.Passes.{Caller, GetDoes, ReadDoes, ReadIntoDoes, RemoveDoes, ReleaseDoes};
 ghost use Rattle.sh_pass.specs.Receipts.{heeded, receipt_by};
-ghost use Rattle.sh_readers.specs.Readers.{Remains, FetchDoes, WithDoes, TakeDoes};
+ghost use Rattle.sh_readers.specs.Readers.{Remains, FetchDoes, FetchIntoDoes, WithDoes, TakeDoes};
 ghost use Rattle.std.specs.Fn.{FnOnceReturnsAt};
 
-use crate::fetching::{fetch, with};
+use crate::fetching::{fetch, fetch_into, with};
 use crate::taking::take;
 use sh_pass::Receipt;
 use sh_value::{Hold, Refusal, Value};
@@ -76,6 +76,17 @@ pub trait Reader {
         ensures remains { Remains layout (caller self.old) (caller self.new) }
     {
         fetch(self, key)
+    }
+
+    /// The same into a value of the caller's, in place of what that was, so that it is copied nowhere. A refusal leaves
+    /// that as it was.
+    final fn fetch_into(&mut self, key: u64, value: &mut Value) -> Result<(), Refusal>
+    where
+        Self: Sized,
+        ensures does { FetchIntoDoes layout key (caller self.old) value.old result value.new (caller self.new) }
+        ensures remains { Remains layout (caller self.old) (caller self.new) }
+    {
+        fetch_into(self, key, value)
     }
 
     /// What a call gives for the value of a key, as `pass.with(key, |value| value.words().len())`: a fetch whose value

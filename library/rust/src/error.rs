@@ -42,6 +42,10 @@ pub enum Error {
     BadShape,
     /// No pass is at home.
     NoPass,
+    /// A pass is away, so that the heap tells nothing of itself as a whole.
+    Away,
+    /// The heap has no such page.
+    NoPage,
     /// The value is no record of the kind that was asked for.
     WrongKind,
     /// An answer of the library that this crate does not know. No call is known to give one.
@@ -64,6 +68,8 @@ impl fmt::Display for Error {
             Error::Waiting => "another pass has a free in the shard to end first",
             Error::BadShape => "the numbers are outside the limits of the layout",
             Error::NoPass => "no pass is at home",
+            Error::Away => "a pass of the heap is away",
+            Error::NoPage => "the heap has no such page",
             Error::WrongKind => "the value is no record of this kind",
             Error::Unknown(code) => return write!(f, "the library answered {code}, which is not known"),
         })
@@ -97,6 +103,8 @@ fn refusal(code: u32) -> Error {
         11 => Error::Waiting,
         12 => Error::BadShape,
         16 => Error::NoPass,
+        21 => Error::Away,
+        22 => Error::NoPage,
         _ => Error::Unknown(code),
     }
 }

@@ -1,8 +1,9 @@
-//! The calls of the library, and handles as Rust uses them. All that is unsafe below a slab stands here.
+//! The calls of the library, and handles as Rust uses them. What is unsafe below a slab stands here and in `words`.
 //!
 //! What the reasons below lean on. The declarations are those of `shardheap.h`. A handle begins as zeroed bytes, and
 //! nothing but the library writes it. It is never copied: it lies in a value that is neither `Copy` nor `Clone`, and to
 //! move that is to move the handle. No call calls back, so that a handle which one thread has is used by one call.
+use crate::accounts::{PageAccounts, Totals};
 use crate::error::{told, Error};
 use crate::key::Key;
 use crate::value::{Value, MAX_WORDS};
@@ -27,12 +28,21 @@ impl Raw {
     const EMPTY: Raw = Raw { at: std::ptr::null_mut(), full: false };
 }
 
+/// What C's `shardheap_page` is: used, class, live, marked, retired, queued.
+type PageWords = [u32; 6];
+
+/// What C's `shardheap_sums` is: live, marked, retired, queued, used pages, blank pages.
+type SumWords = [u32; 6];
+
 extern "C" {
     fn shardheap_raw_open(heap: *mut Raw, layout: u32, shards: u32, segments: u32, passes: u32) -> u32;
     fn shardheap_raw_open_for(heap: *mut Raw, layout: u32, owners: u32, values: u64, words: u32, passes: u32) -> u32;
     fn shardheap_raw_passes(heap: *mut Raw) -> u64;
     fn shardheap_raw_take(heap: *mut Raw, pass: *mut Raw) -> u32;
     fn shardheap_raw_close(heap: *mut Raw);
+    fn shardheap_raw_gather(heap: *mut Raw) -> u32;
+    fn shardheap_raw_accounts(heap: *mut Raw, shard: u32, page: u32, told: *mut PageWords) -> u32;
+    fn shardheap_raw_totals(heap: *mut Raw, told: *mut SumWords) -> u32;
     fn shardheap_raw_give(pass: *mut Raw) -> u32;
     fn shardheap_raw_pass_close(pass: *mut Raw);
     fn shardheap_raw_adopt(pass: *mut Raw, shard: u64) -> u32;
@@ -90,6 +100,28 @@ impl HeapHandle {
         told(unsafe { shardheap_raw_take(&mut *self.lock(), &mut pass) })?;
         Ok(PassHandle { raw: UnsafeCell::new(pass) })
     }
+
+    pub(crate) fn gather(&self) -> Result<(), Error> {
+        // SAFETY: as in `passes`.
+        told(unsafe { shardheap_raw_gather(&mut *self.lock()) })
+    }
+
+    pub(crate) fn accounts(&self, shard: u32, page: u32) -> Result<PageAccounts, Error> {
+        let mut words = PageWords::default();
+        // SAFETY: as in `passes`, and `words` has the size and alignment of what is written.
+        told(unsafe { shardheap_raw_accounts(&mut *self.lock(), shard, page, &mut words) })?;
+        let [used, class, live, marked, retired, queued] = words;
+        let class = (used == 1).then_some(class);
+        Ok(PageAccounts { class, live, marked, retired, queued })
+    }
+
+    pub(crate) fn totals(&self) -> Result<Totals, Error> {
+        let mut words = SumWords::default();
+        // SAFETY: as in `accounts`.
+        told(unsafe { shardheap_raw_totals(&mut *self.lock(), &mut words) })?;
+        let [live, marked, retired, queued, used_pages, blank_pages] = words;
+        Ok(Totals { live, marked, retired, queued, used_pages, blank_pages })
+    }
 }
 
 impl Drop for HeapHandle {
@@ -111,67 +143,74 @@ const LEAVE_TRIES: u32 = 1000;
 
 impl PassHandle {
     #[inline]
+    fn at(&self) -> *mut Raw {
+        self.raw.get()
+    }
+
+    #[inline]
     pub(crate) fn get(&self, key: Key) -> Result<(), Error> {
         // SAFETY: the handle is this thread's, and no other call uses it.
-        told(unsafe { shardheap_raw_get(self.raw.get(), key.into()) })
+        told(unsafe { shardheap_raw_get(self.at(), key.into()) })
     }
 
     #[inline]
     pub(crate) fn release(&self, key: Key) -> Result<(), Error> {
         // SAFETY: as in `get`.
-        told(unsafe { shardheap_raw_release(self.raw.get(), key.into()) })
+        told(unsafe { shardheap_raw_release(self.at(), key.into()) })
     }
 
     #[inline]
     pub(crate) fn remove(&self, key: Key) -> Result<(), Error> {
         // SAFETY: as in `get`.
-        told(unsafe { shardheap_raw_remove(self.raw.get(), key.into()) })
+        told(unsafe { shardheap_raw_remove(self.at(), key.into()) })
     }
 
+    /// Reads into the value's own room.
     #[inline]
-    pub(crate) fn read(&self, key: Key) -> Result<Value, Error> {
-        Value::written(|words, length| {
-            // SAFETY: as in `get`, and `words` has the room that is told.
-            told(unsafe { shardheap_raw_read(self.raw.get(), key.into(), words.as_mut_ptr(), MAX_WORDS, length) })
-        })
+    pub(crate) fn read(&self, key: Key, value: &mut Value) -> Result<(), Error> {
+        // SAFETY: as in `get`. `words` has the room that is told, of which the library writes as many as it tells.
+        unsafe {
+            value.words.fill(|words, length| told(shardheap_raw_read(self.at(), key.into(), words, MAX_WORDS, length)))
+        }
     }
 
+    /// Loads into the value's own room.
     #[inline]
-    pub(crate) fn load(&self, key: Key) -> Result<Value, Error> {
-        Value::written(|words, length| {
-            // SAFETY: as in `get`, and `words` has the room that is told.
-            told(unsafe { shardheap_raw_load(self.raw.get(), key.into(), words.as_mut_ptr(), MAX_WORDS, length) })
-        })
+    pub(crate) fn load(&self, key: Key, value: &mut Value) -> Result<(), Error> {
+        // SAFETY: as in `get`. `words` has the room that is told, of which the library writes as many as it tells.
+        unsafe {
+            value.words.fill(|words, length| told(shardheap_raw_load(self.at(), key.into(), words, MAX_WORDS, length)))
+        }
     }
 
     #[inline]
     pub(crate) fn insert(&self, words: &[u64]) -> Result<Key, Error> {
         let mut key = 0;
         // SAFETY: as in `get`, and a slice has as many words as its length says.
-        told(unsafe { shardheap_raw_insert(self.raw.get(), words.as_ptr(), words.len(), &mut key) })?;
+        told(unsafe { shardheap_raw_insert(self.at(), words.as_ptr(), words.len(), &mut key) })?;
         Ok(Key::from(key))
     }
 
     pub(crate) fn prepare(&self, words: u32) -> Result<u32, Error> {
         let mut page = 0;
         // SAFETY: as in `get`.
-        told(unsafe { shardheap_raw_prepare(self.raw.get(), words, &mut page) })?;
+        told(unsafe { shardheap_raw_prepare(self.at(), words, &mut page) })?;
         Ok(page)
     }
 
     pub(crate) fn collect(&self) -> Result<(), Error> {
         // SAFETY: as in `get`.
-        told(unsafe { shardheap_raw_collect(self.raw.get()) })
+        told(unsafe { shardheap_raw_collect(self.at()) })
     }
 
     pub(crate) fn adopt(&self, shard: u32) -> Result<(), Error> {
         // SAFETY: as in `get`.
-        told(unsafe { shardheap_raw_adopt(self.raw.get(), shard.into()) })
+        told(unsafe { shardheap_raw_adopt(self.at(), shard.into()) })
     }
 
     pub(crate) fn leave(&self) -> Result<(), Error> {
         // SAFETY: as in `get`.
-        told(unsafe { shardheap_raw_leave(self.raw.get()) })
+        told(unsafe { shardheap_raw_leave(self.at()) })
     }
 
     fn give(&mut self) -> Result<(), Error> {

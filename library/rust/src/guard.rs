@@ -4,7 +4,7 @@ use crate::ffi::PassHandle;
 use crate::key::Key;
 use crate::record::Record;
 use crate::value::Value;
-use std::cell::OnceCell;
+use crate::words::Kept;
 use std::fmt;
 use std::ops::Deref;
 
@@ -39,15 +39,15 @@ use std::ops::Deref;
 pub struct Guard<'p> {
     pass: &'p PassHandle,
     key: Key,
-    // What was read, once it was. It cannot change while it is held.
-    value: OnceCell<Value>,
+    // It cannot change while it is held.
+    value: Kept,
 }
 
 impl<'p> Guard<'p> {
     #[inline]
     pub(crate) fn take(pass: &'p PassHandle, key: Key) -> Result<Guard<'p>, Error> {
         pass.get(key)?;
-        Ok(Guard { pass, key, value: OnceCell::new() })
+        Ok(Guard { pass, key, value: Kept::unread() })
     }
 
     /// The key that is held.
@@ -77,10 +77,26 @@ impl<'p> Guard<'p> {
     /// ```
     #[inline]
     pub fn value(&self) -> &Value {
-        self.value.get_or_init(|| match self.pass.read(self.key) {
-            Ok(value) => value,
-            Err(error) => unreachable!("a value that is held is read: {error}"),
-        })
+        // SAFETY: a read looks at no guard.
+        unsafe { self.value.get_or_read(|value| self.read_into(value)) }
+    }
+
+    /// Reads the value into one of the caller's, and keeps none: what a loop over many guards uses.
+    ///
+    /// ```
+    /// # use gearlongan::{Error, Heap, Layout, Shape, Value};
+    /// # let heap = Heap::open(Layout::Wide, Shape { shards: 1, segments: 1, passes: 1 })?;
+    /// # let shard = heap.take()?.adopt(0)?;
+    /// let mut value = Value::default();
+    /// shard.get(shard.insert(&[7, 8])?)?.read_into(&mut value);
+    /// assert_eq!(value, [7, 8]);
+    /// # Ok::<(), Error>(())
+    /// ```
+    #[inline]
+    pub fn read_into(&self, value: &mut Value) {
+        if let Err(error) = self.pass.read(self.key, value) {
+            unreachable!("a value that is held is read: {error}");
+        }
     }
 
     /// The value as a record.

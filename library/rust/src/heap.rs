@@ -1,4 +1,5 @@
 //! Heaps.
+use crate::accounts::{PageAccounts, Totals};
 use crate::error::Error;
 use crate::ffi::HeapHandle;
 use crate::pass::Pass;
@@ -139,5 +140,63 @@ impl Heap {
     /// ```
     pub fn take(&self) -> Result<Pass, Error> {
         self.handle.take().map(Pass::of)
+    }
+
+    /// Joins all passes of the heap in one, which is at home afterwards and is the only one from then on. The holds of
+    /// the others stay in their slots for good. Where they were joined before, nothing is done.
+    ///
+    /// # Errors
+    ///
+    /// [`Error::Away`] where a pass is not at home, with all others at home as they were, and [`Error::Memory`].
+    ///
+    /// ```
+    /// # use gearlongan::{Error, Heap, Layout, Shape};
+    /// let heap = Heap::open(Layout::Wide, Shape { shards: 1, segments: 1, passes: 2 })?;
+    /// let shard = heap.take()?.adopt(0)?;
+    /// shard.insert(&[7])?;
+    /// assert_eq!(heap.gather(), Err(Error::Away));
+    /// drop(shard);
+    /// heap.gather()?;
+    /// assert_eq!(heap.totals()?.live, 1);
+    /// assert_eq!(heap.accounts(0, 0)?.class, Some(0));
+    /// # Ok::<(), Error>(())
+    /// ```
+    pub fn gather(&self) -> Result<(), Error> {
+        self.handle.gather()
+    }
+
+    /// What the slots of a page are, by the number of the shard and that of its page, both from 0.
+    ///
+    /// # Errors
+    ///
+    /// [`Error::Away`] where the pass that [`gather`](Heap::gather) left is not at home, and [`Error::NoPage`].
+    ///
+    /// ```
+    /// # use gearlongan::{Error, Heap, Layout, Shape};
+    /// let heap = Heap::open(Layout::Wide, Shape { shards: 1, segments: 1, passes: 1 })?;
+    /// assert_eq!(heap.accounts(0, 7)?.class, None);
+    /// assert_eq!(heap.accounts(0, 8), Err(Error::NoPage));
+    /// # Ok::<(), Error>(())
+    /// ```
+    pub fn accounts(&self, shard: u32, page: u32) -> Result<PageAccounts, Error> {
+        self.handle.accounts(shard, page)
+    }
+
+    /// The sums over all pages.
+    ///
+    /// # Errors
+    ///
+    /// [`Error::Away`] where the pass that [`gather`](Heap::gather) left is not at home.
+    ///
+    /// ```
+    /// # use gearlongan::{Error, Heap, Layout, Shape};
+    /// let heap = Heap::open(Layout::Wide, Shape { shards: 1, segments: 1, passes: 2 })?;
+    /// assert_eq!(heap.totals(), Err(Error::Away));
+    /// heap.gather()?;
+    /// assert_eq!(heap.totals()?.blank_pages, 8);
+    /// # Ok::<(), Error>(())
+    /// ```
+    pub fn totals(&self) -> Result<Totals, Error> {
+        self.handle.totals()
     }
 }

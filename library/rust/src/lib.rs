@@ -11,8 +11,9 @@
 //!
 //! [`slab::Slab`] stores values of any type over a heap.
 //!
-//! No call of a pass or a shard waits or locks. Memory is taken by [`Heap::open`], [`Heap::take`], [`Pass::adopt`], and
-//! by an insert or a prepare that opens a segment; where it is refused they answer [`Error::Memory`].
+//! No call of a pass or a shard waits or locks. Memory is taken by [`Heap::open`], [`Heap::take`], [`Heap::gather`],
+//! [`Pass::adopt`], and by an insert or a prepare that opens a segment; where it is refused they answer
+//! [`Error::Memory`].
 //!
 //! What the calls do is proved, in the library that this crate links. The crate itself is not proved: it is what makes
 //! of C's calls those of safe Rust.
@@ -59,6 +60,7 @@
 #![forbid(unsafe_op_in_unsafe_fn)]
 #![deny(missing_docs)]
 
+mod accounts;
 mod error;
 mod ffi;
 mod guard;
@@ -70,7 +72,9 @@ mod shard;
 #[cfg(target_pointer_width = "64")]
 pub mod slab;
 mod value;
+mod words;
 
+pub use accounts::{PageAccounts, Totals};
 pub use error::{AdoptError, Error, LeaveError};
 pub use guard::Guard;
 pub use heap::{Heap, Layout, Room, Shape};

@@ -67,10 +67,40 @@ impl Pass {
     /// ```
     #[inline]
     pub fn load(&self, key: Key) -> Result<Value, Error> {
-        self.handle.load(key)
+        let mut value = Value::default();
+        self.handle.load(key, &mut value)?;
+        Ok(value)
     }
 
-    /// The same, of a value that is a record.
+    /// The same, into a value of the caller's, which stays as it was where this is refused. A loop that has one value
+    /// for all its loads saves to make one each time.
+    ///
+    /// # Errors
+    ///
+    /// Those of [`load`](Pass::load).
+    ///
+    /// ```
+    /// # use gearlongan::{Error, Heap, Layout, Shape, Value};
+    /// # let heap = Heap::open(Layout::Wide, Shape { shards: 1, segments: 1, passes: 2 })?;
+    /// # let (shard, pass) = (heap.take()?.adopt(0)?, heap.take()?);
+    /// let keys = [shard.insert(&[7])?, shard.insert(&[8, 9])?];
+    /// let (mut value, mut sum) = (Value::default(), 0);
+    /// for key in keys {
+    ///     pass.load_into(key, &mut value)?;
+    ///     sum += value.iter().sum::<u64>();
+    /// }
+    /// assert_eq!(sum, 24);
+    /// shard.remove(keys[0])?;
+    /// assert_eq!(pass.load_into(keys[0], &mut value), Err(Error::Gone));
+    /// assert_eq!(value, [8, 9]);
+    /// # Ok::<(), Error>(())
+    /// ```
+    #[inline]
+    pub fn load_into(&self, key: Key, value: &mut Value) -> Result<(), Error> {
+        self.handle.load(key, value)
+    }
+
+    /// A [`load`](Pass::load) of a value that is a record.
     ///
     /// # Errors
     ///
@@ -87,7 +117,9 @@ impl Pass {
     /// ```
     #[inline]
     pub fn load_record<R: Record>(&self, key: Key) -> Result<R, Error> {
-        self.load(key)?.record()
+        let mut value = Value::default();
+        self.load_into(key, &mut value)?;
+        value.record()
     }
 
     /// Reads the value of a key that this pass has a guard of.
@@ -108,7 +140,30 @@ impl Pass {
     /// ```
     #[inline]
     pub fn read(&self, key: Key) -> Result<Value, Error> {
-        self.handle.read(key)
+        let mut value = Value::default();
+        self.handle.read(key, &mut value)?;
+        Ok(value)
+    }
+
+    /// The same, into a value of the caller's, which stays as it was where this is refused.
+    ///
+    /// # Errors
+    ///
+    /// [`Error::NotHeld`].
+    ///
+    /// ```
+    /// # use gearlongan::{Error, Heap, Layout, Shape, Value};
+    /// # let heap = Heap::open(Layout::Wide, Shape { shards: 1, segments: 1, passes: 2 })?;
+    /// # let (shard, pass) = (heap.take()?.adopt(0)?, heap.take()?);
+    /// let guard = pass.get(shard.insert(&[7, 8])?)?;
+    /// let mut value = Value::default();
+    /// pass.read_into(guard.key(), &mut value)?;
+    /// assert_eq!(value, [7, 8]);
+    /// # Ok::<(), Error>(())
+    /// ```
+    #[inline]
+    pub fn read_into(&self, key: Key, value: &mut Value) -> Result<(), Error> {
+        self.handle.read(key, value)
     }
 
     /// Removes a key: no later get finds it, and its value stays until its last hold goes.

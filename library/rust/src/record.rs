@@ -1,4 +1,5 @@
 //! Records: types that are stored as words.
+use crate::value::MAX_WORDS;
 
 /// A type that is stored as so many words. `u64`, arrays of up to 16 of them and tuples of records are records as they
 /// are.
@@ -48,6 +49,15 @@ pub trait Record: Sized {
     /// The record that was stored as these words, which are as many as [`WORDS`](Record::WORDS) says. None where no
     /// record is stored as them.
     fn read(words: &[u64]) -> Option<Self>;
+}
+
+/// Runs it with the words that a record is stored as.
+#[inline]
+pub(crate) fn with_words<R: Record, T>(record: &R, act: impl FnOnce(&[u64]) -> T) -> T {
+    const { assert!(R::WORDS <= MAX_WORDS, "a record has at most 16 words") };
+    let mut words = [0; MAX_WORDS];
+    record.write(&mut words[..R::WORDS]);
+    act(&words[..R::WORDS])
 }
 
 impl Record for u64 {

@@ -2,8 +2,7 @@
 use crate::error::{Error, LeaveError};
 use crate::key::Key;
 use crate::pass::Pass;
-use crate::record::Record;
-use crate::value::Value;
+use crate::record::{with_words, Record};
 use std::ops::Deref;
 
 /// A shard that a pass owns: it inserts there, and derefs to its pass, whose calls it has.
@@ -65,7 +64,7 @@ impl Shard {
     /// ```
     #[inline]
     pub fn insert_record<R: Record>(&self, record: &R) -> Result<Key, Error> {
-        self.insert(&Value::of(record))
+        with_words(record, |words| self.insert(words))
     }
 
     /// Stores a value as [`insert`](Shard::insert) does, but does not collect.

@@ -1,6 +1,7 @@
 //! Values.
 use crate::error::Error;
-use crate::record::Record;
+use crate::record::{with_words, Record};
+use crate::words::Words;
 use std::fmt;
 use std::hash::{Hash, Hasher};
 use std::ops::Deref;
@@ -17,13 +18,12 @@ pub const MAX_WORDS: usize = 16;
 /// assert_eq!(value, [7, 8]);
 /// assert_eq!(value.iter().sum::<u64>(), 15);
 /// assert_eq!(Value::new(&[0; 17]), Err(Error::TooLong));
+/// assert!(Value::default().is_empty());
 /// # Ok::<(), Error>(())
 /// ```
 #[derive(Clone, Copy)]
 pub struct Value {
-    // At most 16.
-    length: usize,
-    words: [u64; MAX_WORDS],
+    pub(crate) words: Words,
 }
 
 impl Value {
@@ -33,9 +33,7 @@ impl Value {
     ///
     /// [`Error::TooLong`] where they are more than 16.
     pub fn new(words: &[u64]) -> Result<Value, Error> {
-        let mut value = Value { length: words.len(), words: [0; MAX_WORDS] };
-        value.words.get_mut(..words.len()).ok_or(Error::TooLong)?.copy_from_slice(words);
-        Ok(value)
+        Ok(Value { words: Words::copy_of(words).ok_or(Error::TooLong)? })
     }
 
     /// The value that a record is stored as.
@@ -46,10 +44,8 @@ impl Value {
     /// assert_eq!(Value::of(&(7, [8, 9])), [7, 8, 9]);
     /// ```
     pub fn of<R: Record>(record: &R) -> Value {
-        const { assert!(R::WORDS <= MAX_WORDS, "a record has at most 16 words") };
-        let mut value = Value { length: R::WORDS, words: [0; MAX_WORDS] };
-        record.write(&mut value.words[..R::WORDS]);
-        value
+        // (A record's words are never too many.)
+        with_words(record, Words::copy_of).map_or_else(Value::default, |words| Value { words })
     }
 
     /// The record that is stored as this value.
@@ -67,22 +63,18 @@ impl Value {
     /// # Ok::<(), Error>(())
     /// ```
     pub fn record<R: Record>(&self) -> Result<R, Error> {
-        if self.length != R::WORDS {
+        if self.len() != R::WORDS {
             return Err(Error::WrongKind);
         }
         R::read(self).ok_or(Error::WrongKind)
     }
+}
 
-    /// What `write` writes: words into the room that it is given, and how many they are.
+impl Default for Value {
+    /// The value of no words.
     #[inline]
-    pub(crate) fn written(
-        write: impl FnOnce(&mut [u64; MAX_WORDS], &mut u64) -> Result<(), Error>,
-    ) -> Result<Value, Error> {
-        let mut value = Value { length: 0, words: [0; MAX_WORDS] };
-        let mut length = 0;
-        write(&mut value.words, &mut length)?;
-        value.length = (length as usize).min(MAX_WORDS);
-        Ok(value)
+    fn default() -> Value {
+        Value { words: Words::none() }
     }
 }
 
@@ -91,7 +83,7 @@ impl Deref for Value {
 
     #[inline]
     fn deref(&self) -> &[u64] {
-        &self.words[..self.length]
+        self.words.as_slice()
     }
 }
 

@@ -1,5 +1,5 @@
 //! Each error of each call that one thread can have, in each layout; but for memory, which `memory.rs` refuses.
-use gearlongan::{Error, Heap, Key, Layout, Pass, Room, Shape, Shard};
+use gearlongan::{Error, Heap, Key, Layout, Pass, Room, Shape, Shard, Value};
 
 const LAYOUTS: [Layout; 4] = [Layout::Wide, Layout::Tagged, Layout::Deep, Layout::Tiny];
 const SMALL: Shape = Shape { shards: 2, segments: 1, passes: 2 };
@@ -189,8 +189,31 @@ fn a_pass_reads_what_it_has_a_guard_of() {
         let guard = pass.get(key).expect("it is there");
         assert_eq!(pass.read(key).expect("it is held"), [7, 8]);
         assert_eq!(shard.read(key), Err(Error::NotHeld), "the hold is the other pass's");
+        let mut value = Value::default();
+        assert_eq!(pass.read_into(key, &mut value), Ok(()));
+        assert_eq!((&value[..], &guard[..]), (&[7, 8][..], &[7, 8][..]));
         drop(guard);
+        assert_eq!(pass.read_into(key, &mut value), Err(Error::NotHeld));
+        assert_eq!(value, [7, 8], "it stays as it was");
         assert_eq!(pass.read(key), Err(Error::NotHeld));
+    }
+}
+
+#[test]
+fn one_value_takes_loads_of_all_lengths() {
+    for layout in LAYOUTS {
+        let (shard, pass) = two(layout);
+        let mut value = Value::default();
+        for length in [16, 0, 3] {
+            let key = shard.insert(&[7; 16][..length]).expect("there is room");
+            pass.load_into(key, &mut value).expect("it is there");
+            assert_eq!(value[..], [7; 16][..length]);
+            pass.get(key).expect("it is there").read_into(&mut value);
+            assert_eq!(value[..], [7; 16][..length]);
+            shard.remove(key).expect("it is there");
+            assert_eq!(pass.load_into(key, &mut value), Err(Error::Gone));
+            assert_eq!(value[..], [7; 16][..length], "it stays as it was");
+        }
     }
 }
 

@@ -216,3 +216,96 @@ impl<T> Drop for User<'_, T> {
         }
     }
 }
+
+#[cfg(test)]
+mod tests {
+    use super::*;
+    use std::sync::atomic::Ordering::SeqCst;
+    use std::sync::Arc;
+    use std::thread;
+
+    struct Counted(u64, Arc<AtomicUsize>);
+
+    impl Drop for Counted {
+        fn drop(&mut self) {
+            self.1.fetch_add(1, SeqCst);
+        }
+    }
+
+    fn key(number: u64) -> Key {
+        Key::from(number)
+    }
+
+    // A node with a value under a key: its word.
+    fn filled(nodes: &Nodes<Counted>, number: u64, dropped: &Arc<AtomicUsize>) -> u64 {
+        let vacant = nodes.take();
+        let word = vacant.word();
+        vacant.fill(key(number), Counted(number, dropped.clone()));
+        word
+    }
+
+    // Ends the use that the key is.
+    fn end_key<T>(nodes: &Nodes<T>, user: &User<'_, T>) {
+        // SAFETY: the key is a user, whose use ends here.
+        drop(unsafe { User::of(nodes, user.node()) });
+    }
+
+    #[test]
+    fn a_value_is_dropped_by_its_last_user() {
+        let (nodes, dropped) = (Nodes::new(), Arc::new(AtomicUsize::new(0)));
+        let word = filled(&nodes, 7, &dropped);
+        // SAFETY: the word is of these nodes.
+        let user = |number| unsafe { nodes.user(word, key(number)) };
+        let (one, other) = (user(7).expect("it is there"), user(7).expect("it is there"));
+        assert!(user(8).is_none());
+        end_key(&nodes, &one);
+        drop(one);
+        assert_eq!((other.value().0, dropped.load(SeqCst)), (7, 0));
+        drop(other);
+        assert_eq!(dropped.load(SeqCst), 1);
+        assert!(user(7).is_none());
+        assert_eq!(filled(&nodes, 9, &dropped), word, "the node serves again");
+        assert!(user(7).is_none() && user(9).is_some());
+    }
+
+    #[test]
+    fn nodes_that_go_drop_what_is_left() {
+        let (mut nodes, dropped) = (Nodes::new(), Arc::new(AtomicUsize::new(0)));
+        (0..10).for_each(|number| _ = filled(&nodes, number, &dropped));
+        drop(nodes.take());
+        assert_eq!(nodes.values().map(|(key, value)| u64::from(key) - value.0).collect::<Vec<_>>(), [0; 10]);
+        drop(nodes);
+        assert_eq!(dropped.load(SeqCst), 10);
+    }
+
+    #[test]
+    fn a_value_is_taken_by_one_that_is_alone() {
+        let (nodes, dropped) = (Nodes::new(), Arc::new(AtomicUsize::new(0)));
+        let word = filled(&nodes, 7, &dropped);
+        // SAFETY: the word is of these nodes.
+        let user = unsafe { nodes.user(word, key(7)) }.expect("it is there");
+        let user = user.into_value().err().expect("the key is another user");
+        end_key(&nodes, &user);
+        let value = user.into_value().ok().expect("it is the last");
+        assert_eq!((value.0, dropped.load(SeqCst)), (7, 0));
+    }
+
+    #[test]
+    fn threads_use_values_that_one_of_them_lets_go() {
+        let (nodes, dropped) = (Nodes::new(), Arc::new(AtomicUsize::new(0)));
+        for number in 0..50 {
+            let word = filled(&nodes, number, &dropped);
+            // SAFETY: the word is of these nodes.
+            let look = || unsafe { nodes.user(word, key(number)) }.map(|user| assert_eq!(user.value().0, number));
+            // SAFETY: as above.
+            let own = unsafe { nodes.user(word, key(number)) }.expect("it is there");
+            thread::scope(|scope| {
+                scope.spawn(look);
+                scope.spawn(look);
+                end_key(&nodes, &own);
+                drop(own);
+            });
+            assert_eq!(dropped.load(SeqCst) as u64, number + 1);
+        }
+    }
+}

@@ -15,8 +15,8 @@ use Rattle.std_alloc.proofs.SendSync.{quiet, lies}
 use Rattle.sh_nullable.specs.Owning.{nullable_owns}
 use Rattle.sh_nullable.specs.contracts.nullable.NullableBox.{the_row, the_type}
 
-pointer : IsSend RawPtr
-pointer = search sendable
+pointer_is_send : IsSend RawPtr
+pointer_is_send = search sendable
 
 module _ (T A : RattleType) (g : Ghosts A.Denot) (s : IsSend T) (f : Frees g g.dealloc_token) where
   owned : (a : A.Denot) (p : Ptr) (o : Option T.Denot) → Keyless (nullable_owns (g.dealloc_token a) T p o)
@@ -26,5 +26,5 @@ module _ (T A : RattleType) (g : Ghosts A.Denot) (s : IsSend T) (f : Frees g g.d
 pub send : (T A : RattleType) (g : Ghosts A.Denot) → IsSend T → IsSend A → Frees g g.dealloc_token
     → IsSend (the_row T A g)
 send T A g s sa f = let O = the_type T A g in
-    owning_send O (pointer, (sa, tt)) (λ d. owned T A g s f d.alloc d.at d.value)
-    (λ k. quiet (to O) (exits_of k (fields O)) ((struct_send (shape O) (pointer, (sa, tt))).leaving k))
+    owning_send O (pointer_is_send, (sa, tt)) (λ d. owned T A g s f d.alloc d.at d.value)
+    (λ k. quiet (to O) (exits_of k (fields O)) ((struct_send (shape O) (pointer_is_send, (sa, tt))).leaving k))

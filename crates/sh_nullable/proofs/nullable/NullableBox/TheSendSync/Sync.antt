@@ -6,9 +6,9 @@ use denote.Param.Send.{IsSync, struct_sync, sendable}
 use Rattle.core.specs.declared.alloc.Allocator.{Ghosts}
 use Rattle.sh_nullable.specs.contracts.nullable.NullableBox.{the_row, the_type}
 
-pointer : IsSync RawPtr
-pointer = search sendable
+pointer_is_sync : IsSync RawPtr
+pointer_is_sync = search sendable
 
 pub sync : (T A : RattleType) (g : Ghosts A.Denot) → IsSync A → IsSync (the_row T A g)
 sync T A g sa = let O = the_type T A g in
-    record { shared = λ d b o κ. ((struct_sync (shape O) (pointer, (sa, tt))).shared (to O d) b o κ, tt) }
+    record { shared = λ d b o κ. ((struct_sync (shape O) (pointer_is_sync, (sa, tt))).shared (to O d) b o κ, tt) }

@@ -1,0 +1,127 @@
+//! What no clause says: that a pass that is away is found to be, that those that were called are home again after it,
+//! and that what was joined once stays joined.
+use sh_gather::Accounts;
+use sh_key::Tiny;
+use sh_pool::{Pool, Share, give_pass, take_pass};
+use sh_shape::Shape;
+use sh_shard::shard::Shard;
+use sh_totals::Totals;
+use sh_value::Value;
+use sh_whole::{NotTold, gather_pool, pool_accounts, pool_totals};
+use std::alloc::Global;
+use std::process::Abort;
+
+// One shard of 8 pages.
+fn opened(rt: &impl Abort, alloc: Global, passes: u32) -> Pool<Tiny> {
+    let shape = Shape::new(1, 1, passes).expect(rt, "a shape");
+    Pool::<Tiny>::open(alloc, shape).expect(rt, "a pool")
+}
+
+const NOTHING: Totals = Totals {
+    live: 0,
+    marked: 0,
+    retired: 0,
+    queued: 0,
+    used_pages: 0,
+    blank_pages: 8,
+};
+
+#[test]
+fn a_pass_that_is_away_is_missed(rt: HostRuntime) {
+    let pool = opened(&rt, rt.alloc(), 3);
+    let Some(away) = pool.take_at(1) else {
+        panic!(rt; "no pass")
+    };
+    assert_eq!(rt; gather_pool(rt.alloc(), &pool), Err(NotTold::Away));
+    assert_eq!(rt; pool_totals(&pool), Err(NotTold::Away));
+    assert_eq!(rt; pool_accounts(&pool, 0, 0), Err(NotTold::Away));
+    // Both of the others are at home again, and still two.
+    let (Some(one), Some(other)) = (pool.take_at(0), pool.take_at(2)) else {
+        panic!(rt; "a pass was lost")
+    };
+    assert_eq!(rt; gather_pool(rt.alloc(), &pool), Err(NotTold::Away));
+    for taken in [one, away, other] {
+        assert!(rt; pool.give(taken.state, taken.berth).is_ok());
+    }
+    assert_eq!(rt; gather_pool(rt.alloc(), &pool), Ok(()));
+    assert_eq!(rt; pool_totals(&pool), Ok(NOTHING));
+}
+
+#[test]
+fn passes_that_met_are_one(rt: HostRuntime) {
+    let pool = opened(&rt, rt.alloc(), 4);
+    assert_eq!(rt; pool_totals(&pool), Err(NotTold::Away));
+    assert_eq!(rt; gather_pool(rt.alloc(), &pool), Ok(()));
+    let Some(carrier) = pool.take() else {
+        panic!(rt; "the pass that carries the tales is not at home")
+    };
+    assert!(rt; pool.take().is_none());
+    assert_eq!(rt; pool_totals(&pool), Err(NotTold::Away));
+    assert!(rt; pool.give(carrier.state, carrier.berth).is_ok());
+    assert_eq!(rt; gather_pool(rt.alloc(), &pool), Ok(()));
+    assert_eq!(rt; pool_totals(&pool), Ok(NOTHING));
+    assert_eq!(rt; pool_accounts(&pool, 1, 0), Err(NotTold::NoPage));
+    assert_eq!(rt; pool_accounts(&pool, 0, 8), Err(NotTold::NoPage));
+}
+
+// Inserts two values by a pass that is at home, and removes the first.
+fn one_value(rt: &impl Abort, alloc: Global, share: &Share<Tiny>) {
+    let Some((pass, berth)) = take_pass(share) else {
+        panic!(rt; "no pass")
+    };
+    let Ok(mut shard) = Shard::adopt(alloc, pass, 0) else {
+        panic!(rt; "the shard is not adopted")
+    };
+    let key = shard.insert(&Value::of([7])).expect(rt, "a key");
+    assert!(rt; shard.insert(&Value::of([8])).is_ok());
+    assert!(rt; shard.remove(key).is_ok());
+    let Ok(pass) = shard.leave() else {
+        panic!(rt; "the shard is not left")
+    };
+    assert!(rt; give_pass(pass, berth).is_ok());
+}
+
+#[test]
+fn what_was_inserted_is_told(rt: HostRuntime) {
+    let pool = opened(&rt, rt.alloc(), 2);
+    let share = Share::new(rt.alloc(), pool).expect(&rt, "a share");
+    one_value(&rt, rt.alloc(), &share);
+    assert_eq!(rt; gather_pool(rt.alloc(), share.pool()), Ok(()));
+    let page = Accounts {
+        class: Some(0),
+        live: 1,
+        marked: 0,
+        retired: 0,
+        mine: 0,
+        hand: 0,
+        queued: 47,
+    };
+    assert_eq!(rt; pool_accounts(share.pool(), 0, 0), Ok(page));
+    let sums = Totals {
+        live: 1,
+        queued: 47,
+        used_pages: 1,
+        blank_pages: 7,
+        ..NOTHING
+    };
+    assert_eq!(rt; pool_totals(share.pool()), Ok(sums));
+    // And the pass goes on.
+    one_value(&rt, rt.alloc(), &share);
+    let live = pool_totals(share.pool()).map(|sums| sums.live);
+    assert_eq!(rt; live, Ok(2));
+}
+
+// Refused memory: nobody is called, and the same call then answers.
+#[test]
+fn refused_memory_calls_nobody(rt: HostRuntime) {
+    let Ok(shape) = Shape::new(1, 1, 2) else {
+        panic!(rt; "no shape")
+    };
+    let Ok(pool) = Pool::<Tiny>::open(rt.alloc(), shape) else {
+        return;
+    };
+    if gather_pool(rt.alloc(), &pool) == Err(NotTold::Memory) {
+        assert!(rt; pool.take_at(0).is_some());
+        assert!(rt; pool.take_at(1).is_some());
+    }
+}

@@ -1,0 +1,12 @@
+use Rattle.std.proofs.Common.{◌≤◌, vec_capacity, vec_len}
+use Rattle.sh_whole.specs.Homes.{AreCalled}
+use Rattle.sh_whole.proofs.calling.call_all.Given as goal
+
+-- no more passes than berths that were looked at, and there is room for one from each of the others
+abbrev pub invariant-loop-number : goal.invariant-loop-number
+invariant-loop-number g l = record {
+  called : AreCalled l.pool l.passes.items l.berths.items;
+  few : vec_len l.passes ≤ l.number;
+  room : l.number-end ≤ vec_capacity l.passes;
+  room_too : l.number-end ≤ vec_capacity l.berths;
+}

@@ -1,0 +1,12 @@
+//! The whole of a pool's heap: all passes that are at home meet, and the one that carries their tales tells the
+//! accounts of each page and the totals, and comes home.
+#![tactic(auto)]
+
+mod calling;
+pub mod refusal;
+pub mod telling;
+pub mod whole;
+
+pub use refusal::NotTold;
+pub use telling::{pool_accounts, pool_totals};
+pub use whole::{gather_pool, go_home, pool_whole, whole_of};

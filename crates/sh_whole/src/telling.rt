@@ -1,0 +1,43 @@
+//! What a pool's heap tells of itself as a whole.
+ghost use Rattle.sh_whole.specs.Homes.{TellsAccounts, TellsTotals};
+
+use crate::refusal::NotTold;
+use crate::whole::{go_home, pool_whole};
+use sh_gather::Accounts;
+use sh_key::KeyLayout;
+use sh_pool::Pool;
+use sh_totals::{Totals, total};
+
+/// The accounts of a shard's page, by the pass that carries the tales of all, which `gather_pool` left at home. It
+/// takes no memory. Refused as `Away` where no such pass is found at home, and else as `NoPage` exactly where the heap
+/// has no such page.
+pub fn pool_accounts<L: KeyLayout>(
+    pool: &Pool<L>,
+    shard: u32,
+    page: u32,
+) -> Result<Accounts, NotTold>
+    ensures { TellsAccounts L.layout pool.now shard page result }
+{
+    let Some((mut whole, berth)) = pool_whole(pool) else {
+        return Err(NotTold::Away);
+    };
+    let told = whole.accounts(shard, page);
+    let _home = go_home(pool, whole, berth);
+    match told {
+        Some(accounts) => Ok(accounts),
+        None => Err(NotTold::NoPage),
+    }
+}
+
+/// The sums over all pages, by the pass that carries the tales of all, which `gather_pool` left at home. It takes no
+/// memory. Refused as `Away` where no such pass is found at home.
+pub fn pool_totals<L: KeyLayout>(pool: &Pool<L>) -> Result<Totals, NotTold>
+    ensures { TellsTotals L.layout pool.now result }
+{
+    let Some((mut whole, berth)) = pool_whole(pool) else {
+        return Err(NotTold::Away);
+    };
+    let told = total(&mut whole);
+    let _home = go_home(pool, whole, berth);
+    Ok(told)
+}

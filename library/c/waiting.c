@@ -1,0 +1,113 @@
+/* A leave is refused as WAITING while another pass is in the middle of a free in the shard, which serves on meanwhile.
+
+   waiting TIMES: a second thread removes values of the owner's shard, and is stopped by a signal wherever it is. Then
+   the owner tries to leave. Where it may, it adopts the shard again, until it was refused so many times. */
+#include "check.h"
+#include <pthread.h>
+#include <signal.h>
+#include <stdatomic.h>
+#include <string.h>
+#include <unistd.h>
+
+#define BATCH 300
+#define MOST_ROUNDS 2000000
+
+static uint64_t keys[BATCH];
+static _Atomic uint64_t handed, removed; /* how many keys in all; each batch lies where the one before did */
+static _Atomic int ends;
+static int stopped[2], resumed[2]; /* pipes: that the thread stopped, and that it is to go on */
+
+/* The signal stops its thread here, until a byte comes. */
+static void stop(int number) {
+    char byte = (char)number;
+    if (write(stopped[1], &byte, 1) != 1 || read(resumed[0], &byte, 1) != 1) _exit(3);
+}
+
+static void *removes(void *pass) {
+    for (uint64_t done = 0; !atomic_load(&ends);) {
+        if (done == atomic_load(&handed)) continue;
+        uint32_t code = shardheap_remove(pass, keys[done % BATCH]);
+        if (code != SHARDHEAP_OK) {
+            fprintf(stderr, "waiting: a remove is %s\n", shardheap_name(code));
+            exit(1);
+        }
+        atomic_store(&removed, ++done);
+    }
+    return NULL;
+}
+
+static void stop_the_other(pthread_t other) {
+    char byte;
+    TRUE(pthread_kill(other, SIGUSR1) == 0);
+    TRUE(read(stopped[0], &byte, 1) == 1);
+}
+
+static void resume_the_other(void) {
+    TRUE(write(resumed[1], "", 1) == 1);
+}
+
+/* The other thread is stopped: whether it is in the middle of a free. The pass owns the shard as before. */
+static int waits(shardheap_pass *owner) {
+    uint64_t word = 7, key;
+    uint32_t code = shardheap_leave(owner);
+    if (code == SHARDHEAP_OK) {
+        IS(shardheap_adopt(owner, 0), SHARDHEAP_OK);
+        return 0;
+    }
+    IS(code, SHARDHEAP_WAITING);
+    IS(shardheap_leave(owner), SHARDHEAP_WAITING);
+    IS(shardheap_give(owner), SHARDHEAP_OWNS);
+    IS(shardheap_insert(owner, &word, 1, &key), SHARDHEAP_OK);
+    IS(shardheap_remove(owner, key), SHARDHEAP_OK);
+    return 1;
+}
+
+/* Hands a batch over, and stops the other after a while: whether the owner was refused. */
+static int one_round(shardheap_pass *owner, pthread_t other, uint64_t round) {
+    uint64_t before = round * BATCH;
+    for (uint64_t n = 0; n < BATCH; n++) IS(shardheap_insert(owner, &n, 1, &keys[n]), SHARDHEAP_OK);
+    atomic_store(&handed, before + BATCH);
+    while (atomic_load(&removed) < before + 1 + round % (BATCH - 1)) {}
+    stop_the_other(other);
+    int refused = waits(owner);
+    resume_the_other();
+    while (atomic_load(&removed) < before + BATCH) {}
+    return refused;
+}
+
+/* The rounds until the owner was refused so many times. */
+static uint64_t rounds_until(shardheap_pass *owner, pthread_t other, int times) {
+    uint64_t rounds = 0;
+    while (times > 0 && rounds < MOST_ROUNDS) times -= one_round(owner, other, rounds++);
+    TRUE(times == 0);
+    return rounds;
+}
+
+static void taken(shardheap *heap, shardheap_pass *owner, shardheap_pass *other) {
+    IS(shardheap_open(heap, SHARDHEAP_WIDE, 1, 1, 2), SHARDHEAP_OK);
+    IS(shardheap_take(heap, owner), SHARDHEAP_OK);
+    IS(shardheap_take(heap, other), SHARDHEAP_OK);
+    IS(shardheap_adopt(owner, 0), SHARDHEAP_OK);
+}
+
+int main(int argc, char **argv) {
+    shardheap heap = SHARDHEAP_INIT;
+    shardheap_pass owner = SHARDHEAP_INIT, other = SHARDHEAP_INIT;
+    struct sigaction action;
+    pthread_t thread;
+    int times = argc > 1 ? atoi(argv[1]) : 10;
+    memset(&action, 0, sizeof action);
+    action.sa_handler = stop;
+    TRUE(pipe(stopped) == 0 && pipe(resumed) == 0 && sigaction(SIGUSR1, &action, NULL) == 0);
+    taken(&heap, &owner, &other);
+    TRUE(pthread_create(&thread, NULL, removes, &other) == 0);
+    uint64_t rounds = rounds_until(&owner, thread, times);
+    atomic_store(&ends, 1);
+    TRUE(pthread_join(thread, NULL) == 0);
+    IS(shardheap_leave(&owner), SHARDHEAP_OK);
+    IS(shardheap_give(&owner), SHARDHEAP_OK);
+    IS(shardheap_give(&other), SHARDHEAP_OK);
+    shardheap_close(&heap);
+    printf("waiting: refused %d times, in %llu rounds\n", times, (unsigned long long)rounds);
+    return 0;
+}
