@@ -1,5 +1,5 @@
 //! The command line.
-use crate::selection::selected;
+use crate::selection::{selected, selected_large};
 use std::path::PathBuf;
 use std::slice::Iter;
 
@@ -16,8 +16,17 @@ pub enum Request {
         /// The folder for pictures of the table of calls, if they are wanted.
         plots: Option<PathBuf>,
     },
-    /// The table of times in large heaps, by so many rounds.
+    /// The table of times in large heaps: so many rounds of the rows with the word in their title.
     Large {
+        rounds: usize,
+        word: String,
+    },
+    /// The table of the library's calls beside those inside, by so many rounds.
+    Library {
+        rounds: usize,
+    },
+    /// The table of what a heap takes to open, by so many rounds.
+    Opening {
         rounds: usize,
     },
     /// The table of bytes a value.
@@ -27,17 +36,21 @@ pub enum Request {
 
 pub const HELP: &str = "\
 usage: bench [--rows WORD] [--plots FOLDER] [ROUNDS]
-       bench large [ROUNDS]
+       bench large [--rows WORD] [ROUNDS]
+       bench library [ROUNDS]
+       bench opening [ROUNDS]
        bench bytes
 
-The tables of times, that of times in heaps of 100,000 to 10,000,000 values, or that of bytes a value.
+The tables of times, that of times in heaps of 100,000 to 10,000,000 values, that of the library's calls from Rust and
+from C beside those inside, that of what such heaps take to open, or that of bytes a value.
 
   ROUNDS          so many rounds, at least 1; 15 if it is not said
   --rows WORD     only the rows with this in their title, such as 'churn' or 'read into'
   --plots FOLDER  writes the pictures ratios.svg and growth.svg of the table of calls into this folder
   -h, --help      this text
 
-The variable SH_BENCH names the program of the library, in place of crates/sh_bench/out/sh_bench.
+The variable SH_BENCH names the program of the heap, in place of crates/sh_bench/out/sh_bench, and SH_THROUGH that of
+the library, in place of bench/through/target/release/through.
 Exit status: 0 all was measured, 1 something could not be, 2 the command line is wrong.";
 
 fn rounds(word: &str) -> Result<usize, String> {
@@ -50,10 +63,10 @@ fn rounds(word: &str) -> Result<usize, String> {
 }
 
 // What stands behind --rows, if it is in some title.
-fn word(rest: &mut Iter<'_, &str>) -> Result<String, String> {
+fn word(rest: &mut Iter<'_, &str>, is_in_titles: impl Fn(&str) -> bool) -> Result<String, String> {
     match rest.next() {
         None => Err("--rows wants a word".to_string()),
-        Some(word) if selected(word).is_empty() => Err(format!("no row has {word} in its title")),
+        Some(word) if !is_in_titles(word) => Err(format!("no row has {word} in its title")),
         Some(word) => Ok(word.to_string()),
     }
 }
@@ -80,7 +93,7 @@ fn times(words: &[&str]) -> Result<Request, String> {
     let mut rest = words.iter();
     while let Some(next) = rest.next() {
         match *next {
-            "--rows" => note(&mut selecting, word(&mut rest)?, "the rows")?,
+            "--rows" => note(&mut selecting, word(&mut rest, |word| !selected(word).is_empty())?, "the rows")?,
             "--plots" => note(&mut plots, folder(&mut rest)?, "the plots")?,
             other => note(&mut asked, rounds(other)?, "the rounds")?,
         }
@@ -88,13 +101,29 @@ fn times(words: &[&str]) -> Result<Request, String> {
     Ok(Request::Times { rounds: asked.unwrap_or(ROUNDS), word: selecting.unwrap_or_default(), plots })
 }
 
+fn large(words: &[&str]) -> Result<Request, String> {
+    let (mut asked, mut selecting) = (None, None);
+    let mut rest = words.iter();
+    while let Some(next) = rest.next() {
+        match *next {
+            "--rows" => note(&mut selecting, word(&mut rest, |word| !selected_large(word).is_empty())?, "the rows")?,
+            other => note(&mut asked, rounds(other)?, "the rounds")?,
+        }
+    }
+    Ok(Request::Large { rounds: asked.unwrap_or(ROUNDS), word: selecting.unwrap_or_default() })
+}
+
 /// What the words ask for, of which the first is not the program's name; or, in one line, why they are wrong.
 pub fn request(words: &[&str]) -> Result<Request, String> {
     match words {
         ["-h" | "--help"] => Ok(Request::Help),
-        ["large"] => Ok(Request::Large { rounds: ROUNDS }),
-        ["large", word] => rounds(word).map(|rounds| Request::Large { rounds }),
-        ["large", _, word, ..] => Err(format!("large takes no {word}")),
+        ["large", words @ ..] => large(words),
+        ["library"] => Ok(Request::Library { rounds: ROUNDS }),
+        ["library", word] => rounds(word).map(|rounds| Request::Library { rounds }),
+        ["library", _, word, ..] => Err(format!("library takes no {word}")),
+        ["opening"] => Ok(Request::Opening { rounds: ROUNDS }),
+        ["opening", word] => rounds(word).map(|rounds| Request::Opening { rounds }),
+        ["opening", _, word, ..] => Err(format!("opening takes no {word}")),
         ["bytes"] => Ok(Request::Bytes),
         ["bytes", word, ..] => Err(format!("bytes takes no {word}")),
         words => times(words),
@@ -109,6 +138,10 @@ mod tests {
         Ok(Request::Times { rounds, word: word.to_string(), plots: None })
     }
 
+    fn large_of(rounds: usize, word: &str) -> Result<Request, String> {
+        Ok(Request::Large { rounds, word: word.to_string() })
+    }
+
     #[test]
     fn usual_words_are_requests() {
         assert_eq!(request(&[]), times_of(15, ""));
@@ -118,8 +151,12 @@ mod tests {
         assert_eq!(request(&["3", "--rows", "adopt"]), times_of(3, "adopt"));
         let plots = Some(PathBuf::from("/tmp"));
         assert_eq!(request(&["--plots", "/tmp", "3"]), Ok(Request::Times { rounds: 3, word: String::new(), plots }));
-        assert_eq!(request(&["large"]), Ok(Request::Large { rounds: 15 }));
-        assert_eq!(request(&["large", "3"]), Ok(Request::Large { rounds: 3 }));
+        assert_eq!(request(&["large"]), large_of(15, ""));
+        assert_eq!(request(&["large", "3"]), large_of(3, ""));
+        assert_eq!(request(&["large", "--rows", "10,000,000", "3"]), large_of(3, "10,000,000"));
+        assert_eq!(request(&["library"]), Ok(Request::Library { rounds: 15 }));
+        assert_eq!(request(&["library", "3"]), Ok(Request::Library { rounds: 3 }));
+        assert_eq!(request(&["opening", "3"]), Ok(Request::Opening { rounds: 3 }));
         assert_eq!(request(&["bytes"]), Ok(Request::Bytes));
         assert_eq!(request(&["--help"]), Ok(Request::Help));
     }
@@ -140,7 +177,12 @@ mod tests {
             (&["--fast"], "no option --fast"),
             (&["-3"], "no option -3"),
             (&["large", "0"], "0 rounds measure nothing"),
-            (&["large", "3", "4"], "large takes no 4"),
+            (&["large", "3", "4"], "the rounds are said twice"),
+            (&["large", "--rows", "leave"], "no row has leave in its title"),
+            (&["large", "--plots", "/tmp"], "no option --plots"),
+            (&["library", "0"], "0 rounds measure nothing"),
+            (&["library", "3", "4"], "library takes no 4"),
+            (&["opening", "3", "4"], "opening takes no 4"),
             (&["bytes", "3"], "bytes takes no 3"),
             (&["3", "bytes"], "bytes is no number of rounds"),
         ];

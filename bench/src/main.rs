@@ -1,6 +1,7 @@
 //! Measures the library's heap beside what one would pick otherwise, and beside its own steps as bare atomics: all in
 //! one run, in turn. `README.md` says how it is run.
 mod arguments;
+mod boundary;
 mod bytes;
 mod changing;
 mod counting;
@@ -14,6 +15,7 @@ mod measuring;
 mod model;
 mod mutex_slab;
 mod mutex_slot_map;
+mod opening;
 mod ours;
 mod payload;
 mod plots;
@@ -40,7 +42,7 @@ use arguments::Request;
 use measuring::{Measured, Plan};
 use program::Program;
 use row::Row;
-use selection::selected;
+use selection::{selected, selected_large};
 use std::fs;
 use std::path::Path;
 use std::process::ExitCode;
@@ -81,7 +83,7 @@ fn print_about(program: &Program, rounds: usize) {
 }
 
 fn measure(rounds: usize, tables: Vec<(Table, Vec<Row>)>, plots: Option<&Path>) -> Result<(), String> {
-    let program = Program::find()?;
+    let program = Program::inside()?;
     print_about(&program, rounds);
     let left_out = print_tables(&Plan { program: &program.path, rounds }, tables, plots)?;
     if !program.is_unchanged() {
@@ -93,10 +95,35 @@ fn measure(rounds: usize, tables: Vec<(Table, Vec<Row>)>, plots: Option<&Path>) 
     }
 }
 
+// Measures the library's calls beside the same ones inside.
+fn measure_boundary(rounds: usize) -> Result<(), String> {
+    let (inside, through) = (Program::inside()?, Program::through()?);
+    println!("{}", through.text());
+    print_about(&inside, rounds);
+    println!("{}", boundary::table(&inside.path, &through.path, rounds)?);
+    match (inside.is_unchanged(), through.is_unchanged()) {
+        (true, true) => Ok(()),
+        _ => Err("a program changed while it was measured".to_string()),
+    }
+}
+
+// Measures what a heap takes to open.
+fn measure_opening(rounds: usize) -> Result<(), String> {
+    let through = Program::through()?;
+    print_about(&through, rounds);
+    println!("{}", opening::table(&through.path, rounds)?);
+    match through.is_unchanged() {
+        true => Ok(()),
+        false => Err("the program changed while it was measured".to_string()),
+    }
+}
+
 fn do_as_asked(request: Request) -> Result<(), String> {
     match request {
         Request::Times { rounds, word, plots } => measure(rounds, selected(&word), plots.as_deref()),
-        Request::Large { rounds } => measure(rounds, vec![(Table::Large, Table::Large.rows())], None),
+        Request::Large { rounds, word } => measure(rounds, selected_large(&word), None),
+        Request::Library { rounds } => measure_boundary(rounds),
+        Request::Opening { rounds } => measure_opening(rounds),
         Request::Bytes => {
             println!("{}\n\n{}", bytes::ABOUT, bytes::table());
             Ok(())

@@ -1,4 +1,4 @@
-//! The library's heap: `sh_bench` is run, and its time read from what it writes to the standard error.
+//! A program of ours: it is run, and its time read from what it writes to the standard error.
 use crate::row::Row;
 use std::path::Path;
 use std::process::Command;
@@ -12,20 +12,30 @@ fn time(times: &str) -> Option<f64> {
     times.lines().find_map(|line| line.strip_prefix("nanoseconds ")?.parse().ok())
 }
 
-/// The nanoseconds of one operation. An error is one line.
-pub fn measure(program: &Path, row: &Row) -> Result<f64, String> {
-    let words = row.arguments();
-    let run = Command::new(program).args(&words).output().map_err(|error| format!("{}: {error}", program.display()))?;
+// The name of the program's file.
+fn name(program: &Path) -> String {
+    program.file_name().map_or(String::new(), |name| name.to_string_lossy().into_owned())
+}
+
+/// The nanoseconds that the program takes, which has so many operations to do. An error is one line.
+pub fn spent(program: &Path, words: &[String], operations: usize) -> Result<f64, String> {
+    let run = Command::new(program).args(words).output().map_err(|error| format!("{}: {error}", program.display()))?;
     let (counts, times) = (String::from_utf8_lossy(&run.stdout), String::from_utf8_lossy(&run.stderr));
-    let told = format!("sh_bench {}", words.join(" "));
+    let told = format!("{} {}", name(program), words.join(" "));
     if !run.status.success() {
         return Err(format!("{told}: {}", first_line(&times)));
     }
-    let wanted = format!("operations {}", row.operations * row.threads);
+    let wanted = format!("operations {operations}");
     if !counts.lines().any(|line| line == wanted) {
         return Err(format!("{told} did not do its operations"));
     }
-    time(&times).map(|spent| spent / row.operations as f64).ok_or_else(|| format!("{told} told no time"))
+    time(&times).ok_or_else(|| format!("{told} told no time"))
+}
+
+/// The nanoseconds of one operation of a row of `sh_bench`. An error is one line.
+pub fn measure(program: &Path, row: &Row) -> Result<f64, String> {
+    let spent = spent(program, &row.arguments(), row.operations * row.threads)?;
+    Ok(spent / row.operations as f64)
 }
 
 #[cfg(test)]

@@ -135,7 +135,8 @@ impl<'a> Chart<'a> {
     }
 }
 
-/// What an insert, and a removal with an insert, take beside more and more values: nanoseconds, the least of the rounds.
+/// What an insert, and a removal with an insert, take beside more and more values: nanoseconds, the least of the
+/// rounds.
 pub fn growth(measured: &[Measured]) -> String {
     let mut sheet = Sheet::new(820.0, TOP + CHART.1 + 50.0);
     legend(&mut sheet, &GROWTH);

@@ -1,4 +1,4 @@
-//! The program of the library that is measured: where it lies, and which build of it that is.
+//! The programs of ours that are measured: where they lie, and which builds of them that are.
 use crate::hash::fnv1a;
 use std::env;
 use std::ffi::OsString;
@@ -6,11 +6,9 @@ use std::fs;
 use std::path::{Path, PathBuf};
 use std::process::Command;
 
-/// Names the program, in place of the usual one.
-const VARIABLE: &str = "SH_BENCH";
-
-// From the folder above the bench.
-const USUAL: &str = "crates/sh_bench/out/sh_bench";
+// Each has a variable that names it, in place of the usual one, which lies below the folder above the bench.
+const INSIDE: (&str, &str) = ("SH_BENCH", "crates/sh_bench/out/sh_bench");
+const THROUGH: (&str, &str) = ("SH_THROUGH", "bench/through/target/release/through");
 
 /// A program, as its file was when it was looked at.
 #[derive(Debug, PartialEq, Eq)]
@@ -20,13 +18,13 @@ pub struct Program {
     hash: u64,
 }
 
-fn usual() -> PathBuf {
+fn usual(below: &str) -> PathBuf {
     let bench = Path::new(env!("CARGO_MANIFEST_DIR"));
-    bench.parent().unwrap_or(bench).join(USUAL)
+    bench.parent().unwrap_or(bench).join(below)
 }
 
-fn named(variable: Option<OsString>) -> PathBuf {
-    variable.map_or_else(usual, PathBuf::from)
+fn named(variable: Option<OsString>, below: &str) -> PathBuf {
+    variable.map_or_else(|| usual(below), PathBuf::from)
 }
 
 // What git calls the tree that the folder lies in, where there is git and a tree.
@@ -37,9 +35,18 @@ fn described(folder: &Path) -> Option<String> {
 }
 
 impl Program {
-    /// The program that the variable names, or the usual one.
-    pub fn find() -> Result<Self, String> {
-        Self::at(&named(env::var_os(VARIABLE)))
+    /// `sh_bench`, by the calls inside.
+    pub fn inside() -> Result<Self, String> {
+        Self::of(INSIDE)
+    }
+
+    /// `through`, by the calls of the library.
+    pub fn through() -> Result<Self, String> {
+        Self::of(THROUGH)
+    }
+
+    fn of((variable, below): (&str, &str)) -> Result<Self, String> {
+        Self::at(&named(env::var_os(variable), below))
     }
 
     fn at(path: &Path) -> Result<Self, String> {
@@ -72,8 +79,9 @@ mod tests {
 
     #[test]
     fn the_variable_names_the_program() {
-        assert_eq!(named(Some("/some/program".into())), PathBuf::from("/some/program"));
-        assert!(named(None).ends_with(USUAL));
+        let below = "crates/sh_bench/out/sh_bench";
+        assert_eq!(named(Some("/some/program".into()), below), PathBuf::from("/some/program"));
+        assert!(named(None, below).ends_with(below));
     }
 
     #[test]

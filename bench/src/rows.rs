@@ -86,6 +86,8 @@ pub fn large() -> Vec<Row> {
             row(Workload::Get, 1_000_000).aims(1.2, 1.2),
             row(Workload::GetGuard, 1_000_000),
             row(Workload::Read, 1_000_000).aims(1.2, 1.2),
+            row(Workload::ReadInto, 1_000_000),
+            row(Workload::ReadGuard, 1_000_000),
             row(Workload::Insert, 200_000).aims(1.5, 1.2),
         ]
     };

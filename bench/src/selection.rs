@@ -2,11 +2,22 @@
 use crate::row::Row;
 use crate::table::{Table, TABLES};
 
-/// The tables that have rows with the word in their title, and these rows. The empty word is in each title.
-pub fn selected(word: &str) -> Vec<(Table, Vec<Row>)> {
+// Those of these tables that have rows with the word in their title, and these rows.
+fn among(tables: &[Table], word: &str) -> Vec<(Table, Vec<Row>)> {
     let rows = |table: Table| table.rows().into_iter().filter(|row| row.title().contains(word)).collect();
-    let all = TABLES.map(|table| (table, rows(table))).into_iter();
+    let all = tables.iter().map(|table| (*table, rows(*table)));
     all.filter(|(_, rows): &(Table, Vec<Row>)| !rows.is_empty()).collect()
+}
+
+/// The tables of the usual run that have rows with the word in their title, and these rows. The empty word is in each
+/// title.
+pub fn selected(word: &str) -> Vec<(Table, Vec<Row>)> {
+    among(&TABLES, word)
+}
+
+/// The same of the table of large heaps.
+pub fn selected_large(word: &str) -> Vec<(Table, Vec<Row>)> {
+    among(&[Table::Large], word)
 }
 
 #[cfg(test)]

@@ -3,8 +3,8 @@ use crate::row::Row;
 use crate::samples::Lengths;
 use crate::workload::Workload;
 
-// A number with a comma before each three digits.
-fn grouped(number: usize) -> String {
+/// A number with a comma before each three digits.
+pub fn grouped(number: usize) -> String {
     match number {
         0..=999 => number.to_string(),
         _ => format!("{},{:03}", grouped(number / 1000), number % 1000),
@@ -32,6 +32,14 @@ fn keys(row: &Row) -> String {
     }
 }
 
+// What is read; all reads but those of large heaps are beside as many values.
+fn read(row: &Row) -> String {
+    match row.is_deep {
+        true => format!("{}, {}", words(row.lengths), keys(row)),
+        false => words(row.lengths),
+    }
+}
+
 fn put_back(row: &Row) -> String {
     format!("{}, {} put", count(row.pages(), "page"), count(row.freed, "slot"))
 }
@@ -44,11 +52,9 @@ impl Row {
         match self.workload {
             Workload::Get => format!("get + release, {}", keys(self)),
             Workload::GetGuard => format!("get by a guard, {}", keys(self)),
-            // (all other reads are beside as many values)
-            Workload::Read if self.is_deep => format!("get + read + release, {words}, {}", keys(self)),
-            Workload::Read => format!("get + read + release, {words}"),
-            Workload::ReadInto => format!("get + read into + release, {words}"),
-            Workload::ReadGuard => format!("read by a guard, {words}"),
+            Workload::Read => format!("get + read + release, {}", read(self)),
+            Workload::ReadInto => format!("get + read into + release, {}", read(self)),
+            Workload::ReadGuard => format!("read by a guard, {}", read(self)),
             Workload::Insert => format!("insert, {words}, beside {}", count(self.live, "value")),
             Workload::Fill => format!("fill with {}, {words}", count(self.operations, "value")),
             Workload::Remove => format!("remove by the owner, {words}"),
@@ -88,6 +94,7 @@ mod tests {
             (Row::new(Workload::Get, 1, 9).passes(64), "get + release, one key, 64 passes"),
             (Row::new(Workload::GetGuard, 1, 9).live(10_000), "get by a guard, 10,000 keys"),
             (Row::new(Workload::ReadInto, 1, 9).lengths(Lengths::Each(16)), "get + read into + release, 16 words"),
+            (Row::new(Workload::ReadGuard, 1, 9).live(2000).deep(), "read by a guard, 1 word, 2,000 keys"),
             (Row::new(Workload::Insert, 1, 9), "insert, 1 word, beside 1 value"),
             (Row::new(Workload::Insert, 4, 9).live(100), "insert, 1 word, beside 100 values"),
             (Row::new(Workload::Fill, 1, 49_152), "fill with 49,152 values, 1 word"),

@@ -49,7 +49,8 @@ def draw_lane(picture, x, y, name, links, owing):
 def draw_slots(picture, page, x, y):
     for slot in page.slots:
         column, row = slot.number % 3, slot.number // 3
-        lines = [f"slot {slot.number}: {slot.kind} g{slot.generation}", f"count {slot.count}, {short(slot)}".rstrip(", ")]
+        lines = [f"slot {slot.number}: {slot.kind} g{slot.generation}",
+                 f"count {slot.count}, {short(slot)}".rstrip(", ")]
         picture.cell(x + column * (CELL + 2), y + row * (HIGH + 6), CELL, HIGH, lines, slot.look(), 11)
 
 

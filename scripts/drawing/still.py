@@ -113,7 +113,8 @@ def page():
 BIT = 13
 KEYS = [("wide", "56 bits", [("0", 8, "zero"), ("generation", 32, "live"), ("shard", 8, "own"), ("page", 10, "queued"),
                              ("slot", 6, "marked")]),
-        ("deep", "64 bits", [("generation", 32, "live"), ("shard", 6, "own"), ("page", 20, "queued"), ("slot", 6, "marked")]),
+        ("deep", "64 bits", [("generation", 32, "live"), ("shard", 6, "own"), ("page", 20, "queued"),
+                             ("slot", 6, "marked")]),
         ("tagged", "64 bits", [("tag", 8, "tag"), ("0", 4, "zero"), ("generation", 32, "live"), ("shard", 6, "own"),
                                ("page", 8, "queued"), ("slot", 6, "marked")]),
         ("tiny", "14 bits", [("0", 50, "zero"), ("", 2, "live"), ("", 2, "own"), ("page", 4, "queued"),

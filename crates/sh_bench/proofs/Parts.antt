@@ -6,7 +6,8 @@ use Rattle.std.proofs.lemmas.Bool.Decides.{nat_tests}
 use Rattle.sh_bench.specs.Shares.{shares}
 
 -- the first so many shares: the whole ones, and one more for each of the remainder
-pub shares_are : (whole parts count : ℕ) → shares whole parts count ≡ count * (whole / parts) + min count (whole % parts)
+pub shares_are : (whole parts count : ℕ) → shares whole parts count
+    ≡ count * (whole / parts) + min count (whole % parts)
 shares_are whole parts zero = omega arith
 shares_are whole parts (suc count) =
     let before = shares_are whole parts count in

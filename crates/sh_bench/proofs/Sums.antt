@@ -1,6 +1,6 @@
 -- Steps of the sums of outcomes.
-use Rattle.std.proofs.Common.{◌≡◌, ◌∙◌, ap, sym, ℕ, ◌+◌, ◌%◌, ◌^◌, ◌<◌, max, List, length, take, get_or, Some, Bool, true}
-use Rattle.std.proofs.Common.{arith, below_more}
+use Rattle.std.proofs.Common.{◌≡◌, ◌∙◌, ap, sym, ℕ, ◌+◌, ◌%◌, ◌^◌, ◌<◌, max, List, length, take, get_or, Some, Bool}
+use Rattle.std.proofs.Common.{true, arith, below_more}
 use Rattle.std.specs.Prelude.{sum_by, Result, Ok, Err, slice_get}
 use Rattle.std.proofs.lemmas.Option.{slice_get-get_or}
 use Rattle.std.proofs.lemmas.List.Sums.{sum_by_more, fold_more}

@@ -3,21 +3,20 @@ ghost use Rattle.std.specs.Prelude.{◌≡◌, IfOk};
 
 use crate::gate::Gate;
 use crate::lots::{insert_each, remove_each};
-use crate::owners::{adopted, filled, left, passes_of};
-use crate::parting::together;
+use crate::owners::{adopted, filled, left};
+use crate::work;
+use crate::work::Work;
 use sh_key::KeyLayout;
 use sh_load::demand::Demand;
 use sh_load::fault::Fault;
 use sh_load::options::Options;
 use sh_load::outcome::{NOTHING, Outcome};
-use sh_load::plan::plan_for;
 use sh_load::samples::Samples;
 use sh_load::workload::Workload;
-use sh_pass::{Heap, Pass};
+use sh_pass::Pass;
 use sh_shard::Shard;
 use std::alloc::{AllocError, Global};
 use std::rt::Clock;
-use std::thread;
 use std::thread::Threads;
 use std::time::{Duration, Instant};
 
@@ -28,53 +27,99 @@ struct Job<'a, L: KeyLayout> {
     shard: u64,
 }
 
-// The owner that the pass becomes by adopting the shard, and how long that took.
-fn adopt_timed<'a, L: KeyLayout>(
+// The values that an owner inserts before it leaves, and their keys.
+#[derive(Drop)]
+struct Batch {
+    samples: Samples,
+    keys: Vec<u64>,
+}
+
+// The moments at which a shard is handed over.
+#[derive(Clone, Copy)]
+struct Moments {
+    // It is about to be adopted.
+    begin: Instant,
+    // It was adopted.
+    adopted: Instant,
+    // It is about to be left.
+    used: Instant,
+}
+
+impl Moments {
+    // How long adopting or leaving took, where the shard was left at `end`.
+    fn spent(&self, end: Instant, workload: Workload) -> Duration {
+        match workload {
+            Workload::Adopt => self.adopted.duration_since(self.begin),
+            _ => end.duration_since(self.used),
+        }
+    }
+}
+
+fn batch_for(alloc: Global, options: &Options) -> Result<Batch, Fault> {
+    let samples = Samples::new(alloc, options.lengths)?;
+    let keys = vec![in alloc; 0u64; options.freed]?;
+    Ok(Batch { samples, keys })
+}
+
+// The owner inserts the values of the batch and removes them, so that their slots are its own.
+fn use_shard<L: KeyLayout>(
     rt: &impl Clock,
-    alloc: Global,
+    owner: &mut Shard<'_, L>,
+    batch: &mut Batch,
+    begin: Instant,
+) -> Result<Moments, Fault> {
+    let adopted = Instant::now(rt)?;
+    insert_each(owner, &batch.samples, batch.keys.as_mut_slice())?;
+    remove_each(owner, batch.keys.as_slice())?;
+    let used = Instant::now(rt)?;
+    Ok(Moments {
+        begin,
+        adopted,
+        used,
+    })
+}
+
+// The pass, which was an owner until now, and how long adopting or leaving took.
+fn timed<'a, L: KeyLayout>(
+    rt: &impl Clock,
     pass: Pass<'a, L>,
-    shard: u64,
-) -> Result<(Shard<'a, L>, Duration), Fault> {
-    let start = Instant::now(rt)?;
-    let owner = adopted(alloc, pass, shard)?;
-    Ok((owner, start.elapsed(rt)?))
-}
-
-// The pass that an owner is again once it has left, and how long that took.
-fn leave_timed<'a, L: KeyLayout>(
-    rt: &impl Clock,
-    owner: Shard<'a, L>,
+    moments: Moments,
+    workload: Workload,
 ) -> Result<(Pass<'a, L>, Duration), Fault> {
-    let start = Instant::now(rt)?;
-    let pass = left(owner)?;
-    Ok((pass, start.elapsed(rt)?))
+    let end = Instant::now(rt)?;
+    Ok((pass, moments.spent(end, workload)))
 }
 
-// The pass adopts the shard, inserts values for the keys and removes them, so that their slots are its own, and leaves.
-// Adopting or leaving is measured.
+// The owner uses its shard, which was about to be adopted at `begin`, and leaves it.
+fn use_and_leave<'a, L: KeyLayout>(
+    rt: &impl Clock,
+    mut owner: Shard<'a, L>,
+    batch: &mut Batch,
+    begin: Instant,
+    workload: Workload,
+) -> Result<(Pass<'a, L>, Duration), Fault> {
+    let moments = use_shard(rt, &mut owner, batch, begin)?;
+    timed(rt, left(owner)?, moments, workload)
+}
+
+// The pass adopts the shard, uses it and leaves it. Adopting or leaving is measured.
 fn hand_over<'a, L: KeyLayout>(
     rt: &impl Clock,
     alloc: Global,
-    samples: &Samples,
     job: Job<'a, L>,
-    keys: &mut [u64],
+    batch: &mut Batch,
     workload: Workload,
 ) -> Result<(Job<'a, L>, Outcome), Fault>
     ensures { IfOk result (λ done. done.1.operations ≡ 1) }
 {
+    let begin = Instant::now(rt)?;
     let Job { pass, shard } = job;
-    let (mut owner, adopting) = adopt_timed(rt, alloc, pass, shard)?;
-    insert_each(&mut owner, samples, keys)?;
-    remove_each(&mut owner, keys)?;
-    let (pass, leaving) = leave_timed(rt, owner)?;
-    let spent = match workload {
-        Workload::Adopt => adopting,
-        _ => leaving,
-    };
+    let owner = adopted(alloc, pass, shard)?;
+    let (pass, spent) = use_and_leave(rt, owner, batch, begin, workload)?;
     Ok((Job { pass, shard }, Outcome::of(spent, 1, 0)))
 }
 
-// Fills the shard with the values that stand, and leaves it.
+// Fills the shard with the values that stand, one for each key, and leaves it.
 fn fill<'a, L: KeyLayout>(
     alloc: Global,
     samples: &Samples,
@@ -87,18 +132,27 @@ fn fill<'a, L: KeyLayout>(
     Ok(Job { pass, shard })
 }
 
+// The job, once so many values that stand were inserted.
+fn filled_with<'a, L: KeyLayout>(
+    alloc: Global,
+    samples: &Samples,
+    job: Job<'a, L>,
+    values: usize,
+) -> Result<Job<'a, L>, Fault> {
+    let mut live = vec![in alloc; 0u64; values]?;
+    fill(alloc, samples, job, live.as_mut_slice())
+}
+
 // The job, once the values that stand were inserted and its shard has changed hands.
 fn prepared<'a, L: KeyLayout>(
     rt: &impl Clock,
     alloc: Global,
     options: &Options,
-    samples: &Samples,
     job: Job<'a, L>,
-    keys: &mut [u64],
+    batch: &mut Batch,
 ) -> Result<Job<'a, L>, Fault> {
-    let mut live = vec![in alloc; 0u64; options.live]?;
-    let job = fill(alloc, samples, job, live.as_mut_slice())?;
-    let (job, _warm) = hand_over(rt, alloc, samples, job, keys, options.workload)?;
+    let job = filled_with(alloc, &batch.samples, job, options.live)?;
+    let (job, _warm) = hand_over(rt, alloc, job, batch, options.workload)?;
     Ok(job)
 }
 
@@ -107,16 +161,15 @@ fn turns<L: KeyLayout>(
     rt: &impl Clock,
     alloc: Global,
     options: &Options,
-    samples: &Samples,
     job: Job<'_, L>,
-    keys: &mut [u64],
+    batch: &mut Batch,
 ) -> Result<Outcome, Fault>
     ensures { IfOk result (λ outcome. outcome.operations ≡ options.now.operations) }
 {
     let mut job = job;
     let mut outcome = NOTHING;
     for _turn in 0..options.operations {
-        let (next, done) = hand_over(rt, alloc, samples, job, keys, options.workload)?;
+        let (next, done) = hand_over(rt, alloc, job, batch, options.workload)?;
         job = next;
         outcome = outcome.then(done);
     }
@@ -124,6 +177,22 @@ fn turns<L: KeyLayout>(
 }
 
 // What one thread does: it prepares its shard, and measures once all threads have.
+fn work_with<L: KeyLayout>(
+    rt: &impl Clock,
+    alloc: Global,
+    gate: &Gate,
+    options: &Options,
+    job: Job<'_, L>,
+    batch: &mut Batch,
+) -> Result<Outcome, Fault>
+    ensures { IfOk result (λ outcome. outcome.operations ≡ options.now.operations) }
+{
+    let job = prepared(rt, alloc, options, job, batch)?;
+    gate.pass()?;
+    turns(rt, alloc, options, job, batch)
+}
+
+// What one thread does, with a batch of its own.
 fn work<L: KeyLayout>(
     rt: &impl Clock,
     alloc: Global,
@@ -133,12 +202,20 @@ fn work<L: KeyLayout>(
 ) -> Result<Outcome, Fault>
     ensures { IfOk result (λ outcome. outcome.operations ≡ options.now.operations) }
 {
-    let samples = Samples::new(alloc, options.lengths)?;
-    let mut freed = vec![in alloc; 0u64; options.freed]?;
-    let keys = freed.as_mut_slice();
-    let job = prepared(rt, alloc, options, &samples, job, keys)?;
-    gate.pass()?;
-    turns(rt, alloc, options, &samples, job, keys)
+    let mut batch = batch_for(alloc, options)?;
+    work_with(rt, alloc, gate, options, job, &mut batch)
+}
+
+impl<L: KeyLayout> Work for Job<'_, L> {
+    fn run<C: Clock>(
+        self,
+        rt: &C,
+        alloc: Global,
+        gate: &Gate,
+        options: &Options,
+    ) -> Result<Outcome, Fault> {
+        work(rt, alloc, gate, options, self)
+    }
 }
 
 // A job for each thread, with the shard of the thread's number.
@@ -159,7 +236,8 @@ fn jobs<'a, L: KeyLayout>(
     Ok(jobs)
 }
 
-fn demand(options: &Options) -> Demand {
+/// What the workloads need.
+pub fn demand(options: &Options) -> Demand {
     Demand {
         owners: options.threads,
         others: 0,
@@ -170,40 +248,13 @@ fn demand(options: &Options) -> Demand {
     }
 }
 
-// Measures the jobs, each in a thread of its own.
-fn measure_jobs<L: KeyLayout + Send + Sync, R: Threads + Clock + Sync>(
-    rt: &R,
-    alloc: Global,
-    options: &Options,
-    jobs: Vec<Job<'_, L>>,
-) -> Result<Outcome, Fault> {
-    let gate = &Gate::new(options.threads as u64);
-    let done = thread::map_vec(rt, jobs, &|job| work(rt, alloc, gate, options, job))?;
-    together(done.as_slice())
-}
-
-// Measures shards that change hands among these passes and none.
-fn measure_passes<L: KeyLayout + Send + Sync, R: Threads + Clock + Sync>(
+/// Measures shards that change hands, one in each thread.
+pub fn measure<L: KeyLayout + Send + Sync, R: Threads + Clock + Sync>(
     rt: &R,
     alloc: Global,
     options: &Options,
     passes: &mut Vec<Pass<'_, L>>,
 ) -> Result<Outcome, Fault> {
     let jobs = jobs(alloc, passes, options.threads)?;
-    measure_jobs(rt, alloc, options, jobs)
-}
-
-/// Measures shards that change hands, one in each thread. `TooMany` where the values need more than one shard.
-pub fn measure<L: KeyLayout + Send + Sync, R: Threads + Clock + Sync>(
-    rt: &R,
-    alloc: Global,
-    options: &Options,
-) -> Result<Outcome, Fault> {
-    let plan = plan_for::<L>(&demand(options))?;
-    if plan.shards > 1 {
-        return Err(Fault::TooMany);
-    }
-    let (heap, seats) = Heap::<L>::open(alloc, plan.shape)?;
-    let mut passes = passes_of(alloc, &heap, seats)?;
-    measure_passes(rt, alloc, options, &mut passes)
+    work::measure(rt, alloc, options, options.threads, jobs)
 }

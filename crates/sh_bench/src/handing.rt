@@ -2,23 +2,21 @@
 ghost use Rattle.std.specs.Prelude.{◌≡◌, IfOk};
 
 use crate::gate::{Gate, LOOKS};
-use crate::owners::{adopted, passes_of};
-use crate::parting::together;
+use crate::owners::adopted;
 use crate::ring::Ring;
+use crate::work;
+use crate::work::Work;
 use sh_key::KeyLayout;
 use sh_load::demand::Demand;
 use sh_load::fault::Fault;
 use sh_load::options::Options;
 use sh_load::outcome::Outcome;
-use sh_load::plan::plan_for;
 use sh_load::samples::Samples;
-use sh_pass::{Heap, Pass};
-use sh_shape::Shape;
+use sh_pass::Pass;
 use sh_shard::Shard;
 use sh_value::{Refusal, Value};
 use std::alloc::{AllocError, Global};
 use std::rt::Clock;
-use std::thread;
 use std::thread::Threads;
 use std::time::Instant;
 
@@ -36,9 +34,9 @@ enum Side {
 
 // What a thread of a pair begins with.
 #[derive(Drop)]
-struct Job<'a, L: KeyLayout> {
+struct Job<'a, 'r, L: KeyLayout> {
     pass: Pass<'a, L>,
-    ring: &'a Ring,
+    ring: &'r Ring,
     side: Side,
 }
 
@@ -94,7 +92,40 @@ fn produce_timed<L: KeyLayout>(
     Ok(Outcome::of(start.elapsed(rt)?, operations, 0))
 }
 
+// What a producer does.
 fn produce_all<L: KeyLayout>(
+    rt: &impl Clock,
+    alloc: Global,
+    gate: &Gate,
+    options: &Options,
+    owner: &mut Shard<'_, L>,
+    ring: &Ring,
+) -> Result<Outcome, Fault>
+    ensures { IfOk result (λ outcome. outcome.operations ≡ options.now.operations) }
+{
+    let samples = Samples::new(alloc, options.lengths)?;
+    gate.pass()?;
+    produce_timed(rt, owner, ring, &samples, options.operations)
+}
+
+// What a consumer does.
+fn consume_all<L: KeyLayout>(
+    rt: &impl Clock,
+    gate: &Gate,
+    options: &Options,
+    pass: &mut Pass<'_, L>,
+    ring: &Ring,
+) -> Result<Outcome, Fault>
+    ensures { IfOk result (λ outcome. outcome.operations ≡ 0) }
+{
+    gate.pass()?;
+    let start = Instant::now(rt)?;
+    consume(pass, ring, options.operations)?;
+    Ok(Outcome::of(start.elapsed(rt)?, 0, 0))
+}
+
+// What the thread of a producer does.
+fn be_producer<L: KeyLayout>(
     rt: &impl Clock,
     alloc: Global,
     gate: &Gate,
@@ -105,47 +136,36 @@ fn produce_all<L: KeyLayout>(
 ) -> Result<Outcome, Fault>
     ensures { IfOk result (λ outcome. outcome.operations ≡ options.now.operations) }
 {
-    let samples = Samples::new(alloc, options.lengths)?;
     let mut owner = adopted(alloc, pass, shard)?;
-    gate.pass()?;
-    produce_timed(rt, &mut owner, ring, &samples, options.operations)
+    produce_all(rt, alloc, gate, options, &mut owner, ring)
 }
 
-fn consume_all<L: KeyLayout>(
-    rt: &impl Clock,
-    gate: &Gate,
-    options: &Options,
-    mut pass: Pass<'_, L>,
-    ring: &Ring,
-) -> Result<Outcome, Fault>
-    ensures { IfOk result (λ outcome. outcome.operations ≡ 0) }
-{
-    gate.pass()?;
-    let start = Instant::now(rt)?;
-    consume(&mut pass, ring, options.operations)?;
-    Ok(Outcome::of(start.elapsed(rt)?, 0, 0))
-}
-
-// What one thread of a pair does.
-fn work<L: KeyLayout>(
-    rt: &impl Clock,
-    alloc: Global,
-    gate: &Gate,
-    options: &Options,
-    job: Job<'_, L>,
-) -> Result<Outcome, Fault> {
-    match job.side {
-        Side::Producer(shard) => produce_all(rt, alloc, gate, options, job.pass, job.ring, shard),
-        Side::Consumer => consume_all(rt, gate, options, job.pass, job.ring),
+impl<L: KeyLayout> Work for Job<'_, '_, L> {
+    fn run<C: Clock>(
+        self,
+        rt: &C,
+        alloc: Global,
+        gate: &Gate,
+        options: &Options,
+    ) -> Result<Outcome, Fault> {
+        let Job {
+            mut pass,
+            ring,
+            side,
+        } = self;
+        match side {
+            Side::Producer(shard) => be_producer(rt, alloc, gate, options, pass, ring, shard),
+            Side::Consumer => consume_all(rt, gate, options, &mut pass, ring),
+        }
     }
 }
 
 // The jobs of each pair: one for its producer and one for its consumer.
-fn jobs<'a, L: KeyLayout>(
+fn jobs<'a, 'r, L: KeyLayout>(
     alloc: Global,
     passes: &mut Vec<Pass<'a, L>>,
-    rings: &'a [Ring],
-) -> Result<Vec<Job<'a, L>>, AllocError> {
+    rings: &'r [Ring],
+) -> Result<Vec<Job<'a, 'r, L>>, AllocError> {
     let mut jobs = Vec::new(alloc);
     for (pair, ring) in rings.iter().enumerate() {
         for side in [Side::Producer(pair as u64), Side::Consumer] {
@@ -165,7 +185,8 @@ fn rings(alloc: Global, pairs: usize) -> Result<Vec<Ring>, AllocError> {
     Ok(rings)
 }
 
-fn demand(options: &Options) -> Demand {
+/// What the workload needs.
+pub fn demand(options: &Options) -> Demand {
     Demand {
         owners: options.threads,
         others: options.threads,
@@ -176,54 +197,25 @@ fn demand(options: &Options) -> Demand {
     }
 }
 
-// Measures the jobs, each in a thread of its own.
-fn measure_jobs<L: KeyLayout + Send + Sync, R: Threads + Clock + Sync>(
-    rt: &R,
-    alloc: Global,
-    options: &Options,
-    jobs: Vec<Job<'_, L>>,
-) -> Result<Outcome, Fault> {
-    let gate = &Gate::new(2 * options.threads as u64);
-    let done = thread::map_vec(rt, jobs, &|job| work(rt, alloc, gate, options, job))?;
-    together(done.as_slice())
-}
-
-// Measures pairs of threads that have these passes, and a ring for each pair.
-fn measure_passes<'a, L: KeyLayout + Send + Sync, R: Threads + Clock + Sync>(
-    rt: &R,
-    alloc: Global,
-    options: &Options,
-    passes: &mut Vec<Pass<'a, L>>,
-    rings: &'a [Ring],
-) -> Result<Outcome, Fault> {
-    let jobs = jobs(alloc, passes, rings)?;
-    measure_jobs(rt, alloc, options, jobs)
-}
-
-// Measures pairs of threads on a heap of this shape, with a ring for each pair.
+// Measures pairs of threads, with a ring for each pair.
 fn measure_rings<L: KeyLayout + Send + Sync, R: Threads + Clock + Sync>(
     rt: &R,
     alloc: Global,
     options: &Options,
-    shape: Shape,
+    passes: &mut Vec<Pass<'_, L>>,
     rings: &[Ring],
 ) -> Result<Outcome, Fault> {
-    let (heap, seats) = Heap::<L>::open(alloc, shape)?;
-    let mut passes = passes_of(alloc, &heap, seats)?;
-    measure_passes(rt, alloc, options, &mut passes, rings)
+    let jobs = jobs(alloc, passes, rings)?;
+    work::measure(rt, alloc, options, 2 * options.threads, jobs)
 }
 
-/// Measures pairs of threads, of which one inserts and the other removes. `TooMany` where a producer needs more than
-/// one shard.
+/// Measures pairs of threads, of which one inserts and the other removes.
 pub fn measure<L: KeyLayout + Send + Sync, R: Threads + Clock + Sync>(
     rt: &R,
     alloc: Global,
     options: &Options,
+    passes: &mut Vec<Pass<'_, L>>,
 ) -> Result<Outcome, Fault> {
-    let plan = plan_for::<L>(&demand(options))?;
-    if plan.shards > 1 {
-        return Err(Fault::TooMany);
-    }
     let rings = rings(alloc, options.threads)?;
-    measure_rings::<L, R>(rt, alloc, options, plan.shape, rings.as_slice())
+    measure_rings(rt, alloc, options, passes, rings.as_slice())
 }

@@ -3,21 +3,21 @@ ghost use Rattle.std.specs.Prelude.{◌≡◌, ◌<◌, IfOk, length};
 
 use crate::gate::Gate;
 use crate::lots::{Job, Lot, filled_lots, insert_each, remove_each, share, standing};
-use crate::owners::passes_of;
-use crate::parting::{taken, together};
+use crate::parting::taken;
+use crate::work;
+use crate::work::Work;
 use sh_key::KeyLayout;
 use sh_load::demand::Demand;
 use sh_load::fault::Fault;
 use sh_load::options::{MOST_VALUES, Options};
 use sh_load::outcome::{NOTHING, Outcome};
-use sh_load::plan::plan_for;
 use sh_load::samples::Samples;
 use sh_load::workload::Workload;
-use sh_pass::{Heap, Pass};
-use sh_value::Refusal;
+use sh_pass::Pass;
+use sh_shard::Shard;
+use sh_value::{Refusal, Value};
 use std::alloc::{AllocError, Global};
 use std::rt::Clock;
-use std::thread;
 use std::thread::Threads;
 use std::time::Instant;
 
@@ -83,6 +83,16 @@ fn fill<L: KeyLayout>(
     Ok(Outcome::of(start.elapsed(rt)?, operations, sum))
 }
 
+// Removes the value of the key and inserts this one, of which it answers the key.
+fn churn_one<L: KeyLayout>(
+    owner: &mut Shard<'_, L>,
+    key: u64,
+    value: &Value,
+) -> Result<u64, Refusal> {
+    owner.remove(key)?;
+    owner.insert(value)
+}
+
 // Goes through the places, in each of which a value is removed and another of its length inserted.
 fn churn_each<L: KeyLayout>(
     lot: &mut Lot<'_, L>,
@@ -92,8 +102,7 @@ fn churn_each<L: KeyLayout>(
     let mut sum = 0u64;
     for place in lot.order.iter().take(turns) {
         if let Some(key) = lot.keys.get_mut(*place) {
-            lot.owner.remove(*key)?;
-            *key = lot.owner.insert(samples.at(*place))?;
+            *key = churn_one(&mut lot.owner, *key, samples.at(*place))?;
             sum = sum.wrapping_add(*key);
         }
     }
@@ -150,24 +159,48 @@ fn measure_lot<L: KeyLayout>(
     Ok(outcome)
 }
 
-// What one thread of owners does: its shards have their turns one after the other.
+// Measures the shards of one thread, which have their turns one after the other.
+fn measure_lots<L: KeyLayout>(
+    rt: &impl Clock,
+    alloc: Global,
+    options: &Options,
+    lots: &mut [Lot<'_, L>],
+    samples: &Samples,
+) -> Result<Outcome, Fault> {
+    let parts = lots.len();
+    let mut outcome = NOTHING;
+    for (number, lot) in lots.iter_mut().enumerate() {
+        let operations = share(options.operations, parts, number);
+        outcome = outcome.then(measure_lot(rt, alloc, options, lot, samples, operations)?);
+    }
+    Ok(outcome)
+}
+
+// What one thread of owners does, with these values.
 fn work<L: KeyLayout>(
     rt: &impl Clock,
     alloc: Global,
     gate: &Gate,
     options: &Options,
     job: Job<'_, L>,
+    samples: &Samples,
 ) -> Result<Outcome, Fault> {
-    let samples = Samples::new(alloc, options.lengths)?;
-    let mut lots = filled_lots(alloc, job, &samples, options.live)?;
+    let mut lots = filled_lots(alloc, job, samples, options.live)?;
     gate.pass()?;
-    let parts = lots.len();
-    let mut outcome = NOTHING;
-    for (number, lot) in lots.iter_mut().enumerate() {
-        let operations = share(options.operations, parts, number);
-        outcome = outcome.then(measure_lot(rt, alloc, options, lot, &samples, operations)?);
+    measure_lots(rt, alloc, options, lots.as_mut_slice(), samples)
+}
+
+impl<L: KeyLayout> Work for Job<'_, L> {
+    fn run<C: Clock>(
+        self,
+        rt: &C,
+        alloc: Global,
+        gate: &Gate,
+        options: &Options,
+    ) -> Result<Outcome, Fault> {
+        let samples = Samples::new(alloc, options.lengths)?;
+        work(rt, alloc, gate, options, self, &samples)
     }
-    Ok(outcome)
 }
 
 // The jobs of the threads, each with passes for so many shards.
@@ -187,7 +220,8 @@ fn jobs<'a, L: KeyLayout>(
     Ok(jobs)
 }
 
-fn demand(options: &Options) -> Demand {
+/// What the workloads need.
+pub fn demand(options: &Options) -> Demand {
     let (filled, more) = match options.workload {
         Workload::Churn => (0, 0),
         Workload::Fill => (options.operations.min(MOST_VALUES as usize), 0),
@@ -203,20 +237,8 @@ fn demand(options: &Options) -> Demand {
     }
 }
 
-// Measures the jobs, each in a thread of its own.
-fn measure_jobs<L: KeyLayout + Send + Sync, R: Threads + Clock + Sync>(
-    rt: &R,
-    alloc: Global,
-    options: &Options,
-    jobs: Vec<Job<'_, L>>,
-) -> Result<Outcome, Fault> {
-    let gate = &Gate::new(options.threads as u64);
-    let done = thread::map_vec(rt, jobs, &|job| work(rt, alloc, gate, options, job))?;
-    together(done.as_slice())
-}
-
-// Measures owners, each with so many shards, that these passes become.
-fn measure_passes<L: KeyLayout + Send + Sync, R: Threads + Clock + Sync>(
+/// Measures owners, each in a thread of its own and with so many shards.
+pub fn measure<L: KeyLayout + Send + Sync, R: Threads + Clock + Sync>(
     rt: &R,
     alloc: Global,
     options: &Options,
@@ -224,17 +246,5 @@ fn measure_passes<L: KeyLayout + Send + Sync, R: Threads + Clock + Sync>(
     shards: usize,
 ) -> Result<Outcome, Fault> {
     let jobs = jobs(alloc, passes, options.threads, shards)?;
-    measure_jobs(rt, alloc, options, jobs)
-}
-
-/// Measures owners, each in a thread of its own.
-pub fn measure<L: KeyLayout + Send + Sync, R: Threads + Clock + Sync>(
-    rt: &R,
-    alloc: Global,
-    options: &Options,
-) -> Result<Outcome, Fault> {
-    let plan = plan_for::<L>(&demand(options))?;
-    let (heap, seats) = Heap::<L>::open(alloc, plan.shape)?;
-    let mut passes = passes_of(alloc, &heap, seats)?;
-    measure_passes(rt, alloc, options, &mut passes, plan.shards)
+    work::measure(rt, alloc, options, options.threads, jobs)
 }

@@ -1,5 +1,5 @@
 //! Owners with the values that they keep.
-ghost use Rattle.std.specs.Prelude.{◌≡◌, ◌≤◌, ◌<◌, All, IfOk, vec_len};
+ghost use Rattle.std.specs.Prelude.{◌≡◌, ◌+◌, ◌≤◌, ◌<◌, All, IfOk, vec_len};
 ghost use Rattle.sh_bench.specs.Shares.{share_of, shares};
 
 use crate::owners::filled;
@@ -8,7 +8,7 @@ use sh_load::fault::Fault;
 use sh_load::samples::Samples;
 use sh_pass::Pass;
 use sh_shard::Shard;
-use sh_value::Refusal;
+use sh_value::{Refusal, Value};
 use std::alloc::{AllocError, Global};
 
 /// An owner, the keys of the values that it keeps, and an order in which it goes through them.
@@ -93,6 +93,22 @@ pub fn filled_lot<'a, L: KeyLayout>(
     Ok(Lot { owner, keys, order })
 }
 
+// Adds a lot, whose owner the pass becomes.
+fn add_lot<'a, L: KeyLayout>(
+    alloc: Global,
+    lots: &mut Vec<Lot<'a, L>>,
+    pass: Pass<'a, L>,
+    shard: u64,
+    samples: &Samples,
+    values: usize,
+) -> Result<(), Fault>
+    ensures { IfOk result (λ _. vec_len lots.new ≡ vec_len lots.old + 1) }
+{
+    let lot = filled_lot(alloc, pass, shard, samples, values)?;
+    lots.push(lot)?;
+    Ok(())
+}
+
 /// Adopts a shard for each pass of the job, and fills them with so many values in all.
 pub fn filled_lots<'a, L: KeyLayout>(
     alloc: Global,
@@ -107,7 +123,7 @@ pub fn filled_lots<'a, L: KeyLayout>(
     let mut shard = job.first_shard;
     for pass in job.passes {
         let share = share(values, parts, lots.len());
-        lots.push(filled_lot(alloc, pass, shard, samples, share)?)?;
+        add_lot(alloc, &mut lots, pass, shard, samples, share)?;
         shard = shard.wrapping_add(1);
     }
     Ok(lots)
@@ -131,17 +147,26 @@ pub fn share(whole: usize, parts: usize, number: usize) -> usize
     }
 }
 
+// Whether this value stands under the key.
+fn stands<L: KeyLayout>(
+    owner: &mut Shard<'_, L>,
+    key: u64,
+    value: &Value,
+) -> Result<bool, Refusal> {
+    let hold = owner.get(key)?;
+    let found = owner.read(hold)?;
+    owner.release(hold)?;
+    Ok(found == *value)
+}
+
 /// How many of the values stand as they were inserted.
 pub fn standing<L: KeyLayout>(lot: &mut Lot<'_, L>, samples: &Samples) -> Result<u64, Refusal>
     ensures { IfOk result (λ found. found ≤ vec_len lot.old.keys) }
 {
     let mut found = 0u64;
     for (place, key) in lot.keys.iter().enumerate() {
-        let hold = lot.owner.get(*key)?;
-        if lot.owner.read(hold)? == *samples.at(place) {
-            found = found.saturating_add(1);
-        }
-        lot.owner.release(hold)?;
+        let stands = stands(&mut lot.owner, *key, samples.at(place))?;
+        found = found.saturating_add(u64::from(stands));
     }
     Ok(found)
 }

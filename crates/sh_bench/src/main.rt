@@ -11,10 +11,13 @@ mod getting;
 mod handing;
 mod inserting;
 mod lots;
+mod measuring;
 mod owners;
 mod parting;
 mod program;
 mod ring;
+mod rounds;
+mod work;
 
 use std::alloc::{AllocError, Global};
 use std::io;

@@ -12,6 +12,7 @@ use sh_judge::line::Line;
 use sh_judge::record::Record;
 use sh_judge::tally::{Tally, agrees, is_filled};
 use sh_key::KeyLayout;
+use sh_pass::Pass;
 use sh_shape::{Shape, class_of};
 use std::alloc::Global;
 
@@ -60,29 +61,78 @@ fn take_in(record: Record, counts: &mut Counts, lines: &mut Vec<Line>) -> Result
     Ok(())
 }
 
-// The pass that carries the tale of all passes, with the lines of all their logs.
-fn met<'a, L: KeyLayout, H: Home>(
-    alloc: Global,
-    workers: Vec<Worker<'a, L, H>>,
-    counts: &mut Counts,
-) -> Result<(Lone<'a, L, H>, Vec<Line>), Fault> {
-    let mut lines = Vec::new(alloc);
-    let mut carrier: Option<Lone<'a, L, H>> = None;
-    for worker in workers {
-        let (lone, record) = worker.finish();
-        take_in(record, counts, &mut lines)?;
+// What the passes have that have met: the one of them that carries the tales of all, and the lines of all their logs.
+#[derive(Drop)]
+struct Gathered<'a, L: KeyLayout, H: Home> {
+    carrier: Option<Lone<'a, L, H>>,
+    lines: Vec<Line>,
+}
+
+// The carrier, once it has met one more, or that one where it is the first.
+fn joined<'a, L: KeyLayout, H: Home>(
+    carrier: Option<Lone<'a, L, H>>,
+    lone: Lone<'a, L, H>,
+) -> Lone<'a, L, H> {
+    match carrier {
+        Some(carrier) => carrier.join(lone),
+        None => lone,
+    }
+}
+
+impl<'a, L: KeyLayout, H: Home> Gathered<'a, L, H> {
+    // Meets one more pass, where it owns nothing and has begun nothing.
+    fn meet(&mut self, lone: Option<Lone<'a, L, H>>) -> Result<(), Fault> {
         let Some(lone) = lone else {
             return Err(Fault::Wrong(Wrong::Apart));
         };
-        carrier = Some(match carrier {
-            Some(carrier) => carrier.join(lone),
-            None => lone,
-        });
+        self.carrier = Some(joined(self.carrier.take(), lone));
+        Ok(())
     }
-    match carrier {
-        Some(carrier) => Ok((carrier, lines)),
-        None => Err(Fault::Wrong(Wrong::Apart)),
+
+    // Takes in one more worker.
+    fn gather(&mut self, worker: Worker<'a, L, H>, counts: &mut Counts) -> Result<(), Fault> {
+        let (lone, record) = worker.finish();
+        let taken = take_in(record, counts, &mut self.lines);
+        let met = self.meet(lone);
+        taken?;
+        met
     }
+}
+
+// All passes, which have met.
+fn gather_all<'a, L: KeyLayout, H: Home>(
+    alloc: Global,
+    workers: Vec<Worker<'a, L, H>>,
+    counts: &mut Counts,
+) -> Result<Gathered<'a, L, H>, Fault> {
+    let mut gathered = Gathered {
+        carrier: None,
+        lines: Vec::new(alloc),
+    };
+    for worker in workers {
+        gathered.gather(worker, counts)?;
+    }
+    Ok(gathered)
+}
+
+// Judges the lines of the first key, counts its slot, and answers the lines of the other keys.
+fn judge_key<'l, L: KeyLayout>(
+    alloc: Global,
+    shape: &Shape,
+    lines: &'l [Line],
+    key: u64,
+    tally: &mut Tally,
+    counts: &mut Counts,
+) -> Result<&'l [Line], Fault> {
+    let end = lines
+        .iter()
+        .position(|line| line.key != key)
+        .unwrap_or(lines.len());
+    let history = judged(alloc, key, &lines[..end], shape.passes(), L::GUARD_MAX)?;
+    tally.add::<L>(key, history.as_slice())?;
+    counts.one(Count::Keys);
+    counts.add(Count::Entries, history.len() as u64);
+    Ok(&lines[end..])
 }
 
 // Judges the lines key by key, and counts the slot of each key.
@@ -98,16 +148,7 @@ fn judge_all<L: KeyLayout>(
         let Some(first) = rest.first() else {
             break;
         };
-        let key = first.key;
-        let end = rest
-            .iter()
-            .position(|line| line.key != key)
-            .unwrap_or(rest.len());
-        let history = judged(alloc, key, &rest[..end], shape.passes(), L::GUARD_MAX)?;
-        tally.add::<L>(key, history.as_slice())?;
-        counts.one(Count::Keys);
-        counts.add(Count::Entries, history.len() as u64);
-        rest = &rest[end..];
+        rest = judge_key::<L>(alloc, shape, rest, first.key, &mut tally, counts)?;
     }
     Ok(tally)
 }
@@ -156,6 +197,48 @@ fn audit<L: KeyLayout>(
     Ok(())
 }
 
+// Judges the lines, and compares the accounts of each page with what they say of it.
+fn judge_whole<L: KeyLayout>(
+    alloc: Global,
+    whole: &mut Whole<'_, L>,
+    lines: &mut Vec<Line>,
+    class: u32,
+    counts: &mut Counts,
+) -> Result<(), Fault> {
+    let shape = *whole.shape();
+    lines.sort_by_key(|line| line.key)?;
+    let tally = judge_all::<L>(alloc, &shape, lines.as_slice(), counts)?;
+    audit(whole, &shape, &tally, class, counts)
+}
+
+// Judges what all passes were answered, of which one carries the tale.
+fn judge_carrier<L: KeyLayout>(
+    alloc: Global,
+    carrier: Pass<'_, L>,
+    lines: &mut Vec<Line>,
+    class: u32,
+    counts: &mut Counts,
+) -> Result<(), Fault> {
+    match whole(carrier) {
+        Ok(mut whole) => judge_whole(alloc, &mut whole, lines, class, counts),
+        Err(_) => Err(Fault::Wrong(Wrong::Apart)),
+    }
+}
+
+// Judges what the workers were answered, where all shards are filled with values of the class.
+fn judge_workers<L: KeyLayout, H: Home>(
+    alloc: Global,
+    workers: Vec<Worker<'_, L, H>>,
+    class: u32,
+    counts: &mut Counts,
+) -> Result<(), Fault> {
+    let Gathered { carrier, mut lines } = gather_all(alloc, workers, counts)?;
+    match carrier {
+        Some(carrier) => judge_carrier(alloc, carrier.into_pass(), &mut lines, class, counts),
+        None => Err(Fault::Wrong(Wrong::Apart)),
+    }
+}
+
 /// Ends a round, and answers how often what was answered.
 pub fn ended<L: KeyLayout, H: Home>(
     alloc: Global,
@@ -166,13 +249,6 @@ pub fn ended<L: KeyLayout, H: Home>(
     settle(workers.as_mut_slice(), moments, dice);
     let class = fill(workers.as_mut_slice(), moments, dice);
     let mut counts = Counts::new();
-    let (carrier, mut lines) = met(alloc, workers, &mut counts)?;
-    let Ok(mut whole) = whole(carrier.into_pass()) else {
-        return Err(Fault::Wrong(Wrong::Apart));
-    };
-    let shape = *whole.shape();
-    lines.sort_by_key(|line| line.key)?;
-    let tally = judge_all::<L>(alloc, &shape, lines.as_slice(), &mut counts)?;
-    audit(&mut whole, &shape, &tally, class, &mut counts)?;
+    judge_workers(alloc, workers, class, &mut counts)?;
     Ok(counts)
 }

@@ -1,6 +1,6 @@
 //! The command line.
 use clap::builder::ValueParser;
-use clap::{Arg, ArgAction, Command, Error};
+use clap::{Arg, ArgAction, ArgMatches, Command, Error};
 use std::alloc::{AllocError, Global};
 
 /// What the command line asks for.
@@ -29,74 +29,102 @@ Exit status:
   3  memory was refused, or a write failed";
 
 // An option that is a number from `least` to `most`.
-fn number_option<'a>(
-    alloc: Global,
-    id: &'a str,
+#[derive(Clone, Copy)]
+struct Number {
+    name: &'static str,
     least: u64,
     most: u64,
-    usual: &'a str,
-    help: &'a str,
-) -> Arg<'a> {
-    Arg::new(alloc, id)
-        .long(id)
-        .action(ArgAction::Set)
-        .value_parser(ValueParser::Unsigned(least, most))
-        .default_value(usual)
-        .help(help)
+    usual: &'static str,
+    help: &'static str,
 }
 
-// How many threads and passes there are.
-fn with_crew<'a>(alloc: Global, command: Command<'a>) -> Result<Command<'a>, AllocError> {
-    command
-        .arg(number_option(alloc, "threads", 1, 16, "4", "How many threads"))?
-        .arg(number_option(
-            alloc,
-            "passes",
-            1,
-            4,
-            "2",
-            "How many passes each thread has",
-        ))
+const NUMBERS: [Number; 5] = [
+    Number {
+        name: "threads",
+        least: 1,
+        most: 16,
+        usual: "4",
+        help: "How many threads",
+    },
+    Number {
+        name: "passes",
+        least: 1,
+        most: 4,
+        usual: "2",
+        help: "How many passes each thread has",
+    },
+    Number {
+        name: "steps",
+        least: 0,
+        most: u64::MAX,
+        usual: "2000",
+        help: "How many turns each thread takes in a round",
+    },
+    Number {
+        name: "rounds",
+        least: 0,
+        most: u64::MAX,
+        usual: "100",
+        help: "How many rounds, each on a heap of its own",
+    },
+    Number {
+        name: "seed",
+        least: 0,
+        most: u64::MAX,
+        usual: "1",
+        help: "The seed of all choices",
+    },
+];
+
+// An option of this name that has a value.
+fn valued<'a>(alloc: Global, name: &'a str) -> Arg<'a> {
+    Arg::new(alloc, name).long(name).action(ArgAction::Set)
 }
 
-// How much they do, and by which choices.
-fn with_work<'a>(alloc: Global, command: Command<'a>) -> Result<Command<'a>, AllocError> {
-    command
-        .arg(number_option(
-            alloc,
-            "steps",
-            0,
-            u64::MAX,
-            "2000",
-            "How many turns each thread takes in a round",
-        ))?
-        .arg(number_option(
-            alloc,
-            "rounds",
-            0,
-            u64::MAX,
-            "100",
-            "How many rounds, each on a heap of its own",
-        ))?
-        .arg(number_option(alloc, "seed", 0, u64::MAX, "1", "The seed of all choices"))
+fn number_option<'a>(alloc: Global, number: Number) -> Arg<'a> {
+    let range = ValueParser::Unsigned(number.least, number.most);
+    valued(alloc, number.name)
+        .value_parser(range)
+        .default_value(number.usual)
+        .help(number.help)
+}
+
+// The program, with no option yet.
+fn program<'a>(alloc: Global) -> Command<'a> {
+    Command::new(alloc, "sh_stress")
+        .about("Works on heaps of the library in many threads, and judges what they answered")
+        .version("0.1.0")
+        .after_help(AFTER_HELP)
 }
 
 fn command<'a>(alloc: Global) -> Result<Command<'a>, AllocError> {
-    let start = Command::new(alloc, "sh_stress")
-        .about("Works on heaps of the library in many threads, and judges what they answered")
-        .version("0.1.0")
-        .after_help(AFTER_HELP);
-    with_work(alloc, with_crew(alloc, start)?)
+    let mut command = program(alloc);
+    for number in NUMBERS {
+        command = command.arg(number_option(alloc, number))?;
+    }
+    Ok(command)
+}
+
+fn few(matches: &ArgMatches<'_>, name: &str, usual: u32) -> u32 {
+    matches.get_one::<u32>(name).unwrap_or(usual)
+}
+
+fn many(matches: &ArgMatches<'_>, name: &str, usual: u64) -> u64 {
+    matches.get_one::<u64>(name).unwrap_or(usual)
+}
+
+fn options_of(matches: &ArgMatches<'_>) -> Options {
+    Options {
+        threads: few(matches, "threads", 4),
+        passes: few(matches, "passes", 2),
+        steps: many(matches, "steps", 2000),
+        rounds: many(matches, "rounds", 100),
+        seed: many(matches, "seed", 1),
+    }
 }
 
 /// What a command line asks for, whose first word is the program's name. An error is clap's.
 pub fn read_options<'a>(alloc: Global, words: &'a [&'a str]) -> Result<Options, Error> {
     let matches = command(alloc)?.try_get_matches_from(words)?;
-    Ok(Options {
-        threads: matches.get_one::<u32>("threads").unwrap_or(4),
-        passes: matches.get_one::<u32>("passes").unwrap_or(2),
-        steps: matches.get_one::<u64>("steps").unwrap_or(2000),
-        rounds: matches.get_one::<u64>("rounds").unwrap_or(100),
-        seed: matches.get_one::<u64>("seed").unwrap_or(1),
-    })
+    Ok(options_of(&matches))
 }

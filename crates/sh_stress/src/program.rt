@@ -15,11 +15,8 @@ use std::thread::Threads;
 // After how many rounds progress is told.
 const ROUNDS_TOLD: u64 = 100;
 
-// Shows why clap gave no options, and gives the exit status.
+// Shows what clap says, and gives the exit status.
 fn show<W: Write, E: Write>(error: &Error, output: &mut W, errors: &mut E) -> u8 {
-    if error.kind() == ErrorKind::OutOfMemory {
-        return 3;
-    }
     if error.use_stderr() {
         let _ = write!(errors, "{error}");
         return 2;
@@ -27,6 +24,14 @@ fn show<W: Write, E: Write>(error: &Error, output: &mut W, errors: &mut E) -> u8
     match write!(output, "{error}") {
         Ok(()) => 0,
         Err(_) => 3,
+    }
+}
+
+// Shows why clap gave no options, unless memory was refused, and gives the exit status.
+fn refuse<W: Write, E: Write>(error: &Error, output: &mut W, errors: &mut E) -> u8 {
+    match error.kind() {
+        ErrorKind::OutOfMemory => 3,
+        _ => show(error, output, errors),
     }
 }
 
@@ -58,6 +63,14 @@ fn play_one<R: Threads + Wait + Sync>(
     }
 }
 
+// Tells how far it has come, now and then.
+fn tell<E: Write>(round: u64, counts: &Counts, errors: &mut E) {
+    if round % ROUNDS_TOLD == ROUNDS_TOLD - 1 {
+        let judged = counts.of(Count::Entries);
+        let _ = writeln!(errors, "{} rounds, {judged} answers judged", round + 1);
+    }
+}
+
 // Plays all rounds.
 fn play_all<E: Write, R: Threads + Wait + Sync>(
     rt: &R,
@@ -68,12 +81,11 @@ fn play_all<E: Write, R: Threads + Wait + Sync>(
     let mut dice = Dice::new(options.seed);
     let mut counts = Counts::new();
     for round in 0..options.rounds {
-        let more = play_one(rt, alloc, options, round, &mut dice).map_err(|fault| (round, fault))?;
-        counts.take_in(&more);
-        if round % ROUNDS_TOLD == ROUNDS_TOLD - 1 {
-            let judged = counts.of(Count::Entries);
-            let _ = writeln!(errors, "{} rounds, {judged} answers judged", round + 1);
+        match play_one(rt, alloc, options, round, &mut dice) {
+            Ok(more) => counts.take_in(&more),
+            Err(fault) => return Err((round, fault)),
         }
+        tell(round, &counts, errors);
     }
     Ok(counts)
 }
@@ -88,6 +100,24 @@ fn report<E: Write>(options: &Options, round: u64, fault: Fault, errors: &mut E)
     }
 }
 
+// Plays all rounds and tells the counts, or what was found.
+fn run_with<W: Write, E: Write, R: Threads + Wait + Sync>(
+    rt: &R,
+    alloc: Global,
+    options: &Options,
+    output: &mut W,
+    errors: &mut E,
+) -> u8 {
+    let counts = match play_all(rt, alloc, options, errors) {
+        Ok(counts) => counts,
+        Err((round, fault)) => return report(options, round, fault, errors),
+    };
+    match write!(output, "rounds {}\n{counts}", options.rounds) {
+        Ok(()) => 0,
+        Err(_) => report(options, options.rounds, Fault::Io, errors),
+    }
+}
+
 /// Runs the program, and gives the exit status: 0 where nothing was found, 1 where something was, 2 for a mistake in
 /// the words, and 3 where memory or a write failed. The first word is the program's name.
 pub fn run<W: Write, E: Write, R: Threads + Wait + Sync>(
@@ -97,15 +127,8 @@ pub fn run<W: Write, E: Write, R: Threads + Wait + Sync>(
     output: &mut W,
     errors: &mut E,
 ) -> u8 {
-    let options = match read_options(alloc, words) {
-        Ok(options) => options,
-        Err(error) => return show(&error, output, errors),
-    };
-    match play_all(rt, alloc, &options, errors) {
-        Ok(counts) => match write!(output, "rounds {}\n{counts}", options.rounds) {
-            Ok(()) => 0,
-            Err(_) => report(&options, options.rounds, Fault::Io, errors),
-        },
-        Err((round, fault)) => report(&options, round, fault, errors),
+    match read_options(alloc, words) {
+        Ok(options) => run_with(rt, alloc, &options, output, errors),
+        Err(error) => refuse(&error, output, errors),
     }
 }

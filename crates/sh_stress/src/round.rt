@@ -82,13 +82,49 @@ fn workers<'a, L: KeyLayout, H: Home>(
     lones: Vec<Lone<'a, L, H>>,
 ) -> Result<Vec<Worker<'a, L, H>>, Fault> {
     let mut workers = Vec::new(alloc);
-    for (number, lone) in (0..u32::MAX).zip(lones) {
+    let mut number = 0u32;
+    for lone in lones {
         let worker = Worker::new(alloc, lone, number, u64::from(plan.shards));
         if workers.push(worker).is_err() {
             return Err(Fault::Memory);
         }
+        number = number.wrapping_add(1);
     }
     Ok(workers)
+}
+
+// All workers take their turns, those of each thread in that thread, by the board.
+fn work<L: KeyLayout + Send, H: Home + Send + Sync, R: Threads + Wait + Sync>(
+    rt: &R,
+    plan: &Plan,
+    workers: &mut [Worker<'_, L, H>],
+    board: &Board<'_, R, H>,
+    seed: u64,
+) {
+    let steps = plan.steps;
+    thread::for_each_chunk_mut(
+        rt,
+        workers,
+        plan.passes.max(1) as usize,
+        &|start: usize, part: &mut [Worker<'_, L, H>]| {
+            let mut dice = Dice::new(seed.wrapping_add(start as u64));
+            crew::run(part, board, &mut dice, steps);
+        },
+    );
+}
+
+// A round of these passes, by the board.
+fn worked_on<'a, L: KeyLayout + Send, H: Home + Send + Sync, R: Threads + Wait + Sync>(
+    rt: &R,
+    alloc: Global,
+    plan: &Plan,
+    lones: Vec<Lone<'a, L, H>>,
+    board: &Board<'_, R, H>,
+    dice: &mut Dice,
+) -> Result<Counts, Fault> {
+    let mut workers = workers(alloc, plan, lones)?;
+    work(rt, plan, workers.as_mut_slice(), board, dice.word());
+    ending::ended(alloc, &board.moments, workers, dice)
 }
 
 // A round on the heap that `H` names.
@@ -105,19 +141,7 @@ fn worked<'a, L: KeyLayout + Send, H: Home + Send + Sync, R: Threads + Wait + Sy
 {
     let board: Board<'_, R, H> = Board::new(rt, alloc)?;
     let lones: Vec<Lone<'a, L, H>> = at_home(alloc, heap, seats)?;
-    let mut workers = workers(alloc, plan, lones)?;
-    let steps = plan.steps;
-    let seed = dice.word();
-    thread::for_each_chunk_mut(
-        rt,
-        workers.as_mut_slice(),
-        plan.passes.max(1) as usize,
-        &|start: usize, part: &mut [Worker<'_, L, H>]| {
-            let mut dice = Dice::new(seed.wrapping_add(start as u64));
-            crew::run(part, &board, &mut dice, steps);
-        },
-    );
-    ending::ended(alloc, &board.moments, workers, dice)
+    worked_on(rt, alloc, plan, lones, &board, dice)
 }
 
 /// Plays a round, and answers how often what was answered.

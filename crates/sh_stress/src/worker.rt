@@ -1,12 +1,13 @@
 //! A pass, with what is kept of it.
 ghost use Rattle.std.specs.Prelude.{◌≤◌};
 
-use crate::actor::Actor;
+use crate::actor::{Actor, Task};
 use crate::board::Board;
 use crate::home::Home;
 use crate::lone::Lone;
 use crate::moments::Moments;
 use crate::owner::Owner;
+use crate::stopped::Stopped;
 use crate::turn::Turn;
 use crate::{by_hand, keys, owning, turn, using};
 use sh_judge::counts::Count;
@@ -89,34 +90,65 @@ impl<'a, L: KeyLayout, H: Home> Worker<'a, L, H> {
         }
     }
 
-    /// Takes a turn.
-    pub fn turn<R: Wait>(&mut self, board: &Board<'_, R, H>, dice: &mut Dice) {
-        self.actor = match mem::replace(&mut self.actor, Actor::Moving) {
+    // The actor, which moves until another one is put there.
+    fn moving(&mut self) -> Actor<'a, L, H> {
+        mem::replace(&mut self.actor, Actor::Moving)
+    }
+
+    // The actor is this one again.
+    fn put(&mut self, actor: Actor<'a, L, H>) {
+        self.actor = actor;
+    }
+
+    // The turn of a pass that stopped in the middle: it stands, or does its next step.
+    fn stopped_turn(
+        &mut self,
+        stopped: Stopped<'a, L, H>,
+        task: Task,
+        moments: &Moments,
+        dice: &mut Dice,
+    ) -> Actor<'a, L, H> {
+        if dice.once_in(2) {
+            self.record.counts.one(Count::Stands);
+            return Actor::Stopped(stopped, task);
+        }
+        by_hand::go_on(stopped, task, &mut self.record, moments)
+    }
+
+    // What the actor is after its turn.
+    fn turned<R: Wait>(
+        &mut self,
+        actor: Actor<'a, L, H>,
+        board: &Board<'_, R, H>,
+        dice: &mut Dice,
+    ) -> Actor<'a, L, H> {
+        match actor {
             Actor::Lone(lone) => self.lone_turn(lone, board, dice),
             Actor::Owner(owner) => self.owner_turn(owner, board, dice),
-            Actor::Stopped(stopped, task) => {
-                if dice.once_in(2) {
-                    self.record.counts.one(Count::Stands);
-                    Actor::Stopped(stopped, task)
-                } else {
-                    by_hand::go_on(stopped, task, &mut self.record, &board.moments)
-                }
-            }
+            Actor::Stopped(stopped, task) => self.stopped_turn(stopped, task, &board.moments, dice),
             Actor::Moving => Actor::Moving,
-        };
+        }
+    }
+
+    /// Takes a turn.
+    pub fn turn<R: Wait>(&mut self, board: &Board<'_, R, H>, dice: &mut Dice) {
+        let actor = self.moving();
+        let turned = self.turned(actor, board, dice);
+        self.put(turned);
+    }
+
+    // Does the next step of what it began by hand.
+    fn go_on(&mut self, moments: &Moments) {
+        let gone_on = self.moving().gone_on(&mut self.record, moments);
+        self.put(gone_on);
     }
 
     /// Ends what it began by hand.
     pub fn end_by_hand(&mut self, moments: &Moments) {
         for _ in 0..STEPS_BY_HAND {
-            self.actor = match mem::replace(&mut self.actor, Actor::Moving) {
-                Actor::Stopped(stopped, task) => {
-                    by_hand::go_on(stopped, task, &mut self.record, moments)
-                }
-                actor => actor,
-            };
+            self.go_on(moments);
         }
-        if let Actor::Stopped(_, _) = &self.actor {
+        if self.actor.is_stopped() {
             self.record.endless();
         }
     }
@@ -141,13 +173,20 @@ impl<'a, L: KeyLayout, H: Home> Worker<'a, L, H> {
 
     /// Leaves its shard, if it has one. Nobody has begun anything, so that nothing is waited for.
     pub fn retire(&mut self) {
-        self.actor = match mem::replace(&mut self.actor, Actor::Moving) {
-            Actor::Owner(owner) => owning::leave(owner, &mut self.record),
-            actor => actor,
-        };
-        if let Actor::Owner(_) = &self.actor {
+        let left = self.moving().left(&mut self.record);
+        self.put(left);
+        if self.actor.is_owner() {
             self.record.waits();
         }
+    }
+
+    // Fills a shard that nobody owns.
+    fn fill_one(&mut self, moments: &Moments, shard: u64, len: usize)
+        requires { len ≤ 16 }
+    {
+        let actor = self.moving();
+        let filled = actor.filled(self.alloc, &mut self.record, moments, shard, len);
+        self.put(filled);
     }
 
     /// Fills each shard, of which nobody owns one, with values of so many words.
@@ -155,12 +194,7 @@ impl<'a, L: KeyLayout, H: Home> Worker<'a, L, H> {
         requires { len ≤ 16 }
     {
         for shard in 0..self.shards {
-            self.actor = match mem::replace(&mut self.actor, Actor::Moving) {
-                Actor::Lone(lone) => {
-                    owning::fill(self.alloc, lone, &mut self.record, moments, shard, len)
-                }
-                actor => actor,
-            };
+            self.fill_one(moments, shard, len);
         }
     }
 
@@ -172,9 +206,6 @@ impl<'a, L: KeyLayout, H: Home> Worker<'a, L, H> {
             shards: _,
             alloc: _,
         } = self;
-        match actor {
-            Actor::Lone(lone) => (Some(lone), record),
-            _ => (None, record),
-        }
+        (actor.into_lone(), record)
     }
 }

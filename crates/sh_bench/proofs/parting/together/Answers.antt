@@ -42,8 +42,8 @@ loop-outcome-preserved c =
           let sum_is = inv.sum in
           let standing_are = inv.standing in
           record {
-            operations = count_next operations_of outcomes i _ before.operations after.operations 0 within inv.operations
-                (ap operations_of w.in-Err-Late.is) (omega (arith, same_operations, operations_are));
+            operations = count_next operations_of outcomes i _ before.operations after.operations 0 within
+                inv.operations (ap operations_of w.in-Err-Late.is) (omega (arith, same_operations, operations_are));
             sum = sum_next answered_of outcomes i _ before.sum after.sum 0 within inv.sum
                 (ap answered_of w.in-Err-Late.is) (omega (arith, same_sum, sum_is));
             standing = count_next standing_of outcomes i _ before.standing after.standing 0 within inv.standing

@@ -1,0 +1,143 @@
+//! What the library's boundary costs: its calls from Rust and from C, beside the same ones inside.
+use crate::markdown::{head, line};
+use crate::ours::spent;
+use crate::times::{text, Times};
+use crate::title::grouped;
+use std::path::Path;
+
+// The calls inside, and the library's from Rust and from C.
+const SIDES: usize = 3;
+
+/// A workload: by which name each program has it, and its numbers.
+#[derive(Clone, Copy)]
+struct Call {
+    title: &'static str,
+    inside: &'static str,
+    through: &'static str,
+    operations: usize,
+    live: usize,
+    words: usize,
+}
+
+/// Where a program lies, and the words by which it does a workload.
+struct Job<'a> {
+    program: &'a Path,
+    words: Vec<String>,
+}
+
+// What is done, its names in `sh_bench` and in `through`, and how often. With a read go the get and the release of its
+// hold. `sh_bench` has no load: it stands beside the three calls in place of which it is made.
+const WAYS: [(&str, &str, &str, usize); 7] = [
+    ("get + release", "get", "get", 1_000_000),
+    ("read", "read", "read", 400_000),
+    ("read into", "read-into", "read-into", 400_000),
+    ("load", "read", "load", 400_000),
+    ("load into", "read-into", "load-into", 400_000),
+    ("insert", "insert", "insert", 200_000),
+    ("remove by the owner", "remove", "remove", 400_000),
+];
+
+// How many values stand, and how long they are. A get does not look at what its key stands for.
+const VALUES: [(usize, usize); 4] = [(1, 1), (10_000, 1), (1, 16), (1000, 16)];
+
+fn calls() -> Vec<Call> {
+    let of = |(title, inside, through, operations)| {
+        VALUES.map(|(live, words)| Call { title, inside, through, operations, live, words })
+    };
+    let all = WAYS.map(of).concat();
+    all.into_iter().filter(|call| call.words == 1 || call.inside != "get").collect()
+}
+
+impl Call {
+    fn title(&self) -> String {
+        let keys = if self.live == 1 { "one key".to_string() } else { format!("{} keys", grouped(self.live)) };
+        match self.inside {
+            "get" => format!("{}, {keys}", self.title),
+            _ if self.words == 1 => format!("{}, 1 word, {keys}", self.title),
+            _ => format!("{}, {} words, {keys}", self.title, self.words),
+        }
+    }
+
+    // The words for a program, of which these are the first ones.
+    fn words(&self, first: &[&str]) -> Vec<String> {
+        let numbers = [("--operations", self.operations), ("--live", self.live), ("--words", self.words)];
+        let options = numbers.iter().flat_map(|(option, n)| [option.to_string(), n.to_string()]);
+        first.iter().map(|word| word.to_string()).chain(options).collect()
+    }
+
+    fn jobs<'a>(&self, inside: &'a Path, through: &'a Path) -> [Job<'a>; SIDES] {
+        [
+            Job { program: inside, words: self.words(&[self.inside]) },
+            Job { program: through, words: self.words(&["rust", self.through]) },
+            Job { program: through, words: self.words(&["c", self.through]) },
+        ]
+    }
+
+    // In each round another side is first.
+    fn measure(&self, jobs: &[Job<'_>; SIDES], rounds: usize) -> Result<[Vec<f64>; SIDES], String> {
+        let mut times: [Vec<f64>; SIDES] = Default::default();
+        for turn in 0..rounds * SIDES {
+            let at = (turn / SIDES + turn) % SIDES;
+            let all = spent(jobs[at].program, &jobs[at].words, self.operations)?;
+            times[at].push(all / self.operations as f64);
+        }
+        Ok(times)
+    }
+
+    fn line(&self, times: [Vec<f64>; SIDES]) -> String {
+        let [inside, rust, c] = times.map(Times::of);
+        let nanoseconds = |side: Option<Times>| side.map_or("none".to_string(), |side| text(&[side], 1));
+        let ratio = |side: Option<Times>| match (side, inside) {
+            (Some(side), Some(inside)) => text(&[side.over(inside)], 2),
+            _ => "none".to_string(),
+        };
+        line(&[self.title(), nanoseconds(inside), nanoseconds(rust), ratio(rust), nanoseconds(c), ratio(c)])
+    }
+}
+
+fn places() -> Vec<String> {
+    let words = ["Call", "inside, ns", "from Rust, ns", "to inside", "from C, ns", "to inside"];
+    words.map(str::to_string).to_vec()
+}
+
+/// The whole table, by so many rounds.
+pub fn table(inside: &Path, through: &Path, rounds: usize) -> Result<String, String> {
+    let mut lines = vec![head(&places())];
+    for call in calls() {
+        eprintln!("{}", call.title());
+        lines.push(call.line(call.measure(&call.jobs(inside, through), rounds)?));
+    }
+    Ok(lines.join("\n"))
+}
+
+#[cfg(test)]
+mod tests {
+    use super::*;
+
+    #[test]
+    fn each_call_has_a_title_of_its_own() {
+        let mut titles: Vec<String> = calls().iter().map(Call::title).collect();
+        let all = titles.len();
+        titles.sort();
+        titles.dedup();
+        assert_eq!((titles.len(), all), (26, 26));
+        assert!(titles.contains(&"get + release, 10,000 keys".to_string()));
+        assert!(titles.contains(&"load into, 16 words, one key".to_string()));
+    }
+
+    #[test]
+    fn a_line_has_as_many_places_as_the_head() {
+        let times = [vec![10.0, 30.0, 20.0], vec![12.0, 30.0, 18.0], vec![]];
+        let line = calls()[0].line(times);
+        assert_eq!(line, "| get + release, one key | 10.0 / 20.0 | 12.0 / 18.0 | 1.20 / 0.90 | none | none |");
+        assert_eq!(line.matches(" |").count(), places().len());
+    }
+
+    #[test]
+    fn the_programs_are_told_the_same_numbers() {
+        let (inside, through) = (Path::new("/sh_bench"), Path::new("/through"));
+        let jobs = calls()[2].jobs(inside, through).map(|job| job.words.join(" "));
+        let numbers = "--operations 400000 --live 1 --words 1";
+        assert_eq!(jobs, ["read", "rust read", "c read"].map(|first| format!("{first} {numbers}")));
+    }
+}

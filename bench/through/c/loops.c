@@ -1,0 +1,104 @@
+/* The loops of the workloads, in C. A call that is refused ends the program: none should be. */
+#include "shardheap.h"
+#include <stdio.h>
+#include <stdlib.h>
+
+#define WORDS 16
+#define SAMPLES 16
+
+typedef struct loops {
+    shardheap heap;
+    shardheap_pass owner, user; /* one that inserts, and one that owns nothing */
+} loops;
+
+/* Sixteen values, each with so many words. */
+typedef struct samples {
+    uint64_t words[SAMPLES][WORDS];
+    size_t length;
+} samples;
+
+loops *loops_open(uint64_t values, uint32_t words);
+void loops_close(loops *all);
+uint64_t loops_get(loops *all, const uint64_t *keys, size_t count);
+uint64_t loops_read(loops *all, const uint64_t *keys, size_t count);
+uint64_t loops_load(loops *all, const uint64_t *keys, size_t count);
+uint64_t loops_insert(loops *all, const samples *samples, uint64_t *keys, size_t count);
+void loops_remove(loops *all, const uint64_t *keys, size_t count);
+
+static void must(uint32_t code) {
+    if (code == SHARDHEAP_OK) return;
+    fprintf(stderr, "a call is refused: %s\n", shardheap_name(code));
+    exit(3);
+}
+
+/* A heap with room for so many values, an owner of its shard, and another pass. */
+loops *loops_open(uint64_t values, uint32_t words) {
+    loops *all = calloc(1, sizeof *all);
+    if (!all) must(SHARDHEAP_MEMORY);
+    must(shardheap_open_for(&all->heap, SHARDHEAP_WIDE, 1, values, words, 2));
+    must(shardheap_take(&all->heap, &all->owner));
+    must(shardheap_take(&all->heap, &all->user));
+    must(shardheap_adopt(&all->owner, 0));
+    return all;
+}
+
+void loops_close(loops *all) {
+    must(shardheap_leave(&all->owner));
+    must(shardheap_give(&all->owner));
+    must(shardheap_give(&all->user));
+    shardheap_close(&all->heap);
+    free(all);
+}
+
+/* Takes a hold on each key and gives it back. Tells the sum of the keys. */
+uint64_t loops_get(loops *all, const uint64_t *keys, size_t count) {
+    uint64_t sum = 0;
+    for (size_t n = 0; n < count; n++) {
+        must(shardheap_get(&all->user, keys[n]));
+        sum += keys[n];
+        must(shardheap_release(&all->user, keys[n]));
+    }
+    return sum;
+}
+
+static uint64_t sum_of(const uint64_t *words, uint64_t length) {
+    uint64_t sum = 0;
+    for (uint64_t n = 0; n < length; n++) sum += words[n];
+    return sum;
+}
+
+/* Reads the value of each key under a hold. Tells the sum of the words. */
+uint64_t loops_read(loops *all, const uint64_t *keys, size_t count) {
+    uint64_t words[WORDS], length, sum = 0;
+    for (size_t n = 0; n < count; n++) {
+        must(shardheap_get(&all->user, keys[n]));
+        must(shardheap_read(&all->user, keys[n], words, WORDS, &length));
+        must(shardheap_release(&all->user, keys[n]));
+        sum += sum_of(words, length);
+    }
+    return sum;
+}
+
+/* The same by one call for each key. */
+uint64_t loops_load(loops *all, const uint64_t *keys, size_t count) {
+    uint64_t words[WORDS], length, sum = 0;
+    for (size_t n = 0; n < count; n++) {
+        must(shardheap_load(&all->user, keys[n], words, WORDS, &length));
+        sum += sum_of(words, length);
+    }
+    return sum;
+}
+
+/* Inserts a value for each key, which it tells. Tells the sum of the keys. */
+uint64_t loops_insert(loops *all, const samples *samples, uint64_t *keys, size_t count) {
+    uint64_t sum = 0;
+    for (size_t n = 0; n < count; n++) {
+        must(shardheap_insert(&all->owner, samples->words[n % SAMPLES], samples->length, &keys[n]));
+        sum += keys[n];
+    }
+    return sum;
+}
+
+void loops_remove(loops *all, const uint64_t *keys, size_t count) {
+    for (size_t n = 0; n < count; n++) must(shardheap_remove(&all->owner, keys[n]));
+}

@@ -1,0 +1,81 @@
+//! The command line.
+
+/// What is done over and over: the workloads of `sh_bench` by their names, and two of ours.
+#[derive(Clone, Copy, Debug, PartialEq, Eq)]
+pub enum Workload {
+    Get,
+    Read,
+    ReadInto,
+    /// A get, a read and a release by one call.
+    Load,
+    /// The same, into a value of the caller's.
+    LoadInto,
+    Insert,
+    Remove,
+}
+
+/// What is measured: the same numbers as the options of `sh_bench`.
+#[derive(Clone, Copy, Debug, PartialEq, Eq)]
+pub struct Options {
+    pub workload: Workload,
+    pub operations: usize,
+    /// How many values stand.
+    pub live: usize,
+    pub words: usize,
+}
+
+fn workload(name: &str) -> Result<Workload, String> {
+    match name {
+        "get" => Ok(Workload::Get),
+        "read" => Ok(Workload::Read),
+        "read-into" => Ok(Workload::ReadInto),
+        "load" => Ok(Workload::Load),
+        "load-into" => Ok(Workload::LoadInto),
+        "insert" => Ok(Workload::Insert),
+        "remove" => Ok(Workload::Remove),
+        _ => Err(format!("no workload {name}")),
+    }
+}
+
+impl Options {
+    /// What the words ask for, of which the first is the workload, and then options and their numbers.
+    pub fn of(words: &[&str]) -> Result<Options, String> {
+        let (name, rest) = words.split_first().ok_or("no workload")?;
+        let mut options = Options { workload: workload(name)?, operations: 1000, live: 1, words: 1 };
+        for pair in rest.chunks(2) {
+            options.set(pair)?;
+        }
+        Ok(options)
+    }
+
+    fn set(&mut self, pair: &[&str]) -> Result<(), String> {
+        let number = || pair.get(1).and_then(|word| word.parse::<usize>().ok()).ok_or(format!("{} of what?", pair[0]));
+        match (pair[0], number()?) {
+            ("--operations", number) => self.operations = number,
+            ("--live", number) if number > 0 => self.live = number,
+            ("--words", number @ 1..=16) => self.words = number,
+            (option, number) => return Err(format!("no option {option} {number}")),
+        }
+        Ok(())
+    }
+}
+
+#[cfg(test)]
+mod tests {
+    use super::*;
+
+    #[test]
+    fn words_are_options() {
+        let options = Options::of(&["load-into", "--operations", "9", "--live", "3", "--words", "16"]);
+        assert_eq!(options, Ok(Options { workload: Workload::LoadInto, operations: 9, live: 3, words: 16 }));
+        let usual = Options { workload: Workload::Get, operations: 1000, live: 1, words: 1 };
+        assert_eq!(Options::of(&["get"]), Ok(usual));
+    }
+
+    #[test]
+    fn wrong_words_are_refused() {
+        for words in [&[][..], &["set"], &["get", "--live"], &["get", "--live", "0"], &["get", "--words", "17"]] {
+            assert!(Options::of(words).is_err(), "{words:?}");
+        }
+    }
+}

@@ -1,0 +1,54 @@
+//! What the workloads ask of each side.
+
+pub const SAMPLES: usize = 16;
+pub const WORDS: usize = 16;
+
+/// Sixteen values, the same as `sh_bench` stores: the one at place n of a list is the one at n % 16 here. C has the
+/// same structure.
+#[repr(C)]
+pub struct Samples {
+    pub words: [[u64; WORDS]; SAMPLES],
+    /// Of each value.
+    pub length: usize,
+}
+
+impl Samples {
+    pub fn new(length: usize) -> Samples {
+        let words = |place: usize| std::array::from_fn(|k| (place * WORDS + k) as u64);
+        Samples { words: std::array::from_fn(words), length }
+    }
+
+    /// The words of the value at a place of a list.
+    #[inline]
+    pub fn at(&self, place: usize) -> &[u64] {
+        &self.words[place % SAMPLES][..self.length]
+    }
+}
+
+/// A heap with an owner of its shard and a pass that owns nothing, by the calls of the library. Each function is one
+/// loop, in the side's language. A call that is refused ends the program: none should be.
+pub trait Side: Sized {
+    /// With room for so many values of so many words.
+    fn open(values: u64, words: u32) -> Self;
+
+    /// Takes a hold on each key and gives it back. Answers the sum of the keys.
+    fn get_each(&mut self, keys: &[u64]) -> u64;
+
+    /// Reads the value of each key under a hold. Answers the sum of the words.
+    fn read_each(&mut self, keys: &[u64]) -> u64;
+
+    /// The same, into one value of the caller's.
+    fn read_each_into(&mut self, keys: &[u64]) -> u64;
+
+    /// The same as `read_each`, by one call for each key.
+    fn load_each(&mut self, keys: &[u64]) -> u64;
+
+    /// The same as `load_each`, into one value of the caller's.
+    fn load_each_into(&mut self, keys: &[u64]) -> u64;
+
+    /// Inserts a value for each key, which it writes there. Answers the sum of the keys.
+    fn insert_each(&mut self, samples: &Samples, keys: &mut [u64]) -> u64;
+
+    /// Removes each key, by the owner.
+    fn remove_each(&mut self, keys: &[u64]);
+}
