@@ -1,5 +1,5 @@
-//! What no clause says: that a heap opens, what gets of numbers that were never issued are answered, that passes step at
-//! the same time, and which words stand in the heap.
+//! What no clause says: that a heap opens, what gets of numbers that were never issued are answered, that passes step
+//! at the same time, and which words stand in the heap.
 ghost use Rattle.std.specs.Prelude.{◌≡◌};
 
 mod by_hand;
@@ -7,13 +7,19 @@ mod forged;
 mod words;
 
 use sh_key::{KeyLayout, Tiny, Wide};
-use sh_pass::{Heap, Pass, Seats, merge};
+use sh_pass::{Busy, Heap, Pass, Seats, merge};
 use sh_shape::Shape;
+use sh_step::Action;
 use sh_value::{Hold, Refusal};
 use std::alloc::Global;
+use std::fmt::Debug;
 use std::process::Abort;
-use std::test::Fail;
 use std::thread::join;
+
+// What was found is what is wanted. It is a function, since each assertion that is written out is proved anew.
+fn agree<T: PartialEq + Debug + Drop>(rt: &impl Abort, found: T, wanted: T) {
+    assert_eq!(rt; found, wanted);
+}
 
 // A pass may cross threads.
 fn crosses<T: Send>(value: T) -> T
@@ -29,6 +35,64 @@ fn opened<L: KeyLayout>(rt: &impl Abort, alloc: Global, passes: u32) -> (Heap<L>
     Heap::<L>::open(alloc, shape).expect(rt, "a heap")
 }
 
+// All passes of the heap.
+fn dealt<'a, L: KeyLayout>(
+    rt: &impl Abort,
+    alloc: Global,
+    heap: &'a Heap<L>,
+    seats: Seats<L>,
+) -> Vec<Pass<'a, L>>
+    requires { seats ≡ heap.now }
+{
+    let Ok(passes) = heap.passes(alloc, seats) else {
+        panic!(rt; "no passes")
+    };
+    passes
+}
+
+// The last of these passes.
+fn last_of<'a, L: KeyLayout>(rt: &impl Abort, mut passes: Vec<Pass<'a, L>>) -> Pass<'a, L> {
+    let Some(pass) = passes.pop() else {
+        panic!(rt; "no pass")
+    };
+    pass
+}
+
+// The last pass of the heap.
+fn one_pass<'a, L: KeyLayout>(
+    rt: &impl Abort,
+    alloc: Global,
+    heap: &'a Heap<L>,
+    seats: Seats<L>,
+) -> Pass<'a, L>
+    requires { seats ≡ heap.now }
+{
+    last_of(rt, dealt(rt, alloc, heap, seats))
+}
+
+// Passes 0 and 1.
+fn two_passes<'a, L: KeyLayout>(
+    rt: &impl Abort,
+    alloc: Global,
+    heap: &'a Heap<L>,
+    seats: Seats<L>,
+) -> (Pass<'a, L>, Pass<'a, L>)
+    requires { seats ≡ heap.now }
+{
+    let mut passes = dealt(rt, alloc, heap, seats);
+    let (Some(other), Some(one)) = (passes.pop(), passes.pop()) else {
+        panic!(rt; "not two passes")
+    };
+    (one, other)
+}
+
+// The pass does these steps, none of which is skipped.
+fn act_each(rt: &impl Abort, busy: &mut Busy<'_, Tiny>, actions: &[Action]) {
+    for action in actions {
+        agree(rt, busy.act(action), true);
+    }
+}
+
 // How many of the numbers from the first on are answered Gone.
 fn gone_among<L: KeyLayout>(pass: &mut Pass<'_, L>, first: u64, count: u64) -> u32 {
     let mut gone = 0u32;
@@ -40,43 +104,41 @@ fn gone_among<L: KeyLayout>(pass: &mut Pass<'_, L>, first: u64, count: u64) -> u
     gone
 }
 
+// Calls with numbers that were never issued.
+fn never_issued(rt: &impl Abort, one: &mut Pass<'_, Tiny>) {
+    agree(rt, one.get(0), Err(Refusal::BadKey));
+    agree(rt, one.get(4_144), Err(Refusal::BadKey));
+    agree(rt, one.get(12_288), Err(Refusal::Gone));
+    agree(rt, one.remove(5_056), Err(Refusal::BadKey));
+    agree(rt, one.remove(4_096), Err(Refusal::Gone));
+    agree(rt, one.release(Hold { key: 4_096 }), Err(Refusal::NotHeld));
+    agree(rt, one.read(Hold { key: 0 }).err(), Some(Refusal::NotHeld));
+}
+
+// To the pass the first key is gone, and it knows the heap whole or not.
+fn first_is_gone(rt: &impl Abort, mut pass: Pass<'_, Tiny>, is_whole: bool) {
+    agree(rt, pass.get(4_096), Err(Refusal::Gone));
+    agree(rt, pass.is_whole(), is_whole);
+}
+
 #[test]
 fn what_was_never_issued_is_gone_and_not_held(rt: HostRuntime) {
     let (heap, seats) = opened::<Tiny>(&rt, rt.alloc(), 2);
-    let Ok(mut passes) = heap.passes(rt.alloc(), seats) else {
-        panic!(rt; "no passes")
-    };
-    let Some(mut one) = passes.pop() else {
-        panic!(rt; "no pass")
-    };
-    assert_eq!(rt; one.get(0), Err(Refusal::BadKey));
-    assert_eq!(rt; one.get(4_144), Err(Refusal::BadKey));
-    assert_eq!(rt; one.get(12_288), Err(Refusal::Gone));
-    assert_eq!(rt; one.remove(5_056), Err(Refusal::BadKey));
-    assert_eq!(rt; one.remove(4_096), Err(Refusal::Gone));
-    assert_eq!(rt; one.release(Hold { key: 4_096 }), Err(Refusal::NotHeld));
-    assert_eq!(rt; one.read(Hold { key: 0 }).err(), Some(Refusal::NotHeld));
-    let mut one = crosses(one);
-    assert_eq!(rt; one.get(4_096), Err(Refusal::Gone));
-    assert!(rt; !one.is_whole());
+    let mut one = one_pass(&rt, rt.alloc(), &heap, seats);
+    never_issued(&rt, &mut one);
+    first_is_gone(&rt, crosses(one), false);
 }
 
 #[test]
 fn passes_that_met_know_the_heap_whole(rt: HostRuntime) {
-    let shape = Shape::new(1, 1, 2).expect(&rt, "a shape");
-    let (heap, seats) = Heap::<Tiny>::open(rt.alloc(), shape).expect(&rt, "a heap");
+    let (heap, seats) = opened::<Tiny>(&rt, rt.alloc(), 2);
     let Ok(mut passes) = heap.passes(rt.alloc(), seats) else {
         panic!(rt; "no passes")
     };
-    let Some(one) = passes.pop() else {
-        panic!(rt; "no pass")
+    let (Some(one), Some(other)) = (passes.pop(), passes.pop()) else {
+        panic!(rt; "not two passes")
     };
-    let Some(other) = passes.pop() else {
-        panic!(rt; "no other pass")
-    };
-    let mut both = merge(one, other);
-    assert_eq!(rt; both.get(4_096), Err(Refusal::Gone));
-    assert!(rt; both.is_whole());
+    first_is_gone(&rt, merge(one, other), true);
 }
 
 // Gets all keys of a page over and over: each is gone, whatever the other thread does at the same time.
@@ -91,19 +153,14 @@ fn gone_in_turns(mut pass: Pass<'_, Tiny>) -> u32 {
 #[test]
 fn two_threads_step_on_one_heap(rt: HostRuntime) {
     let (heap, seats) = opened::<Tiny>(&rt, rt.alloc(), 2);
-    let Ok(mut passes) = heap.passes(rt.alloc(), seats) else {
-        panic!(rt; "no passes")
-    };
-    let (Some(one), Some(other)) = (passes.pop(), passes.pop()) else {
-        panic!(rt; "not two passes")
-    };
+    let (other, one) = two_passes(&rt, rt.alloc(), &heap, seats);
     let (seen, seen_too) = join(
         &rt,
         move || gone_in_turns(one),
         move || gone_in_turns(other),
     );
-    assert_eq!(rt; seen, 9_600);
-    assert_eq!(rt; seen_too, 9_600);
+    agree(&rt, seen, 9_600);
+    agree(&rt, seen_too, 9_600);
 }
 
 // A heap of two passes, opened once more where memory was refused.
@@ -114,10 +171,16 @@ fn opened_with_memory(rt: &impl Abort, alloc: Global) -> (Heap<Tiny>, Seats<Tiny
     match Heap::<Tiny>::open(alloc, shape) {
         Ok(both) => both,
         Err(why) => {
-            assert_eq!(rt; why, Refusal::Memory);
+            agree(rt, why, Refusal::Memory);
             opened::<Tiny>(rt, alloc, 2)
         }
     }
+}
+
+// The last slot of the last page of the second shard is that of a key, and no slot comes after it.
+fn ends_there(rt: &impl Abort, one: &mut Pass<'_, Wide>) {
+    agree(rt, one.get(16_908_271), Err(Refusal::Gone));
+    agree(rt, one.get(16_908_272), Err(Refusal::BadKey));
 }
 
 // 256 segments, of eight pages of 195 words each, and 64 passes.
@@ -125,38 +188,51 @@ fn opened_with_memory(rt: &impl Abort, alloc: Global) -> (Heap<Tiny>, Seats<Tiny
 fn the_largest_heap_opens(rt: HostRuntime) {
     let shape = Shape::new(2, 128, 64).expect(&rt, "a shape");
     let (heap, seats) = Heap::<Wide>::open(rt.alloc(), shape).expect(&rt, "a heap");
-    let Ok(mut passes) = heap.passes(rt.alloc(), seats) else {
-        panic!(rt; "no passes")
-    };
-    assert_eq!(rt; passes.len(), 64);
-    let Some(mut one) = passes.pop() else {
-        panic!(rt; "no pass")
-    };
-    // The last slot of the last page of the second shard.
-    assert_eq!(rt; one.get(16_908_271), Err(Refusal::Gone));
-    assert_eq!(rt; one.get(16_908_272), Err(Refusal::BadKey));
+    let passes = dealt(&rt, rt.alloc(), &heap, seats);
+    agree(&rt, passes.len(), 64);
+    let mut one = last_of(&rt, passes);
+    ends_there(&rt, &mut one);
+}
+
+// How many were dealt, none where they were refused.
+fn how_many<T: Drop, E: Drop>(dealt: Result<Vec<T>, E>) -> usize {
+    match dealt {
+        Ok(all) => all.len(),
+        Err(_) => 0,
+    }
+}
+
+// Two passes are dealt, by the second call where the first was refused memory.
+fn two_passes_come(rt: &impl Abort, alloc: Global, heap: &Heap<Tiny>, seats: Seats<Tiny>)
+    requires { seats ≡ heap.now }
+{
+    match heap.passes(alloc, seats) {
+        Ok(passes) => agree(rt, passes.len(), 2),
+        Err((seats, why)) => {
+            agree(rt, why, Refusal::Memory);
+            agree(rt, how_many(heap.passes(alloc, seats)), 2);
+        }
+    }
+}
+
+// And two states.
+fn two_states_come(rt: &impl Abort, alloc: Global, heap: &Heap<Tiny>, seats: Seats<Tiny>)
+    requires { seats ≡ heap.now }
+{
+    match heap.states(alloc, seats) {
+        Ok(states) => agree(rt, states.len(), 2),
+        Err((seats, why)) => {
+            agree(rt, why, Refusal::Memory);
+            agree(rt, how_many(heap.states(alloc, seats)), 2);
+        }
+    }
 }
 
 // Refused memory: nothing is opened, or the seats come back, and the same call then answers.
 #[test]
-fn refused_memory_gives_the_seats_back(rt: HostRuntime) -> Result<(), Fail> {
+fn refused_memory_gives_the_seats_back(rt: HostRuntime) {
     let (heap, seats) = opened_with_memory(&rt, rt.alloc());
-    match heap.passes(rt.alloc(), seats) {
-        Ok(passes) => assert_eq!(rt; passes.len(), 2),
-        Err((seats, why)) => {
-            assert_eq!(rt; why, Refusal::Memory);
-            let passes = heap.passes(rt.alloc(), seats);
-            assert!(rt; passes.is_ok_and(|passes| passes.len() == 2));
-        }
-    }
+    two_passes_come(&rt, rt.alloc(), &heap, seats);
     let (heap, seats) = opened_with_memory(&rt, rt.alloc());
-    match heap.states(rt.alloc(), seats) {
-        Ok(states) => assert_eq!(rt; states.len(), 2),
-        Err((seats, why)) => {
-            assert_eq!(rt; why, Refusal::Memory);
-            let states = heap.states(rt.alloc(), seats);
-            assert!(rt; states.is_ok_and(|states| states.len() == 2));
-        }
-    }
-    Ok(())
+    two_states_come(&rt, rt.alloc(), &heap, seats);
 }

@@ -11,15 +11,15 @@ mod memory;
 mod order;
 mod records;
 mod replies;
+mod steps;
 mod stopped;
 mod threads;
 mod words;
 
 use sh_key::KeyLayout;
-use sh_pass::{Busy, Heap, Pass, Seats};
+use sh_pass::{Heap, Pass, Seats};
 use sh_shape::Shape;
 use sh_shard::Shard;
-use sh_step::Action;
 use sh_value::{Refusal, Value};
 use std::alloc::Global;
 use std::fmt::Debug;
@@ -267,47 +267,4 @@ fn prepared<L: KeyLayout>(shard: &mut Shard<'_, L>, class: u32) -> Result<u32, R
         Err(Refusal::Memory) => shard.prepare(class),
         answer => answer,
     }
-}
-
-// The steps by which a key is removed whose slot is the first that is put on an armed page.
-fn removing(key: u64) -> [Action; 8] {
-    [
-        Action::EnterRemove(key),
-        Action::Mark,
-        Action::Drop,
-        Action::Finish,
-        Action::Put,
-        Action::Tie,
-        Action::Ring,
-        Action::RingTie,
-    ]
-}
-
-// The pass again, whose steps are done.
-fn ended<'a, L: KeyLayout>(rt: &impl Abort, busy: Busy<'a, L>) -> Pass<'a, L> {
-    let Ok(pass) = busy.end() else {
-        panic!(rt; "its steps are not done")
-    };
-    pass
-}
-
-// The pass does these steps, none of which is skipped.
-fn act_each<L: KeyLayout>(rt: &impl Abort, busy: &mut Busy<'_, L>, actions: &[Action]) {
-    for action in actions {
-        agree(rt, busy.act(action), true);
-    }
-}
-
-// The pass, after it did the first so many of the steps.
-fn stopped_at<'a, L: KeyLayout>(
-    rt: &impl Abort,
-    pass: Pass<'a, L>,
-    key: u64,
-    steps: usize,
-) -> Busy<'a, L> {
-    let mut busy = pass.begin();
-    for action in removing(key).iter().take(steps) {
-        agree(rt, busy.act(action), true);
-    }
-    busy
 }

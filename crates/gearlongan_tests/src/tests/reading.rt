@@ -79,6 +79,24 @@ fn fetch_and_take(rt: &impl Abort, owner: &mut Shard<'_, Wide>, reader: &mut Pas
     agree(rt, reader.fetch(0), Err(Refusal::BadKey));
 }
 
+// Fetches into a value of its own, and once more when the key is gone.
+fn fetch_into_ones_own(rt: &impl Abort, owner: &mut Shard<'_, Wide>, reader: &mut Pass<'_, Wide>) {
+    let key = owner.insert(&Value::of([7, 8])).expect(rt, "a key");
+    let mut value = Value::from(5);
+    agree(rt, reader.fetch_into(key, &mut value), Ok(()));
+    agree(rt, value.words(), [7, 8].as_slice());
+    agree(rt, owner.remove(key), Ok(()));
+    agree(rt, reader.fetch_into(key, &mut value), Err(Refusal::Gone));
+    agree(rt, value.words(), [7, 8].as_slice());
+}
+
+#[test]
+fn a_value_is_fetched_into_the_callers(rt: HostRuntime) {
+    let (heap, seats) = opened(&rt, rt.alloc(), 2);
+    let (mut owner, mut reader) = owner_and_reader(&rt, rt.alloc(), &heap, seats);
+    fetch_into_ones_own(&rt, &mut owner, &mut reader);
+}
+
 #[test]
 fn fetch_with_and_take_leave_no_hold(rt: HostRuntime) {
     let (heap, seats) = opened(&rt, rt.alloc(), 2);

@@ -1,12 +1,7 @@
 //! Keys that nobody was answered, on a fresh heap: every number around every edge of a layout. It is gone where it is a
 //! key of the heap, which is reckoned here from the number's digits, and else a bad key.
-use sh_key::{KeyLayout, Tagged, Tiny, Wide};
-use sh_pass::{Heap, Pass};
-use sh_shape::Shape;
-use sh_value::Refusal;
-use std::alloc::Global;
-use std::process::Abort;
-use std::test::Fail;
+use super::*;
+use sh_key::Tagged;
 
 /// What a number names, if it is a key.
 #[derive(Clone, Copy)]
@@ -73,6 +68,22 @@ fn is_key<L: Written>(number: u64, shards: u64, pages: u64) -> bool {
         && digits.slot < 48
 }
 
+/// What was found at the number is what is wanted.
+fn agree_at<T: PartialEq + Debug + Drop>(rt: &impl Abort, number: u64, found: T, wanted: T) {
+    assert_eq!(rt; found, wanted, "{number}");
+}
+
+/// A get and a removal of the number are refused so.
+fn is_refused<L: KeyLayout>(
+    rt: &impl Abort,
+    pass: &mut Pass<'_, L>,
+    number: u64,
+    refusal: Refusal,
+) {
+    agree_at(rt, number, pass.get(number), Err(refusal));
+    agree_at(rt, number, pass.remove(number), Err(refusal));
+}
+
 /// Gets and removes so many numbers from the first on, and answers how many of them are keys.
 fn keys_among<L: KeyLayout + Written>(
     rt: &impl Abort,
@@ -91,11 +102,21 @@ fn keys_among<L: KeyLayout + Written>(
         } else {
             Refusal::BadKey
         };
-        assert_eq!(rt; pass.get(number), Err(refusal), "{number}");
-        assert_eq!(rt; pass.remove(number), Err(refusal), "{number}");
+        is_refused(rt, pass, number, refusal);
         keys = keys.saturating_add(u64::from(is_key));
     }
     keys
+}
+
+/// Of these numbers so many are keys: from the first, how many, the keys.
+fn has_keys<L: KeyLayout + Written>(
+    rt: &impl Abort,
+    pass: &mut Pass<'_, L>,
+    tries: &[(u64, u64, u64)],
+) {
+    for (first, count, keys) in tries {
+        agree_at(rt, *first, keys_among(rt, pass, *first, *count), *keys);
+    }
 }
 
 /// On a heap of this many shards and segments, of these numbers so many are keys: from the first, how many, the keys.
@@ -108,23 +129,15 @@ fn expect<L: KeyLayout + Written>(
 ) {
     let shape = Shape::new(shards, segments, 1).expect(rt, "a shape");
     let (heap, seats) = Heap::<L>::open(alloc, shape).expect(rt, "a heap");
-    let Ok(mut passes) = heap.passes(alloc, seats) else {
-        panic!(rt; "no passes")
-    };
-    let Some(mut pass) = passes.pop() else {
-        panic!(rt; "no pass")
-    };
-    for (first, count, keys) in tries {
-        assert_eq!(rt; keys_among(rt, &mut pass, *first, *count), *keys, "{first}");
-    }
+    let mut pass = one_pass(rt, alloc, &heap, seats);
+    has_keys(rt, &mut pass, tries);
 }
 
 // Three generations of 8 pages with 48 slots are 1,152 keys, and of 48 pages with 48 slots 6,912.
 #[test]
-fn forged_keys_of_tiny(rt: HostRuntime) -> Result<(), Fail> {
+fn forged_keys_of_tiny(rt: HostRuntime) {
     expect::<Tiny>(&rt, rt.alloc(), 1, 1, &[(0, 20_001, 1_152)]);
     expect::<Tiny>(&rt, rt.alloc(), 3, 2, &[(0, 20_001, 6_912)]);
-    Ok(())
 }
 
 /// A hundred thousand numbers around an edge, of which so many are keys.
@@ -135,7 +148,7 @@ const fn around(edge: u64, keys: u64) -> (u64, u64, u64) {
 // A heap of 3 shards has 16 pages of 48 slots in each, which are 768 keys in each generation. Of one generation to the
 // next it is 2^24, and of one shard to the next 2^16, so that the numbers around an edge reach one shard at most.
 #[test]
-fn forged_keys_of_wide(rt: HostRuntime) -> Result<(), Fail> {
+fn forged_keys_of_wide(rt: HostRuntime) {
     let first = 16_777_216;
     let shard = 65_536;
     let end = 72_057_594_037_927_936;
@@ -153,13 +166,12 @@ fn forged_keys_of_wide(rt: HostRuntime) -> Result<(), Fail> {
         around(9_223_372_036_854_775_808, 0),
     ];
     expect::<Wide>(&rt, rt.alloc(), 3, 2, &tries);
-    Ok(())
 }
 
 // Of one generation to the next it is 2^20, and of one shard to the next 2^14, so that the numbers around an edge reach
 // all 3 shards. No key has a bit from the 52nd on.
 #[test]
-fn forged_keys_of_tagged(rt: HostRuntime) -> Result<(), Fail> {
+fn forged_keys_of_tagged(rt: HostRuntime) {
     let first = 1_048_576;
     let end = 4_503_599_627_370_496;
     let tries = [
@@ -175,5 +187,4 @@ fn forged_keys_of_tagged(rt: HostRuntime) -> Result<(), Fail> {
         around(9_223_372_036_854_775_808, 0),
     ];
     expect::<Tagged>(&rt, rt.alloc(), 3, 2, &tries);
-    Ok(())
 }

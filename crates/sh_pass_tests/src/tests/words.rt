@@ -11,7 +11,7 @@ use super::*;
 use sh_pass::Owner;
 use sh_shape::Place;
 use sh_shard::Shard;
-use sh_step::{Action, PageName};
+use sh_step::PageName;
 use sh_value::Value;
 
 // The sixteen words 1 to 16, of which a page has three.
@@ -51,9 +51,9 @@ fn fill(rt: &impl Abort, owner: &mut Owner<'_, Tiny>, page: PageName)
     }
     owner.set_class(page, 7);
     let value = sixteen(rt);
-    assert_eq!(rt; owner.insert_at(page, 0, &value, 8), 4_096);
-    assert_eq!(rt; owner.insert_at(page, 1, &value, 8), 4_097);
-    assert_eq!(rt; owner.insert_at(page, 2, &value, 8), 4_098);
+    agree(rt, owner.insert_at(page, 0, &value, 8), 4_096);
+    agree(rt, owner.insert_at(page, 1, &value, 8), 4_097);
+    agree(rt, owner.insert_at(page, 2, &value, 8), 4_098);
 }
 
 // Each of these does one step of the owner, which has to find this word.
@@ -111,7 +111,7 @@ fn follow_bell(rt: &impl Abort, owner: &mut Owner<'_, Tiny>, page: PageName)
 // Another pass removes key 4097 in eight steps.
 fn remove_by_hand(rt: &impl Abort, pass: Pass<'_, Tiny>) {
     let mut busy = pass.begin();
-    for action in [
+    let actions = [
         Action::EnterRemove(4_097),
         Action::Mark,
         Action::Drop,
@@ -120,37 +120,48 @@ fn remove_by_hand(rt: &impl Abort, pass: Pass<'_, Tiny>) {
         Action::Tie,
         Action::Ring,
         Action::RingTie,
-    ]
-    .iter()
-    {
-        assert!(rt; busy.act(action));
-    }
-    assert!(rt; !busy.act(&Action::RingTie));
+    ];
+    act_each(rt, &mut busy, &actions);
+    agree(rt, busy.act(&Action::RingTie), false);
+}
+
+// Fills the page, and leaves it armed and without a slot.
+fn fill_and_arm(rt: &impl Abort, owner: &mut Owner<'_, Tiny>, page: PageName)
+    requires touch { MayTouch owner.old page }
+    requires bell { (own_body owner.old).bell_cursor ≡ None }
+    requires cursor { (page_at owner.old page).cursor ≡ None }
+    requires armed { (page_at owner.old page).armed ≡ false }
+    ensures { IsAt owner.new page None true false }
+{
+    fill(rt, owner, page);
+    arm(rt, owner, page, 0);
+    take(rt, owner, page, true, 1);
+    arm(rt, owner, page, 0);
+}
+
+// Finds page 0 by its bell, and there slot 1.
+fn find_slot_1(rt: &impl Abort, owner: &mut Owner<'_, Tiny>, page: PageName)
+    requires at { IsAt owner.old page None true false }
+    requires shard { page.shard ≡ 0 }
+    requires page { page.page ≡ 0 }
+{
+    take_bell(rt, owner, page);
+    follow_bell(rt, owner, page);
+    take(rt, owner, page, false, 4);
+    follow(rt, owner, page, 1, 1);
 }
 
 // The head of an armed page is 1. Where another removes the value in slot 1 of page 0, the head becomes 4, the slot's
 // link 1, the bell 1 and the page's link 1.
 #[test]
-fn another_removes_from_an_armed_page(rt: HostRuntime) -> Result<(), Fail> {
+fn another_removes_from_an_armed_page(rt: HostRuntime) {
     let (heap, seats) = opened::<Tiny>(&rt, rt.alloc(), 2);
-    let Ok(mut passes) = heap.passes(rt.alloc(), seats) else {
-        panic!(rt; "no passes")
-    };
-    let (Some(other), Some(one)) = (passes.pop(), passes.pop()) else {
-        panic!(rt; "not two passes")
-    };
+    let (one, other) = two_passes(&rt, rt.alloc(), &heap, seats);
     let page = PageName { shard: 0, page: 0 };
     let mut owner = owner_of(&rt, one, page);
-    fill(&rt, &mut owner, page);
-    arm(&rt, &mut owner, page, 0);
-    take(&rt, &mut owner, page, true, 1);
-    arm(&rt, &mut owner, page, 0);
+    fill_and_arm(&rt, &mut owner, page);
     remove_by_hand(&rt, other);
-    take_bell(&rt, &mut owner, page);
-    follow_bell(&rt, &mut owner, page);
-    take(&rt, &mut owner, page, false, 4);
-    follow(&rt, &mut owner, page, 1, 1);
-    Ok(())
+    find_slot_1(&rt, &mut owner, page);
 }
 
 // The state word of slot 0 of page 0, in a heap that this pass knows whole.
@@ -165,30 +176,41 @@ fn first_state(rt: &impl Abort, pass: &mut Pass<'_, Tiny>) -> u64 {
     pass.load(Place::State(0, 0))
 }
 
-// A slot is retired in generation 3.
-#[test]
-fn a_slot_is_removed_in_its_last_generation(rt: HostRuntime) -> Result<(), Fail> {
-    let (heap, seats) = opened::<Tiny>(&rt, rt.alloc(), 1);
-    let Ok(mut passes) = heap.passes(rt.alloc(), seats) else {
-        panic!(rt; "no passes")
-    };
-    let Some(pass) = passes.pop() else {
-        panic!(rt; "no pass")
-    };
-    let Ok(mut shard) = Shard::adopt(rt.alloc(), pass, 0) else {
+// The owner of shard 0.
+fn adopted<'a>(rt: &impl Abort, alloc: Global, pass: Pass<'a, Tiny>) -> Shard<'a, Tiny> {
+    let Ok(shard) = Shard::adopt(alloc, pass, 0) else {
         panic!(rt; "no shard")
     };
-    for key in [4_096, 4_097, 4_098] {
-        assert_eq!(rt; shard.insert(&sixteen(&rt)), Ok(key));
-    }
-    assert_eq!(rt; shard.remove(4_096), Ok(()));
-    assert_eq!(rt; shard.insert(&sixteen(&rt)), Ok(8_192));
-    assert_eq!(rt; shard.remove(8_192), Ok(()));
-    assert_eq!(rt; shard.insert(&sixteen(&rt)), Ok(12_288));
-    assert_eq!(rt; shard.remove(12_288), Ok(()));
-    let Ok(mut pass) = shard.leave() else {
+    shard
+}
+
+// Its pass, once it left.
+fn left<'a>(rt: &impl Abort, shard: Shard<'a, Tiny>) -> Pass<'a, Tiny> {
+    let Ok(pass) = shard.leave() else {
         panic!(rt; "it waits")
     };
-    assert_eq!(rt; first_state(&rt, &mut pass), 15_032_385_536);
-    Ok(())
+    pass
+}
+
+// Fills slot 0, beside two others, once in each generation, and removes what is there.
+fn wear_out(rt: &impl Abort, shard: &mut Shard<'_, Tiny>) {
+    for key in [4_096, 4_097, 4_098] {
+        agree(rt, shard.insert(&sixteen(rt)), Ok(key));
+    }
+    agree(rt, shard.remove(4_096), Ok(()));
+    agree(rt, shard.insert(&sixteen(rt)), Ok(8_192));
+    agree(rt, shard.remove(8_192), Ok(()));
+    agree(rt, shard.insert(&sixteen(rt)), Ok(12_288));
+    agree(rt, shard.remove(12_288), Ok(()));
+}
+
+// A slot is retired in generation 3.
+#[test]
+fn a_slot_is_removed_in_its_last_generation(rt: HostRuntime) {
+    let (heap, seats) = opened::<Tiny>(&rt, rt.alloc(), 1);
+    let pass = one_pass(&rt, rt.alloc(), &heap, seats);
+    let mut shard = adopted(&rt, rt.alloc(), pass);
+    wear_out(&rt, &mut shard);
+    let mut pass = left(&rt, shard);
+    agree(&rt, first_state(&rt, &mut pass), 15_032_385_536);
 }

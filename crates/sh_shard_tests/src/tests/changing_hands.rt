@@ -1,6 +1,8 @@
 //! Shards that are left and adopted, and pages that are prepared.
+use super::steps::{ended, stopped_at};
 use super::*;
 use sh_key::Tiny;
+use sh_step::Action;
 
 #[test]
 fn a_shard_has_one_owner(rt: HostRuntime) {

@@ -1,6 +1,8 @@
 //! A shard that is filled, and what comes back of it.
+use super::steps::{ended, stopped_at};
 use super::*;
 use sh_key::Tiny;
+use sh_step::Action;
 
 // Fills a shard of one segment with values of 16 words.
 pub(super) fn fill(rt: &impl Abort, shard: &mut Shard<'_, Tiny>) {

@@ -1,7 +1,10 @@
 //! Callers that stop in the middle of a removal, and what the owner can do then.
 use super::filling::fill;
+use super::steps::{act_each, ended, stopped_at};
 use super::*;
 use sh_key::Tiny;
+use sh_pass::Busy;
+use sh_step::Action;
 
 // Inserts until the shard is full, and answers how many went in.
 fn put_until_full(rt: &impl Abort, shard: &mut Shard<'_, Tiny>) -> u32 {

@@ -44,8 +44,8 @@ fn retire_first(rt: &impl Abort, shard: &mut Shard<'_, Tiny>) {
     }
 }
 
-// After its third generation, the last of the layout, a slot is retired: its state word says so, and no owner puts it on
-// the page's stack, whose head stays empty. The slots beside it are live, in their first generation.
+// After its third generation, the last of the layout, a slot is retired: its state word says so, and no owner puts it
+// on the page's stack, whose head stays empty. The slots beside it are live, in their first generation.
 #[test]
 fn a_retired_slot_has_its_word(rt: HostRuntime) {
     let (heap, seats) = opened::<Tiny>(&rt, rt.alloc(), 1, 1, 1);
