@@ -9,7 +9,8 @@ use Rattle.sh_history.specs.History.{got_count, released_count, holds_on, is_got
 use Rattle.sh_history.proofs.LogLaws.{count_by-push}
 use Rattle.sh_step.specs.declared.action.Event.{Event}
 use Rattle.sh_step.specs.declared.body.Body.{Body}
-use Rattle.sh_step.specs.Rows.{Row, row}
+use Rattle.sh_step.specs.Moves.{row}
+use Rattle.sh_step.specs.Rows.{Row}
 use Rattle.sh_step.specs.Plans.{Plan, plan_of, keys_of}
 use Rattle.sh_step.specs.Collections.{total}
 use Rattle.sh_core.specs.Lists.{times}

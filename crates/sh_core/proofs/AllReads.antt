@@ -48,7 +48,7 @@ module _ (plan : Plan) (w : World) (l : PutLists) (a : ℕ) (p : Body) (old : Al
   pub all_read_class : (k : ℕ) (y : Name) → All plan (apply w a (read_class (idled p) k y)) l
   unfolding apply
   all_read_class k y = all_load plan w l a (idled p) (record (idled p) {
-    widths = (k, w.words.class_at y.page) ∷ p.widths;
+    class_words = (k, w.words.class_at y.page) ∷ p.class_words;
   }) (Class y.page) (w.words.class_at y.page) old at refl (λ y st. refl) refl tt
       (rest_frame plan w.words w.parts l a (idled p) _ old.rest at refl (old.rest.homed a (idled p) at))
 

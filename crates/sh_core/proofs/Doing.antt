@@ -15,7 +15,8 @@ use Rattle.sh_slots.specs.declared.reply.Reply.TheVariants as reply
 use Rattle.sh_step.specs.declared.action.Event.{Event}
 use Rattle.sh_step.specs.declared.body.Body.{Body}
 use Rattle.sh_step.specs.Plans.{Plan, plan_of}
-use Rattle.sh_step.specs.Rows.{Row, row}
+use Rattle.sh_step.specs.Moves.{row}
+use Rattle.sh_step.specs.Rows.{Row}
 use Rattle.sh_core.specs.declared.outcome.Outcome.{Outcome}
 use Rattle.sh_core.specs.declared.outcome.Outcome.TheVariants.{Skipped}
 use Rattle.sh_core.specs.Words.{Words, read}

@@ -22,7 +22,8 @@ use Rattle.sh_step.specs.declared.moves.Move.TheVariants.{EnterGet, DropHold, Re
 use Rattle.sh_step.specs.Moves.{row_of}
 use Rattle.sh_step.specs.Plans.{Plan}
 use Rattle.sh_step.specs.Rows.{Row, hand, read_class, read_length, read_word}
-use Rattle.sh_core.proofs.ByMove.{May, keys_stay}
+use Rattle.sh_step.specs.Conditions.{May}
+use Rattle.sh_core.proofs.ByMove.{keys_stay}
 
 -- every key that names a slot and is held is held in its present generation, so these are the holds on the slot's key
 abbrev pub FewHolds : Plan → World → Type 0

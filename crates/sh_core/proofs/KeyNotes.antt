@@ -30,7 +30,8 @@ use Rattle.sh_step.specs.declared.moves.Move.TheVariants.{EnterGet, DropHold, Re
 use Rattle.sh_step.specs.Moves.{row_of}
 use Rattle.sh_step.specs.Plans.{Plan}
 use Rattle.sh_step.specs.Rows.{Row, hand, freed}
-use Rattle.sh_core.proofs.ByMove.{May, keys_stay}
+use Rattle.sh_step.specs.Conditions.{May}
+use Rattle.sh_core.proofs.ByMove.{keys_stay}
 use Rattle.sh_core.proofs.ListCounts.{times_cons, times_without, has_some}
 
 -- a key, and a word noted of its value
@@ -146,7 +147,7 @@ module _ (plan : Plan) (w : World) (l : PutLists) (a : ℕ) (p : Body) (all : Al
         ∙ eq-eqb k k refl in let n : true ≡ false = sym y ∙ r.2 in absurd (cc)) (old r.0 x r.1)
 
   -- a word read of a held key's value
-  read_told : (k i : ℕ) (n : Name) (c m : ℕ) → plan.keys.unpack k ≡ Some n → noted k p.widths ≡ Some c
+  read_told : (k i : ℕ) (n : Name) (c m : ℕ) → plan.keys.unpack k ≡ Some n → noted k p.class_words ≡ Some c
       → noted k p.lengths ≡ Some m → has (λ j. j == k) p.holds ≡ true → i < m
       → Told w.log p.holds (k, i, w.words.payload_at n.page (n.slot * width (c - 1) + i))
   unfolding value_at
@@ -176,7 +177,7 @@ module _ (plan : Plan) (w : World) (l : PutLists) (a : ℕ) (p : Body) (all : Al
       (fields_of (w.words.state_at x.page x.slot)).count plan.keys.guard_max) (hand p (Leaving (spot_of x)))
       (refl, refl)
   tells (DropHold k x) (idle, named, is) = drop_tells k is
-  tells (ReadClass k x) may = same_told (record p { widths = (k, w.words.class_at x.page) ∷ p.widths }) (refl, refl)
+  tells (ReadClass k x) may = same_told (record p { class_words = (k, w.words.class_at x.page) ∷ p.class_words }) (refl, refl)
   tells (ReadLength k x) may = same_told (record p { lengths = (k, w.words.length_at x.page x.slot) ∷ p.lengths })
       (refl, refl)
   tells (ReadWord k x c i) (n, idle, named, width_is, length_is, is, less) =
@@ -212,7 +213,7 @@ told_open plan a p at = let e = part_new plan.passes a p at in subst (ToldPart [
 pub notes : (plan : Plan) (w : World) (l : PutLists) → All plan w l → AllKnow plan w → AllTold w → NotesAreTrue plan w
 unfolding value_at
 notes plan w l all know told a p at = record {
-  widths = (know a p at).classed;
+  class_words = (know a p at).classed;
   lengths = λ k m h. let o = (know a p at).measured k m h in (o.0, λ v is. value_length k m v o.0 o.1 is);
   words = λ j k i n h. let o = told a p at j (k, i, n) h in (
     o.held,

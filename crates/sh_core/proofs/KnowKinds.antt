@@ -29,15 +29,16 @@ use Rattle.sh_step.specs.Moves.{row_of}
 use Rattle.sh_step.specs.Plans.{Plan, heap_pages}
 use Rattle.sh_step.specs.Rows.{Row, hand, freed, own, all_mine, payload_word, fill_slot, read_class, read_length}
 use Rattle.sh_step.specs.Rows.{read_word, read_page, set_class}
-use Rattle.sh_step.proofs.ConditionLaws.{is_own, zero_or}
-use Rattle.sh_core.proofs.ByMove.{May, keys_stay}
+use Rattle.sh_step.proofs.PartTests.{is_own, zero_or}
+use Rattle.sh_step.specs.Conditions.{May}
+use Rattle.sh_core.proofs.ByMove.{keys_stay}
 use Rattle.sh_core.proofs.Tests.{if1_neither, cond_either}
 use Rattle.sh_core.proofs.ListCounts.{times_cons, times_without, has_some, noted_off}
 use Rattle.sh_core.proofs.Writes.{put2_other, put_other, write_same}
 
 -- the three that hold what is known
 abbrev Three : Body → Body → Type 0
-Three p u = (u.holds ≡ p.holds) × (u.widths ≡ p.widths) × (u.lengths ≡ p.lengths)
+Three p u = (u.holds ≡ p.holds) × (u.class_words ≡ p.class_words) × (u.lengths ≡ p.lengths)
 
 -- the words that a step leaves to the keys held by anyone
 abbrev HeldWordsStay : Plan → World → Words → Type 0
@@ -118,7 +119,7 @@ module _ (plan : Plan) (w : World) (l : PutLists) (a : ℕ) (p : Body) (all : Al
       → W.length_at ≡ w.words.length_at → KnowsPart plan W (hand (freed p k) h)
   drop_knows k is h W c d = let o = three_knows W p (same_words W c d) (refl, refl, refl) in record {
     named = λ j s. let t = times_without k j p.holds is in o.named j (omega arith);
-    classed = λ j v e. let q = known_left p.widths j v (has (λ j. j == k) fewer) refl e in let r = o.classed j v q.0
+    classed = λ j v e. let q = known_left p.class_words j v (has (λ j. j == k) fewer) refl e in let r = o.classed j v q.0
         in (q.1 r.0, r.1);
     measured = λ j v e. let q = known_left p.lengths j v (has (λ j. j == k) fewer) refl e in let r = o.measured j v q.0
         in (q.1 r.0, r.1);
@@ -139,14 +140,14 @@ module _ (plan : Plan) (w : World) (l : PutLists) (a : ℕ) (p : Body) (all : Al
 
   -- the class of a held key is noted
   notes_class : (k : ℕ) (x : Name) → plan.keys.unpack k ≡ Some x → has (λ j. j == k) p.holds ≡ true
-      → KnowsPart plan w.words (record p { widths = (k, w.words.class_at x.page) ∷ p.widths })
+      → KnowsPart plan w.words (record p { class_words = (k, w.words.class_at x.page) ∷ p.class_words })
   unfolding noted
   notes_class k x name is = record { named = o.named; classed = λ j c h. go j c (k == j) refl h; measured = o.measured }
     where
       o : KnowsPart plan w.words p
       o = old a p at
 
-      go : (j c : ℕ) (b : Bool) → (k == j) ≡ b → cond b (Some (w.words.class_at x.page)) (noted j p.widths) ≡ Some c
+      go : (j c : ℕ) (b : Bool) → (k == j) ≡ b → cond b (Some (w.words.class_at x.page)) (noted j p.class_words) ≡ Some c
           → (0 < times j p.holds) × ((n : Name) → plan.keys.unpack j ≡ Some n → w.words.class_at n.page ≡ c)
       go j c true e h =
           let i = eqb-true k j e in

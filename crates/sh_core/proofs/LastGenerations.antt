@@ -29,7 +29,8 @@ use Rattle.sh_step.specs.declared.moves.Move.{Move}
 use Rattle.sh_step.specs.declared.moves.Move.TheVariants.{EnterGet, EnterRemove, Mark, Drop, DropHold, Finish, Publish}
 use Rattle.sh_step.specs.Moves.{row_of}
 use Rattle.sh_step.specs.Rows.{Row, hand}
-use Rattle.sh_core.proofs.ByMove.{May, MovesCount}
+use Rattle.sh_step.specs.Conditions.{May}
+use Rattle.sh_core.proofs.ByMove.{MovesCount}
 use Rattle.std.proofs.lemmas.Bool.{and_parts}
 use Rattle.sh_core.proofs.SlotSteps.{reused_fields}
 use Rattle.sh_core.proofs.GoodKinds.{retired_fields}

@@ -34,7 +34,8 @@ use Rattle.sh_step.specs.declared.moves.Move.TheVariants.{Ring, RingTie, TakeBel
 use Rattle.sh_step.specs.Moves.{row_of}
 use Rattle.sh_step.specs.Plans.{Plan, Lawful, heap_pages, home}
 use Rattle.sh_step.specs.Rows.{class_word_noted}
-use Rattle.sh_core.proofs.ByMove.{May, MovesCount, by_move}
+use Rattle.sh_step.specs.Conditions.{May}
+use Rattle.sh_core.proofs.ByMove.{MovesCount, by_move}
 use Rattle.sh_core.proofs.Tests.{if1_self}
 use Rattle.sh_core.proofs.ListCounts.{a_first, times_cons, noted_at}
 use Rattle.sh_core.proofs.ClassSlots.{room_placed}

@@ -26,8 +26,8 @@ use Rattle.sh_shape.proofs.ClassLaws.{slots_few}
 use Rattle.sh_core.proofs.RunTheorem.{theorem}
 use Rattle.sh_step.specs.declared.moves.Move.{Move}
 use Rattle.sh_step.specs.declared.moves.Move.TheVariants.{EnterGet, EnterRemove, Mark}
-use Rattle.sh_step.specs.Moves.{row_of}
-use Rattle.sh_step.specs.Rows.{Row, row}
+use Rattle.sh_step.specs.Moves.{row_of, row}
+use Rattle.sh_step.specs.Rows.{Row}
 use Rattle.sh_core.proofs.ByMove.{by_move}
 use Rattle.sh_shape.specs.Classes.{slots, width}
 

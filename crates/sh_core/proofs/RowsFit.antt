@@ -24,7 +24,8 @@ use Rattle.sh_step.specs.declared.moves.Move.TheVariants.{EnterGet, EnterRemove,
 use Rattle.sh_step.specs.declared.moves.Move.TheVariants.{Put, PutSlot, Adopt, Arm, Ring, TakeBell, FollowBell}
 use Rattle.sh_step.specs.Moves.{row_of}
 use Rattle.sh_step.specs.Plans.{Plan, Lawful, heap_pages, local}
-use Rattle.sh_core.proofs.ByMove.{May, by_move}
+use Rattle.sh_step.specs.Conditions.{May}
+use Rattle.sh_core.proofs.ByMove.{by_move}
 use Rattle.sh_core.proofs.StaysWithin.{hand_within}
 
 -- a key is issued

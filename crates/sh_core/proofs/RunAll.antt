@@ -12,12 +12,13 @@ use Rattle.sh_step.specs.declared.moves.Move.TheVariants.{Ring, RingTie, TakeBel
 use Rattle.sh_step.specs.Moves.{row_of}
 use Rattle.sh_step.specs.Plans.{Plan, Lawful}
 use Rattle.sh_step.specs.Rows.{Row, hand, all_mine, fill_in, follow_bell}
-use Rattle.sh_step.proofs.ConditionLaws.{is_own, zero_or}
+use Rattle.sh_step.proofs.PartTests.{is_own, zero_or}
 use Rattle.sh_core.specs.Words.{read, put}
 use Rattle.sh_core.specs.Worlds.{World, apply}
 use Rattle.sh_core.specs.Lists.{PutLists}
 use Rattle.sh_core.specs.Placed.{All}
-use Rattle.sh_core.proofs.ByMove.{May, lists_after}
+use Rattle.sh_step.specs.Conditions.{May}
+use Rattle.sh_core.proofs.ByMove.{lists_after}
 use Rattle.sh_core.proofs.AllSlots.{all_enter_get, all_enter_remove, all_mark, all_drop_hand, all_drop_key, all_finish}
 use Rattle.sh_core.proofs.AllSlots.{all_fill_slot, all_fill, all_publish}
 use Rattle.sh_core.proofs.AllReads.{all_read_class, all_read_length, all_read_word, all_read_page, all_set_class}

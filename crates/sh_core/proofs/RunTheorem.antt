@@ -18,7 +18,8 @@ use Rattle.sh_core.specs.Worlds.{World, apply, run, open_world}
 use Rattle.sh_core.specs.Words.{read}
 use Rattle.sh_core.specs.Knows.{KnowsPart, AllKnow}
 use Rattle.sh_core.proofs.OpenGood.{part_new}
-use Rattle.sh_core.proofs.ByMove.{May, lists_after, run_keeps}
+use Rattle.sh_step.specs.Conditions.{May}
+use Rattle.sh_core.proofs.ByMove.{lists_after, run_keeps}
 use Rattle.sh_core.proofs.RunAll.{all_move}
 use Rattle.sh_core.proofs.KnowKinds.{know_move}
 use Rattle.sh_core.proofs.RunRefines.{all_open, one_kind, kinds_add_up, filled, counted, left_empty}

@@ -13,7 +13,7 @@ use Rattle.sh_core.specs.Lists.{times}
 use Rattle.sh_shape.specs.declared.places.Place.{Place}
 use Rattle.sh_shape.specs.declared.places.Place.TheVariants.{State}
 use Rattle.sh_core.specs.Words.{read}
-use Rattle.sh_core.specs.Within.{Within, HandWithin, SpotWithin, AllWithin}
+use Rattle.sh_core.specs.Within.{Within, HandWithin, AllWithin}
 use Rattle.sh_core.proofs.Totals.{get_set}
 use Rattle.sh_core.proofs.OpenGood.{part_new}
 use Rattle.sh_slots.specs.declared.hand.Hand.TheVariants.{Idle, Removing, Leaving, Finishing, ToPut, Tying, Ringing}
@@ -27,7 +27,7 @@ use Rattle.sh_step.specs.declared.moves.Move.TheVariants.{Arm, Ring, RingTie, Fo
 use Rattle.sh_step.specs.Moves.{row_of}
 use Rattle.sh_step.specs.Plans.{Plan, heap_pages}
 use Rattle.sh_step.specs.Rows.{Row, own, hand as in_hand}
-use Rattle.sh_core.proofs.ByMove.{May}
+use Rattle.sh_step.specs.Conditions.{May, SpotWithin}
 use Rattle.sh_core.proofs.ListCounts.{times_cons, times_none, times_less}
 use Rattle.sh_core.proofs.Tests.{cond_either}
 

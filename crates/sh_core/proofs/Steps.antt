@@ -4,7 +4,8 @@ use Rattle.std.proofs.Common.{slice_get, eq-eqb, ne_eqb}
 use Rattle.sh_step.specs.declared.action.Event.{Event}
 use Rattle.sh_step.specs.Plans.{Plan}
 use Rattle.sh_step.specs.declared.body.Body.{Body}
-use Rattle.sh_step.specs.Rows.{Row, row}
+use Rattle.sh_step.specs.Moves.{row}
+use Rattle.sh_step.specs.Rows.{Row}
 use Rattle.sh_step.specs.declared.footstep.Footstep.{Footstep}
 use Rattle.sh_step.specs.Footsteps.{footstep_of}
 use Rattle.sh_core.specs.Outcomes.{row_of_event}

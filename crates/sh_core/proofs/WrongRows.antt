@@ -15,7 +15,8 @@ use Rattle.sh_step.specs.declared.action.Event.{Event}
 use Rattle.sh_step.specs.declared.body.Body.{Body}
 use Rattle.sh_step.specs.Plans.{Plan, plan_of, keys_of}
 use Rattle.sh_step.specs.Deciding.{DecidingReplies}
-use Rattle.sh_step.specs.Rows.{Row, row, enter_get}
+use Rattle.sh_step.specs.Moves.{row}
+use Rattle.sh_step.specs.Rows.{Row, enter_get}
 use Rattle.sh_core.specs.Worlds.{World, step, run_from, run, open_world}
 use Rattle.sh_step.specs.Parts.{newcomer}
 use Rattle.sh_core.specs.Lists.{PutLists, list_step, lists_from, lists_of, no_lists, state_of, times}
@@ -249,14 +250,14 @@ knower = record newcomer {
   owned = Some 0;
   classes = (0, 8) ∷ (0, 0) ∷ [];
   mine = spot 0 1 ∷ spot 0 2 ∷ [];
-  widths =
+  class_words =
       (4096, 8) ∷ [];
 }
 
 pub known_key_is_not_held : ¬ AlwaysBy knows_after_hold (λ plan w l. NotesAreTrue plan w)
 unfolding wrongly
 known_key_is_not_held = refuted knows_after_hold (λ plan w l. NotesAreTrue plan w) 1 (omega arith) (omega arith) knowing
-    (λ h. let z : 0 < 0 = ((h 0 knower refl).widths 4096 8 refl).0 in absurd (omega arith))
+    (λ h. let z : 0 < 0 = ((h 0 knower refl).class_words 4096 8 refl).0 in absurd (omega arith))
 
 -- a fourth generation, of which tiny has three
 pub unretired_slot_has_no_key : ¬ AlwaysBy never_retires (λ plan w l. GenerationsEnd plan w)

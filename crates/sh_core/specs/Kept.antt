@@ -12,7 +12,8 @@ use Rattle.sh_slots.specs.declared.hand.Spot.{Spot}
 use Rattle.sh_slots.specs.declared.reply.Reply.TheVariants.{Got}
 use Rattle.sh_step.specs.Operations.{operate}
 use Rattle.sh_step.specs.Parts.{ListGrows}
-use Rattle.sh_step.specs.Rows.{Row, row}
+use Rattle.sh_step.specs.Moves.{row}
+use Rattle.sh_step.specs.Rows.{Row}
 use Rattle.sh_step.specs.Fits.{RowFits}
 use Rattle.sh_step.specs.declared.action.Event.{Event}
 use Rattle.sh_step.specs.declared.body.Body.{Body}

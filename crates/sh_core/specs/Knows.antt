@@ -9,17 +9,17 @@ use Rattle.sh_core.specs.Lists.{times}
 use Rattle.sh_core.specs.Worlds.{World}
 
 -- each held key names a place of the shape; what was read of a key is of a held one, and true
-pub record Knows (plan : Plan) (class : ℕ → ℕ) (length : ℕ → ℕ → ℕ) (holds : List ℕ) (widths lengths : List (ℕ × ℕ)) :
+pub record Knows (plan : Plan) (class : ℕ → ℕ) (length : ℕ → ℕ → ℕ) (holds : List ℕ) (class_words lengths : List (ℕ × ℕ)) :
     Type 0 where
   pub named : (k : ℕ) → 0 < times k holds → (n : Name) × (plan.keys.unpack k ≡ Some n) × (n.page < heap_pages plan)
       × (n.slot < 48)
-  pub classed : (k c : ℕ) → noted k widths ≡ Some c → (0 < times k holds)
+  pub classed : (k c : ℕ) → noted k class_words ≡ Some c → (0 < times k holds)
       × ((n : Name) → plan.keys.unpack k ≡ Some n → class n.page ≡ c)
   pub measured : (k c : ℕ) → noted k lengths ≡ Some c → (0 < times k holds)
       × ((n : Name) → plan.keys.unpack k ≡ Some n → length n.page n.slot ≡ c)
 
 abbrev pub KnowsPart : Plan → Words → Body → Type 0
-KnowsPart plan w p = Knows plan w.class_at w.length_at p.holds p.widths p.lengths
+KnowsPart plan w p = Knows plan w.class_at w.length_at p.holds p.class_words p.lengths
 
 abbrev pub AllKnow : Plan → World → Type 0
 AllKnow plan w = (a : ℕ) (p : Body) → slice_get w.parts a ≡ Some p → KnowsPart plan w.words p

@@ -14,7 +14,7 @@ use Rattle.sh_shape.specs.Classes.{slots}
 use Rattle.sh_slots.specs.Slots.{same_spot, spots}
 use Rattle.sh_step.specs.Collections.{total, if1}
 use Rattle.sh_step.specs.declared.body.Body.{Body}
-use Rattle.sh_step.specs.Rows.{row}
+use Rattle.sh_step.specs.Moves.{row}
 use Rattle.sh_core.specs.Worlds.{World, step, open_world}
 
 -- Of page q: what was put since its last Take or Arm, newest first, and what its owner's cursor has yet to follow. Of

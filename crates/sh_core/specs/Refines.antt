@@ -7,7 +7,8 @@ use Rattle.sh_slots.specs.declared.hand.Name.{Name}
 use Rattle.sh_word.specs.Fields.{Fields}
 use Rattle.sh_key.specs.Layout.{Layout, IsLayout}
 use Rattle.sh_shape.specs.Shape.{Numbers, IsShape, Fits}
-use Rattle.sh_step.specs.Rows.{row, own, unpoint}
+use Rattle.sh_step.specs.Moves.{row}
+use Rattle.sh_step.specs.Rows.{own, unpoint}
 use Rattle.sh_step.specs.Ends.{HandNames, ComesNearer, HasNext}
 use Rattle.sh_core.specs.Variants.{Table}
 use Rattle.sh_core.specs.Within.{StepsWithin, CountsFit, BellsAreSmall, ValuesFit, StoresWords, IssuesKeys}
@@ -90,13 +91,13 @@ HeldStands plan w = (a : ℕ) (p : Body) (k : ℕ) → slice_get w.parts a ≡ S
 -- a payload word that a pass may read of a key is one of the key's value, in its page
 abbrev pub ReadsWithin : Plan → World → Type 0
 ReadsWithin plan w = (a : ℕ) (p : Body) (k : ℕ) (n : Name) (c m i : ℕ) → slice_get w.parts a ≡ Some p
-    → plan.keys.unpack k ≡ Some n → noted k p.widths ≡ Some c → noted k p.lengths ≡ Some m → i < m →
+    → plan.keys.unpack k ≡ Some n → noted k p.class_words ≡ Some c → noted k p.lengths ≡ Some m → i < m →
     (c ≡ w.words.class_at n.page) × (m ≡ w.words.length_at n.page n.slot) × (n.slot * width (c - 1) + i < 48)
 
 -- what a pass noted of a key is of one that it holds, and true: the class word of its page, the length of its value,
 -- and words of it
 pub record KeyNotes (plan : Plan) (w : World) (p : Body) : Type 0 where
-  pub widths : (k c : ℕ) → noted k p.widths ≡ Some c → (0 < times k p.holds)
+  pub class_words : (k c : ℕ) → noted k p.class_words ≡ Some c → (0 < times k p.holds)
       × ((n : Name) → plan.keys.unpack k ≡ Some n → w.words.class_at n.page ≡ c)
   pub lengths : (k m : ℕ) → noted k p.lengths ≡ Some m → (0 < times k p.holds)
       × ((v : List ℕ) → value_of w.log k ≡ Some v → length v ≡ m)

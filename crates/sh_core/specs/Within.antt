@@ -13,9 +13,10 @@ use Rattle.sh_slots.specs.declared.hand.Name.{Name}
 use Rattle.sh_slots.specs.declared.hand.Spot.{Spot}
 use Rattle.sh_step.specs.declared.action.Action.{Action}
 use Rattle.sh_step.specs.declared.body.Body.{Body}
-use Rattle.sh_step.specs.Conditions.{Named}
+use Rattle.sh_step.specs.Conditions.{Named, SpotWithin}
 use Rattle.sh_step.specs.Plans.{Plan, plan_of, heap_pages}
-use Rattle.sh_step.specs.Rows.{Row, row}
+use Rattle.sh_step.specs.Moves.{row}
+use Rattle.sh_step.specs.Rows.{Row}
 use Rattle.sh_shape.specs.Classes.{width, slots}
 use Rattle.sh_word.specs.Fields.{fields_of}
 use Rattle.sh_step.specs.declared.operation.Operation.{Operation}
@@ -25,10 +26,6 @@ use Rattle.sh_step.specs.Operations.{StoresWord, HasRoom}
 use Rattle.sh_core.specs.Words.{read}
 use Rattle.sh_core.specs.Worlds.{World}
 use Rattle.sh_core.specs.Lists.{times}
-
--- the slot of a page of the heap
-abbrev pub SpotWithin : Plan → Spot → Type 0
-SpotWithin plan x = (x.page < heap_pages plan) × (x.slot < 48)
 
 -- the key in the hand names a slot of the heap; the slot or the page there is one of the heap, and the generation whose
 -- end it is one that there is

@@ -1,5 +1,6 @@
 -- Tables that are the right one but for one action, or for two whose order is turned.
 use Rattle.std.specs.Prelude.{ℕ, ◌-◌, ◌==◌, nat_lt, Bool, true, false, cond, not, ◌&&◌, ◌||◌, ◌∷◌, Some, None, length}
+use Rattle.std.specs.Bool.{then_some}
 use Rattle.sh_shape.specs.declared.places.Place.TheVariants.{State, Link, Head}
 use Rattle.sh_shape.specs.Classes.{slots}
 use Rattle.sh_slots.specs.declared.hand.Hand.TheVariants.{Idle, Removing, Leaving, Finishing, ToPut, Tying, Ringing}
@@ -14,7 +15,8 @@ use Rattle.sh_step.specs.declared.operation.Operation.{Operation}
 use Rattle.sh_step.specs.declared.operation.Operation.TheVariants.{FetchAdd, Swap, Store, CompareExchange, Load}
 use Rattle.sh_step.specs.Collections.{has, noted, every, without}
 use Rattle.sh_step.specs.Plans.{Plan}
-use Rattle.sh_step.specs.Rows.{Row, row, when, silent, hand, idle, own, named, paged, point, unpoint, enter_get, mark}
+use Rattle.sh_step.specs.Moves.{row, named, paged}
+use Rattle.sh_step.specs.Rows.{Row, silent, hand, idle, own, point, unpoint, enter_get, mark}
 use Rattle.sh_step.specs.Rows.{enter_remove, drop_hand, drop_key, finish, put_at, set_class, follow, leave, all_mine}
 use Rattle.sh_stack.specs.Stack.{top_word}
 use Rattle.sh_bell.specs.Bell.{head_word, is_armed}
@@ -25,7 +27,7 @@ use Rattle.sh_core.specs.Variants.{Table}
 
 -- a key is crowded however few holds it has
 unfoldable pub crowds_at_once : Table
-crowds_at_once plan p (EnterGet k) = named plan k (λ x. when (idle p && nat_lt (length p.holds) 16)
+crowds_at_once plan p (EnterGet k) = named plan k (λ x. then_some (idle p && nat_lt (length p.holds) 16)
     (record (enter_get plan p k x) {
       part = λ n. hand p (Leaving (spot_of x));
       reply = λ n. Some (cond (live_at x.generation n) (reply.Crowded k) (reply.Gone k));
@@ -34,7 +36,7 @@ crowds_at_once plan p x = row plan p x
 
 -- a get takes a hold of a key that has as many as it may have
 unfoldable pub ignores_room : Table
-ignores_room plan p (EnterGet k) = named plan k (λ x. when (idle p && nat_lt (length p.holds) 16)
+ignores_room plan p (EnterGet k) = named plan k (λ x. then_some (idle p && nat_lt (length p.holds) 16)
     (record (enter_get plan p k x) {
       part = λ n. cond (live_at x.generation n) (record p { holds = k ∷ p.holds }) (hand p (Leaving (spot_of x)));
       reply = λ n. Some (cond (live_at x.generation n) (reply.Got k) (reply.Gone k));
@@ -43,7 +45,7 @@ ignores_room plan p x = row plan p x
 
 -- a get that finds the slot without the key's value answers nothing, and never will
 unfoldable pub never_answers_gone : Table
-never_answers_gone plan p (EnterGet k) = named plan k (λ x. when (idle p && nat_lt (length p.holds) 16)
+never_answers_gone plan p (EnterGet k) = named plan k (λ x. then_some (idle p && nat_lt (length p.holds) 16)
     (record (enter_get plan p k x) {
       reply = λ n. cond (live_at x.generation n) ((enter_get plan p k x).reply n) None;
     }))
@@ -51,7 +53,7 @@ never_answers_gone plan p x = row plan p x
 
 -- a removal has the key's generation in hand, and no longer the key
 unfoldable pub remembers_generation : Table
-remembers_generation plan p (EnterRemove k) = named plan k (λ x. when (idle p)
+remembers_generation plan p (EnterRemove k) = named plan k (λ x. then_some (idle p)
     (record (enter_remove plan p k x) { part = λ n. hand p (after_enter_remove x.generation x n) }))
 remembers_generation plan p x = row plan p x
 
@@ -83,7 +85,7 @@ drops_and_forgets plan p x = row plan p x
 
 -- what was read of a key stays known after its last hold
 unfoldable pub knows_after_hold : Table
-knows_after_hold plan p (DropHold k) = named plan k (λ x. when (idle p && has (λ j. j == k) p.holds)
+knows_after_hold plan p (DropHold k) = named plan k (λ x. then_some (idle p && has (λ j. j == k) p.holds)
     (record (drop_key p k x) {
       part = λ n. hand (record p { holds = without (λ j. j == k) p.holds })
           (after_drop (spot_of x) n);
@@ -196,13 +198,13 @@ follow_to_end p q s = record {
 -- a link that is not written is taken for the end
 unfoldable pub ends_at_unwritten : Table
 ends_at_unwritten plan p (Follow y) = paged plan y (λ q. elim (noted q p.cursors)
-    [ Some s ↦ when (idle p && own plan p q) (follow_to_end p q s) | None ↦ None ])
+    [ Some s ↦ then_some (idle p && own plan p q) (follow_to_end p q s) | None ↦ None ])
 ends_at_unwritten plan p x = row plan p x
 
 -- a link that was followed stays
 unfoldable pub leaves_link : Table
 leaves_link plan p (Follow y) = paged plan y (λ q. elim (noted q p.cursors)
-    [ Some s ↦ when (idle p && own plan p q) (record (follow p q s) { operation = Load }) | None ↦ None ])
+    [ Some s ↦ then_some (idle p && own plan p q) (record (follow p q s) { operation = Load }) | None ↦ None ])
 leaves_link plan p x = row plan p x
 
 abbrev pub follow_twice : Body → ℕ → ℕ → Row
@@ -217,7 +219,7 @@ follow_twice p q s = record (follow p q s) {
 -- a slot that is followed is handed out twice
 unfoldable pub follows_twice : Table
 follows_twice plan p (Follow y) = paged plan y (λ q. elim (noted q p.cursors)
-    [ Some s ↦ when (idle p && own plan p q) (follow_twice p q s) | None ↦ None ])
+    [ Some s ↦ then_some (idle p && own plan p q) (follow_twice p q s) | None ↦ None ])
 follows_twice plan p x = row plan p x
 
 abbrev pub tie_and_stop : Body → Spot → ℕ → Row
@@ -243,7 +245,7 @@ cannot_ring plan p x = row plan p x
 -- an owner leaves though slots are its own
 unfoldable pub leaves_slots : Table
 leaves_slots plan p Leave = elim (p.owned) [
-  | Some n ↦ when (idle p && (length p.cursors == 0) && (length p.armed == 0)
+  | Some n ↦ then_some (idle p && (length p.cursors == 0) && (length p.armed == 0)
       && (elim (p.bell_cursor) [ None ↦ true | _ ↦ false ])) (leave p n)
   | None ↦ None
 ]
@@ -252,7 +254,7 @@ leaves_slots plan p x = row plan p x
 -- an owner leaves while what was rung is still to be followed
 unfoldable pub leaves_bell : Table
 leaves_bell plan p Leave = elim (p.owned) [
-  | Some n ↦ when (idle p && (length p.mine == 0) && (length p.cursors == 0))
+  | Some n ↦ then_some (idle p && (length p.mine == 0) && (length p.cursors == 0))
       (leave p n)
   | None ↦ None
 ]
@@ -264,7 +266,7 @@ most_mine p q n = every (λ x. has (same_spot x) p.mine) (spots q 0 (slots (n - 
 
 unfoldable pub forgets_last_slot : Table
 forgets_last_slot plan p (SetClass y c) = paged plan y (λ q. elim (noted q p.classes) [
-  | Some n ↦ when (idle p && own plan p q && ((n == 0) || most_mine p q n) && nat_lt c 8) (set_class p q c)
+  | Some n ↦ then_some (idle p && own plan p q && ((n == 0) || most_mine p q n) && nat_lt c 8) (set_class p q c)
   | None
       ↦ None
 ])
@@ -273,5 +275,5 @@ forgets_last_slot plan p x = row plan p x
 -- any number is a class
 unfoldable pub gives_any_class : Table
 gives_any_class plan p (SetClass y c) = paged plan y (λ q. elim (noted q p.classes)
-    [ Some n ↦ when (idle p && own plan p q && ((n == 0) || all_mine p q n)) (set_class p q c) | None ↦ None ])
+    [ Some n ↦ then_some (idle p && own plan p q && ((n == 0) || all_mine p q n)) (set_class p q c) | None ↦ None ])
 gives_any_class plan p x = row plan p x

@@ -1,7 +1,7 @@
 //! What holds of every run.
 ghost use Rattle.std.specs.Prelude.{◌≡◌, length};
 ghost use Rattle.sh_history.specs.History.{Legal};
-ghost use Rattle.sh_step.specs.Rows.{row};
+ghost use Rattle.sh_step.specs.Moves.{row};
 ghost use Rattle.sh_core.specs.LinkWords.{EachLinked};
 ghost use Rattle.sh_core.specs.Within.{StepsWithin, CountsFit, BellsAreSmall, ValuesFit, StoresWords, IssuesKeys};
 ghost use Rattle.sh_core.specs.Refines.{Always, OneKind, KindsAddUp, Filled, ClassesAreKnown, HeldStands, ReadsWithin};

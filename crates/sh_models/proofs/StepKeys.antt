@@ -9,20 +9,21 @@ use Rattle.sh_shape.specs.Shape.{Numbers}
 use Rattle.sh_slots.specs.declared.hand.Name.{Name}
 use Rattle.sh_slots.specs.declared.reply.Reply.{Reply}
 use Rattle.sh_slots.specs.declared.reply.Reply.TheVariants as reply
-use Rattle.sh_step.specs.declared.action.Action.{Action}
-use Rattle.sh_step.specs.declared.action.Action.TheVariants as action
 use Rattle.sh_step.specs.declared.action.Event.{Event}
 use Rattle.sh_step.specs.declared.body.Body.{Body}
+use Rattle.sh_step.specs.declared.moves.Move.{Move}
+use Rattle.sh_step.specs.declared.moves.Move.TheVariants as move
 use Rattle.sh_step.specs.Plans.{Plan, plan_of, name_in, keys_of}
-use Rattle.sh_step.specs.Rows.{Row, row}
+use Rattle.sh_step.specs.Moves.{row_of, row}
+use Rattle.sh_step.specs.Rows.{Row}
 use Rattle.sh_core.specs.declared.outcome.Outcome.{Outcome}
 use Rattle.sh_core.specs.declared.outcome.Outcome.TheVariants.{Skipped}
 use Rattle.sh_core.specs.Words.{read}
 use Rattle.sh_core.specs.Worlds.{World, entry_of, value_at_place}
 use Rattle.sh_core.specs.Outcomes.{outcome_of, done}
 use Rattle.sh_core.specs.Refines.{FillsAreKeys}
-use Rattle.sh_step.specs.Conditions.{Meets}
-use Rattle.sh_step.proofs.ConditionLaws.{meets}
+use Rattle.sh_step.specs.Conditions.{May}
+use Rattle.sh_step.proofs.ConditionLaws.{move_of_row}
 use Rattle.sh_core.proofs.Steps.{row_of_at}
 use Rattle.sh_core.proofs.Stepping.{row_of_past, outcome_done, outcome_skipped}
 use Rattle.sh_models.specs.StepsKeys.{KeysWithin}
@@ -66,37 +67,13 @@ module _ (bound : ℕ) (plan : Plan) (w : World) (below : (k : ℕ) (n : Name) �
   abbrev Within : Row → Type 0
   Within m = ReplyWithin bound (m.reply (read w.words m.place))
 
-  quiet : (m x : Row) → m ≡ x → Within x → Within m
-  quiet m x e h = subst Within (sym e) h
-
-  row_within : (a : ℕ) (p : Body) (x : Action) (m : Row) → slice_get w.parts a ≡ Some p → Meets plan p x m → Within m
-  unfolding Meets
-  row_within a p (action.EnterGet k) m at h = quiet m _ h.4 (entered bound k _ _ (below k h.0 h.1.unpacks))
-  row_within a p (action.EnterRemove k) m at h = quiet m _ h.3 (removing bound k _ (below k h.0 h.1.unpacks))
-  row_within a p action.Mark m at h = quiet m _ h.4 (marked bound h.0 _ (below h.0 h.1 h.3.unpacks))
-  row_within a p action.Drop m at h = quiet m _ h.2 tt
-  row_within a p (action.DropHold k) m at h = quiet m _ h.4 (below k h.0 h.1.unpacks)
-  row_within a p action.Finish m at h = quiet m _ h.3 tt
-  row_within a p (action.FillSlot y v) m at h = quiet m _ h.7 tt
-  row_within a p action.Fill m at h = quiet m _ h.5 tt
-  row_within a p action.Publish m at h = quiet m _ h.5 (below _ _ (fills a p h.0 h.1 h.2 at h.3))
-  row_within a p (action.ReadClass k) m at h = quiet m _ h.4 tt
-  row_within a p (action.ReadLength k) m at h = quiet m _ h.4 tt
-  row_within a p (action.ReadWord k j) m at h = quiet m _ h.9 tt
-  row_within a p (action.ReadPage y) m at h = quiet m _ h.3 tt
-  row_within a p (action.SetClass y c) m at h = quiet m _ h.7 tt
-  row_within a p (action.Take y) m at h = quiet m _ h.5 tt
-  row_within a p (action.Follow y) m at h = quiet m _ h.5 tt
-  row_within a p action.Put m at h = quiet m _ h.2 tt
-  row_within a p (action.PutSlot y) m at h = quiet m _ h.5 tt
-  row_within a p action.Tie m at h = quiet m _ h.4 tt
-  row_within a p (action.Adopt n) m at h = quiet m _ h.3 tt
-  row_within a p action.Leave m at h = quiet m _ h.7 tt
-  row_within a p (action.Arm y) m at h = quiet m _ h.6 tt
-  row_within a p action.Ring m at h = quiet m _ h.2 tt
-  row_within a p action.RingTie m at h = quiet m _ h.3 tt
-  row_within a p action.TakeBell m at h = quiet m _ h.4 tt
-  row_within a p action.FollowBell m at h = quiet m _ h.3 tt
+  row_within : (a : ℕ) (p : Body) (m : Move) → slice_get w.parts a ≡ Some p → May plan p m → Within (row_of plan p m)
+  row_within a p (move.EnterGet k x) at may = entered bound k _ _ (below k x may.1.unpacks)
+  row_within a p (move.EnterRemove k x) at may = removing bound k _ (below k x may.1.unpacks)
+  row_within a p (move.Mark k x) at may = marked bound k _ (below k x may.1.unpacks)
+  row_within a p (move.DropHold k x) at may = below k x may.1.unpacks
+  row_within a p (move.Publish x v) at may = below _ _ (fills a p x v may.0 at may.1)
+  row_within a p _ at may = tt
 
   -- what came of an event
   outcome_within : (e : Event) → KeysWithin bound (outcome_of plan w e)
@@ -106,9 +83,11 @@ module _ (bound : ℕ) (plan : Plan) (w : World) (below : (k : ℕ) (n : Name) �
 
     done_within : (p : Body) (r : Option Row) → slice_get w.parts e.pass ≡ Some p → row plan p e.action ≡ r
         → KeysWithin bound (outcome_of plan w e)
-    done_within p (Some m) at is = by _ (outcome_done plan w e m (row_of_at plan w e p at ∙ is))
+    done_within p (Some m) at is =
+        let d = move_of_row plan p e.action m is in
+        by _ (outcome_done plan w e m (row_of_at plan w e p at ∙ is))
         (joins bound e.pass (value_at_place w.words m.place) (m.reply (read w.words m.place))
-        (row_within e.pass p e.action m at (meets plan p e.action m is)))
+        (subst (λ (r : Row). Within r) (sym d.4) (row_within e.pass p d.0 at d.2)))
     done_within p None at is = by Skipped (outcome_skipped plan w e (row_of_at plan w e p at ∙ is)) tt
 
     part : (o : Option Body) → slice_get w.parts e.pass ≡ o → KeysWithin bound (outcome_of plan w e)

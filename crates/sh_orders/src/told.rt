@@ -43,9 +43,9 @@ fn tell_page(text: &mut String, part: &Part, page: u64) -> Result<(), AllocError
 // What a part has of a key.
 fn tell_key(text: &mut String, part: &Part, key: u64) -> Result<(), AllocError> {
     let held = part.has_hold(key);
-    let width = part.width_of(key);
+    let class_word = part.class_word_of(key);
     let length = part.length_of(key);
-    write!(text, " key {key} {held} {width:?} {length:?}")
+    write!(text, " key {key} {held} {class_word:?} {length:?}")
 }
 
 // What a part has, of the pages with a class and of the keys that the log knows.

@@ -3,7 +3,8 @@ use Rattle.std.proofs.Common.{◌≡◌, ◌≢◌, ℕ, ◌<◌, ◌≤◌, ◌
 use Rattle.std.proofs.Common.{ap, ◌∙◌, sym, subst, arith}
 use Rattle.std.proofs.lemmas.Bool.{false≢true}
 use Rattle.std.proofs.lemmas.Bool.Decides.{nat_tests}
-use Rattle.std.specs.Prelude.{cond}
+use Rattle.std.specs.Prelude.{cond, nat_lt, option_and_then}
+use Rattle.std.specs.Bool.{then_some}
 use Rattle.atomic_table.specs.declared.shared.Seat.{Seat}
 use Rattle.sh_key.specs.Layout.{Layout}
 use Rattle.sh_shape.specs.Shape.{Numbers}
@@ -12,18 +13,21 @@ use Rattle.sh_slots.specs.declared.hand.Hand.TheVariants.{Idle, Removing, Leavin
 use Rattle.sh_slots.specs.declared.hand.Hand.TheVariants.{RingTying}
 use Rattle.sh_slots.specs.declared.hand.Name.{Name}
 use Rattle.sh_slots.specs.declared.hand.Spot.{Spot}
+use Rattle.sh_slots.specs.Slots.{same_spot}
 use Rattle.sh_step.specs.declared.action.Action.{Action}
 use Rattle.sh_step.specs.declared.action.Action.TheVariants as action
 use Rattle.sh_step.specs.declared.action.SlotName.{SlotName}
 use Rattle.sh_step.specs.declared.body.Body.{Body}
 use Rattle.sh_step.specs.declared.moves.Move.{Move}
+use Rattle.sh_step.specs.declared.moves.Move.TheVariants as move
 use Rattle.sh_step.specs.Collections.{has}
-use Rattle.sh_step.specs.Conditions.{Meets}
 use Rattle.sh_step.specs.Kinds.{kind_of_action}
-use Rattle.sh_step.specs.Moves.{place_named}
+use Rattle.sh_step.specs.Moves.{place_named, slot_named, named, move_of, row}
 use Rattle.sh_step.specs.Plans.{Plan, plan_of}
-use Rattle.sh_step.specs.Rows.{Row, row, hand}
-use Rattle.sh_step.proofs.ConditionLaws.{meets}
+use Rattle.sh_step.specs.Rows.{hand, idle, own}
+use Rattle.sh_step.proofs.MoveLaws.{row_of_made}
+use Rattle.sh_step.proofs.PartTests.{idle_is, owns_is}
+use Rattle.sh_step.proofs.Truths.{and2, and3, lt_of}
 use Rattle.sh_table.specs.declared.view.View.{View}
 use Rattle.sh_table.specs.Seats.{Heap, Did}
 use Rattle.sh_table.specs.Steps.{MayDo, row_by}
@@ -33,11 +37,14 @@ use Rattle.sh_pass.specs.Passes.{HoldsKept}
 
 -- ---- where the condition fails
 
-unmet : (plan : Plan) (p : Body) (x : Action) → ((m : Row) → Meets plan p x m → ⊥) → row plan p x ≡ None
-unmet plan p x never = go (row plan p x) refl where
-  go : (o : Option Row) → row plan p x ≡ o → row plan p x ≡ None
-  go (Some m) e = absurd (never m (meets plan p x m e))
-  go None e = e
+-- what has a condition that fails is not there, nor is what stands behind a name
+none_unless : {A : Type 0} (b : Bool) (a : A) → (b ≡ true → ⊥) → then_some b a ≡ None
+none_unless true a fails = absurd (fails refl)
+none_unless false a fails = refl
+
+none_behind : {A B : Type 0} (f : A → Option B) (o : Option A) → ((a : A) → f a ≡ None) → option_and_then f o ≡ None
+none_behind f (Some a) none = none a
+none_behind f None none = refl
 
 full_is : (n : ℕ) → (n == 16) ≡ true → n ≡ 16
 full_is n e = grind (arith, nat_tests)
@@ -51,77 +58,103 @@ few_left held hs r count most is room = let some : length held ≢ 16 = full_not
     in grind arith
 
 module _ (layout : Layout) (v : View) where
-  refused : (x : Action) → ((m : Row) → Meets (plan_of layout v.shape) v.own.body x m → ⊥) → Acts layout x v false v
-  refused x never = (λ _. unmet (plan_of layout v.shape) v.own.body x never, refl)
+  abbrev body : Body
+  body = v.own.body
 
-  pub refused_row : (x : Action) → row (plan_of layout v.shape) v.own.body x ≡ None → Acts layout x v false v
+  pub refused_row : (x : Action) → row (plan_of layout v.shape) body x ≡ None → Acts layout x v false v
   refused_row x none = (λ _. none, refl)
 
-  pub not_leaving : (h : Hand) → v.own.body.hand ≡ h → ((x : Spot) → h ≡ Leaving x → ⊥)
-      → Acts layout action.Drop v false v
-  unfolding Meets
-  not_leaving h is never = refused action.Drop (λ m e. never e.0 (sym is ∙ e.1))
+  refused : (x : Action) → move_of (plan_of layout v.shape) body x ≡ None → Acts layout x v false v
+  refused x none = refused_row x (row_of_made (plan_of layout v.shape) body x None (sym none))
 
-  pub not_finishing : (h : Hand) → v.own.body.hand ≡ h → ((x : Spot) (g : ℕ) → h ≡ Finishing x g → ⊥)
+  pub not_leaving : (h : Hand) → body.hand ≡ h → ((x : Spot) → h ≡ Leaving x → ⊥) → Acts layout action.Drop v false v
+  unfolding move_of
+  not_leaving (Leaving x) is never = absurd (never x refl)
+  not_leaving h is never = refused action.Drop (rw is refl)
+
+  pub not_finishing : (h : Hand) → body.hand ≡ h → ((x : Spot) (g : ℕ) → h ≡ Finishing x g → ⊥)
       → Acts layout action.Finish v false v
-  unfolding Meets
-  not_finishing h is never = refused action.Finish (λ m e. never e.0 e.1 (sym is ∙ e.2))
+  unfolding move_of
+  not_finishing (Finishing x g) is never = absurd (never x g refl)
+  not_finishing h is never = refused action.Finish (rw is refl)
 
-  pub not_to_put : (h : Hand) → v.own.body.hand ≡ h → ((x : Spot) → h ≡ ToPut x → ⊥) → Acts layout action.Put v false v
-  unfolding Meets
-  not_to_put h is never = refused action.Put (λ m e. never e.0 (sym is ∙ e.1))
+  pub not_to_put : (h : Hand) → body.hand ≡ h → ((x : Spot) → h ≡ ToPut x → ⊥) → Acts layout action.Put v false v
+  unfolding move_of
+  not_to_put (ToPut x) is never = absurd (never x refl)
+  not_to_put h is never = refused action.Put (rw is refl)
 
-  pub not_tying : (h : Hand) → v.own.body.hand ≡ h → ((x : Spot) (l : ℕ) (r : Bool) → h ≡ Tying x l r → ⊥)
+  pub not_tying : (h : Hand) → body.hand ≡ h → ((x : Spot) (l : ℕ) (r : Bool) → h ≡ Tying x l r → ⊥)
       → Acts layout action.Tie v false v
-  unfolding Meets
-  not_tying h is never = refused action.Tie (λ m e. never e.0 e.1 e.2 (sym is ∙ e.3))
+  unfolding move_of
+  not_tying (Tying x l r) is never = absurd (never x l r refl)
+  not_tying h is never = refused action.Tie (rw is refl)
 
-  pub not_ringing : (h : Hand) → v.own.body.hand ≡ h → ((q : ℕ) → h ≡ Ringing q → ⊥) → Acts layout action.Ring v false v
-  unfolding Meets
-  not_ringing h is never = refused action.Ring (λ m e. never e.0 (sym is ∙ e.1))
+  pub not_ringing : (h : Hand) → body.hand ≡ h → ((q : ℕ) → h ≡ Ringing q → ⊥) → Acts layout action.Ring v false v
+  unfolding move_of
+  not_ringing (Ringing q) is never = absurd (never q refl)
+  not_ringing h is never = refused action.Ring (rw is refl)
 
-  pub not_ring_tying : (h : Hand) → v.own.body.hand ≡ h → ((q l : ℕ) → h ≡ RingTying q l → ⊥)
+  pub not_ring_tying : (h : Hand) → body.hand ≡ h → ((q l : ℕ) → h ≡ RingTying q l → ⊥)
       → Acts layout action.RingTie v false v
-  unfolding Meets
-  not_ring_tying h is never = refused action.RingTie (λ m e. never e.0 e.1 (sym is ∙ e.2))
+  unfolding move_of
+  not_ring_tying (RingTying q l) is never = absurd (never q l refl)
+  not_ring_tying h is never = refused action.RingTie (rw is refl)
 
-  pub not_removing : (h : Hand) → v.own.body.hand ≡ h → ((k : ℕ) → h ≡ Removing k → ⊥)
-      → Acts layout action.Mark v false v
-  unfolding Meets
-  not_removing h is never = refused action.Mark (λ m e. never e.0 (sym is ∙ e.2))
+  pub not_removing : (h : Hand) → body.hand ≡ h → ((k : ℕ) → h ≡ Removing k → ⊥) → Acts layout action.Mark v false v
+  unfolding move_of
+  not_removing (Removing k) is never = absurd (never k refl)
+  not_removing h is never = refused action.Mark (rw is refl)
 
-  pub not_idle_to_get : (k : ℕ) (h : Hand) → v.own.body.hand ≡ h → (h ≡ Idle → ⊥)
-      → Acts layout (action.EnterGet k) v false v
-  unfolding Meets
-  not_idle_to_get k h is never = refused (action.EnterGet k) (λ m e. never (sym is ∙ e.2))
+  -- an action on a key that asks for an idle hand and something more
+  unless : (x : Action) (k : ℕ) (more : Bool) (made : Name → Move)
+      → move_of (plan_of layout v.shape) body x ≡ named (plan_of layout v.shape) k (λ y. then_some (idle body && more) (made y))
+      → (body.hand ≡ Idle → more ≡ true → ⊥) → Acts layout x v false v
+  unless x k more made is fails = refused x (is ∙ none_behind (λ (y : Name). then_some (idle body && more) (made y))
+      (place_named (plan_of layout v.shape) k) (λ y. none_unless (idle body && more) (made y)
+      (λ e. let d = and2 (idle body) more e in fails (idle_is body d.0) d.1)))
 
-  pub not_idle_to_remove : (k : ℕ) (h : Hand) → v.own.body.hand ≡ h → (h ≡ Idle → ⊥)
+  pub not_idle_to_get : (k : ℕ) (h : Hand) → body.hand ≡ h → (h ≡ Idle → ⊥) → Acts layout (action.EnterGet k) v false v
+  unfolding move_of
+  not_idle_to_get k h is never = unless (action.EnterGet k) k (nat_lt (length body.holds) 16) (move.EnterGet k) refl
+      (λ rests _. never (sym is ∙ rests))
+
+  pub not_idle_to_remove : (k : ℕ) (h : Hand) → body.hand ≡ h → (h ≡ Idle → ⊥)
       → Acts layout (action.EnterRemove k) v false v
-  unfolding Meets
-  not_idle_to_remove k h is never = refused (action.EnterRemove k) (λ m e. never (sym is ∙ e.2))
+  unfolding move_of
+  not_idle_to_remove k h is never = refused (action.EnterRemove k)
+      (none_behind (λ (y : Name). then_some (idle body) (move.EnterRemove k y)) (place_named (plan_of layout v.shape) k)
+      (λ y. none_unless (idle body) (move.EnterRemove k y) (λ e. never (sym is ∙ idle_is body e))))
 
-  pub not_idle_to_drop : (k : ℕ) (h : Hand) → v.own.body.hand ≡ h → (h ≡ Idle → ⊥)
-      → Acts layout (action.DropHold k) v false v
-  unfolding Meets
-  not_idle_to_drop k h is never = refused (action.DropHold k) (λ m e. never (sym is ∙ e.2))
+  pub not_idle_to_drop : (k : ℕ) (h : Hand) → body.hand ≡ h → (h ≡ Idle → ⊥) → Acts layout (action.DropHold k) v false v
+  unfolding move_of
+  not_idle_to_drop k h is never = unless (action.DropHold k) k (has (λ j. j == k) body.holds) (move.DropHold k) refl
+      (λ rests _. never (sym is ∙ rests))
 
-  pub holds_full : (k : ℕ) (held : List ℕ) (r : Bool) → length held ≡ length v.own.body.holds → r ≡ (length held == 16)
-      → r ≡ true → Acts layout (action.EnterGet k) v false v
-  unfolding Meets
+  pub holds_full : (k : ℕ) (held : List ℕ) (r : Bool) → length held ≡ length body.holds → r ≡ (length held == 16) → r
+      ≡ true → Acts layout (action.EnterGet k) v false v
+  unfolding move_of
   holds_full k held r count is full =
       let all : length held ≡ 16 = full_is (length held) (sym is ∙ full) in
-      refused (action.EnterGet k) (λ m e. let few = e.3 in omega arith)
+      unless (action.EnterGet k) k (nat_lt (length body.holds) 16) (move.EnterGet k) refl
+      (λ _ few. let less = lt_of (length body.holds) 16 few in omega arith)
 
-  pub not_held : (k : ℕ) → has (λ j. j == k) v.own.body.holds ≡ false → Acts layout (action.DropHold k) v false v
-  unfolding Meets
-  not_held k never = refused (action.DropHold k) (λ m e. false≢true (sym never ∙ e.3))
+  pub not_held : (k : ℕ) → has (λ j. j == k) body.holds ≡ false → Acts layout (action.DropHold k) v false v
+  unfolding move_of
+  not_held k never = unless (action.DropHold k) k (has (λ j. j == k) body.holds) (move.DropHold k) refl
+      (λ _ held. false≢true (sym never ∙ held))
 
-  pub not_own_slot : (y : SlotName) → v.own.body.owned ≡ None → Acts layout (action.PutSlot y) v false v
-  unfolding Meets
-  not_own_slot y left = refused (action.PutSlot y) (λ m e. let owns = e.3 in let z : ⊥ = cc in z)
+  not_own_slot : (y : SlotName) → body.owned ≡ None → Acts layout (action.PutSlot y) v false v
+  unfolding move_of
+  not_own_slot y left =
+      let plan : Plan = plan_of layout v.shape in
+      let may : Spot → Bool = λ x. idle body && own plan body x.page && has (same_spot x) body.mine in
+      refused (action.PutSlot y) (none_behind (λ (x : Spot). then_some (may x) (move.PutSlot x)) (slot_named plan y)
+      (λ x. none_unless (may x) (move.PutSlot x) (λ e.
+      let owns = owns_is plan body x.page (and3 (idle body) (own plan body x.page) (has (same_spot x) body.mine) e).1 in
+      let z : ⊥ = cc in z)))
 
   -- of the other forms none is of these kinds and has its condition met by a pass without a shard
-  pub no_other : (x : Action) → v.own.body.owned ≡ None
+  pub no_other : (x : Action) → body.owned ≡ None
       → ((k : ℕ) → x ≡ action.EnterGet k → ⊥) → ((k : ℕ) → x ≡ action.EnterRemove k → ⊥) → (x ≡ action.Mark → ⊥)
       → (x ≡ action.Drop → ⊥) → ((k : ℕ) → x ≡ action.DropHold k → ⊥)
       → (x ≡ action.Finish → ⊥) → (x ≡ action.Put → ⊥) → (x ≡ action.Tie → ⊥) → (x ≡ action.Ring → ⊥)

@@ -18,7 +18,7 @@ use Rattle.sh_step.specs.Footsteps.{takes_page, takes_bell, meets_page, meets_be
 use Rattle.sh_step.specs.Footsteps.{at_link, at_belled, did_find}
 use Rattle.sh_step.specs.Kinds.{kind_of_action}
 use Rattle.sh_step.specs.Plans.{Plan, plan_of, home, local}
-use Rattle.sh_step.proofs.ConditionLaws.{owns_is}
+use Rattle.sh_step.proofs.PartTests.{owns_is}
 use Rattle.sh_step.proofs.ListLaws.{has_front, without_front}
 use Rattle.sh_table.specs.Tales.{OwnerStands, ViewStands}
 use Rattle.sh_pass.specs.Growing.{Grows, SameTale, SameOwn, CallsAlone, IsOfShard, is_of_call, with_slot}

@@ -13,12 +13,13 @@ use Rattle.sh_step.specs.declared.action.PageName.{PageName}
 use Rattle.sh_step.specs.declared.moves.Move.{Move}
 use Rattle.sh_step.specs.declared.moves.Move.TheVariants as move
 use Rattle.sh_step.specs.Collections.{has, noted, every}
-use Rattle.sh_step.specs.Conditions.{HasPage, Owns, Meets}
-use Rattle.sh_step.specs.Plans.{Plan, plan_of, home, page_number}
+use Rattle.sh_step.specs.Conditions.{HasPage, Owns, May, action_of, page_name}
+use Rattle.sh_step.specs.Plans.{Plan, plan_of, home, heap_pages, page_number}
 use Rattle.sh_step.specs.Rows.{own, all_mine, class_word_noted}
-use Rattle.sh_step.proofs.ConditionLaws.{is_own}
-use Rattle.sh_step.proofs.RowLaws.{row_of_met}
-use Rattle.sh_table.specs.Steps.{MayDo, row_by}
+use Rattle.sh_step.proofs.PartTests.{is_own}
+use Rattle.sh_step.proofs.PageLaws.{page_within, name_of_page}
+use Rattle.sh_step.proofs.RowLaws.{row_of_may}
+use Rattle.sh_table.specs.Steps.{MayDo}
 use Rattle.sh_pass.specs.Passes.{Caller}
 use Rattle.sh_pass.specs.Owners.{MayTouch, MayGive, own_body, heap_page, heap_spot, slot_in, seen_page}
 
@@ -38,105 +39,106 @@ pub owns_it : (layout : Layout) (v : Caller) (x : PageName) → MayTouch v x
 owns_it layout v x m = is_own (plan_of layout v.view.shape) (own_body v) (heap_page v x)
     (m.owned ∙ ap (λ n. Some n) (sym (home_is (plan_of layout v.view.shape) x.shard x.page m.page)))
 
--- where the condition of the action is met, it may do the action as the move
-may_do : (layout : Layout) (v : Caller) (x : Action) (m : Move)
-    → Meets (plan_of layout v.view.shape) (own_body v) x (row_by layout v.view m) → MayDo layout v.view x m
-may_do layout v x m met = row_of_met (plan_of layout v.view.shape) (own_body v) x (row_by layout v.view m) met
+module _ (layout : Layout) (v : Caller) where
+  abbrev plan : Plan
+  plan = plan_of layout v.view.shape
+
+  -- a move that may be done is done by its action
+  may_do : (m : Move) → May plan (own_body v) m → MayDo layout v.view (action_of plan m) m
+  may_do m may = row_of_may plan (own_body v) m may
+
+  pub may_tie_owned : (x : Spot) (l : ℕ) (ring : Bool) → (own_body v).hand ≡ Tying x l ring
+      → MayDo layout v.view action.Tie (move.Tie x l ring)
+  may_tie_owned x l ring is = may_do (move.Tie x l ring) is
+
+  pub may_fill : (x : Spot) (value : List ℕ) (i class_word : ℕ) → (own_body v).hand ≡ Filling x value i
+      → i < length value → class_word_noted (own_body v) x.page ≡ class_word
+      → MayDo layout v.view action.Fill (move.Fill x value i class_word)
+  may_fill x value i class_word is less class = may_do (move.Fill x value i class_word) (is, less, class)
+
+  pub may_publish : (x : Spot) (value : List ℕ) → (own_body v).hand ≡ Filling x value (length value)
+      → MayDo layout v.view action.Publish (move.Publish x value)
+  may_publish x value is = may_do (move.Publish x value) (length value, is, omega arith)
+
+  pub may_take_bell : (n : ℕ) → (own_body v).hand ≡ Idle → (own_body v).owned ≡ Some n → (own_body v).bell_cursor ≡ None
+      → MayDo layout v.view action.TakeBell (move.TakeBell n)
+  may_take_bell n rests owned none = may_do (move.TakeBell n) (rests, owned, none)
+
+  pub may_follow_bell : (q : ℕ) → (own_body v).hand ≡ Idle → (own_body v).bell_cursor ≡ Some q
+      → MayDo layout v.view action.FollowBell (move.FollowBell q)
+  may_follow_bell q rests at = may_do (move.FollowBell q) (rests, at)
+
+  pub may_adopt : (n : ℕ) → (own_body v).hand ≡ Idle → (own_body v).owned ≡ None → n < v.view.shape.shards
+      → MayDo layout v.view (action.Adopt n) (move.Adopt n)
+  may_adopt n rests left less = may_do (move.Adopt n) (rests, left, less)
+
+  pub may_leave : (n : ℕ) → (own_body v).hand ≡ Idle → (own_body v).owned ≡ Some n → (own_body v).mine ≡ []
+      → (own_body v).cursors ≡ [] → (own_body v).armed ≡ [] → (own_body v).bell_cursor ≡ None
+      → MayDo layout v.view action.Leave (move.Leave n)
+  may_leave n rests owned mine cursors armed none = may_do (move.Leave n) (rests, owned, mine, cursors, armed, none)
 
 module _ (layout : Layout) (v : Caller) (x : PageName) (m : MayTouch v x) (few : x.shard < v.view.shape.shards) where
   abbrev touched : ℕ
   touched = heap_page v x
 
-  here : HasPage (plan_of layout v.view.shape) x
+  abbrev own_plan : Plan
+  own_plan = plan_of layout v.view.shape
+
+  here : HasPage own_plan x
   here = record { shard = few; page = m.page }
 
-  owns : Owns (plan_of layout v.view.shape) (own_body v) touched
-  owns = m.owned ∙ ap (λ n. Some n) (sym (home_is (plan_of layout v.view.shape) x.shard x.page m.page))
+  owns : Owns own_plan (own_body v) touched
+  owns = m.owned ∙ ap (λ n. Some n) (sym (home_is own_plan x.shard x.page m.page))
+
+  inside : touched < heap_pages own_plan
+  unfolding page_number
+  inside = page_within own_plan x here
+
+  -- an action that names the page
+  by_name : (a : PageName → Action) (done : Move) → MayDo layout v.view (a (page_name own_plan touched)) done
+      → MayDo layout v.view (a x) done
+  unfolding page_number
+  by_name a done may = subst (λ (y : PageName). MayDo layout v.view (a y) done) (name_of_page own_plan x here) may
 
   pub may_take : 0 < class_word_noted (own_body v) touched → noted touched (own_body v).cursors ≡ None
       → MayDo layout v.view (action.Take x) (move.Take touched)
-  unfolding Meets page_number
-  may_take c n = may_do layout v (action.Take x) (move.Take touched) (here, m.idle, owns, c, n, refl)
+  may_take class none = by_name (λ y. action.Take y) (move.Take touched)
+      (may_do layout v (move.Take touched) (m.idle, inside, owns, class, none))
 
   pub may_arm : 0 < class_word_noted (own_body v) touched → noted touched (own_body v).cursors ≡ None
       → has (λ r. r == touched) (own_body v).armed ≡ false → MayDo layout v.view (action.Arm x) (move.Arm touched)
-  unfolding Meets page_number
-  may_arm c n a = may_do layout v (action.Arm x) (move.Arm touched) (here, m.idle, owns, c, n, a, refl)
+  may_arm class none unarmed = by_name (λ y. action.Arm y) (move.Arm touched)
+      (may_do layout v (move.Arm touched) (m.idle, inside, owns, class, none, unarmed))
 
   pub may_follow : (s : ℕ) → noted touched (own_body v).cursors ≡ Some s
       → MayDo layout v.view (action.Follow x) (move.Follow touched s)
-  unfolding Meets page_number
-  may_follow s n = may_do layout v (action.Follow x) (move.Follow touched s) (s, here, n, m.idle, owns, refl)
+  may_follow s at = by_name (λ y. action.Follow y) (move.Follow touched s)
+      (may_do layout v (move.Follow touched s) (m.idle, inside, owns, at))
 
   pub may_read_page : MayDo layout v.view (action.ReadPage x) (move.ReadPage touched)
-  unfolding Meets page_number
-  may_read_page = may_do layout v (action.ReadPage x) (move.ReadPage touched) (here, m.idle, owns, refl)
+  may_read_page = by_name (λ y. action.ReadPage y) (move.ReadPage touched)
+      (may_do layout v (move.ReadPage touched) (m.idle, inside, owns))
 
   pub may_set_class : (class : ℕ) → class < 8 → MayGive (seen_page v touched)
       → MayDo layout v.view (action.SetClass x class) (move.SetClass touched class)
-  unfolding Meets page_number
-  may_set_class class small (inl blank) = may_do layout v (action.SetClass x class) (move.SetClass touched class)
-      (0, here, blank, m.idle, owns, inl refl, small, refl)
+  may_set_class class small (inl blank) = by_name (λ y. action.SetClass y class) (move.SetClass touched class)
+      (may_do layout v (move.SetClass touched class) (0, m.idle, inside, owns, blank, inl refl, small))
   may_set_class class small (inr t) =
       let f : Spot → Bool = λ y. has (same_spot y) (own_body v).mine in
       let one : suc t.0 - 1 ≡ t.0 = omega arith in
       let all : all_mine (own_body v) touched (suc t.0) ≡ true = ap (λ c. every f (spots touched 0 (slots c))) one
       ∙ every_of f touched 0 (slots t.0) (λ s low high. t.2 s (omega arith)) in
-      may_do layout v (action.SetClass x class) (move.SetClass touched class)
-      (suc t.0, here, t.1, m.idle, owns, inr all, small, refl)
+      by_name (λ y. action.SetClass y class) (move.SetClass touched class)
+      (may_do layout v (move.SetClass touched class) (suc t.0, m.idle, inside, owns, t.1, inr all, small))
 
   pub may_fill_slot : (s : ℕ) (value : List ℕ) → s < 48 → has (same_spot (heap_spot v x s)) (own_body v).mine ≡ true
       → 0 < class_word_noted (own_body v) touched → length value ≤ width (class_word_noted (own_body v) touched - 1)
       → MayDo layout v.view (action.FillSlot (slot_in x s) value) (move.FillSlot (heap_spot v x s) value)
-  unfolding Meets page_number
-  may_fill_slot s value low mine c l = may_do layout v (action.FillSlot (slot_in x s) value)
-      (move.FillSlot (heap_spot v x s) value) (here, low, m.idle, owns, mine, c, l, refl)
+  may_fill_slot s value low mine class fits = by_name (λ y. action.FillSlot (slot_in y s) value)
+      (move.FillSlot (heap_spot v x s) value)
+      (may_do layout v (move.FillSlot (heap_spot v x s) value) (m.idle, (inside, low), owns, mine, class, fits))
 
   pub may_put_slot : (s : ℕ) → s < 48 → has (same_spot (heap_spot v x s)) (own_body v).mine ≡ true
       → MayDo layout v.view (action.PutSlot (slot_in x s)) (move.PutSlot (heap_spot v x s))
-  unfolding Meets page_number
-  may_put_slot s low mine = may_do layout v (action.PutSlot (slot_in x s)) (move.PutSlot (heap_spot v x s))
-      (here, low, m.idle, owns, mine, refl)
-
-module _ (layout : Layout) (v : Caller) where
-  pub may_tie_owned : (x : Spot) (l : ℕ) (ring : Bool) → (own_body v).hand ≡ Tying x l ring
-      → MayDo layout v.view action.Tie (move.Tie x l ring)
-  unfolding Meets
-  may_tie_owned x l ring e = may_do layout v action.Tie (move.Tie x l ring) (x, l, ring, e, refl)
-
-  pub may_fill : (x : Spot) (value : List ℕ) (i class_word : ℕ) → (own_body v).hand ≡ Filling x value i
-      → i < length value → class_word_noted (own_body v) x.page ≡ class_word
-      → MayDo layout v.view action.Fill (move.Fill x value i class_word)
-  unfolding Meets
-  may_fill x value i class_word e l c =
-      let P : ℕ → Type 0 = λ n. MayDo layout v.view action.Fill (move.Fill x value i n) in
-      subst P c (may_do layout v action.Fill (move.Fill x value i (class_word_noted (own_body v) x.page))
-      (x, value, i, e, l, refl))
-
-  pub may_publish : (x : Spot) (value : List ℕ) → (own_body v).hand ≡ Filling x value (length value)
-      → MayDo layout v.view action.Publish (move.Publish x value)
-  unfolding Meets
-  may_publish x value e = may_do layout v action.Publish (move.Publish x value)
-      (x, value, length value, e, omega arith, refl)
-
-  pub may_take_bell : (n : ℕ) → (own_body v).hand ≡ Idle → (own_body v).owned ≡ Some n → (own_body v).bell_cursor ≡ None
-      → MayDo layout v.view action.TakeBell (move.TakeBell n)
-  unfolding Meets
-  may_take_bell n i o b = may_do layout v action.TakeBell (move.TakeBell n) (n, o, i, b, refl)
-
-  pub may_follow_bell : (q : ℕ) → (own_body v).hand ≡ Idle → (own_body v).bell_cursor ≡ Some q
-      → MayDo layout v.view action.FollowBell (move.FollowBell q)
-  unfolding Meets
-  may_follow_bell q i b = may_do layout v action.FollowBell (move.FollowBell q) (q, b, i, refl)
-
-  pub may_adopt : (n : ℕ) → (own_body v).hand ≡ Idle → (own_body v).owned ≡ None → n < v.view.shape.shards
-      → MayDo layout v.view (action.Adopt n) (move.Adopt n)
-  unfolding Meets
-  may_adopt n i o l = may_do layout v (action.Adopt n) (move.Adopt n) (o, i, l, refl)
-
-  pub may_leave : (n : ℕ) → (own_body v).hand ≡ Idle → (own_body v).owned ≡ Some n → (own_body v).mine ≡ []
-      → (own_body v).cursors ≡ [] → (own_body v).armed ≡ [] → (own_body v).bell_cursor ≡ None
-      → MayDo layout v.view action.Leave (move.Leave n)
-  unfolding Meets
-  may_leave n i o mine cursors armed b = may_do layout v action.Leave (move.Leave n)
-      (n, o, i, mine, cursors, armed, b, refl)
+  may_put_slot s low mine = by_name (λ y. action.PutSlot (slot_in y s)) (move.PutSlot (heap_spot v x s))
+      (may_do layout v (move.PutSlot (heap_spot v x s)) (m.idle, (inside, low), owns, mine))

@@ -12,7 +12,7 @@ use Rattle.sh_step.specs.Fits.{RowFits}
 use Rattle.sh_step.specs.Operations.{answer}
 use Rattle.sh_step.specs.Kinds.{kind_of_action}
 use Rattle.sh_step.specs.Plans.{plan_of}
-use Rattle.sh_step.specs.Rows.{row}
+use Rattle.sh_step.specs.Moves.{row}
 use Rattle.sh_table.specs.declared.view.View.{View}
 use Rattle.sh_table.specs.Seats.{Heap, IsSeat}
 use Rattle.sh_table.specs.Steps.{MayDo, did, row_by}

@@ -1,7 +1,7 @@
 //! What an event touches: a page, a shard with its bell, or both.
 ghost use Rattle.std.specs.Prelude.{◌≡◌, false, is_none};
 ghost use Rattle.sh_step.specs.Plans.{plan_of};
-ghost use Rattle.sh_step.specs.Rows.{row};
+ghost use Rattle.sh_step.specs.Moves.{row};
 ghost use Rattle.sh_show.specs.Sessions.{has_reason};
 
 use crate::reason::Reason;

@@ -55,7 +55,7 @@ fn why_no_word<L: KeyLayout>(
     number: u64,
 ) -> Result<(), Reason> {
     why_no_use::<L>(shape, part, key)?;
-    unless(part.width_of(key).is_some(), Reason::ClassUnread)?;
+    unless(part.class_word_of(key).is_some(), Reason::ClassUnread)?;
     let length = part.length_of(key).ok_or(Reason::LengthUnread)?;
     unless(number < length, Reason::PastEnd)
 }

@@ -8,7 +8,7 @@ use Rattle.sh_step.specs.Rows.{freed}
 freed_by : Body → ℕ → Bool → Body
 freed_by p k other = record p {
   holds = without (λ j. j == k) p.holds;
-  widths = cond other p.widths (off (λ x. x.0 == k) p.widths);
+  class_words = cond other p.class_words (off (λ x. x.0 == k) p.class_words);
   lengths = cond other p.lengths (off (λ x. x.0 == k) p.lengths);
   contents = cond other p.contents (off (λ x. x.0 == k) p.contents);
 }
@@ -16,7 +16,7 @@ freed_by p k other = record p {
 pub freed_last : (p : Body) (k : ℕ) → has (λ j. j == k) (without (λ j. j == k) p.holds) ≡ false
     → freed p k ≡ record p {
       holds = without (λ j. j == k) p.holds;
-      widths = off (λ x. x.0 == k) p.widths;
+      class_words = off (λ x. x.0 == k) p.class_words;
       lengths = off
           (λ x. x.0 == k) p.lengths;
       contents = off (λ x. x.0 == k) p.contents;

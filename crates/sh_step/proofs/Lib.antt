@@ -11,6 +11,7 @@ pub mod HoldLaws
 pub mod KeyLaws
 pub mod Truths
 pub mod LookupLaws
+pub mod PartTests
 pub mod ConditionLaws
 pub mod RowLaws
 pub mod StepLaws

@@ -1,85 +1,113 @@
--- What an action names: a row that is looked up by a key, by a page's name or by a slot's name is there just where the
--- heap has what is named.
+-- What an action names: a key, a page's name or a slot's name names a place exactly where the heap has it.
 use Rattle.std.proofs.Common.{◌≡◌, ℕ, ◌<◌, ◌&&◌, Bool, true, false, cond, refl, ap, ◌∙◌, Option, Some, None}
-use Rattle.std.specs.Prelude.{nat_lt}
+use Rattle.std.specs.Prelude.{nat_lt, option_and_then}
 use Rattle.sh_slots.specs.declared.hand.Spot.{Spot}
 use Rattle.sh_slots.specs.declared.hand.Name.{Name}
 use Rattle.sh_step.specs.declared.action.PageName.{PageName}
 use Rattle.sh_step.specs.declared.action.SlotName.{SlotName}
 use Rattle.sh_step.specs.Conditions.{Named, HasPage, its_page}
+use Rattle.sh_step.specs.Moves.{place_named, page_named, slot_named, named, paged, slotted}
 use Rattle.sh_step.specs.Plans.{Plan, heap_pages, page_of, slot_of}
-use Rattle.sh_step.specs.Rows.{Row, named, paged, slotted}
-use Rattle.sh_step.proofs.Truths.{lt_of, lt_true, no_row}
+use Rattle.sh_step.proofs.Truths.{and2, and3, lt_of, lt_true, no_some}
 
-pub named_of : (plan : Plan) (k : ℕ) (f : Name → Option Row) (m : Row) → named plan k f ≡ Some m → (x : Name)
-    × Named plan k x × (f x ≡ Some m)
-named_of plan k f m h = go (plan.keys.unpack k) refl h where
-  inside : (x : Name) (b c : Bool) → plan.keys.unpack k ≡ Some x → nat_lt x.page (heap_pages plan) ≡ b
-      → nat_lt x.slot 48 ≡ c → cond (b && c) (f x) None ≡ Some m → (x : Name) × Named plan k x × (f x ≡ Some m)
-  inside x true true e i j h = (
-    x,
-    record {
-      unpacks = e;
-      page = lt_of x.page (heap_pages plan) i;
-      slot = lt_of x.slot 48
-          j;
-    },
-    h,
-  )
-  inside x true false e i j h = no_row m h
-  inside x false c e i j h = no_row m h
+-- what there is under a condition
+guarded : {A : Type 0} (b : Bool) (a c : A) → cond b (Some a) None ≡ Some c → (b ≡ true) × (a ≡ c)
+guarded true a c h = (refl, cc)
+guarded false a c h = no_some c h
 
-  go : (o : Option Name) → plan.keys.unpack k ≡ o → (elim o as (λ _. Option Row)
-      [ Some x ↦ cond (nat_lt x.page (heap_pages plan) && nat_lt x.slot 48) (f x) None | None ↦ None ]) ≡ Some m
-      → (x : Name) × Named plan k x × (f x ≡ Some m)
-  go (Some x) e h = inside x (nat_lt x.page (heap_pages plan)) (nat_lt x.slot 48) e refl refl h
-  go None e h = no_row m h
+-- ---- what is named is a place of the heap
 
-pub is_named : (plan : Plan) (k : ℕ) (f : Name → Option Row) (x : Name) → Named plan k x → named plan k f ≡ f x
-is_named plan k f x n =
-    ap (λ (o : Option Name). elim o as (λ _. Option Row) [
+pub place_is : (plan : Plan) (k : ℕ) (x : Name) → place_named plan k ≡ Some x → Named plan k x
+place_is plan k x h = go (plan.keys.unpack k) refl h where
+  go : (o : Option Name) → plan.keys.unpack k ≡ o → (elim o as (λ _. Option Name) [
+    | Some x ↦ cond
+        (nat_lt x.page (heap_pages plan) && nat_lt x.slot 48) (Some x) None
+    | None ↦ None
+  ]) ≡ Some x → Named plan k x
+  go None is h = no_some x h
+  go (Some y) is h =
+      let g = guarded (nat_lt y.page (heap_pages plan) && nat_lt y.slot 48) y x h in
+      let d = and2 (nat_lt y.page (heap_pages plan)) (nat_lt y.slot 48) g.0 in
+      rw g.1 at record {
+        unpacks = is;
+        page = lt_of y.page (heap_pages plan) d.0;
+        slot = lt_of y.slot 48 d.1;
+      }
+
+pub page_is : (plan : Plan) (y : PageName) (q : ℕ) → page_named plan y ≡ Some q → HasPage plan y × (page_of plan y ≡ q)
+page_is plan y q h =
+    let g = guarded (nat_lt y.shard plan.shards && nat_lt y.page plan.pages) (page_of plan y) q h in
+    let d = and2 (nat_lt y.shard plan.shards) (nat_lt y.page plan.pages) g.0
+    in (record { shard = lt_of y.shard plan.shards d.0; page = lt_of y.page plan.pages d.1 }, g.1)
+
+pub slot_is : (plan : Plan) (y : SlotName) (x : Spot) → slot_named plan y ≡ Some x → HasPage plan (its_page y)
+    × (y.slot < 48) × (slot_of plan y ≡ x)
+slot_is plan y x h =
+    let g = guarded (nat_lt y.shard plan.shards && nat_lt y.page plan.pages && nat_lt y.slot 48) (slot_of plan y) x h in
+    let d = and3 (nat_lt y.shard plan.shards) (nat_lt y.page plan.pages) (nat_lt y.slot 48) g.0
+    in (
+      record { shard = lt_of y.shard plan.shards d.0; page = lt_of y.page plan.pages d.1 },
+      lt_of y.slot 48 d.2,
+      g.1,
+    )
+
+-- ---- and a place of the heap is named
+
+pub is_place : (plan : Plan) (k : ℕ) (x : Name) → Named plan k x → place_named plan k ≡ Some x
+is_place plan k x n =
+    ap (λ (o : Option Name). elim o as (λ _. Option Name) [
       | Some x ↦ cond
-          (nat_lt x.page (heap_pages plan) && nat_lt x.slot 48) (f x) None
+          (nat_lt x.page (heap_pages plan) && nat_lt x.slot 48) (Some x) None
       | None ↦ None
     ]) n.unpacks
-    ∙ (ap (λ b. cond (b && nat_lt x.slot 48) (f x) None) (lt_true x.page (heap_pages plan) n.page)
-    ∙ ap (λ b. cond b (f x) None) (lt_true x.slot 48 n.slot))
+    ∙ (ap (λ b. cond (b && nat_lt x.slot 48) (Some x) None) (lt_true x.page (heap_pages plan) n.page)
+    ∙ ap (λ b. cond b (Some x) None) (lt_true x.slot 48 n.slot))
 
-pub paged_of : (plan : Plan) (y : PageName) (f : ℕ → Option Row) (m : Row) → paged plan y f ≡ Some m → HasPage plan y
-    × (f (page_of plan y) ≡ Some m)
-paged_of plan y f m h = go (nat_lt y.shard plan.shards) (nat_lt y.page plan.pages) refl refl h where
-  go : (b c : Bool) → nat_lt y.shard plan.shards ≡ b → nat_lt y.page plan.pages ≡ c
-      → cond (b && c) (f (page_of plan y)) None ≡ Some m → HasPage plan y × (f (page_of plan y) ≡ Some m)
-  go true true i j h = (record { shard = lt_of y.shard plan.shards i; page = lt_of y.page plan.pages j }, h)
-  go true false i j h = no_row m h
-  go false c i j h = no_row m h
+pub is_page : (plan : Plan) (y : PageName) → HasPage plan y → page_named plan y ≡ Some (page_of plan y)
+is_page plan y h =
+    ap (λ b. cond (b && nat_lt y.page plan.pages) (Some (page_of plan y)) None) (lt_true y.shard plan.shards h.shard)
+    ∙ ap (λ b. cond b (Some (page_of plan y)) None) (lt_true y.page plan.pages h.page)
 
-pub is_paged : (plan : Plan) (y : PageName) (f : ℕ → Option Row) → HasPage plan y → paged plan y f ≡ f (page_of plan y)
-is_paged plan y f h =
-    ap (λ b. cond (b && nat_lt y.page plan.pages) (f (page_of plan y)) None) (lt_true y.shard plan.shards h.shard)
-    ∙ ap (λ b. cond b (f (page_of plan y)) None) (lt_true y.page plan.pages h.page)
-
-pub slotted_of : (plan : Plan) (y : SlotName) (f : Spot → Option Row) (m : Row) → slotted plan y f ≡ Some m
-    → HasPage plan (its_page y) × (y.slot < 48) × (f (slot_of plan y) ≡ Some m)
-slotted_of plan y f m h = go (nat_lt y.shard plan.shards) (nat_lt y.page plan.pages) (nat_lt y.slot 48) refl refl refl h
-  where
-    go : (b c d : Bool) → nat_lt y.shard plan.shards ≡ b → nat_lt y.page plan.pages ≡ c → nat_lt y.slot 48 ≡ d
-        → cond (b && c && d) (f (slot_of plan y)) None ≡ Some m → HasPage plan (its_page y) × (y.slot < 48)
-        × (f (slot_of plan y) ≡ Some m)
-    go true true true i j k h = (
-      record { shard = lt_of y.shard plan.shards i; page = lt_of y.page plan.pages j },
-      lt_of
-          y.slot 48 k,
-      h,
-    )
-    go true true false i j k h = no_row m h
-    go true false d i j k h = no_row m h
-    go false c d i j k h = no_row m h
-
-pub is_slotted : (plan : Plan) (y : SlotName) (f : Spot → Option Row) → HasPage plan (its_page y) → y.slot < 48
-    → slotted plan y f ≡ f (slot_of plan y)
-is_slotted plan y f h s =
-    ap (λ b. cond (b && nat_lt y.page plan.pages && nat_lt y.slot 48) (f (slot_of plan y)) None)
+pub is_slot : (plan : Plan) (y : SlotName) → HasPage plan (its_page y) → y.slot < 48 → slot_named plan y
+    ≡ Some (slot_of plan y)
+is_slot plan y h s =
+    ap (λ b. cond (b && nat_lt y.page plan.pages && nat_lt y.slot 48) (Some (slot_of plan y)) None)
     (lt_true y.shard plan.shards h.shard)
-    ∙ (ap (λ b. cond (b && nat_lt y.slot 48) (f (slot_of plan y)) None) (lt_true y.page plan.pages h.page)
-    ∙ ap (λ b. cond b (f (slot_of plan y)) None) (lt_true y.slot 48 s))
+    ∙ (ap (λ b. cond (b && nat_lt y.slot 48) (Some (slot_of plan y)) None) (lt_true y.page plan.pages h.page)
+    ∙ ap (λ b. cond b (Some (slot_of plan y)) None) (lt_true y.slot 48 s))
+
+-- ---- what there is of it
+
+-- what there is behind an option
+behind : {A B : Type 0} (f : A → Option B) (o : Option A) (m : B) → option_and_then f o ≡ Some m → (x : A)
+    × (o ≡ Some x) × (f x ≡ Some m)
+behind f (Some x) m h = (x, refl, h)
+behind f None m h = no_some m h
+
+pub named_of : {A : Type 0} (plan : Plan) (k : ℕ) (f : Name → Option A) (m : A) → named plan k f ≡ Some m → (x : Name)
+    × Named plan k x × (f x ≡ Some m)
+named_of plan k f m h = let b = behind f (place_named plan k) m h in (b.0, place_is plan k b.0 b.1, b.2)
+
+pub paged_of : {A : Type 0} (plan : Plan) (y : PageName) (f : ℕ → Option A) (m : A) → paged plan y f ≡ Some m
+    → HasPage plan y × (f (page_of plan y) ≡ Some m)
+paged_of plan y f m h =
+    let b = behind f (page_named plan y) m h in
+    let n = page_is plan y b.0 b.1 in (n.0, ap f n.1 ∙ b.2)
+
+pub slotted_of : {A : Type 0} (plan : Plan) (y : SlotName) (f : Spot → Option A) (m : A) → slotted plan y f ≡ Some m
+    → HasPage plan (its_page y) × (y.slot < 48) × (f (slot_of plan y) ≡ Some m)
+slotted_of plan y f m h =
+    let b = behind f (slot_named plan y) m h in
+    let n = slot_is plan y b.0 b.1 in (n.0, n.1, ap f n.2 ∙ b.2)
+
+pub is_named : {A : Type 0} (plan : Plan) (k : ℕ) (f : Name → Option A) (x : Name) → Named plan k x → named plan k f
+    ≡ f x
+is_named plan k f x n = ap (option_and_then f) (is_place plan k x n)
+
+pub is_paged : {A : Type 0} (plan : Plan) (y : PageName) (f : ℕ → Option A) → HasPage plan y → paged plan y f
+    ≡ f (page_of plan y)
+is_paged plan y f h = ap (option_and_then f) (is_page plan y h)
+
+pub is_slotted : {A : Type 0} (plan : Plan) (y : SlotName) (f : Spot → Option A) → HasPage plan (its_page y)
+    → y.slot < 48 → slotted plan y f ≡ f (slot_of plan y)
+is_slotted plan y f h s = ap (option_and_then f) (is_slot plan y h s)

@@ -1,21 +1,21 @@
 -- Tests and their truths.
 use Rattle.std.proofs.Common.{◌≡◌, ℕ, ◌<◌, ◌≤◌, ◌&&◌, Bool, true, false, refl, arith, Some, None}
 use Rattle.std.specs.Prelude.{not, nat_lt, nat_le}
+use Rattle.std.specs.Bool.{then_some}
 use Rattle.std.proofs.lemmas.Bool.Decides.{nat_tests}
-use Rattle.sh_step.specs.Rows.{Row, when}
 
-pub no_row : {A : Type 0} (m : Row) → None ≡ Some m → A
-no_row m h = absurd (let z : None ≡ Some m = h in cc)
+pub no_some : {A B : Type 0} (m : B) → None ≡ Some m → A
+no_some m h = absurd (let z : None ≡ Some m = h in cc)
 
 pub no_bool : {A : Type 0} → false ≡ true → A
 no_bool h = absurd (let z : false ≡ true = h in cc)
 
--- a row under a condition, and without one
-pub by_when : (b : Bool) (n m : Row) → when b n ≡ Some m → (b ≡ true) × (m ≡ n)
-by_when true n m h = (refl, cc)
-by_when false n m h = no_row m h
+-- what is there under a condition, and without one
+pub by_then : {B : Type 0} (b : Bool) (n m : B) → then_some b n ≡ Some m → (b ≡ true) × (n ≡ m)
+by_then true n m h = (refl, cc)
+by_then false n m h = no_some m h
 
-pub by_some : (n m : Row) → Some n ≡ Some m → m ≡ n
+pub by_some : {B : Type 0} (n m : B) → Some n ≡ Some m → n ≡ m
 by_some n m h = cc
 
 pub and2 : (a b : Bool) → (a && b) ≡ true → (a ≡ true) × (b ≡ true)

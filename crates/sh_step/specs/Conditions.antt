@@ -1,5 +1,5 @@
--- The condition of each action: what it asks of the pass's own part, and which row the action then has.
-use Rattle.std.specs.Prelude.{ℕ, ◌≡◌, ◌-◌, ◌<◌, ◌≤◌, ◌==◌, ◌⊎◌, Bool, true, false, List, [], length, Some, None}
+-- The condition of each move: what it asks of the pass's own part.
+use Rattle.std.specs.Prelude.{ℕ, ◌≡◌, ◌-◌, ◌<◌, ◌≤◌, ◌==◌, ◌⊎◌, true, false, [], length, Some, None}
 use Rattle.sh_shape.specs.Classes.{width}
 use Rattle.sh_slots.specs.declared.hand.Spot.{Spot}
 use Rattle.sh_slots.specs.declared.hand.Name.{Name}
@@ -10,16 +10,13 @@ use Rattle.sh_step.specs.declared.body.Body.{Body}
 use Rattle.sh_step.specs.declared.action.PageName.{PageName}
 use Rattle.sh_step.specs.declared.action.SlotName.{SlotName}
 use Rattle.sh_step.specs.declared.action.Action.{Action}
-use Rattle.sh_step.specs.declared.action.Action.TheVariants.{EnterGet, EnterRemove, Mark, Drop, DropHold, Finish}
-use Rattle.sh_step.specs.declared.action.Action.TheVariants.{FillSlot, Fill, Publish, ReadClass, ReadLength, ReadWord}
-use Rattle.sh_step.specs.declared.action.Action.TheVariants.{ReadPage, SetClass, Take, Follow, Put, PutSlot, Tie, Adopt}
-use Rattle.sh_step.specs.declared.action.Action.TheVariants.{Leave, Arm, Ring, RingTie, TakeBell, FollowBell}
-use Rattle.sh_step.specs.Collections.{has, noted, without}
-use Rattle.sh_step.specs.Plans.{Plan, heap_pages, home, page_of, slot_of}
-use Rattle.sh_step.specs.Rows.{Row, row, class_word_noted, all_mine, mark, drop_hand, drop_key, enter_get, enter_remove}
-use Rattle.sh_step.specs.Rows.{finish, fill_slot, fill, publish, read_class, read_length, read_word, read_page}
-use Rattle.sh_step.specs.Rows.{set_class, take_page, follow, put_at, tie, adopt, leave, arm, ring, ring_tie, take_bell}
-use Rattle.sh_step.specs.Rows.{follow_bell}
+use Rattle.sh_step.specs.declared.action.Action.TheVariants as action
+use Rattle.sh_step.specs.declared.moves.Move.{Move}
+use Rattle.sh_step.specs.declared.moves.Move.TheVariants as move
+use Rattle.sh_step.specs.Collections.{has, noted}
+use Rattle.sh_step.specs.Moves.{move_of}
+use Rattle.sh_step.specs.Plans.{Plan, heap_pages, home, local}
+use Rattle.sh_step.specs.Rows.{class_word_noted, all_mine}
 
 -- the key names this slot of the heap
 pub record Named (plan : Plan) (k : ℕ) (x : Name) : Type 0 where
@@ -36,6 +33,10 @@ pub record HasPage (plan : Plan) (y : PageName) : Type 0 where
 abbrev pub its_page : SlotName → PageName
 its_page y = record { shard = y.shard; page = y.page }
 
+-- the heap has the slot
+abbrev pub SpotWithin : Plan → Spot → Type 0
+SpotWithin plan x = (x.page < heap_pages plan) × (x.slot < 48)
+
 -- the page is of the shard that the pass owns
 abbrev pub Owns : Plan → Body → ℕ → Type 0
 Owns plan p q = p.owned ≡ Some (home plan q)
@@ -48,57 +49,82 @@ Holds p k = has (λ j. j == k) p.holds ≡ true
 abbrev pub HasMine : Body → Spot → Type 0
 HasMine p x = has (same_spot x) p.mine ≡ true
 
--- the condition holds, and this is the row
-unfoldable pub Meets : Plan → Body → Action → Row → Type 0
-Meets plan p (EnterGet k) m = (x : Name) × Named plan k x × (p.hand ≡ Idle) × (length p.holds < 16)
-    × (m ≡ enter_get plan p k x)
-Meets plan p (EnterRemove k) m = (x : Name) × Named plan k x × (p.hand ≡ Idle) × (m ≡ enter_remove plan p k x)
-Meets plan p Mark m = (k : ℕ) × (x : Name) × (p.hand ≡ Removing k) × Named plan k x × (m ≡ mark p k x)
-Meets plan p Drop m = (x : Spot) × (p.hand ≡ Leaving x) × (m ≡ drop_hand p x)
-Meets plan p (DropHold k) m = (x : Name) × Named plan k x × (p.hand ≡ Idle) × Holds p k × (m ≡ drop_key p k x)
-Meets plan p Finish m = (x : Spot) × (g : ℕ) × (p.hand ≡ Finishing x g) × (m ≡ finish plan p x g)
-Meets plan p (FillSlot y v) m = HasPage plan (its_page y) × (y.slot < 48) × (p.hand ≡ Idle)
-    × Owns plan p (slot_of plan y).page × HasMine p (slot_of plan y)
-    × (0 < class_word_noted p (slot_of plan y).page) × (length v ≤ width (class_word_noted p (slot_of plan y).page - 1))
-    × (m ≡ fill_slot p (slot_of plan y) v)
-Meets plan p Fill m = (x : Spot) × (v : List ℕ) × (i : ℕ) × (p.hand ≡ Filling x v i) × (i < length v)
-    × (m ≡ fill p x v i)
-Meets plan p Publish m = (x : Spot) × (v : List ℕ) × (i : ℕ) × (p.hand ≡ Filling x v i) × (length v ≤ i)
-    × (m ≡ publish plan p x v)
-Meets plan p (ReadClass k) m = (x : Name) × Named plan k x × (p.hand ≡ Idle) × Holds p k × (m ≡ read_class p k x)
-Meets plan p (ReadLength k) m = (x : Name) × Named plan k x × (p.hand ≡ Idle) × Holds p k × (m ≡ read_length p k x)
-Meets plan p (ReadWord k i) m = (x : Name) × (c : ℕ) × (n : ℕ) × Named plan k x × (noted k p.widths ≡ Some c)
-    × (noted k p.lengths ≡ Some n) × (p.hand ≡ Idle) × Holds p k × (i < n) × (m ≡ read_word p k x c i)
-Meets plan p (ReadPage y) m = HasPage plan y × (p.hand ≡ Idle) × Owns plan p (page_of plan y)
-    × (m ≡ read_page p (page_of plan y))
-Meets plan p (SetClass y c) m = (n : ℕ) × HasPage plan y × (noted (page_of plan y) p.classes ≡ Some n) × (p.hand ≡ Idle)
-    × Owns plan p (page_of plan y) × ((n ≡ 0) ⊎ (all_mine p (page_of plan y) n ≡ true)) × (c < 8)
-    × (m ≡ set_class p (page_of plan y) c)
-Meets plan p (Take y) m = HasPage plan y × (p.hand ≡ Idle) × Owns plan p (page_of plan y)
-    × (0 < class_word_noted p (page_of plan y)) × (noted (page_of plan y) p.cursors ≡ None)
-    × (m ≡ take_page p (page_of plan y))
-Meets plan p (Follow y) m = (s : ℕ) × HasPage plan y × (noted (page_of plan y) p.cursors ≡ Some s) × (p.hand ≡ Idle)
-    × Owns plan p (page_of plan y) × (m ≡ follow p (page_of plan y) s)
-Meets plan p Put m = (x : Spot) × (p.hand ≡ ToPut x) × (m ≡ put_at p x)
-Meets plan p (PutSlot y) m = HasPage plan (its_page y) × (y.slot < 48) × (p.hand ≡ Idle)
-    × Owns plan p (slot_of plan y).page × HasMine p (slot_of plan y)
-    × (m ≡ put_at (record p { mine = without (same_spot (slot_of plan y)) p.mine }) (slot_of plan y))
-Meets plan p Tie m = (x : Spot) × (l : ℕ) × (r : Bool) × (p.hand ≡ Tying x l r) × (m ≡ tie p x l r)
-Meets plan p (Adopt n) m = (p.owned ≡ None) × (p.hand ≡ Idle) × (n < plan.shards) × (m ≡ adopt p n)
-Meets plan p Leave m = (n : ℕ) × (p.owned ≡ Some n) × (p.hand ≡ Idle) × (p.mine ≡ []) × (p.cursors ≡ [])
-    × (p.armed ≡ []) × (p.bell_cursor ≡ None) × (m ≡ leave p n)
-Meets plan p (Arm y) m = HasPage plan y × (p.hand ≡ Idle) × Owns plan p (page_of plan y)
-    × (0 < class_word_noted p (page_of plan y)) × (noted (page_of plan y) p.cursors ≡ None)
-    × (has (λ x. x == page_of plan y) p.armed ≡ false) × (m ≡ arm p (page_of plan y))
-Meets plan p Ring m = (q : ℕ) × (p.hand ≡ Ringing q) × (m ≡ ring plan p q)
-Meets plan p RingTie m = (q : ℕ) × (l : ℕ) × (p.hand ≡ RingTying q l) × (m ≡ ring_tie p q l)
-Meets plan p TakeBell m = (n : ℕ) × (p.owned ≡ Some n) × (p.hand ≡ Idle) × (p.bell_cursor ≡ None)
-    × (m ≡ take_bell plan p n)
-Meets plan p FollowBell m = (q : ℕ) × (p.bell_cursor ≡ Some q) × (p.hand ≡ Idle) × (m ≡ follow_bell plan p q)
+-- what a move asks of the part of the pass that does it: first the hand
+abbrev pub May : Plan → Body → Move → Type 0
+May plan p (move.EnterGet k x) = (p.hand ≡ Idle) × Named plan k x × (length p.holds < 16)
+May plan p (move.EnterRemove k x) = (p.hand ≡ Idle) × Named plan k x
+May plan p (move.Mark k x) = (p.hand ≡ Removing k) × Named plan k x
+May plan p (move.Drop x) = p.hand ≡ Leaving x
+May plan p (move.DropHold k x) = (p.hand ≡ Idle) × Named plan k x × Holds p k
+May plan p (move.Finish x g) = p.hand ≡ Finishing x g
+May plan p (move.FillSlot x v) = (p.hand ≡ Idle) × SpotWithin plan x × Owns plan p x.page × HasMine p x
+    × (0 < class_word_noted p x.page) × (length v ≤ width (class_word_noted p x.page - 1))
+May plan p (move.Fill x v i c) = (p.hand ≡ Filling x v i) × (i < length v) × (class_word_noted p x.page ≡ c)
+May plan p (move.Publish x v) = (i : ℕ) × (p.hand ≡ Filling x v i) × (length v ≤ i)
+May plan p (move.ReadClass k x) = (p.hand ≡ Idle) × Named plan k x × Holds p k
+May plan p (move.ReadLength k x) = (p.hand ≡ Idle) × Named plan k x × Holds p k
+May plan p (move.ReadWord k x c i) = (n : ℕ) × (p.hand ≡ Idle) × Named plan k x × (noted k p.class_words ≡ Some c)
+    × (noted k p.lengths ≡ Some n) × Holds p k × (i < n)
+May plan p (move.ReadPage q) = (p.hand ≡ Idle) × (q < heap_pages plan) × Owns plan p q
+May plan p (move.SetClass q c) = (n : ℕ) × (p.hand ≡ Idle) × (q < heap_pages plan) × Owns plan p q
+    × (noted q p.classes ≡ Some n) × ((n ≡ 0) ⊎ (all_mine p q n ≡ true)) × (c < 8)
+May plan p (move.Take q) = (p.hand ≡ Idle) × (q < heap_pages plan) × Owns plan p q × (0 < class_word_noted p q)
+    × (noted q p.cursors ≡ None)
+May plan p (move.Follow q s) = (p.hand ≡ Idle) × (q < heap_pages plan) × Owns plan p q × (noted q p.cursors ≡ Some s)
+May plan p (move.Put x) = p.hand ≡ ToPut x
+May plan p (move.PutSlot x) = (p.hand ≡ Idle) × SpotWithin plan x × Owns plan p x.page × HasMine p x
+May plan p (move.Tie x l r) = p.hand ≡ Tying x l r
+May plan p (move.Adopt n) = (p.hand ≡ Idle) × (p.owned ≡ None) × (n < plan.shards)
+May plan p (move.Leave n) = (p.hand ≡ Idle) × (p.owned ≡ Some n) × (p.mine ≡ []) × (p.cursors ≡ []) × (p.armed ≡ [])
+    × (p.bell_cursor ≡ None)
+May plan p (move.Arm q) = (p.hand ≡ Idle) × (q < heap_pages plan) × Owns plan p q × (0 < class_word_noted p q)
+    × (noted q p.cursors ≡ None) × (has (λ x. x == q) p.armed ≡ false)
+May plan p (move.Ring q) = p.hand ≡ Ringing q
+May plan p (move.RingTie q l) = p.hand ≡ RingTying q l
+May plan p (move.TakeBell n) = (p.hand ≡ Idle) × (p.owned ≡ Some n) × (p.bell_cursor ≡ None)
+May plan p (move.FollowBell q) = (p.hand ≡ Idle) × (p.bell_cursor ≡ Some q)
 
--- an action has a row exactly where its condition holds, and then that one
-abbrev pub RowsMeet : Type 0
-RowsMeet = (plan : Plan) (p : Body) (x : Action) (m : Row) → row plan p x ≡ Some m → Meets plan p x m
+-- the names of a page and of a slot
+abbrev pub page_name : Plan → ℕ → PageName
+page_name plan q = record { shard = home plan q; page = local plan q }
 
-abbrev pub WhoMeetsHasRow : Type 0
-WhoMeetsHasRow = (plan : Plan) (p : Body) (x : Action) (m : Row) → Meets plan p x m → row plan p x ≡ Some m
+abbrev pub slot_name : Plan → Spot → SlotName
+slot_name plan x = record { shard = home plan x.page; page = local plan x.page; slot = x.slot }
+
+-- the action of a move
+abbrev pub action_of : Plan → Move → Action
+action_of plan (move.EnterGet k x) = action.EnterGet k
+action_of plan (move.EnterRemove k x) = action.EnterRemove k
+action_of plan (move.Mark k x) = action.Mark
+action_of plan (move.Drop x) = action.Drop
+action_of plan (move.DropHold k x) = action.DropHold k
+action_of plan (move.Finish x g) = action.Finish
+action_of plan (move.FillSlot x v) = action.FillSlot (slot_name plan x) v
+action_of plan (move.Fill x v i c) = action.Fill
+action_of plan (move.Publish x v) = action.Publish
+action_of plan (move.ReadClass k x) = action.ReadClass k
+action_of plan (move.ReadLength k x) = action.ReadLength k
+action_of plan (move.ReadWord k x c i) = action.ReadWord k i
+action_of plan (move.ReadPage q) = action.ReadPage (page_name plan q)
+action_of plan (move.SetClass q c) = action.SetClass (page_name plan q) c
+action_of plan (move.Take q) = action.Take (page_name plan q)
+action_of plan (move.Follow q s) = action.Follow (page_name plan q)
+action_of plan (move.Put x) = action.Put
+action_of plan (move.PutSlot x) = action.PutSlot (slot_name plan x)
+action_of plan (move.Tie x l r) = action.Tie
+action_of plan (move.Adopt n) = action.Adopt n
+action_of plan (move.Leave n) = action.Leave
+action_of plan (move.Arm q) = action.Arm (page_name plan q)
+action_of plan (move.Ring q) = action.Ring
+action_of plan (move.RingTie q l) = action.RingTie
+action_of plan (move.TakeBell n) = action.TakeBell
+action_of plan (move.FollowBell q) = action.FollowBell
+
+-- The table gives an action its move exactly where the move may be done: one that it gives may be, and is the action's,
+-- and one that may be done is what it gives the move's action
+abbrev pub GivesWhatMayBe : Type 0
+GivesWhatMayBe = (plan : Plan) (p : Body) (x : Action) (m : Move) → move_of plan p x ≡ Some m → May plan p m
+    × (action_of plan m ≡ x)
+
+abbrev pub GivesAllThatMayBe : Type 0
+GivesAllThatMayBe = (plan : Plan) (p : Body) (m : Move) → May plan p m → move_of plan p (action_of plan m) ≡ Some m

@@ -5,7 +5,8 @@ use Rattle.sh_step.specs.declared.action.Action.{Action}
 use Rattle.sh_step.specs.declared.action.Action.TheVariants.{EnterGet, EnterRemove, Mark, DropHold, Publish}
 use Rattle.sh_step.specs.declared.body.Body.{Body}
 use Rattle.sh_step.specs.Plans.{Plan}
-use Rattle.sh_step.specs.Rows.{Row, row}
+use Rattle.sh_step.specs.Moves.{row}
+use Rattle.sh_step.specs.Rows.{Row}
 
 -- the word of the slot that the key names says that the key's value is there
 abbrev pub is_live : Plan → (k found : ℕ) → Bool

@@ -8,7 +8,8 @@ use Rattle.sh_step.specs.declared.action.Action.{Action}
 use Rattle.sh_step.specs.declared.body.Body.{Body}
 use Rattle.sh_step.specs.Conditions.{Named}
 use Rattle.sh_step.specs.Plans.{Plan}
-use Rattle.sh_step.specs.Rows.{Row, row}
+use Rattle.sh_step.specs.Moves.{row}
+use Rattle.sh_step.specs.Rows.{Row}
 
 -- at most so many of its own steps are left until the hand is idle
 abbrev pub to_end : Hand → ℕ

@@ -1,25 +1,122 @@
--- Moves: actions whose condition holds, with what they name looked up, and their rows of the table.
-use Rattle.std.specs.Prelude.{ℕ, ◌≡◌, nat_lt, cond, ◌&&◌, Bool, Option, Some, None, is_some, option_map}
+-- Moves: actions whose condition holds, with what they name looked up, and their rows: the table.
+use Rattle.std.specs.Prelude.{ℕ, ◌≡◌, ◌-◌, ◌==◌, nat_lt, nat_le, cond, not, ◌&&◌, ◌||◌, Bool, true, false, length}
+use Rattle.std.specs.Prelude.{Option, Some, None, is_some, option_map, option_and_then}
+use Rattle.std.specs.Bool.{then_some}
 use Rattle.sh_key.specs.declared.parts.Parts.{Parts}
+use Rattle.sh_shape.specs.Classes.{width}
 use Rattle.sh_shape.specs.Shape.{Numbers}
 use Rattle.sh_shape.specs.Places.{pages_of}
+use Rattle.sh_slots.specs.declared.hand.Hand.TheVariants.{Removing, Leaving, Finishing, ToPut, Tying, Ringing}
+use Rattle.sh_slots.specs.declared.hand.Hand.TheVariants.{RingTying, Filling}
 use Rattle.sh_slots.specs.declared.hand.Spot.{Spot}
 use Rattle.sh_slots.specs.declared.hand.Name.{Name}
 use Rattle.sh_slots.specs.Slots.{same_spot}
 use Rattle.sh_step.specs.declared.action.Action.{Action}
+use Rattle.sh_step.specs.declared.action.Action.TheVariants as action
 use Rattle.sh_step.specs.declared.action.PageName.{PageName}
 use Rattle.sh_step.specs.declared.action.SlotName.{SlotName}
 use Rattle.sh_step.specs.declared.body.Body.{Body}
 use Rattle.sh_step.specs.declared.step.Step.{Step}
 use Rattle.sh_step.specs.declared.moves.Move.{Move}
 use Rattle.sh_step.specs.declared.moves.Move.TheVariants as move
-use Rattle.sh_step.specs.Collections.{without}
+use Rattle.sh_step.specs.Collections.{has, noted, without}
 use Rattle.sh_step.specs.declared.operation.Operation.TheVariants.{Store}
 use Rattle.sh_step.specs.Parts.{newcomer}
 use Rattle.sh_step.specs.Plans.{Plan, heap_pages, page_of, slot_of}
-use Rattle.sh_step.specs.Rows.{Row, row, enter_get, enter_remove, mark, drop_hand, drop_key, finish, fill_slot, fill_in}
-use Rattle.sh_step.specs.Rows.{publish, read_class, read_length, read_word, read_page, set_class, take_page, follow}
-use Rattle.sh_step.specs.Rows.{put_at, tie, adopt, leave, arm, ring, ring_tie, take_bell, follow_bell}
+use Rattle.sh_step.specs.Rows.{Row, idle, own, class_word_noted, no_cursor, all_mine, enter_get, enter_remove, mark}
+use Rattle.sh_step.specs.Rows.{drop_hand, drop_key, finish, fill_slot, fill_in, publish, read_class, read_length}
+use Rattle.sh_step.specs.Rows.{read_word, read_page, set_class, take_page, follow, put_at, tie, adopt, leave, arm, ring}
+use Rattle.sh_step.specs.Rows.{ring_tie, take_bell, follow_bell}
+
+-- the shape has the place of a key of these parts
+abbrev pub has_place : Numbers → Parts → Bool
+has_place shape p = nat_lt p.shard shape.shards && nat_lt p.page (pages_of shape) && nat_lt p.slot 48
+
+-- the place that a key, a page's name or a slot's name names, where the shape has it
+abbrev pub place_named : Plan → ℕ → Option Name
+place_named plan k = elim (plan.keys.unpack k) [
+  | Some x ↦ cond (nat_lt x.page (heap_pages plan) && nat_lt x.slot 48)
+      (Some x) None
+  | None ↦ None
+]
+
+abbrev pub page_named : Plan → PageName → Option ℕ
+page_named plan x = cond (nat_lt x.shard plan.shards && nat_lt x.page plan.pages) (Some (page_of plan x)) None
+
+abbrev pub slot_named : Plan → SlotName → Option Spot
+slot_named plan x = cond (nat_lt x.shard plan.shards && nat_lt x.page plan.pages && nat_lt x.slot 48)
+    (Some (slot_of plan x)) None
+
+-- what there is of the place that a key, a page's name or a slot's name names: nothing where the heap has no such place
+abbrev pub named : {A : Type 0} → Plan → ℕ → (Name → Option A) → Option A
+named plan k f = option_and_then f (place_named plan k)
+
+abbrev pub paged : {A : Type 0} → Plan → PageName → (ℕ → Option A) → Option A
+paged plan y f = option_and_then f (page_named plan y)
+
+abbrev pub slotted : {A : Type 0} → Plan → SlotName → (Spot → Option A) → Option A
+slotted plan y f = option_and_then f (slot_named plan y)
+
+-- the conditions: the move of an action by a pass with this part, where the action may be done
+unfoldable pub move_of : Plan → Body → Action → Option Move
+move_of plan p (action.EnterGet k) = named plan k
+    (λ x. then_some (idle p && nat_lt (length p.holds) 16) (move.EnterGet k x))
+move_of plan p (action.EnterRemove k) = named plan k (λ x. then_some (idle p) (move.EnterRemove k x))
+move_of plan p action.Mark = elim (p.hand) [ Removing k ↦ named plan k (λ x. Some (move.Mark k x)) | _ ↦ None ]
+move_of plan p action.Drop = elim (p.hand) [ Leaving x ↦ Some (move.Drop x) | _ ↦ None ]
+move_of plan p (action.DropHold k) = named plan k
+    (λ x. then_some (idle p && has (λ j. j == k) p.holds) (move.DropHold k x))
+move_of plan p action.Finish = elim (p.hand) [ Finishing x g ↦ Some (move.Finish x g) | _ ↦ None ]
+move_of plan p (action.FillSlot y v) = slotted plan y (λ x. then_some
+    (idle p && own plan p x.page && has (same_spot x) p.mine && nat_lt 0 (class_word_noted p x.page) && nat_le (length v)
+    (width (class_word_noted p x.page - 1))) (move.FillSlot x v))
+move_of plan p action.Fill = elim (p.hand) [
+  | Filling x v n ↦ then_some (nat_lt n (length v))
+      (move.Fill x v n (class_word_noted p x.page))
+  | _ ↦ None
+]
+move_of plan p action.Publish = elim (p.hand)
+    [ Filling x v n ↦ then_some (nat_le (length v) n) (move.Publish x v) | _ ↦ None ]
+move_of plan p (action.ReadClass k) = named plan k
+    (λ x. then_some (idle p && has (λ j. j == k) p.holds) (move.ReadClass k x))
+move_of plan p (action.ReadLength k) = named plan k
+    (λ x. then_some (idle p && has (λ j. j == k) p.holds) (move.ReadLength k x))
+move_of plan p (action.ReadWord k i) = named plan k (λ x. elim (noted k p.class_words) [
+  | Some c ↦ elim (noted k p.lengths)
+      [ Some n ↦ then_some (idle p && has (λ j. j == k) p.holds && nat_lt i n) (move.ReadWord k x c i) | None ↦ None ]
+  | None ↦ None
+])
+move_of plan p (action.ReadPage y) = paged plan y (λ q. then_some (idle p && own plan p q) (move.ReadPage q))
+move_of plan p (action.SetClass y c) = paged plan y (λ q. elim (noted q p.classes) [
+  | Some n ↦ then_some (idle p && own plan p q && ((n == 0) || all_mine p q n) && nat_lt c 8) (move.SetClass q c)
+  | None ↦ None
+])
+move_of plan p (action.Take y) = paged plan y
+    (λ q. then_some (idle p && own plan p q && nat_lt 0 (class_word_noted p q) && no_cursor p q) (move.Take q))
+move_of plan p (action.Follow y) = paged plan y (λ q. elim (noted q p.cursors)
+    [ Some s ↦ then_some (idle p && own plan p q) (move.Follow q s) | None ↦ None ])
+move_of plan p action.Put = elim (p.hand) [ ToPut x ↦ Some (move.Put x) | _ ↦ None ]
+move_of plan p (action.PutSlot y) = slotted plan y
+    (λ x. then_some (idle p && own plan p x.page && has (same_spot x) p.mine) (move.PutSlot x))
+move_of plan p action.Tie = elim (p.hand) [ Tying x l r ↦ Some (move.Tie x l r) | _ ↦ None ]
+move_of plan p (action.Adopt n) = elim (p.owned)
+    [ None ↦ then_some (idle p && nat_lt n plan.shards) (move.Adopt n) | _ ↦ None ]
+move_of plan p action.Leave = elim (p.owned) [
+  | Some n ↦ then_some (idle p && (length p.mine == 0) && (length p.cursors == 0) &&
+      (length p.armed == 0) && (elim (p.bell_cursor) [ None ↦ true | _ ↦ false ])) (move.Leave n)
+  | None ↦ None
+]
+move_of plan p (action.Arm y) = paged plan y (λ q. then_some (idle p && own plan p q && nat_lt 0 (class_word_noted p q)
+    && no_cursor p q && not (has (λ x. x == q) p.armed)) (move.Arm q))
+move_of plan p action.Ring = elim (p.hand) [ Ringing q ↦ Some (move.Ring q) | _ ↦ None ]
+move_of plan p action.RingTie = elim (p.hand) [ RingTying q l ↦ Some (move.RingTie q l) | _ ↦ None ]
+move_of plan p action.TakeBell = elim (p.owned) [
+  | Some n ↦ then_some (idle p && (elim (p.bell_cursor) [ None ↦ true | _ ↦ false ]))
+      (move.TakeBell n)
+  | None ↦ None
+]
+move_of plan p action.FollowBell = elim (p.bell_cursor)
+    [ Some q ↦ then_some (idle p) (move.FollowBell q) | None ↦ None ]
 
 -- the row of a move
 abbrev pub row_of : Plan → Body → Move → Row
@@ -50,29 +147,9 @@ row_of plan p (move.RingTie q l) = ring_tie p q l
 row_of plan p (move.TakeBell n) = take_bell plan p n
 row_of plan p (move.FollowBell q) = follow_bell plan p q
 
--- these are the move of an action by a pass with this body: there is one exactly where the action's condition holds,
--- and it has the action's row
-abbrev pub IsMoveOf : Plan → Body → Action → Option Move → Type 0
-IsMoveOf plan p a m = row plan p a ≡ option_map (row_of plan p) m
-
--- the shape has the place of a key of these parts
-abbrev pub has_place : Numbers → Parts → Bool
-has_place shape p = nat_lt p.shard shape.shards && nat_lt p.page (pages_of shape) && nat_lt p.slot 48
-
--- the place that a key, a page's name or a slot's name names, where the shape has it
-abbrev pub place_named : Plan → ℕ → Option Name
-place_named plan k = elim (plan.keys.unpack k) [
-  | Some x ↦ cond (nat_lt x.page (heap_pages plan) && nat_lt x.slot 48)
-      (Some x) None
-  | None ↦ None
-]
-
-abbrev pub page_named : Plan → PageName → Option ℕ
-page_named plan x = cond (nat_lt x.shard plan.shards && nat_lt x.page plan.pages) (Some (page_of plan x)) None
-
-abbrev pub slot_named : Plan → SlotName → Option Spot
-slot_named plan x = cond (nat_lt x.shard plan.shards && nat_lt x.page plan.pages && nat_lt x.slot 48)
-    (Some (slot_of plan x)) None
+-- the table: the row of an action's move
+unfoldable pub row : Plan → Body → Action → Option Row
+row plan p a = option_map (row_of plan p) (move_of plan p a)
 
 -- the place and the operation of a row
 abbrev pub step_of : Row → Step
@@ -97,7 +174,7 @@ StoresAreBlind = (plan : Plan) (p : Body) (m : Move) (new : ℕ) → (row_of pla
     → IsBlind (row_of plan p m)
 
 abbrev pub is_enabled : Plan → Body → Action → Bool
-is_enabled plan p a = is_some (row plan p a)
+is_enabled plan p a = is_some (move_of plan p a)
 
 -- the step of an action by a pass with this body, where the action's condition holds
 abbrev pub next_step : Plan → Body → Action → Option Step

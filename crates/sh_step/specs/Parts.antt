@@ -16,7 +16,7 @@ newcomer = record {
   armed = [];
   bell_cursor = None;
   hand = Idle;
-  widths = [];
+  class_words = [];
   lengths = [];
   contents = [];
 }
@@ -24,7 +24,7 @@ newcomer = record {
 -- a list of the part is longer than it was
 pub data ListGrows (old new : Body) : Type 0 where
   more_holds : length old.holds < length new.holds → ListGrows old new
-  more_widths : length old.widths < length new.widths → ListGrows old new
+  more_class_words : length old.class_words < length new.class_words → ListGrows old new
   more_lengths : length old.lengths < length new.lengths → ListGrows old new
   more_contents : length old.contents < length new.contents → ListGrows old new
   more_classes : length old.classes < length new.classes → ListGrows old new

@@ -1,26 +1,20 @@
--- The table of actions: what each asks of the pass's own part, the operation on one word, and what it leaves.
-use Rattle.std.specs.Prelude.{ℕ, ◌+◌, ◌-◌, ◌*◌, ◌^◌, ◌==◌, nat_lt, nat_le, Bool, true, false, cond, not, ◌&&◌, ◌||◌}
+-- The rows of the table: of each action the word, the operation on it, and by the word found what is left of the pass's
+-- own part and what is replied.
+use Rattle.std.specs.Prelude.{ℕ, ◌+◌, ◌-◌, ◌*◌, ◌^◌, ◌==◌, nat_lt, Bool, true, false, cond, ◌&&◌}
 use Rattle.std.specs.Prelude.{List, [], ◌∷◌, ◌++◌, Option, Some, None, slice_index, length}
 use Rattle.sh_word.specs.Fields.{fields_of}
 use Rattle.sh_slots.specs.declared.hand.Hand.{Hand}
-use Rattle.sh_slots.specs.declared.hand.Hand.TheVariants.{Idle, Removing, Leaving, Finishing, ToPut, Tying, Ringing}
+use Rattle.sh_slots.specs.declared.hand.Hand.TheVariants.{Idle, Leaving, Finishing, ToPut, Tying, Ringing}
 use Rattle.sh_slots.specs.declared.hand.Hand.TheVariants.{RingTying, Filling}
 use Rattle.sh_slots.specs.declared.hand.Spot.{Spot}
 use Rattle.sh_slots.specs.declared.hand.Name.{Name}
 use Rattle.sh_slots.specs.declared.reply.Reply.{Reply}
 use Rattle.sh_slots.specs.declared.reply.Reply.TheVariants as reply
 use Rattle.sh_step.specs.declared.body.Body.{Body}
-use Rattle.sh_step.specs.declared.action.PageName.{PageName}
-use Rattle.sh_step.specs.declared.action.SlotName.{SlotName}
-use Rattle.sh_step.specs.declared.action.Action.{Action}
-use Rattle.sh_step.specs.declared.action.Action.TheVariants.{EnterGet, EnterRemove, Mark, Drop, DropHold, Finish}
-use Rattle.sh_step.specs.declared.action.Action.TheVariants.{FillSlot, Fill, Publish, ReadClass, ReadLength, ReadWord}
-use Rattle.sh_step.specs.declared.action.Action.TheVariants.{ReadPage, SetClass, Take, Follow, Put, PutSlot, Tie, Adopt}
-use Rattle.sh_step.specs.declared.action.Action.TheVariants.{Leave, Arm, Ring, RingTie, TakeBell, FollowBell}
 use Rattle.sh_shape.specs.declared.places.Place.{Place}
 use Rattle.sh_shape.specs.declared.places.Place.TheVariants.{Class, Head, PageLink, State, Link, Length, Payload, Owner}
 use Rattle.sh_shape.specs.declared.places.Place.TheVariants.{Bell}
-use Rattle.sh_step.specs.Plans.{Plan, heap_pages, home, local, over_heap, page_of, slot_of}
+use Rattle.sh_step.specs.Plans.{Plan, home, local, over_heap}
 use Rattle.sh_shape.specs.Classes.{width, slots}
 use Rattle.sh_slots.specs.Slots.{same_spot, spots, spot_of, live_at, has_room, after_enter_remove, after_drop}
 use Rattle.sh_slots.specs.Slots.{marked_word, finished_word, is_reusable_after, published_name}
@@ -38,9 +32,6 @@ pub record Row : Type 0 where
   pub operation : Operation
   pub part : ℕ → Body
   pub reply : ℕ → Option Reply
-
-abbrev pub when : Bool → Row → Option Row
-when b m = cond b (Some m) None
 
 abbrev pub silent : ℕ → Option Reply
 silent _ = None
@@ -109,7 +100,7 @@ drop_hand p x = record {
 abbrev pub freed : Body → ℕ → Body
 freed p k = let h = without (λ j. j == k) p.holds in record p {
   holds = h;
-  widths = cond (has (λ j. j == k) h) p.widths (off (λ x. x.0 == k) p.widths);
+  class_words = cond (has (λ j. j == k) h) p.class_words (off (λ x. x.0 == k) p.class_words);
   lengths = cond (has (λ j. j == k) h) p.lengths (off (λ x. x.0 == k) p.lengths);
   contents = cond (has (λ j. j == k) h) p.contents (off (λ x. x.0 == k) p.contents);
 }
@@ -168,7 +159,7 @@ abbrev pub read_class : Body → ℕ → Name → Row
 read_class p k x = record {
   place = Class x.page;
   operation = Load;
-  part = λ n. record p { widths = (k, n) ∷ p.widths };
+  part = λ n. record p { class_words = (k, n) ∷ p.class_words };
   reply = silent;
 }
 
@@ -319,72 +310,3 @@ follow_bell plan p q = record {
   });
   reply = silent;
 }
-
--- what a key names, where it is a place of the shape
-abbrev pub named : Plan → ℕ → (Name → Option Row) → Option Row
-named plan k f = elim (plan.keys.unpack k) [
-  | Some x ↦ cond (nat_lt x.page (heap_pages plan) && nat_lt x.slot 48) (f x)
-      None
-  | None ↦ None
-]
-
--- the page of this name, and the slot of this name, where the shape has it
-abbrev pub paged : Plan → PageName → (ℕ → Option Row) → Option Row
-paged plan x f = cond (nat_lt x.shard plan.shards && nat_lt x.page plan.pages) (f (page_of plan x)) None
-
-abbrev pub slotted : Plan → SlotName → (Spot → Option Row) → Option Row
-slotted plan x f = cond (nat_lt x.shard plan.shards && nat_lt x.page plan.pages && nat_lt x.slot 48)
-    (f (slot_of plan x)) None
-
--- the table: the row of an action, where the part meets its condition
-unfoldable pub row : Plan → Body → Action → Option Row
-row plan p (EnterGet k) = named plan k (λ x. when (idle p && nat_lt (length p.holds) 16) (enter_get plan p k x))
-row plan p (EnterRemove k) = named plan k (λ x. when (idle p) (enter_remove plan p k x))
-row plan p Mark = elim (p.hand) [ Removing k ↦ named plan k (λ x. Some (mark p k x)) | _ ↦ None ]
-row plan p Drop = elim (p.hand) [ Leaving x ↦ Some (drop_hand p x) | _ ↦ None ]
-row plan p (DropHold k) = named plan k (λ x. when (idle p && has (λ j. j == k) p.holds) (drop_key p k x))
-row plan p Finish = elim (p.hand) [ Finishing x g ↦ Some (finish plan p x g) | _ ↦ None ]
-row plan p (FillSlot y v) = slotted plan y (λ x. when (idle p && own plan p x.page && has (same_spot x) p.mine && nat_lt
-    0 (class_word_noted p x.page) && nat_le (length v) (width (class_word_noted p x.page - 1))) (fill_slot p x v))
-row plan p Fill = elim (p.hand) [ Filling x v n ↦ when (nat_lt n (length v)) (fill p x v n) | _ ↦ None ]
-row plan p Publish = elim (p.hand) [ Filling x v n ↦ when (nat_le (length v) n) (publish plan p x v) | _ ↦ None ]
-row plan p (ReadClass k) = named plan k (λ x. when (idle p && has (λ j. j == k) p.holds) (read_class p k x))
-row plan p (ReadLength k) = named plan k (λ x. when (idle p && has (λ j. j == k) p.holds) (read_length p k x))
-row plan p (ReadWord k i) = named plan k (λ x. elim (noted k p.widths) [
-  | Some c ↦ elim (noted k p.lengths) [
-    | Some n ↦ when (idle p && has (λ j. j == k) p.holds && nat_lt i n)
-        (read_word p k x c i)
-    | None ↦ None
-  ]
-  | None ↦ None
-])
-row plan p (ReadPage y) = paged plan y (λ q. when (idle p && own plan p q) (read_page p q))
-row plan p (SetClass y c) = paged plan y (λ q. elim (noted q p.classes) [
-  | Some n ↦ when (idle p && own plan p q && ((n == 0) || all_mine p q n) && nat_lt c 8) (set_class p q c)
-  | None
-      ↦ None
-])
-row plan p (Take y) = paged plan y (λ q. when (idle p && own plan p q && nat_lt 0 (class_word_noted p q) && no_cursor p
-    q) (take_page p q))
-row plan p (Follow y) = paged plan y (λ q. elim (noted q p.cursors)
-    [ Some s ↦ when (idle p && own plan p q) (follow p q s) | None ↦ None ])
-row plan p Put = elim (p.hand) [ ToPut x ↦ Some (put_at p x) | _ ↦ None ]
-row plan p (PutSlot y) = slotted plan y (λ x. when (idle p && own plan p x.page && has (same_spot x) p.mine)
-    (put_at (record p { mine = without (same_spot x) p.mine }) x))
-row plan p Tie = elim (p.hand) [ Tying x l r ↦ Some (tie p x l r) | _ ↦ None ]
-row plan p (Adopt n) = elim (p.owned) [ None ↦ when (idle p && nat_lt n plan.shards) (adopt p n) | _ ↦ None ]
-row plan p Leave = elim (p.owned) [
-  | Some n ↦ when (idle p && (length p.mine == 0) && (length p.cursors == 0) &&
-      (length p.armed == 0) && (elim (p.bell_cursor) [ None ↦ true | _ ↦ false ])) (leave p n)
-  | None ↦ None
-]
-row plan p (Arm y) = paged plan y (λ q. when (idle p && own plan p q && nat_lt 0 (class_word_noted p q) && no_cursor p q
-    && not (has (λ x. x == q) p.armed)) (arm p q))
-row plan p Ring = elim (p.hand) [ Ringing q ↦ Some (ring plan p q) | _ ↦ None ]
-row plan p RingTie = elim (p.hand) [ RingTying q l ↦ Some (ring_tie p q l) | _ ↦ None ]
-row plan p TakeBell = elim (p.owned) [
-  | Some n ↦ when (idle p && (elim (p.bell_cursor) [ None ↦ true | _ ↦ false ]))
-      (take_bell plan p n)
-  | None ↦ None
-]
-row plan p FollowBell = elim (p.bell_cursor) [ Some q ↦ when (idle p) (follow_bell plan p q) | None ↦ None ]

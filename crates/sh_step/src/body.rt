@@ -13,7 +13,7 @@ pub struct Body {
     /// The keys that it holds, one for each hold: at most 16.
     pub holds: LinkedList<u64>,
     /// Of held keys, the class word that it read.
-    pub widths: LinkedList<(u64, u64)>,
+    pub class_words: LinkedList<(u64, u64)>,
     /// Of held keys, the length that it read.
     pub lengths: LinkedList<(u64, u64)>,
     /// Of held keys, each word that it read, with its number from 0.

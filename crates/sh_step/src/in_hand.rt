@@ -1,14 +1,15 @@
 //! The moves of what a pass has begun.
+ghost use Rattle.std.specs.Prelude.{◌≡◌};
 ghost use Rattle.sh_step.specs.Plans.{Plan};
-ghost use Rattle.sh_step.specs.Moves.{IsMoveOf};
+ghost use Rattle.sh_step.specs.Moves.{move_of};
 
 use crate::{Action, Move, Part};
 use sh_slots::Hand;
 
 /// The move of a drop of what it leaves.
-#[tactic(auto, unfolding(crate::specs::Rows::row))]
+#[tactic(auto, unfolding(crate::specs::Moves::move_of))]
 pub fn drop_hand(part: &Part) -> Option<Move>
-    ensures { (plan : Plan) → IsMoveOf plan part.now Action.Drop result }
+    ensures { (plan : Plan) → result ≡ move_of plan part.now Action.Drop }
 {
     match part.hand() {
         Hand::Leaving(spot) => Some(Move::Drop(*spot)),
@@ -17,9 +18,9 @@ pub fn drop_hand(part: &Part) -> Option<Move>
 }
 
 /// The move of the end of a generation.
-#[tactic(auto, unfolding(crate::specs::Rows::row))]
+#[tactic(auto, unfolding(crate::specs::Moves::move_of))]
 pub fn finish(part: &Part) -> Option<Move>
-    ensures { (plan : Plan) → IsMoveOf plan part.now Action.Finish result }
+    ensures { (plan : Plan) → result ≡ move_of plan part.now Action.Finish }
 {
     match part.hand() {
         Hand::Finishing(spot, generation) => Some(Move::Finish(*spot, *generation)),
@@ -28,9 +29,9 @@ pub fn finish(part: &Part) -> Option<Move>
 }
 
 /// The move of a put of the slot in its hand.
-#[tactic(auto, unfolding(crate::specs::Rows::row))]
+#[tactic(auto, unfolding(crate::specs::Moves::move_of))]
 pub fn put(part: &Part) -> Option<Move>
-    ensures { (plan : Plan) → IsMoveOf plan part.now Action.Put result }
+    ensures { (plan : Plan) → result ≡ move_of plan part.now Action.Put }
 {
     match part.hand() {
         Hand::ToPut(spot) => Some(Move::Put(*spot)),
@@ -39,9 +40,9 @@ pub fn put(part: &Part) -> Option<Move>
 }
 
 /// The move of the store of a slot's link.
-#[tactic(auto, unfolding(crate::specs::Rows::row))]
+#[tactic(auto, unfolding(crate::specs::Moves::move_of))]
 pub fn tie(part: &Part) -> Option<Move>
-    ensures { (plan : Plan) → IsMoveOf plan part.now Action.Tie result }
+    ensures { (plan : Plan) → result ≡ move_of plan part.now Action.Tie }
 {
     match part.hand() {
         Hand::Tying(spot, link, ring) => Some(Move::Tie(*spot, *link, *ring)),
@@ -50,9 +51,9 @@ pub fn tie(part: &Part) -> Option<Move>
 }
 
 /// The move of a ring.
-#[tactic(auto, unfolding(crate::specs::Rows::row))]
+#[tactic(auto, unfolding(crate::specs::Moves::move_of))]
 pub fn ring(part: &Part) -> Option<Move>
-    ensures { (plan : Plan) → IsMoveOf plan part.now Action.Ring result }
+    ensures { (plan : Plan) → result ≡ move_of plan part.now Action.Ring }
 {
     match part.hand() {
         Hand::Ringing(page) => Some(Move::Ring(*page)),
@@ -61,9 +62,9 @@ pub fn ring(part: &Part) -> Option<Move>
 }
 
 /// The move of the store of a page's link.
-#[tactic(auto, unfolding(crate::specs::Rows::row))]
+#[tactic(auto, unfolding(crate::specs::Moves::move_of))]
 pub fn ring_tie(part: &Part) -> Option<Move>
-    ensures { (plan : Plan) → IsMoveOf plan part.now Action.RingTie result }
+    ensures { (plan : Plan) → result ≡ move_of plan part.now Action.RingTie }
 {
     match part.hand() {
         Hand::RingTying(page, link) => Some(Move::RingTie(*page, *link)),
@@ -72,9 +73,9 @@ pub fn ring_tie(part: &Part) -> Option<Move>
 }
 
 /// The move of the store of a word.
-#[tactic(auto, unfolding(crate::specs::Rows::row))]
+#[tactic(auto, unfolding(crate::specs::Moves::move_of))]
 pub fn fill(part: &Part) -> Option<Move>
-    ensures { (plan : Plan) → IsMoveOf plan part.now Action.Fill result }
+    ensures { (plan : Plan) → result ≡ move_of plan part.now Action.Fill }
 {
     match part.hand() {
         Hand::Filling(spot, value, done) => (*done < value.words().len() as u64).then_some(
@@ -85,9 +86,9 @@ pub fn fill(part: &Part) -> Option<Move>
 }
 
 /// The move of the end of a filling.
-#[tactic(auto, unfolding(crate::specs::Rows::row))]
+#[tactic(auto, unfolding(crate::specs::Moves::move_of))]
 pub fn publish(part: &Part) -> Option<Move>
-    ensures { (plan : Plan) → IsMoveOf plan part.now Action.Publish result }
+    ensures { (plan : Plan) → result ≡ move_of plan part.now Action.Publish }
 {
     match part.hand() {
         Hand::Filling(spot, value, done) => (value.words().len() as u64 <= *done).then_some(

@@ -1,6 +1,7 @@
 //! The moves of actions on keys.
+ghost use Rattle.std.specs.Prelude.{◌≡◌};
 ghost use Rattle.sh_step.specs.Plans.{plan_of};
-ghost use Rattle.sh_step.specs.Moves.{IsMoveOf};
+ghost use Rattle.sh_step.specs.Moves.{move_of};
 
 use crate::names::place_of_key;
 use crate::{Action, Move, Part};
@@ -9,8 +10,9 @@ use sh_shape::Shape;
 use sh_slots::Hand;
 
 // The move of an entry to get.
+#[tactic(auto, unfolding(crate::specs::Moves::move_of))]
 pub fn enter_get<L: KeyLayout>(shape: &Shape, part: &Part, key: u64) -> Option<Move>
-    ensures { IsMoveOf (plan_of L.layout shape.now) part.now (Action.EnterGet key) result }
+    ensures { result ≡ move_of (plan_of L.layout shape.now) part.now (Action.EnterGet key) }
 {
     match place_of_key::<L>(shape, key) {
         Some(name) => part.may_get().then_some(Move::EnterGet(key, name)),
@@ -19,8 +21,9 @@ pub fn enter_get<L: KeyLayout>(shape: &Shape, part: &Part, key: u64) -> Option<M
 }
 
 // The move of an entry to remove.
+#[tactic(auto, unfolding(crate::specs::Moves::move_of))]
 pub fn enter_remove<L: KeyLayout>(shape: &Shape, part: &Part, key: u64) -> Option<Move>
-    ensures { IsMoveOf (plan_of L.layout shape.now) part.now (Action.EnterRemove key) result }
+    ensures { result ≡ move_of (plan_of L.layout shape.now) part.now (Action.EnterRemove key) }
 {
     match place_of_key::<L>(shape, key) {
         Some(name) => part.is_idle().then_some(Move::EnterRemove(key, name)),
@@ -29,8 +32,9 @@ pub fn enter_remove<L: KeyLayout>(shape: &Shape, part: &Part, key: u64) -> Optio
 }
 
 // The move of the drop of a hold.
+#[tactic(auto, unfolding(crate::specs::Moves::move_of))]
 pub fn drop_hold<L: KeyLayout>(shape: &Shape, part: &Part, key: u64) -> Option<Move>
-    ensures { IsMoveOf (plan_of L.layout shape.now) part.now (Action.DropHold key) result }
+    ensures { result ≡ move_of (plan_of L.layout shape.now) part.now (Action.DropHold key) }
 {
     match place_of_key::<L>(shape, key) {
         Some(name) => part.may_use(key).then_some(Move::DropHold(key, name)),
@@ -39,8 +43,9 @@ pub fn drop_hold<L: KeyLayout>(shape: &Shape, part: &Part, key: u64) -> Option<M
 }
 
 // The move of a read of a held key's class.
+#[tactic(auto, unfolding(crate::specs::Moves::move_of))]
 pub fn read_class<L: KeyLayout>(shape: &Shape, part: &Part, key: u64) -> Option<Move>
-    ensures { IsMoveOf (plan_of L.layout shape.now) part.now (Action.ReadClass key) result }
+    ensures { result ≡ move_of (plan_of L.layout shape.now) part.now (Action.ReadClass key) }
 {
     match place_of_key::<L>(shape, key) {
         Some(name) => part.may_use(key).then_some(Move::ReadClass(key, name)),
@@ -49,8 +54,9 @@ pub fn read_class<L: KeyLayout>(shape: &Shape, part: &Part, key: u64) -> Option<
 }
 
 // The move of a read of the length of a held key's value.
+#[tactic(auto, unfolding(crate::specs::Moves::move_of))]
 pub fn read_length<L: KeyLayout>(shape: &Shape, part: &Part, key: u64) -> Option<Move>
-    ensures { IsMoveOf (plan_of L.layout shape.now) part.now (Action.ReadLength key) result }
+    ensures { result ≡ move_of (plan_of L.layout shape.now) part.now (Action.ReadLength key) }
 {
     match place_of_key::<L>(shape, key) {
         Some(name) => part.may_use(key).then_some(Move::ReadLength(key, name)),
@@ -59,8 +65,9 @@ pub fn read_length<L: KeyLayout>(shape: &Shape, part: &Part, key: u64) -> Option
 }
 
 // The move of a mark.
+#[tactic(auto, unfolding(crate::specs::Moves::move_of))]
 pub fn mark<L: KeyLayout>(shape: &Shape, part: &Part) -> Option<Move>
-    ensures { IsMoveOf (plan_of L.layout shape.now) part.now Action.Mark result }
+    ensures { result ≡ move_of (plan_of L.layout shape.now) part.now Action.Mark }
 {
     match part.hand() {
         Hand::Removing(key) => match place_of_key::<L>(shape, *key) {
@@ -72,13 +79,14 @@ pub fn mark<L: KeyLayout>(shape: &Shape, part: &Part) -> Option<Move>
 }
 
 // The move of a read of a word of a held key's value.
+#[tactic(auto, unfolding(crate::specs::Moves::move_of))]
 pub fn read_word<L: KeyLayout>(shape: &Shape, part: &Part, key: u64, i: u64) -> Option<Move>
-    ensures { IsMoveOf (plan_of L.layout shape.now) part.now (Action.ReadWord key i) result }
+    ensures { result ≡ move_of (plan_of L.layout shape.now) part.now (Action.ReadWord key i) }
 {
     let Some(name) = place_of_key::<L>(shape, key) else {
         return None;
     };
-    let Some(class) = part.width_of(key) else {
+    let Some(class) = part.class_word_of(key) else {
         return None;
     };
     let Some(length) = part.length_of(key) else {

@@ -1,15 +1,15 @@
 //! The laws of the table of actions, of its operations, and of what is counted over steps.
-ghost use Rattle.sh_step.specs.Conditions.{RowsMeet, WhoMeetsHasRow};
+ghost use Rattle.sh_step.specs.Conditions.{GivesWhatMayBe, GivesAllThatMayBe};
 ghost use Rattle.sh_step.specs.Deciding.{DecidingStepsReply};
 ghost use Rattle.sh_step.specs.Ends.{StepsComeNearer, StepsGoOn};
 ghost use Rattle.sh_step.specs.Footsteps.{CountsGrow};
 ghost use Rattle.sh_step.specs.Moves.{StepsLookAtNoPart, StoresAreBlind};
 ghost use Rattle.sh_step.specs.Operations.{RoomDoesNotWrap};
 
-/// An action has a row of the table exactly where its condition holds, and then the row that the condition names.
+/// An action has a move, and so a row of the table, exactly where a move of it may be done, and then that one.
 pub fn conditions_have_rows()
-    ensures only { RowsMeet }
-    ensures each { WhoMeetsHasRow }
+    ensures only { GivesWhatMayBe }
+    ensures each { GivesAllThatMayBe }
 {}
 
 /// What a step is done on, and what it does there, depends on the move alone. What a store leaves of the part, and what

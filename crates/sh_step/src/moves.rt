@@ -1,7 +1,7 @@
 //! Actions that may be done.
 ghost use Rattle.std.specs.Prelude.{◌≡◌};
 ghost use Rattle.sh_step.specs.Plans.{plan_of, Plan};
-ghost use Rattle.sh_step.specs.Moves.{IsMoveOf, is_enabled};
+ghost use Rattle.sh_step.specs.Moves.{move_of, is_enabled};
 
 use crate::{Action, Part, in_hand, keyed, owners, paged, slotted};
 use sh_key::KeyLayout;
@@ -68,10 +68,9 @@ pub enum Move {
 }
 
 impl Move {
-    /// The move of an action by a pass with this part, if the action's condition holds: it has the action's row of the
-    /// table.
+    /// The move of an action by a pass with this part, if the action's condition holds.
     pub fn of<L: KeyLayout>(shape: &Shape, part: &Part, action: &Action) -> Option<Move>
-        ensures { IsMoveOf (plan_of L.layout shape.now) part.now action.now result }
+        ensures { result ≡ move_of (plan_of L.layout shape.now) part.now action.now }
     {
         match action {
             Action::EnterGet(key) => keyed::enter_get::<L>(shape, part, *key),

@@ -1,16 +1,16 @@
 //! The moves of actions on shards and their bells.
 ghost use Rattle.std.specs.Prelude.{◌≡◌};
 ghost use Rattle.sh_step.specs.Plans.{plan_of, Plan};
-ghost use Rattle.sh_step.specs.Moves.{IsMoveOf};
+ghost use Rattle.sh_step.specs.Moves.{move_of};
 
 use crate::{Action, Move, Part};
 use sh_key::KeyLayout;
 use sh_shape::Shape;
 
 /// The move of an adoption.
-#[tactic(auto, unfolding(crate::specs::Rows::row))]
+#[tactic(auto, unfolding(crate::specs::Moves::move_of))]
 pub fn adopt<L: KeyLayout>(shape: &Shape, part: &Part, shard: u64) -> Option<Move>
-    ensures { IsMoveOf (plan_of L.layout shape.now) part.now (Action.Adopt shard) result }
+    ensures { result ≡ move_of (plan_of L.layout shape.now) part.now (Action.Adopt shard) }
 {
     let allowed = part.is_idle() && shard < u64::from(shape.shards());
     match part.owned() {
@@ -20,9 +20,9 @@ pub fn adopt<L: KeyLayout>(shape: &Shape, part: &Part, shard: u64) -> Option<Mov
 }
 
 /// The move of a leave.
-#[tactic(auto, unfolding(crate::specs::Rows::row))]
+#[tactic(auto, unfolding(crate::specs::Moves::move_of))]
 pub fn leave(part: &Part) -> Option<Move>
-    ensures { (plan : Plan) → IsMoveOf plan part.now Action.Leave result }
+    ensures { (plan : Plan) → result ≡ move_of plan part.now Action.Leave }
 {
     let allowed = part.is_idle() && part.has_nothing_of_shard();
     match part.owned() {
@@ -32,9 +32,9 @@ pub fn leave(part: &Part) -> Option<Move>
 }
 
 /// The move of a take of the bell.
-#[tactic(auto, unfolding(crate::specs::Rows::row))]
+#[tactic(auto, unfolding(crate::specs::Moves::move_of))]
 pub fn take_bell(part: &Part) -> Option<Move>
-    ensures { (plan : Plan) → IsMoveOf plan part.now Action.TakeBell result }
+    ensures { (plan : Plan) → result ≡ move_of plan part.now Action.TakeBell }
 {
     let allowed = part.is_idle() && part.bell_cursor().is_none();
     match part.owned() {
@@ -44,9 +44,9 @@ pub fn take_bell(part: &Part) -> Option<Move>
 }
 
 /// The move of the bell's cursor.
-#[tactic(auto, unfolding(crate::specs::Rows::row))]
+#[tactic(auto, unfolding(crate::specs::Moves::move_of))]
 pub fn follow_bell(part: &Part) -> Option<Move>
-    ensures { (plan : Plan) → IsMoveOf plan part.now Action.FollowBell result }
+    ensures { (plan : Plan) → result ≡ move_of plan part.now Action.FollowBell }
 {
     let allowed = part.is_idle();
     match part.bell_cursor() {

@@ -3,7 +3,7 @@ ghost use Rattle.std.specs.Prelude.{◌≡◌, ◌==◌, ◌&&◌, ◌||◌, not
 ghost use Rattle.sh_step.specs.Plans.{plan_of};
 ghost use Rattle.sh_step.specs.Collections.{has};
 ghost use Rattle.sh_step.specs.Rows.{idle, own, class_word_noted, no_cursor, all_mine};
-ghost use Rattle.sh_step.specs.Moves.{IsMoveOf};
+ghost use Rattle.sh_step.specs.Moves.{move_of};
 
 use crate::names::page_of_name;
 use crate::operands::slots_of_word;
@@ -74,8 +74,9 @@ fn may_set_class<L: KeyLayout>(
 }
 
 /// The move of a read of a page's class.
+#[tactic(auto, unfolding(crate::specs::Moves::move_of))]
 pub fn read_page<L: KeyLayout>(shape: &Shape, part: &Part, name: PageName) -> Option<Move>
-    ensures { IsMoveOf (plan_of L.layout shape.now) part.now (Action.ReadPage name) result }
+    ensures { result ≡ move_of (plan_of L.layout shape.now) part.now (Action.ReadPage name) }
 {
     match page_of_name::<L>(shape, name) {
         Some(page) => may_touch::<L>(shape, part, page).then_some(Move::ReadPage(page)),
@@ -84,8 +85,9 @@ pub fn read_page<L: KeyLayout>(shape: &Shape, part: &Part, name: PageName) -> Op
 }
 
 /// The move of a take of a page's stack.
+#[tactic(auto, unfolding(crate::specs::Moves::move_of))]
 pub fn take<L: KeyLayout>(shape: &Shape, part: &Part, name: PageName) -> Option<Move>
-    ensures { IsMoveOf (plan_of L.layout shape.now) part.now (Action.Take name) result }
+    ensures { result ≡ move_of (plan_of L.layout shape.now) part.now (Action.Take name) }
 {
     match page_of_name::<L>(shape, name) {
         Some(page) => may_take::<L>(shape, part, page).then_some(Move::Take(page)),
@@ -94,8 +96,9 @@ pub fn take<L: KeyLayout>(shape: &Shape, part: &Part, name: PageName) -> Option<
 }
 
 /// The move of an arming.
+#[tactic(auto, unfolding(crate::specs::Moves::move_of))]
 pub fn arm<L: KeyLayout>(shape: &Shape, part: &Part, name: PageName) -> Option<Move>
-    ensures { IsMoveOf (plan_of L.layout shape.now) part.now (Action.Arm name) result }
+    ensures { result ≡ move_of (plan_of L.layout shape.now) part.now (Action.Arm name) }
 {
     match page_of_name::<L>(shape, name) {
         Some(page) => may_arm::<L>(shape, part, page).then_some(Move::Arm(page)),
@@ -104,13 +107,14 @@ pub fn arm<L: KeyLayout>(shape: &Shape, part: &Part, name: PageName) -> Option<M
 }
 
 /// The move of a change of a page's class.
+#[tactic(auto, unfolding(crate::specs::Moves::move_of))]
 pub fn set_class<L: KeyLayout>(
     shape: &Shape,
     part: &Part,
     name: PageName,
     class: u64,
 ) -> Option<Move>
-    ensures { IsMoveOf (plan_of L.layout shape.now) part.now (Action.SetClass name class) result }
+    ensures { result ≡ move_of (plan_of L.layout shape.now) part.now (Action.SetClass name class) }
 {
     let Some(page) = page_of_name::<L>(shape, name) else {
         return None;
@@ -125,8 +129,9 @@ pub fn set_class<L: KeyLayout>(
 }
 
 /// The move of a page's cursor.
+#[tactic(auto, unfolding(crate::specs::Moves::move_of))]
 pub fn follow<L: KeyLayout>(shape: &Shape, part: &Part, name: PageName) -> Option<Move>
-    ensures { IsMoveOf (plan_of L.layout shape.now) part.now (Action.Follow name) result }
+    ensures { result ≡ move_of (plan_of L.layout shape.now) part.now (Action.Follow name) }
 {
     let Some(page) = page_of_name::<L>(shape, name) else {
         return None;

@@ -28,7 +28,7 @@ const HOLDS_MAX: usize = 16;
 pub struct Part {
     hand: Hand,
     holds: VecDeque<u64>,
-    widths: Notes,
+    class_words: Notes,
     lengths: Notes,
     contents: VecDeque<(u64, u64, u64)>,
     owned: Option<u64>,
@@ -47,7 +47,7 @@ impl Model for Part {
     ghost view = { λ p. record {
       hand = p.hand;
       holds = p.holds.items;
-      widths = p.widths;
+      class_words = p.class_words;
       lengths = p.lengths;
       contents = p.contents.items;
       owned = p.owned;
@@ -65,7 +65,7 @@ impl Part {
         ensures { result ≡ record {
           hand = Idle;
           holds = [];
-          widths = [];
+          class_words = [];
           lengths = [];
           contents = [];
           owned = None;
@@ -79,7 +79,7 @@ impl Part {
         Part {
             hand: Hand::Idle,
             holds: VecDeque::new(alloc),
-            widths: Notes::new(alloc),
+            class_words: Notes::new(alloc),
             lengths: Notes::new(alloc),
             contents: VecDeque::new(alloc),
             owned: None,
@@ -158,10 +158,10 @@ impl Part {
     }
 
     /// The class word of the page of a key that it holds, if it read it.
-    pub fn width_of(&self, key: u64) -> Option<u64>
-        ensures { result ≡ noted key self.now.widths }
+    pub fn class_word_of(&self, key: u64) -> Option<u64>
+        ensures { result ≡ noted key self.now.class_words }
     {
-        self.widths.of(key)
+        self.class_words.of(key)
     }
 
     /// The length of the value of a key that it holds, if it read it.

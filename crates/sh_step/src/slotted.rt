@@ -5,7 +5,7 @@ ghost use Rattle.sh_slots.specs.Slots.{same_spot};
 ghost use Rattle.sh_step.specs.Plans.{plan_of};
 ghost use Rattle.sh_step.specs.Collections.{has};
 ghost use Rattle.sh_step.specs.Rows.{idle, own, class_word_noted};
-ghost use Rattle.sh_step.specs.Moves.{IsMoveOf};
+ghost use Rattle.sh_step.specs.Moves.{move_of};
 
 use crate::names::slot_of_name;
 use crate::operands::width_of_word;
@@ -48,13 +48,14 @@ fn may_fill<L: KeyLayout>(shape: &Shape, part: &Part, spot: Spot, length: u64) -
 }
 
 /// The move of the begin of a filling.
+#[tactic(auto, unfolding(crate::specs::Moves::move_of))]
 pub fn fill_slot<L: KeyLayout>(
     shape: &Shape,
     part: &Part,
     name: SlotName,
     value: &Value,
 ) -> Option<Move>
-    ensures { IsMoveOf (plan_of L.layout shape.now) part.now (Action.FillSlot name value.now) result }
+    ensures { result ≡ move_of (plan_of L.layout shape.now) part.now (Action.FillSlot name value.now) }
 {
     match slot_of_name::<L>(shape, name) {
         Some(spot) => may_fill::<L>(shape, part, spot, value_length(value)).then_some(
@@ -65,8 +66,9 @@ pub fn fill_slot<L: KeyLayout>(
 }
 
 /// The move of a put of a slot of its own.
+#[tactic(auto, unfolding(crate::specs::Moves::move_of))]
 pub fn put_slot<L: KeyLayout>(shape: &Shape, part: &Part, name: SlotName) -> Option<Move>
-    ensures { IsMoveOf (plan_of L.layout shape.now) part.now (Action.PutSlot name) result }
+    ensures { result ≡ move_of (plan_of L.layout shape.now) part.now (Action.PutSlot name) }
 {
     match slot_of_name::<L>(shape, name) {
         Some(spot) => may_put::<L>(shape, part, spot).then_some(Move::PutSlot(spot)),

@@ -8,7 +8,7 @@ use std::process::Abort;
 // What a part shows of a key.
 fn assert_same_key(part: &Part, twin: &Part, key: u64, rt: &impl Abort) {
     agree(part.has_hold(key), twin.has_hold(key), rt);
-    agree(part.width_of(key), twin.width_of(key), rt);
+    agree(part.class_word_of(key), twin.class_word_of(key), rt);
     agree(part.length_of(key), twin.length_of(key), rt);
 }
 

@@ -37,92 +37,29 @@ impl Part {
             Move::EnterGet(key, name) => self.enter_get::<L>(*key, *name, found),
             Move::EnterRemove(key, name) => Ok(self.enter_remove(*key, *name, found)),
             Move::Mark(key, name) => Ok(self.mark(*key, *name, found)),
-            Move::Drop(spot) => {
-                self.drop_hand(*spot, found);
-                Ok(None)
-            }
+            Move::Drop(spot) => Ok(self.drop_hand(*spot, found)),
             Move::DropHold(key, name) => Ok(self.drop_hold(*key, *name, found)),
-            Move::Finish(spot, generation) => {
-                self.finish::<L>(shape, *spot, *generation, found)?;
-                Ok(None)
-            }
-            Move::FillSlot(spot, value) => {
-                self.fill_slot(*spot, value);
-                Ok(None)
-            }
-            Move::Fill(spot, value, i, _) => {
-                self.fill(*spot, value, *i);
-                Ok(None)
-            }
+            Move::Finish(spot, generation) => self.finish::<L>(shape, *spot, *generation, found),
+            Move::FillSlot(spot, value) => Ok(self.fill_slot(*spot, value)),
+            Move::Fill(spot, value, i, _) => Ok(self.fill(*spot, value, *i)),
             Move::Publish(spot, value) => Ok(self.publish::<L>(shape, *spot, value, found)),
-            Move::ReadClass(key, name) => {
-                self.read_class(*key, *name, found)?;
-                Ok(None)
-            }
-            Move::ReadLength(key, name) => {
-                self.read_length(*key, *name, found)?;
-                Ok(None)
-            }
-            Move::ReadWord(key, _, _, i) => {
-                self.read_word(*key, *i, found)?;
-                Ok(None)
-            }
-            Move::ReadPage(page) => {
-                self.read_page(*page, found)?;
-                Ok(None)
-            }
-            Move::SetClass(page, class) => {
-                self.set_class(*page, *class)?;
-                Ok(None)
-            }
-            Move::Take(page) => {
-                self.take(*page, found)?;
-                Ok(None)
-            }
-            Move::Follow(page, slot) => {
-                self.follow(*page, *slot, found)?;
-                Ok(None)
-            }
-            Move::Put(spot) => {
-                self.put(*spot, found);
-                Ok(None)
-            }
-            Move::PutSlot(spot) => {
-                self.put_slot(*spot, found);
-                Ok(None)
-            }
-            Move::Tie(spot, _, ring) => {
-                self.tie(*spot, *ring);
-                Ok(None)
-            }
-            Move::Adopt(shard) => {
-                self.adopt(*shard, found);
-                Ok(None)
-            }
-            Move::Leave(_) => {
-                self.leave();
-                Ok(None)
-            }
-            Move::Arm(page) => {
-                self.arm(*page, found)?;
-                Ok(None)
-            }
-            Move::Ring(page) => {
-                self.ring(shape, *page, found);
-                Ok(None)
-            }
-            Move::RingTie(_, _) => {
-                self.ring_tie();
-                Ok(None)
-            }
-            Move::TakeBell(shard) => {
-                self.take_bell::<L>(shape, *shard, found);
-                Ok(None)
-            }
-            Move::FollowBell(page) => {
-                self.follow_bell::<L>(shape, *page, found);
-                Ok(None)
-            }
+            Move::ReadClass(key, name) => self.read_class(*key, *name, found),
+            Move::ReadLength(key, name) => self.read_length(*key, *name, found),
+            Move::ReadWord(key, _, _, i) => self.read_word(*key, *i, found),
+            Move::ReadPage(page) => self.read_page(*page, found),
+            Move::SetClass(page, class) => self.set_class(*page, *class),
+            Move::Take(page) => self.take(*page, found),
+            Move::Follow(page, slot) => self.follow(*page, *slot, found),
+            Move::Put(spot) => Ok(self.put(*spot, found)),
+            Move::PutSlot(spot) => Ok(self.put_slot(*spot, found)),
+            Move::Tie(spot, _, ring) => Ok(self.tie(*spot, *ring)),
+            Move::Adopt(shard) => Ok(self.adopt(*shard, found)),
+            Move::Leave(_) => Ok(self.leave()),
+            Move::Arm(page) => self.arm(*page, found),
+            Move::Ring(page) => Ok(self.ring(shape, *page, found)),
+            Move::RingTie(_, _) => Ok(self.ring_tie()),
+            Move::TakeBell(shard) => Ok(self.take_bell::<L>(shape, *shard, found)),
+            Move::FollowBell(page) => Ok(self.follow_bell::<L>(shape, *page, found)),
         }
     }
 }

@@ -1,5 +1,5 @@
 //! What actions on what a pass has begun leave in its own part.
-ghost use Rattle.std.specs.Prelude.{◌≡◌, ◌+◌, ◌≤◌, ℕ, IfErr, OnOk, OnErr};
+ghost use Rattle.std.specs.Prelude.{◌≡◌, ◌+◌, ◌≤◌, ℕ, IfOk, IfErr, OnOk, OnErr};
 ghost use Rattle.sh_shape.specs.Places.{all_pages};
 ghost use Rattle.sh_step.specs.Plans.{Plan, plan_of};
 ghost use Rattle.sh_step.specs.Parts.{ListGrows};
@@ -11,16 +11,18 @@ use crate::paged::owns;
 use sh_bell::{is_armed, top_of};
 use sh_key::KeyLayout;
 use sh_shape::Shape;
-use sh_slots::{Hand, Spot, after_drop, is_reusable_after};
+use sh_slots::{Hand, Reply, Spot, after_drop, is_reusable_after};
 use sh_stack::link_over;
 use sh_value::Refusal;
 
 impl Part {
     // A drop of what it leaves that found this word.
-    pub(super) fn drop_hand(&mut self, spot: Spot, found: u64)
-        ensures { self.new ≡ (drop_hand self.old spot).part found }
+    pub(super) fn drop_hand(&mut self, spot: Spot, found: u64) -> Option<Reply>
+        ensures reply { result ≡ (drop_hand self.old spot).reply found }
+        ensures part { self.new ≡ (drop_hand self.old spot).part found }
     {
         self.hand = after_drop(spot, found);
+        None
     }
 
     // The end of a generation that found this word: the slot is then its own where its shard is, and else to be put.
@@ -30,7 +32,9 @@ impl Part {
         spot: Spot,
         generation: u32,
         found: u64,
-    ) -> Result<(), Refusal>
+    ) -> Result<Option<Reply>, Refusal>
+        ensures reply { IfOk result (λ reply. reply ≡ (finish (plan_of L.layout shape.now) self.old spot
+            generation).reply found) }
         ensures part { OnOk result (self.new ≡ (finish (plan_of L.layout shape.now) self.old spot generation).part
             found) }
         ensures err { OnErr result (self.new ≡ self.old) }
@@ -46,41 +50,49 @@ impl Part {
         } else {
             self.hand = Hand::ToPut(spot);
         }
-        Ok(())
+        Ok(None)
     }
 
     // A put that found this head word: the link is to be stored, and then to be rung where the flag was found.
-    pub(super) fn put(&mut self, spot: Spot, found: u64)
-        ensures { self.new ≡ (put_at self.old spot).part found }
+    pub(super) fn put(&mut self, spot: Spot, found: u64) -> Option<Reply>
+        ensures reply { result ≡ (put_at self.old spot).reply found }
+        ensures part { self.new ≡ (put_at self.old spot).part found }
     {
         self.hand = Hand::Tying(spot, link_over(top_of(found)), is_armed(found));
+        None
     }
 
     // The store of a slot's link.
-    pub(super) fn tie(&mut self, spot: Spot, ring: bool)
-        ensures { (link found : ℕ) → self.new ≡ (tie self.old spot link ring).part found }
+    pub(super) fn tie(&mut self, spot: Spot, ring: bool) -> Option<Reply>
+        ensures reply { (link found : ℕ) → result ≡ (tie self.old spot link ring).reply found }
+        ensures part { (link found : ℕ) → self.new ≡ (tie self.old spot link ring).part found }
     {
         self.hand = if ring {
             Hand::Ringing(spot.page)
         } else {
             Hand::Idle
         };
+        None
     }
 
     // A ring that found this word on the bell.
     #[tactic(auto, using(sh_shape::proofs::PlaceLaws::few_pages))]
-    pub(super) fn ring(&mut self, shape: &Shape, page: u64, found: u64)
+    pub(super) fn ring(&mut self, shape: &Shape, page: u64, found: u64) -> Option<Reply>
         requires { found ≤ all_pages shape.now + 1 }
-        ensures { (plan : Plan) → self.new ≡ (ring plan self.old page).part found }
+        ensures reply { (plan : Plan) → result ≡ (ring plan self.old page).reply found }
+        ensures part { (plan : Plan) → self.new ≡ (ring plan self.old page).part found }
     {
         let _pages = shape.pages();
         self.hand = Hand::RingTying(page, link_over(found));
+        None
     }
 
     // The store of a page's link.
-    pub(super) fn ring_tie(&mut self)
-        ensures { (page link found : ℕ) → self.new ≡ (ring_tie self.old page link).part found }
+    pub(super) fn ring_tie(&mut self) -> Option<Reply>
+        ensures reply { (page link found : ℕ) → result ≡ (ring_tie self.old page link).reply found }
+        ensures part { (page link found : ℕ) → self.new ≡ (ring_tie self.old page link).part found }
     {
         self.hand = Hand::Idle;
+        None
     }
 }

@@ -79,7 +79,7 @@ impl Part {
     {
         remove_number(&mut self.holds, key);
         if !has_number(&self.holds, key) {
-            self.widths.forget(key);
+            self.class_words.forget(key);
             self.lengths.forget(key);
             forget_words(&mut self.contents, key);
         }
@@ -96,27 +96,48 @@ impl Part {
     }
 
     // A read of the class of a held key's page.
-    pub(super) fn read_class(&mut self, key: u64, name: Name, found: u64) -> Result<(), Refusal>
+    pub(super) fn read_class(
+        &mut self,
+        key: u64,
+        name: Name,
+        found: u64,
+    ) -> Result<Option<Reply>, Refusal>
+        ensures reply { IfOk result (λ reply. reply ≡ (read_class self.old key name).reply found) }
         ensures part { OnOk result (self.new ≡ (read_class self.old key name).part found) }
         ensures err { OnErr result (self.new ≡ self.old) }
         ensures grows { OnErr result (ListGrows self.old ((read_class self.old key name).part found)) }
         ensures memory { IfErr result (λ refusal. refusal ≡ Refusal.Memory) }
     {
-        self.widths.put(key, found)
+        self.class_words.put(key, found)?;
+        Ok(None)
     }
 
     // A read of the length of a held key's value.
-    pub(super) fn read_length(&mut self, key: u64, name: Name, found: u64) -> Result<(), Refusal>
+    pub(super) fn read_length(
+        &mut self,
+        key: u64,
+        name: Name,
+        found: u64,
+    ) -> Result<Option<Reply>, Refusal>
+        ensures reply { IfOk result (λ reply. reply ≡ (read_length self.old key name).reply found) }
         ensures part { OnOk result (self.new ≡ (read_length self.old key name).part found) }
         ensures err { OnErr result (self.new ≡ self.old) }
         ensures grows { OnErr result (ListGrows self.old ((read_length self.old key name).part found)) }
         ensures memory { IfErr result (λ refusal. refusal ≡ Refusal.Memory) }
     {
-        self.lengths.put(key, found)
+        self.lengths.put(key, found)?;
+        Ok(None)
     }
 
     // A read of a word, of this number, of a held key's value.
-    pub(super) fn read_word(&mut self, key: u64, i: u64, found: u64) -> Result<(), Refusal>
+    pub(super) fn read_word(
+        &mut self,
+        key: u64,
+        i: u64,
+        found: u64,
+    ) -> Result<Option<Reply>, Refusal>
+        ensures reply { (name : Name) (class_word : ℕ) → IfOk result
+            (λ reply. reply ≡ (read_word self.old key name class_word i).reply found) }
         ensures part { (name : Name) (class_word : ℕ) → OnOk result
             (self.new ≡ (read_word self.old key name class_word i).part found) }
         ensures err { OnErr result (self.new ≡ self.old) }
@@ -124,6 +145,7 @@ impl Part {
             (ListGrows self.old ((read_word self.old key name class_word i).part found)) }
         ensures memory { IfErr result (λ refusal. refusal ≡ Refusal.Memory) }
     {
-        put_first(&mut self.contents, (key, i, found))
+        put_first(&mut self.contents, (key, i, found))?;
+        Ok(None)
     }
 }

@@ -9,6 +9,7 @@ use crate::lists::remove_number;
 use sh_bell::{home_of, named_over_heap};
 use sh_key::KeyLayout;
 use sh_shape::Shape;
+use sh_slots::Reply;
 use sh_stack::{link_item, top_item};
 
 // A word of the shard that names its page p as p + `base`, and none below `base`: the same with the page's number over
@@ -24,8 +25,9 @@ fn over_heap<L: KeyLayout>(shape: &Shape, shard: u64, base: u64, word: u64) -> u
 
 impl Part {
     // An adoption that found this word: the shard is its own where it was nobody's, and it knows nothing of it yet.
-    pub(super) fn adopt(&mut self, shard: u64, found: u64)
-        ensures { self.new ≡ (adopt self.old shard).part found }
+    pub(super) fn adopt(&mut self, shard: u64, found: u64) -> Option<Reply>
+        ensures reply { result ≡ (adopt self.old shard).reply found }
+        ensures part { self.new ≡ (adopt self.old shard).part found }
     {
         if found == 0 {
             self.owned = Some(shard);
@@ -35,35 +37,52 @@ impl Part {
             self.armed.clear();
             self.bell_cursor = None;
         }
+        None
     }
 
     // A leave.
-    pub(super) fn leave(&mut self)
-        ensures { (shard found : ℕ) → self.new ≡ (leave self.old shard).part found }
+    pub(super) fn leave(&mut self) -> Option<Reply>
+        ensures reply { (shard found : ℕ) → result ≡ (leave self.old shard).reply found }
+        ensures part { (shard found : ℕ) → self.new ≡ (leave self.old shard).part found }
     {
         self.owned = None;
+        None
     }
 
     // A take of the shard's bell that found this word.
-    pub(super) fn take_bell<L: KeyLayout>(&mut self, shape: &Shape, shard: u64, found: u64)
+    pub(super) fn take_bell<L: KeyLayout>(
+        &mut self,
+        shape: &Shape,
+        shard: u64,
+        found: u64,
+    ) -> Option<Reply>
         requires shard { shard < shape.now.shards }
         requires word { found ≤ all_pages shape.now + 1 }
-        ensures { self.new ≡ (take_bell (plan_of L.layout shape.now) self.old shard).part found }
+        ensures reply { result ≡ (take_bell (plan_of L.layout shape.now) self.old shard).reply found }
+        ensures part { self.new ≡ (take_bell (plan_of L.layout shape.now) self.old shard).part found }
     {
         self.bell_cursor = top_item(over_heap::<L>(shape, shard, 1, found));
+        None
     }
 
     // A read of the link of a page of the bell that found this word: once it is written the page is off the bell.
     #[tactic(auto, using(crate::proofs::PageLaws::home_is_shard), unfolding(crate::specs::Plans::home))]
-    pub(super) fn follow_bell<L: KeyLayout>(&mut self, shape: &Shape, page: u64, found: u64)
+    pub(super) fn follow_bell<L: KeyLayout>(
+        &mut self,
+        shape: &Shape,
+        page: u64,
+        found: u64,
+    ) -> Option<Reply>
         requires page { page < all_pages shape.now }
         requires word { found ≤ all_pages shape.now + 1 }
-        ensures { self.new ≡ (follow_bell (plan_of L.layout shape.now) self.old page).part found }
+        ensures reply { result ≡ (follow_bell (plan_of L.layout shape.now) self.old page).reply found }
+        ensures part { self.new ≡ (follow_bell (plan_of L.layout shape.now) self.old page).part found }
     {
         if found != 0 {
             let shard = home_of(u64::from(shape.pages()), page);
             self.bell_cursor = link_item(over_heap::<L>(shape, shard, 2, found));
             remove_number(&mut self.armed, page);
         }
+        None
     }
 }

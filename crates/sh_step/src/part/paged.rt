@@ -1,5 +1,5 @@
 //! What actions on pages leave in a pass's own part.
-ghost use Rattle.std.specs.Prelude.{◌≡◌, ◌<◌, ℕ, length, IfErr, OnOk, OnErr};
+ghost use Rattle.std.specs.Prelude.{◌≡◌, ◌<◌, ℕ, length, IfOk, IfErr, OnOk, OnErr};
 ghost use Rattle.sh_bell.specs.Bell.{top_of};
 ghost use Rattle.sh_step.specs.Parts.{ListGrows};
 ghost use Rattle.sh_step.specs.Rows.{read_page, set_class, take_page, follow, arm, point};
@@ -8,7 +8,7 @@ use super::Part;
 use crate::lists::{make_room, put_first, put_in_room, remove_note, remove_number};
 use crate::operands::slots_of_word;
 use sh_bell::{is_armed, top_of};
-use sh_slots::Spot;
+use sh_slots::{Reply, Spot};
 use sh_stack::{Link, top_item};
 use sh_value::Refusal;
 use std::collections::VecDeque;
@@ -28,17 +28,20 @@ fn point_to_top(cursors: &mut VecDeque<(u64, u64)>, page: u64, head: u64) -> Res
 
 impl Part {
     // A read of a page's class.
-    pub(super) fn read_page(&mut self, page: u64, found: u64) -> Result<(), Refusal>
+    pub(super) fn read_page(&mut self, page: u64, found: u64) -> Result<Option<Reply>, Refusal>
+        ensures reply { IfOk result (λ reply. reply ≡ (read_page self.old page).reply found) }
         ensures part { OnOk result (self.new ≡ (read_page self.old page).part found) }
         ensures err { OnErr result (self.new ≡ self.old) }
         ensures grows { OnErr result (ListGrows self.old ((read_page self.old page).part found)) }
         ensures memory { IfErr result (λ refusal. refusal ≡ Refusal.Memory) }
     {
-        self.classes.put(page, found)
+        self.classes.put(page, found)?;
+        Ok(None)
     }
 
     // The change of a page's class: all its slots are then its own, and none but those.
-    pub(super) fn set_class(&mut self, page: u64, class: u32) -> Result<(), Refusal>
+    pub(super) fn set_class(&mut self, page: u64, class: u32) -> Result<Option<Reply>, Refusal>
+        ensures reply { (found : ℕ) → IfOk result (λ reply. reply ≡ (set_class self.old page class).reply found) }
         ensures part { (found : ℕ) → OnOk result (self.new ≡ (set_class self.old page class).part found) }
         ensures err { OnErr result (self.new ≡ self.old) }
         ensures grows { (found : ℕ) → OnErr result (ListGrows self.old ((set_class self.old page class).part found)) }
@@ -46,11 +49,13 @@ impl Part {
     {
         let word = u64::from(class) + 1;
         let count = slots_of_word(word);
-        self.mine.set_class(page, count, &mut self.classes, word)
+        self.mine.set_class(page, count, &mut self.classes, word)?;
+        Ok(None)
     }
 
     // A take that found this head word.
-    pub(super) fn take(&mut self, page: u64, found: u64) -> Result<(), Refusal>
+    pub(super) fn take(&mut self, page: u64, found: u64) -> Result<Option<Reply>, Refusal>
+        ensures reply { IfOk result (λ reply. reply ≡ (take_page self.old page).reply found) }
         ensures part { OnOk result (self.new ≡ (take_page self.old page).part found) }
         ensures err { OnErr result (self.new ≡ self.old) }
         ensures grows { OnErr result (ListGrows self.old ((take_page self.old page).part found)) }
@@ -60,11 +65,12 @@ impl Part {
         if is_armed(found) {
             remove_number(&mut self.armed, page);
         }
-        Ok(())
+        Ok(None)
     }
 
     // A read of the link of a page's slot that found this word: the slot is its own once the link is written.
-    pub(super) fn follow(&mut self, page: u64, slot: u64, found: u64) -> Result<(), Refusal>
+    pub(super) fn follow(&mut self, page: u64, slot: u64, found: u64) -> Result<Option<Reply>, Refusal>
+        ensures reply { IfOk result (λ reply. reply ≡ (follow self.old page slot).reply found) }
         ensures part { OnOk result (self.new ≡ (follow self.old page slot).part found) }
         ensures err { OnErr result (self.new ≡ self.old) }
         ensures grows { OnErr result (ListGrows self.old ((follow self.old page slot).part found)) }
@@ -83,11 +89,12 @@ impl Part {
                 put_in_room(&mut self.cursors, (page, next));
             }
         }
-        Ok(())
+        Ok(None)
     }
 
     // An arming that found this head word.
-    pub(super) fn arm(&mut self, page: u64, found: u64) -> Result<(), Refusal>
+    pub(super) fn arm(&mut self, page: u64, found: u64) -> Result<Option<Reply>, Refusal>
+        ensures reply { IfOk result (λ reply. reply ≡ (arm self.old page).reply found) }
         ensures part { OnOk result (self.new ≡ (arm self.old page).part found) }
         ensures err { OnErr result (self.new ≡ self.old) }
         ensures grows { OnErr result (ListGrows self.old ((arm self.old page).part found)) }
@@ -96,6 +103,6 @@ impl Part {
         make_room(&mut self.armed, 1)?;
         point_to_top(&mut self.cursors, page, found)?;
         put_in_room(&mut self.armed, page);
-        Ok(())
+        Ok(None)
     }
 }

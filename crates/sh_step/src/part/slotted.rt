@@ -15,19 +15,23 @@ use sh_value::Value;
 
 impl Part {
     // The begin of a filling.
-    pub(super) fn fill_slot(&mut self, spot: Spot, value: &Value)
-        ensures { (found : ℕ) → self.new ≡ (fill_slot self.old spot value.now).part found }
+    pub(super) fn fill_slot(&mut self, spot: Spot, value: &Value) -> Option<Reply>
+        ensures reply { (found : ℕ) → result ≡ (fill_slot self.old spot value.now).reply found }
+        ensures part { (found : ℕ) → self.new ≡ (fill_slot self.old spot value.now).part found }
     {
         self.mine.remove(spot);
         self.hand = Hand::Filling(spot, value.copy(), 0);
+        None
     }
 
     // The store of the value's word of this number.
-    pub(super) fn fill(&mut self, spot: Spot, value: &Value, i: u64)
+    pub(super) fn fill(&mut self, spot: Spot, value: &Value, i: u64) -> Option<Reply>
         requires { i + 1 < 2 ^ 64 }
-        ensures { (found : ℕ) → self.new ≡ (fill self.old spot value.now i).part found }
+        ensures reply { (found : ℕ) → result ≡ (fill self.old spot value.now i).reply found }
+        ensures part { (found : ℕ) → self.new ≡ (fill self.old spot value.now i).part found }
     {
         self.hand = Hand::Filling(spot, value.copy(), i + 1);
+        None
     }
 
     // The end of a filling that found this state word: the value is inserted under the slot's key in the generation
@@ -52,11 +56,13 @@ impl Part {
     }
 
     // A put of a slot of its own that found this head word.
-    pub(super) fn put_slot(&mut self, spot: Spot, found: u64)
-        ensures { self.new ≡ (put_at (record self.old { mine = without (same_spot spot) self.old.mine }) spot).part
+    pub(super) fn put_slot(&mut self, spot: Spot, found: u64) -> Option<Reply>
+        ensures reply { result ≡ (put_at (record self.old { mine = without (same_spot spot) self.old.mine }) spot).reply
+            found }
+        ensures part { self.new ≡ (put_at (record self.old { mine = without (same_spot spot) self.old.mine }) spot).part
             found }
     {
         self.mine.remove(spot);
-        self.put(spot, found);
+        self.put(spot, found)
     }
 }

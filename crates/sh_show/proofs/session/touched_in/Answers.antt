@@ -2,7 +2,7 @@ use Rattle.std.proofs.Common.{rules, ap, sym, refl, ◌∙◌, ◌≡◌, ◌<�
 use Rattle.std.specs.Prelude.{is_none}
 use Rattle.std.proofs.lemmas.Option.{slice_get_read, slice_get_past}
 use Rattle.sh_step.specs.Plans.{plan_of}
-use Rattle.sh_step.specs.Rows.{row}
+use Rattle.sh_step.specs.Moves.{row}
 use Rattle.sh_show.proofs.Skips.{row_of_body, row_of_none}
 use Rattle.sh_show.proofs.session.touched_in.Goals as goal
 

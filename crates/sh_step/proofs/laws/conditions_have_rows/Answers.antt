@@ -1,9 +1,9 @@
-use Rattle.sh_step.proofs.ConditionLaws.{meets}
-use Rattle.sh_step.proofs.RowLaws.{row_of_met}
+use Rattle.sh_step.proofs.ConditionLaws.{gives_what_may_be}
+use Rattle.sh_step.proofs.RowLaws.{gives_all_that_may_be}
 use Rattle.sh_step.proofs.laws.conditions_have_rows.Goals as goal
 
 pub returns-clause-only : goal.returns-clause-only
-returns-clause-only c = meets
+returns-clause-only c = gives_what_may_be
 
 pub returns-clause-each : goal.returns-clause-each
-returns-clause-each c = row_of_met
+returns-clause-each c = gives_all_that_may_be

@@ -4,6 +4,7 @@ use Rattle.std.proofs.lemmas.Option.{slice_get-get_or, slice_get_past}
 use Rattle.sh_step.specs.declared.body.Body.{Body}
 use Rattle.sh_step.specs.Moves.{row_of}
 use Rattle.sh_step.specs.Plans.{plan_of}
+use Rattle.sh_step.proofs.MoveLaws.{row_of_made}
 use Rattle.sh_core.specs.declared.outcome.Outcome.TheVariants.{Skipped}
 use Rattle.sh_core.specs.Kept.{KeptWorld, StepsWorld, IsDone, NeedsMemory}
 use Rattle.sh_core.proofs.Doing.{reached_after, steps_after, done_after, needs_after, steps_past, steps_skipped}
@@ -28,7 +29,7 @@ do_move-requires g c =
     let at = slice_get-get_or c.self.inside.parts.items c.args.event.now.pass c.index_mut-part.result.now (omega arith)
     ∙ ap (λ (p : Body). Some p) (sym c.index_mut-part.ensures.value) in
     ready g.L.KeyLayout.layout _ c.args.event.now.pass c.index_mut-part.result.now c.args.event.now.action _
-    c.self.invariant at (c.in-Some.ensures)
+    c.self.invariant at (row_of_made _ _ _ _ c.in-Some.ensures)
 
 pub invariant_of-self : goal.invariant_of-self
 invariant_of-self g c =
@@ -37,7 +38,7 @@ invariant_of-self g c =
     let less = c.if-pass-len.false in
     let at = slice_get-get_or c.self.inside.parts.items c.args.event.now.pass c.index_mut-part.result.now (omega arith)
     ∙ ap (λ (p : Body). Some p) (sym c.index_mut-part.ensures.value) in
-    let is = c.in-Some.ensures in
+    let is = row_of_made _ _ _ _ c.in-Some.ensures in
     let row = row_of (plan_of g.L.KeyLayout.layout c.self.inside.shape) c.index_mut-part.result.now c.in-Some.the_move
     in
     let t = ready g.L.KeyLayout.layout _ c.args.event.now.pass c.index_mut-part.result.now c.args.event.now.action row
@@ -53,7 +54,7 @@ returns-in-Some-clause-ok g c =
     let less = c.if-pass-len.false in
     let at = slice_get-get_or c.self.inside.parts.items c.args.event.now.pass c.index_mut-part.result.now (omega arith)
     ∙ ap (λ (p : Body). Some p) (sym c.index_mut-part.ensures.value) in
-    let is = c.in-Some.ensures in
+    let is = row_of_made _ _ _ _ c.in-Some.ensures in
     let row = row_of (plan_of g.L.KeyLayout.layout c.self.inside.shape) c.index_mut-part.result.now c.in-Some.the_move
     in
     let t = ready g.L.KeyLayout.layout _ c.args.event.now.pass c.index_mut-part.result.now c.args.event.now.action row
@@ -76,7 +77,7 @@ returns-in-Some-clause-done g c =
     let less = c.if-pass-len.false in
     let at = slice_get-get_or c.self.inside.parts.items c.args.event.now.pass c.index_mut-part.result.now (omega arith)
     ∙ ap (λ (p : Body). Some p) (sym c.index_mut-part.ensures.value) in
-    let is = c.in-Some.ensures in
+    let is = row_of_made _ _ _ _ c.in-Some.ensures in
     let row = row_of (plan_of g.L.KeyLayout.layout c.self.inside.shape) c.index_mut-part.result.now c.in-Some.the_move
     in
     let t = ready g.L.KeyLayout.layout _ c.args.event.now.pass c.index_mut-part.result.now c.args.event.now.action row
@@ -103,8 +104,8 @@ returns-in-Some-clause-needs g c =
     } in
     subst (λ (k : KeptWorld). OnErr c.do_move.result (NeedsMemory g.L.KeyLayout.layout k c.args.event.now))
     c.self.view_is
-    (needs_after g.L.KeyLayout.layout k c.args.event.now c.index_mut-part.result.now row at c.in-Some.ensures
-    c.do_move.result c.do_move.ensures.asks)
+    (needs_after g.L.KeyLayout.layout k c.args.event.now c.index_mut-part.result.now row at
+    (row_of_made _ _ _ _ c.in-Some.ensures) c.do_move.result c.do_move.ensures.asks)
 
 pub returns-in-None-clause-ok : goal.returns-in-None-clause-ok
 returns-in-None-clause-ok g c =
@@ -122,8 +123,8 @@ returns-in-None-clause-ok g c =
     } in
     let same : set k.parts c.args.event.now.pass c.index_mut-part.result.now
     ≡ k.parts = set_here k.parts c.args.event.now.pass c.index_mut-part.result.now at in
-    let skips = steps_skipped g.L.KeyLayout.layout k c.args.event.now c.index_mut-part.result.now at c.in-None.ensures
-    in
+    let skips = steps_skipped g.L.KeyLayout.layout k c.args.event.now c.index_mut-part.result.now at
+    (row_of_made _ _ _ _ c.in-None.ensures) in
     subst (λ (b : KeptWorld). StepsWorld g.L.KeyLayout.layout b c.args.event.now Skipped
     (record k { parts = set k.parts c.args.event.now.pass c.index_mut-part.result.now })) c.self.view_is
     (subst (λ (ps : List Body). StepsWorld g.L.KeyLayout.layout k c.args.event.now Skipped (record k { parts = ps }))

@@ -4,7 +4,7 @@ use Rattle.sh_step.specs.declared.moves.Move.TheVariants as move
 use Rattle.sh_slots.specs.declared.hand.Spot.{Spot}
 use Rattle.sh_slots.specs.Slots.{after_drop}
 use Rattle.sh_step.specs.Collections.{without}
-use Rattle.sh_step.proofs.MoveLaws.{DropHold_none}
+use Rattle.sh_step.proofs.MoveLaws.{no_drop}
 use Rattle.sh_pass.specs.Busy.{IsBusy}
 use Rattle.sh_pass.proofs.MayLaws.{may_drop_hold}
 use Rattle.sh_pass.proofs.HeldLaws.{kept_less, hold_found, no_hold}
@@ -25,7 +25,7 @@ returns-in_default-find-clause-acts g c = not_held g.L.KeyLayout.layout c.args.s
 
 pub returns-in_default-place_of_key-clause-acts : goal.returns-in_default-place_of_key-clause-acts
 returns-in_default-place_of_key-clause-acts g c = refused_row g.L.KeyLayout.layout c.args.self.now.seat.me.0
-    (action.DropHold c.args.key) (DropHold_none _ c.args.self.now.seat.me.0.own.body c.args.key
+    (action.DropHold c.args.key) (no_drop _ c.args.self.now.seat.me.0.own.body c.args.key
     (named_here g.L.KeyLayout.layout c.shape.result.now c.args.self.now.seat.me.0.shape c.args.key _ None
     (c.shape.ensures ∙ sym c.requires.seat.shape) c.place_of_key.ensures c.in_default-place_of_key.is))
 

@@ -6,7 +6,7 @@ use Rattle.sh_slots.specs.declared.hand.Hand.TheVariants.{Leaving}
 use Rattle.sh_slots.specs.declared.hand.Spot.{Spot}
 use Rattle.sh_step.specs.Plans.{plan_of}
 use Rattle.sh_step.specs.Rows.{hand}
-use Rattle.sh_step.proofs.MoveLaws.{EnterGet_none}
+use Rattle.sh_step.proofs.MoveLaws.{no_get}
 use Rattle.sh_pass.specs.Busy.{IsBusy}
 use Rattle.sh_pass.specs.Growing.{got}
 use Rattle.sh_pass.proofs.MayLaws.{may_enter_get}
@@ -29,7 +29,7 @@ returns-then-is_full-clause-acts g c = holds_full g.L.KeyLayout.layout c.args.se
 
 pub returns-in_default-place_of_key-clause-acts : goal.returns-in_default-place_of_key-clause-acts
 returns-in_default-place_of_key-clause-acts g c = refused_row g.L.KeyLayout.layout c.args.self.now.seat.me.0
-    (action.EnterGet c.args.key) (EnterGet_none _ c.args.self.now.seat.me.0.own.body c.args.key
+    (action.EnterGet c.args.key) (no_get _ c.args.self.now.seat.me.0.own.body c.args.key
     (named_here g.L.KeyLayout.layout c.shape.result.now c.args.self.now.seat.me.0.shape c.args.key _ None
     (c.shape.ensures ∙ sym c.requires.seat.shape) c.place_of_key.ensures c.in_default-place_of_key.is))
 

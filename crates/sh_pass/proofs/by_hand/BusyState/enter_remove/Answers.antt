@@ -1,7 +1,7 @@
 use Rattle.std.proofs.Common.{Some, None, refl, ◌∙◌, sym}
 use Rattle.sh_step.specs.declared.action.Action.TheVariants as action
 use Rattle.sh_step.specs.declared.moves.Move.TheVariants as move
-use Rattle.sh_step.proofs.MoveLaws.{EnterRemove_none}
+use Rattle.sh_step.proofs.MoveLaws.{no_remove}
 use Rattle.sh_pass.proofs.MayLaws.{may_enter_remove}
 use Rattle.sh_pass.proofs.BusyLaws.{not_idle_to_remove, refused_row, named_here, done}
 use Rattle.sh_pass.proofs.by_hand.BusyState.enter_remove.Goals as goal
@@ -15,7 +15,7 @@ returns-in_default g c = record {
 
 pub returns-in_default-place_of_key-clause-acts : goal.returns-in_default-place_of_key-clause-acts
 returns-in_default-place_of_key-clause-acts g c = refused_row g.L.KeyLayout.layout c.args.self.now.seat.me.0
-    (action.EnterRemove c.args.key) (EnterRemove_none _ c.args.self.now.seat.me.0.own.body c.args.key
+    (action.EnterRemove c.args.key) (no_remove _ c.args.self.now.seat.me.0.own.body c.args.key
     (named_here g.L.KeyLayout.layout c.shape.result.now c.args.self.now.seat.me.0.shape c.args.key _ None
     (c.shape.ensures ∙ sym c.requires.seat.shape) c.place_of_key.ensures c.in_default-place_of_key.is))
 

@@ -47,42 +47,42 @@ returns-in-EnterRemove-clause-part g c =
 pub returns-in-FillSlot-clause-part : goal.returns-in-FillSlot-clause-part
 returns-in-FillSlot-clause-part g c =
     let plan = plan_of g.L.KeyLayout.layout c.args.shape.now in
-    c.fill_slot.ensures c.args.found ∙ same_left plan c.args.self.now c.args.found _ _ c.in-FillSlot.is
+    c.fill_slot.ensures.part c.args.found ∙ same_left plan c.args.self.now c.args.found _ _ c.in-FillSlot.is
 
 pub returns-in-Fill-clause-part : goal.returns-in-Fill-clause-part
 returns-in-Fill-clause-part g c =
     let plan = plan_of g.L.KeyLayout.layout c.args.shape.now in
-    c.fill.ensures c.args.found ∙ same_left plan c.args.self.now c.args.found _ _ c.in-Fill.is
+    c.fill.ensures.part c.args.found ∙ same_left plan c.args.self.now c.args.found _ _ c.in-Fill.is
 
-pub returns-in_ok-read_word-in-ReadWord-clause-part : goal.returns-in_ok-read_word-in-ReadWord-clause-part
-returns-in_ok-read_word-in-ReadWord-clause-part g c =
+pub returns-in-ReadWord-clause-part : goal.returns-in-ReadWord-clause-part
+returns-in-ReadWord-clause-part g c =
     let plan = plan_of g.L.KeyLayout.layout c.args.shape.now in
-    c.in_ok-read_word-in-ReadWord.ensures.part c.in-ReadWord.field-1 c.in-ReadWord.field-2
+    c.read_word.ensures.part c.in-ReadWord.field-1 c.in-ReadWord.field-2
     ∙ same_left plan c.args.self.now c.args.found _ _ c.in-ReadWord.is
 
-pub returns-in_ok-set_class-in-SetClass-clause-part : goal.returns-in_ok-set_class-in-SetClass-clause-part
-returns-in_ok-set_class-in-SetClass-clause-part g c =
+pub returns-in-SetClass-clause-part : goal.returns-in-SetClass-clause-part
+returns-in-SetClass-clause-part g c =
     let plan = plan_of g.L.KeyLayout.layout c.args.shape.now in
-    c.in_ok-set_class-in-SetClass.ensures.part c.args.found ∙ same_left plan c.args.self.now c.args.found _ _
+    c.set_class.ensures.part c.args.found ∙ same_left plan c.args.self.now c.args.found _ _
     c.in-SetClass.is
 
 pub returns-in-Tie-clause-part : goal.returns-in-Tie-clause-part
 returns-in-Tie-clause-part g c =
     let plan = plan_of g.L.KeyLayout.layout c.args.shape.now in
-    c.tie.ensures c.in-Tie.field-1 c.args.found ∙ same_left plan c.args.self.now c.args.found _ _ c.in-Tie.is
+    c.tie.ensures.part c.in-Tie.field-1 c.args.found ∙ same_left plan c.args.self.now c.args.found _ _ c.in-Tie.is
 
 pub returns-in-Leave-clause-part : goal.returns-in-Leave-clause-part
 returns-in-Leave-clause-part g c =
     let plan = plan_of g.L.KeyLayout.layout c.args.shape.now in
-    c.leave.ensures c.in-Leave.field-0 c.args.found ∙ same_left plan c.args.self.now c.args.found _ _ c.in-Leave.is
+    c.leave.ensures.part c.in-Leave.field-0 c.args.found ∙ same_left plan c.args.self.now c.args.found _ _ c.in-Leave.is
 
 pub returns-in-Ring-clause-part : goal.returns-in-Ring-clause-part
 returns-in-Ring-clause-part g c =
     let plan = plan_of g.L.KeyLayout.layout c.args.shape.now in
-    c.ring.ensures plan ∙ same_left plan c.args.self.now c.args.found _ _ c.in-Ring.is
+    c.ring.ensures.part plan ∙ same_left plan c.args.self.now c.args.found _ _ c.in-Ring.is
 
 pub returns-in-RingTie-clause-part : goal.returns-in-RingTie-clause-part
 returns-in-RingTie-clause-part g c =
     let plan = plan_of g.L.KeyLayout.layout c.args.shape.now in
-    c.ring_tie.ensures c.in-RingTie.field-0 c.in-RingTie.field-1 c.args.found
+    c.ring_tie.ensures.part c.in-RingTie.field-0 c.in-RingTie.field-1 c.args.found
     ∙ same_left plan c.args.self.now c.args.found _ _ c.in-RingTie.is

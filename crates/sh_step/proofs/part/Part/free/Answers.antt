@@ -13,7 +13,7 @@ returns-then-not-has_number c =
     ap (λ xs. has (λ j. j == k) xs) (sym holds) ∙ (sym c.has_number.ensures ∙ c.if-not-has_number.true) in
     let left = record p {
       holds = without (λ j. j == k) p.holds;
-      widths = off (λ x. x.0 == k) p.widths;
+      class_words = off (λ x. x.0 == k) p.class_words;
       lengths = off
           (λ x. x.0 == k) p.lengths;
       contents = off (λ x. x.0 == k) p.contents;
