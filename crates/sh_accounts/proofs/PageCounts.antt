@@ -21,7 +21,7 @@ use Rattle.sh_core.specs.Lists.{PutLists, accounts, among, class_named, lists_of
 use Rattle.sh_core.specs.Lists.{state_of, times}
 use Rattle.sh_core.specs.Refines.{Always, KindsAddUp, ClassesAreKnown, kind_count}
 use Rattle.sh_core.specs.Worlds.{World, run}
-use Rattle.sh_core.proofs.ClassSlots.{under_class}
+use Rattle.sh_core.proofs.Sums.ClassSlots.{under_class}
 use Rattle.sh_accounts.specs.declared.kinds.SlotKind.{SlotKind}
 use Rattle.sh_accounts.specs.declared.kinds.SlotKind.TheVariants.{Live, Marked, Retired, Mine, Hand, Queued}
 use Rattle.sh_accounts.specs.Kinds.{is, slot_kind_by}

@@ -15,7 +15,7 @@ use Rattle.sh_step.specs.Plans.{Plan, plan_of, keys_of}
 use Rattle.sh_step.specs.Collections.{total}
 use Rattle.sh_core.specs.Lists.{times}
 use Rattle.sh_core.specs.Worlds.{World, step, apply, run, run_from, open_world, joined}
-use Rattle.sh_core.proofs.RunTheorem.{theorem}
+use Rattle.sh_core.proofs.Clauses.RunTheorem.{theorem}
 
 -- no key has more holds, and none was released more often than it was got
 abbrev pub FewHolds : (guard_max : ℕ) → List Entry → Type 0

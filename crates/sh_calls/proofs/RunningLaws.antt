@@ -16,7 +16,7 @@ use Rattle.sh_step.specs.Moves.{place_named}
 use Rattle.sh_step.specs.Collections.{has}
 use Rattle.sh_step.specs.Plans.{plan_of}
 use Rattle.sh_core.specs.Lists.{times}
-use Rattle.sh_core.proofs.ListCounts.{has_some, some_has}
+use Rattle.sh_core.proofs.Sums.ListCounts.{has_some, some_has}
 use Rattle.sh_table.specs.Tales.{ViewStands}
 use Rattle.sh_pass.specs.Growing.{SameTale}
 use Rattle.sh_pass.specs.Passes.{Caller, IsKeyOfHeap, GetDoes, ReadDoes, RemoveDoes, ReleaseDoes, holds}

@@ -25,7 +25,7 @@ use Rattle.sh_core.specs.declared.outcome.Outcome.TheVariants.{Skipped}
 use Rattle.sh_core.specs.Words.{Words, read}
 use Rattle.sh_core.specs.Worlds.{World, step, run, open_world, words_from, entry_of, joined}
 use Rattle.sh_core.specs.Outcomes.{outcome_of, done}
-use Rattle.sh_core.specs.Within.{CountFits}
+use Rattle.sh_core.specs.InHeap.{CountFits}
 
 -- what contracts see of a world
 pub record KeptWorld : Type 0 where

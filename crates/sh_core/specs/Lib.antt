@@ -5,7 +5,7 @@ pub mod Trails
 pub mod Lists
 pub mod Tallies
 pub mod Stories
-pub mod Good
+pub mod Sums
 pub mod Stacks
 pub mod Bells
 pub mod Placed
@@ -13,7 +13,7 @@ pub mod LinkWords
 pub mod Opening
 pub mod Kept
 pub mod Refines
-pub mod Knows
-pub mod Within
+pub mod Reads
+pub mod InHeap
 pub mod Variants
 pub mod WrongRows

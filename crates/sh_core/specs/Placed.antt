@@ -15,10 +15,10 @@ use Rattle.sh_core.specs.Stacks.{Chains, spot, tying, ties_of, cursor_at, ring_t
 use Rattle.sh_core.specs.Stacks.{bell_link, bell_head}
 use Rattle.sh_core.specs.Bells.{Owned, Duty}
 use Rattle.sh_core.specs.Worlds.{World}
-use Rattle.sh_core.specs.Good.{Good}
+use Rattle.sh_core.specs.Sums.{Sums}
 
 -- generations in range, classes known, and a value no longer than its class's width
-pub record Sound (plan : Plan) (class : ℕ → ℕ) (state length : ℕ → ℕ → ℕ) : Type 0 where
+pub record Bounds (plan : Plan) (class : ℕ → ℕ) (state length : ℕ → ℕ → ℕ) : Type 0 where
   pub generations : (q s : ℕ) → (0 < (fields_of (state q s)).generation)
       × ((fields_of (state q s)).generation ≤ plan.keys.gen_max)
   pub classes : (q : ℕ) → (class q ≤ 8) × (0 < class q → q < heap_pages plan)
@@ -26,7 +26,7 @@ pub record Sound (plan : Plan) (class : ℕ → ℕ) (state length : ℕ → ℕ
       → length q s ≤ width (class q - 1)
 
 -- what an owner notes is of its shard, and true
-pub record Homed (plan : Plan) (class : ℕ → ℕ) (owned : Option ℕ) (classes : List (ℕ × ℕ)) (mine : List Spot)
+pub record OwnNotes (plan : Plan) (class : ℕ → ℕ) (owned : Option ℕ) (classes : List (ℕ × ℕ)) (mine : List Spot)
     (cursors : List (ℕ × ℕ)) (armed : List ℕ) (bell_cursor : Option ℕ) : Type 0 where
   pub mines : (x : Spot) → owned_by plan owned x.page ≡ false → total (λ y. if1 (same_spot x y)) mine ≡ 0
   pub points : (q s : ℕ) → owned_by plan owned q ≡ false → total (λ (c : ℕ × ℕ). if1 ((c.0 == q) && (c.1 == s))) cursors
@@ -36,11 +36,11 @@ pub record Homed (plan : Plan) (class : ℕ → ℕ) (owned : Option ℕ) (class
   pub notes : (q c : ℕ) → owned_by plan owned q ≡ true → noted q classes ≡ Some c → (class q ≡ c)
       × (q < heap_pages plan)
 
-abbrev pub HomedPart : Plan → (ℕ → ℕ) → Body → Type 0
-HomedPart plan class p = Homed plan class p.owned p.classes p.mine p.cursors p.armed p.bell_cursor
+abbrev pub OwnNotesOf : Plan → (ℕ → ℕ) → Body → Type 0
+OwnNotesOf plan class p = OwnNotes plan class p.owned p.classes p.mine p.cursors p.armed p.bell_cursor
 
 -- what is kept of lists, bells, duties, owners
-pub record Rest (plan : Plan) (class head page_link bell owner : ℕ → ℕ) (link : ℕ → ℕ → ℕ) (ps : List Body)
+pub record ListsAgree (plan : Plan) (class head page_link bell owner : ℕ → ℕ) (link : ℕ → ℕ → ℕ) (ps : List Body)
     (l : PutLists) : Type 0 where
   pub stacks : Chains (λ q. head q / 2) link (λ q s. total (tying (spot q s)) ps) (λ q s. total (ties_of (spot q s)) ps)
       (λ q s. total (cursor_at q s) ps) l.stack l.chain
@@ -48,16 +48,16 @@ pub record Rest (plan : Plan) (class head page_link bell owner : ℕ → ℕ) (l
       (λ n q. total (ring_ties plan n q) ps) (λ n q. total (bell_cursor_at n q) ps) l.bells l.bell_chain
   pub duty : Duty plan head ps l
   pub owned : Owned owner ps
-  pub homed : (a : ℕ) (p : Body) → slice_get ps a ≡ Some p → HomedPart plan class p
+  pub own_notes : (a : ℕ) (p : Body) → slice_get ps a ≡ Some p → OwnNotesOf plan class p
 
-abbrev pub RestOf : Plan → Words → List Body → PutLists → Type 0
-RestOf plan w ps l = Rest plan w.class_at w.head_at w.page_link_at w.bell_at w.owner_at w.link_at ps l
+abbrev pub ListsAgreeOf : Plan → Words → List Body → PutLists → Type 0
+ListsAgreeOf plan w ps l = ListsAgree plan w.class_at w.head_at w.page_link_at w.bell_at w.owner_at w.link_at ps l
 
-abbrev pub SoundOf : Plan → Words → Type 0
-SoundOf plan w = Sound plan w.class_at w.state_at w.length_at
+abbrev pub BoundsOf : Plan → Words → Type 0
+BoundsOf plan w = Bounds plan w.class_at w.state_at w.length_at
 
 -- All that holds
-pub record All (plan : Plan) (w : World) (l : PutLists) : Type 0 where
-  pub good : Good plan w l
-  pub rest : RestOf plan w.words w.parts l
-  pub sound : SoundOf plan w.words
+pub record Agreement (plan : Plan) (w : World) (l : PutLists) : Type 0 where
+  pub sums : Sums plan w l
+  pub lists : ListsAgreeOf plan w.words w.parts l
+  pub bounds : BoundsOf plan w.words

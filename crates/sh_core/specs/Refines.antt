@@ -11,7 +11,7 @@ use Rattle.sh_step.specs.Moves.{row}
 use Rattle.sh_step.specs.Rows.{own, unpoint}
 use Rattle.sh_step.specs.Ends.{HandNames, ComesNearer, HasNext}
 use Rattle.sh_core.specs.Variants.{Table}
-use Rattle.sh_core.specs.Within.{StepsWithin, CountsFit, BellsAreSmall, ValuesFit, StoresWords, IssuesKeys}
+use Rattle.sh_core.specs.InHeap.{StepsWithin, CountsFit, BellsAreSmall, ValuesFit, StoresWords, IssuesKeys}
 use Rattle.sh_slots.specs.declared.hand.Hand.TheVariants.{Idle, Filling}
 use Rattle.sh_slots.specs.Slots.{name_at}
 use Rattle.sh_step.specs.Plans.{plan_of, Plan, heap_pages, home}

@@ -60,14 +60,14 @@ pub record Story (st : Fields) (g : ℕ) (vs : List (List ℕ)) (gone : ℕ) (no
   pub mark : g ≡ st.generation → gone ≡ if1 st.marked
   pub later : st.generation < g → (vs ≡ []) × (gone ≡ 0)
 
-abbrev pub KeysFine : Plan → Words → List Entry → Type 0
-KeysFine plan w log = (k : ℕ) (n : Rattle.sh_slots.specs.declared.hand.Name.Name) → plan.keys.unpack k ≡ Some n
+abbrev pub KeysAgree : Plan → Words → List Entry → Type 0
+KeysAgree plan w log = (k : ℕ) (n : Rattle.sh_slots.specs.declared.hand.Name.Name) → plan.keys.unpack k ≡ Some n
     → Story (fields_of (w.state_at n.page n.slot)) n.generation (values k log) (removals k log)
     (value_at w n.page n.slot)
 
-abbrev pub HoldsFine : List Body → List Entry → Type 0
-HoldsFine ps log = (a : ℕ) (p : Body) → slice_get ps a ≡ Some p → (k : ℕ) → gots_by a k log
+abbrev pub HoldsAgree : List Body → List Entry → Type 0
+HoldsAgree ps log = (a : ℕ) (p : Body) → slice_get ps a ≡ Some p → (k : ℕ) → gots_by a k log
     ≡ releases_by a k log + times k p.holds
 
-abbrev pub AllHoldsFine : List Body → List Entry → Type 0
-AllHoldsFine ps log = (k : ℕ) → gots k log ≡ releases k log + total (λ p. times k p.holds) ps
+abbrev pub AllHoldsAgree : List Body → List Entry → Type 0
+AllHoldsAgree ps log = (k : ℕ) → gots k log ≡ releases k log + total (λ p. times k p.holds) ps

@@ -75,7 +75,7 @@ tally plan x st ps = record {
 }
 
 -- room: 1 below the class's number of slots, 0 above. queued: how often the slot stands in the stack and the chain
-pub record Fine (room queued : ℕ) (st : Fields) (t : Tally) : Type 0 where
+pub record AddsUp (room queued : ℕ) (st : Fields) (t : Tally) : Type 0 where
   pub kinds : if1 (st.present || st.marked) + t.mine + t.hand + queued ≡ room
   pub counts : st.count ≡ t.held + t.visits
   pub none_lost : t.lost ≡ 0
@@ -88,6 +88,6 @@ room w x = cond (nat_lt 0 (w.class_at x.page) && nat_lt x.slot (slots (w.class_a
 abbrev pub queued : PutLists → Spot → ℕ
 queued l x = times x.slot (l.stack x.page) + times x.slot (l.chain x.page)
 
-abbrev pub SlotsFine : Plan → Words → List Body → PutLists → Type 0
-SlotsFine plan w ps l = (x : Spot) → Fine (room w x) (queued l x) (fields_of (w.state_at x.page x.slot))
+abbrev pub SlotsAddUp : Plan → Words → List Body → PutLists → Type 0
+SlotsAddUp plan w ps l = (x : Spot) → AddsUp (room w x) (queued l x) (fields_of (w.state_at x.page x.slot))
     (tally plan x (fields_of (w.state_at x.page x.slot)) ps)

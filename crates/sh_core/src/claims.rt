@@ -3,7 +3,7 @@ ghost use Rattle.std.specs.Prelude.{◌≡◌, length};
 ghost use Rattle.sh_history.specs.History.{Legal};
 ghost use Rattle.sh_step.specs.Moves.{row};
 ghost use Rattle.sh_core.specs.LinkWords.{EachLinked};
-ghost use Rattle.sh_core.specs.Within.{StepsWithin, CountsFit, BellsAreSmall, ValuesFit, StoresWords, IssuesKeys};
+ghost use Rattle.sh_core.specs.InHeap.{StepsWithin, CountsFit, BellsAreSmall, ValuesFit, StoresWords, IssuesKeys};
 ghost use Rattle.sh_core.specs.Refines.{Always, OneKind, KindsAddUp, Filled, ClassesAreKnown, HeldStands, ReadsWithin};
 ghost use Rattle.sh_core.specs.Refines.{NotesAreTrue, HoldsAreTold, Counted, CountIsFew};
 ghost use Rattle.sh_core.specs.Refines.{PastIsRemoved, KeysAreTold, EntriesAreOurs, GenerationsEnd, RetiredIsLast};

@@ -1,7 +1,7 @@
 //! Laws of what passes did and were replied, and of the places and words that they step on.
 ghost use Rattle.sh_core.specs.Outcomes.{DecidingEventsReply};
 ghost use Rattle.sh_core.specs.Trails.{TrailGrows, OthersTrailsStay, SkipsLeaveTrails};
-ghost use Rattle.sh_core.specs.Within.{PlansHaveShapesPlaces, CountsLeaveRoom};
+ghost use Rattle.sh_core.specs.InHeap.{PlansHaveShapesPlaces, CountsLeaveRoom};
 
 /// What one more event adds to the trails of the passes: a step to that of the pass that did it, and nothing to
 /// another's.

@@ -13,9 +13,9 @@ use Rattle.sh_step.specs.Collections.{total, if1}
 use Rattle.sh_step.specs.Plans.{Plan, Lawful, heap_pages, plan_of, keys_of, name_in}
 use Rattle.sh_core.specs.Lists.{times}
 use Rattle.sh_core.specs.Stacks.{spot}
-use Rattle.sh_core.proofs.More.{spots_total}
-use Rattle.sh_core.proofs.Slots.{same_spot-true, same_spot-refl}
-use Rattle.sh_core.proofs.Totals.{total_append}
+use Rattle.sh_core.proofs.Slots.CrowdedAndClass.{spots_total}
+use Rattle.sh_core.proofs.Slots.Slots.{same_spot-true, same_spot-refl}
+use Rattle.sh_core.proofs.Sums.Totals.{total_append}
 use Rattle.sh_table.specs.Reached.{PlansAreLawful}
 use Rattle.sh_gather.specs.PageKeys.{keys_of_slot, keys_of_slots, page_keys, PageKeysAreAll}
 use Rattle.sh_gather.proofs.PageKeys.{up_to}

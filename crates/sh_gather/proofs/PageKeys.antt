@@ -18,8 +18,8 @@ use Rattle.sh_core.specs.Lists.{PutLists, times, state_of}
 use Rattle.sh_core.specs.Refines.{Refines, KeyTold, holds_now}
 use Rattle.sh_core.specs.Tallies.{visits, finishing, at_spot, current}
 use Rattle.sh_core.specs.Worlds.{World, value_at}
-use Rattle.sh_core.proofs.Slots.{same_spot-true}
-use Rattle.sh_core.proofs.Totals.{total_le}
+use Rattle.sh_core.proofs.Slots.Slots.{same_spot-true}
+use Rattle.sh_core.proofs.Sums.Totals.{total_le}
 use Rattle.sh_gather.specs.PageKeys.{keys_of_slot, is_last_key, is_live_key, is_marked_key, is_retired_key}
 
 -- all passes are idle and own nothing

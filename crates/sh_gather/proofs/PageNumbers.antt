@@ -16,8 +16,8 @@ use Rattle.sh_core.specs.Lists.{PutLists, accounts, class_named, slots_under, ti
 use Rattle.sh_core.specs.Refines.{Refines, live, marked, retired, kind_count}
 use Rattle.sh_core.specs.Stacks.{Chained, link_to, top, first_is, spot, tying, cursor_at}
 use Rattle.sh_core.specs.Worlds.{World}
-use Rattle.sh_core.proofs.ClassSlots.{under_class, under_few}
-use Rattle.sh_core.proofs.Totals.{total_append, total_plus}
+use Rattle.sh_core.proofs.Sums.ClassSlots.{under_class, under_few}
+use Rattle.sh_core.proofs.Sums.Totals.{total_append, total_plus}
 use Rattle.sh_accounts.specs.Accounts.{FillPage, all_slots, no_slots}
 use Rattle.sh_accounts.proofs.Counts.{among_more}
 use Rattle.sh_gather.specs.PageKeys.{keys_of_slot, keys_of_slots, page_keys, is_live_key, is_marked_key, is_retired_key}

@@ -15,8 +15,8 @@ use Rattle.sh_history.specs.Log.{is_logged_got_from, is_logged_release_from, log
 use Rattle.sh_history.proofs.LogLaws.{count_by-cons}
 use Rattle.sh_step.specs.Collections.{if1, has, without}
 use Rattle.sh_core.specs.Lists.{times}
-use Rattle.sh_core.proofs.ListCounts.{some_has, times_off, times_cons, times_none}
-use Rattle.sh_core.proofs.Totals.{total_append}
+use Rattle.sh_core.proofs.Sums.ListCounts.{some_has, times_off, times_cons, times_none}
+use Rattle.sh_core.proofs.Sums.Totals.{total_append}
 use Rattle.sh_table.specs.Tales.{by}
 
 -- ---- what a log tells of its entries

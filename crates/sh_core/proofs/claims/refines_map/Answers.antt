@@ -1,4 +1,4 @@
-use Rattle.sh_core.proofs.RunTheorem.{theorem}
+use Rattle.sh_core.proofs.Clauses.RunTheorem.{theorem}
 use Rattle.sh_core.proofs.claims.refines_map.Goals as goal
 
 pub returns-clause-legal : goal.returns-clause-legal

@@ -1,0 +1,11 @@
+-- The code: one list of words and the parts are the world that they stand for, and a step of the code is the step of
+-- that world.
+pub mod Steps
+pub mod Stepping
+pub mod Doing
+pub mod Ready
+pub mod Operating
+pub mod OpeningWords
+pub mod KeptWords
+pub mod KeptValues
+pub mod DecidingEvents

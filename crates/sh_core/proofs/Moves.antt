@@ -1,0 +1,8 @@
+-- The record `Agreement` over each move: its slots and keys, its lists, its bounds. The moves stand by what they step
+-- on, and `RunAll` lists them. `ByMove` lifts what each move keeps to events and runs: it is the only lift.
+pub mod ByMove
+pub mod AllSlots
+pub mod AllReads
+pub mod AllStacks
+pub mod AllBells
+pub mod RunAll

@@ -1,0 +1,150 @@
+-- SetClass on the slots, and Crowded.
+use Rattle.std.proofs.Common.{◌≡◌, ℕ, zero, suc, ◌+◌, ◌-◌, ◌<◌, ◌≤◌, ◌==◌, ◌&&◌, ◌||◌, Bool, true, false, cond, List}
+use Rattle.std.proofs.Common.{[], ◌∷◌, length, sym, refl, ap, ◌∙◌, arith, Option, Some, None, slice_get, eqb-true}
+use Rattle.std.specs.Prelude.{not, nat_lt}
+use Rattle.std.proofs.lemmas.Bool.Decides.{nat_tests}
+use Rattle.sh_history.specs.declared.entry.Entry.TheVariants.{Crowded}
+use Rattle.sh_slots.specs.declared.hand.Spot.{Spot}
+use Rattle.sh_slots.specs.declared.hand.Name.{Name}
+use Rattle.sh_slots.specs.declared.hand.Hand.TheVariants.{Idle}
+use Rattle.sh_word.specs.Fields.{Fields, fields_of}
+use Rattle.sh_step.specs.Plans.{Plan, Lawful}
+use Rattle.sh_shape.specs.Classes.{slots}
+use Rattle.sh_slots.specs.Slots.{same_spot, spots, spot_of, live_at}
+use Rattle.sh_step.specs.Collections.{total, if1}
+use Rattle.sh_step.specs.declared.body.Body.{Body}
+use Rattle.sh_step.specs.Rows.{hand}
+use Rattle.sh_core.specs.Worlds.{World, value_at}
+use Rattle.std.proofs.lemmas.Bool.{lt-ltb}
+use Rattle.sh_core.specs.Lists.{slots_under, PutLists, mine_at, in_hand, times, state_of, accounts}
+use Rattle.sh_core.specs.Tallies.{held, visits, lost, room, SlotsAddUp, at_spot, stale}
+use Rattle.sh_core.specs.Stories.{values}
+use Rattle.sh_core.proofs.Slots.Permits.{Permits}
+use Rattle.sh_core.specs.Sums.{Sums}
+use Rattle.sh_core.proofs.Sums.Totals.{total_le, total_plus, total_length}
+use Rattle.sh_core.proofs.Slots.Slots.{same_spot-true}
+use Rattle.sh_core.proofs.Slots.Logs.{live_parts}
+use Rattle.sh_core.proofs.Slots.MarkStep.{same_key}
+use Rattle.sh_core.proofs.Slots.SlotSums.{visits_few}
+
+-- how often a slot is among the n slots of page q from s on
+pub spots_total : (x : Spot) (q s n : ℕ) → total (λ y. if1 (same_spot x y)) (spots q s n)
+    ≡ if1 ((x.page == q) && not (nat_lt x.slot s) && nat_lt x.slot (s + n))
+unfolding total spots
+spots_total x q s zero = go (x.page == q) where
+  go : (b : Bool) → 0 ≡ if1 (b && not (nat_lt x.slot s) && nat_lt x.slot (s + 0))
+  go true = grind (arith, nat_tests)
+  go false = refl
+spots_total x q s (suc n) = go (x.page == q) (spots_total x q (s + 1) n) where
+  go : (b : Bool) → total (λ y. if1 (same_spot x y)) (spots q (s + 1) n)
+      ≡ if1 (b && not (nat_lt x.slot (s + 1)) && nat_lt x.slot (s + 1 + n))
+      → if1 (b && (x.slot == s)) + total (λ y. if1 (same_spot x y)) (spots q (s + 1) n)
+      ≡ if1 (b && not (nat_lt x.slot s) && nat_lt x.slot (s + suc n))
+  go true h = rw h (grind (arith, nat_tests))
+  go false h = omega arith
+
+but_one : {A : Type 0} (f : A → ℕ) → ((x : A) → f x ≤ 1) → (xs : List A) (i : ℕ) (v : A) → slice_get xs i ≡ Some v → f v
+    ≡ 0 → total f xs + 1 ≤ length xs
+unfolding total
+but_one f h [] i v e z = absurd (let z : None ≡ Some v = e in cc)
+but_one f h (x ∷ xs) zero v e z =
+    let s : x ≡ v = cc in
+    let u : f x ≡ f v = ap f s in
+    let r = total_length f h xs in omega arith
+but_one f h (x ∷ xs) (suc i) v e z = let one = h x in let r = but_one f h xs i v e z in omega arith
+
+-- on its slot a hold is on the present key, or lost
+on_key : (plan : Plan) (st : Fields) (k : ℕ) (y : Name) → Lawful plan → plan.keys.unpack k ≡ Some y → y.generation
+    ≡ st.generation → (j : ℕ) → if1 (at_spot (spot_of y) (plan.keys.unpack j)) ≤ if1 (j == k) + stale st (spot_of y)
+    (plan.keys.unpack j)
+on_key plan st k y laws name gen j = go (plan.keys.unpack j) refl where
+  go : (o : Option Name) → plan.keys.unpack j ≡ o → if1 (at_spot (spot_of y) o) ≤ if1 (j == k) + stale st (spot_of y) o
+  go None e = omega arith
+  go (Some z) e = by (same_spot (spot_of y) (spot_of z)) st.present (z.generation == st.generation) refl refl where
+    by : (b c d : Bool) → same_spot (spot_of y) (spot_of z) ≡ b → (z.generation == st.generation) ≡ d
+        → if1 b ≤ if1 (j == k) + cond b (if1 (not (c && d))) 0
+    by true true true h f =
+        let s : spot_of z ≡ spot_of y = sym (same_spot-true (spot_of z) (spot_of y) h) in
+        let g : z.generation ≡ y.generation = eqb-true z.generation st.generation f ∙ sym gen in
+        let t = same_key plan j k z y laws e name (sym s) (sym g) in omega arith
+    by true true false h f = omega arith
+    by true false d h f = omega arith
+    by false c d h f = omega arith
+
+pub crowded_permitted : (plan : Plan) (w : World) (l : PutLists) (a : ℕ) (p : Body) (k : ℕ) (y : Name) → Lawful plan
+    → Sums plan w l → slice_get w.parts a ≡ Some (hand p Idle) → plan.keys.unpack k ≡ Some y
+    → live_at y.generation (w.words.state_at y.page y.slot) ≡ true
+    → nat_lt (fields_of (w.words.state_at y.page y.slot)).count plan.keys.guard_max ≡ false
+    → Permits plan w.log (Crowded a k)
+crowded_permitted plan w l a p k y laws g at name live under =
+    let x : Spot = spot_of y in
+    let st : Fields = fields_of (w.words.state_at y.page y.slot) in
+    let c = live_parts st.present st.marked st.generation y.generation live in
+    let s = g.keys k y name in
+    let v : values k w.log ≡ value_at w.words y.page y.slot ∷ [] = s.value c.2 (rw c.0 refl) in
+    let m = s.mark c.2 in
+    let zero : if1 st.marked ≡ 0 = rw c.1 refl in
+    let f = g.slots x in
+    let full : plan.keys.guard_max ≤ st.count = grind (arith, nat_tests) in
+    let t : total (λ u. held plan x u) w.parts ≤ total (λ u. times k u.holds + lost plan x st u) w.parts = total_le
+    (λ u. held plan x u) (λ u. times k u.holds + lost plan x st u) (λ u. each u) w.parts in
+    let u = total_plus (λ (u : Body). times k u.holds) (lost plan x st) w.parts in
+    let r = but_one (visits plan x) (λ u. visits_few plan x u u.hand) w.parts a (hand p Idle) at refl in
+    let h = g.all_holds k in
+    let n = g.passes in (rw v (omega arith), omega arith, omega arith) where
+      each : (u : Body) → held plan (spot_of y) u ≤ times k u.holds + lost plan (spot_of y)
+          (fields_of (w.words.state_at y.page y.slot)) u
+      each u =
+          let st : Fields = fields_of (w.words.state_at y.page y.slot) in
+          let c = live_parts st.present st.marked st.generation y.generation live in
+          let t = total_le (λ j. if1 (at_spot (spot_of y) (plan.keys.unpack j)))
+          (λ j. if1 (j == k) + stale st (spot_of y) (plan.keys.unpack j)) (on_key plan st k y laws name c.2) u.holds
+          in
+          let q = total_plus (λ (j : ℕ). if1 (j == k)) (λ j. stale st (spot_of y) (plan.keys.unpack j)) u.holds
+          in omega arith
+
+-- Six kinds fill a page: each slot of the class is one of them
+pub three : (p m : Bool) → if1 (p && not m) + (if1 (p && m) + if1 (not p && m)) ≡ if1 (p || m)
+three true true = refl
+three true false = refl
+three false true = refl
+three false false = refl
+
+each_one : (f : Spot → ℕ) (q s n : ℕ) → ((t : ℕ) → s ≤ t → t < s + n → f (record { page = q; slot = t }) ≡ 1)
+    → total f (spots q s n) ≡ n
+unfolding total spots
+each_one f q s zero h = refl
+each_one f q s (suc n) h = let one = h s (omega arith) (omega arith)
+    in let rest = each_one f q (s + 1) n (λ t a b. h t (omega arith) (omega arith)) in omega arith
+
+pub accounts_fill : (plan : Plan) (w : World) (l : PutLists) (q c : ℕ) → SlotsAddUp plan w.words w.parts l
+    → w.words.class_at q ≡ c + 1
+    → let a = accounts w l q in a.live + (a.marked + (a.retired + (a.mine + (a.hand + a.queued)))) ≡ slots c
+unfolding accounts
+accounts_fill plan w l q c fine is =
+    let d : w.words.class_at q - 1 ≡ c = omega arith in
+    let n = slots_under (w.words.class_at q) in
+    let under : n ≡ slots (w.words.class_at q - 1) = let z : (w.words.class_at q == 0)
+    ≡ false = grind (arith, nat_tests) in rw z refl in
+    let xs = spots q 0 n in
+    let live : Spot → ℕ = λ x. if1 ((state_of w x).present && not (state_of w x).marked) in
+    let marked : Spot → ℕ = λ x. if1 ((state_of w x).present && (state_of w x).marked) in
+    let retired : Spot → ℕ = λ x. if1 (not (state_of w x).present && (state_of w x).marked) in
+    let mine : Spot → ℕ = λ x. total (mine_at x) w.parts in
+    let inhand : Spot → ℕ = λ x. total (in_hand x) w.parts in
+    let queue : Spot → ℕ = λ x. times x.slot (l.stack q) + times x.slot (l.chain q) in
+    let p1 = total_plus live (λ x. marked x + (retired x + (mine x + (inhand x + queue x)))) xs in
+    let p2 = total_plus marked (λ x. retired x + (mine x + (inhand x + queue x))) xs in
+    let p3 = total_plus retired (λ x. mine x + (inhand x + queue x)) xs in
+    let p4 = total_plus mine (λ x. inhand x + queue x) xs in
+    let p5 = total_plus inhand queue xs in
+    let all : total (λ x. live x + (marked x + (retired x + (mine x + (inhand x + queue x))))) xs
+    ≡ n = each_one (λ x. live x + (marked x + (retired x + (mine x + (inhand x + queue x))))) q 0 n
+    (λ t a b. let f = fine (record { page = q; slot = t }) in
+    let k = three (fields_of (w.words.state_at q t)).present (fields_of (w.words.state_at q t)).marked in
+    let r : room w.words (record { page = q; slot = t }) ≡ 1 = inside (w.words.class_at q) t (omega arith)
+    (let h : t < slots (w.words.class_at q - 1) = omega arith in h) in omega arith) in
+    let e : slots (w.words.class_at q - 1) ≡ slots c = ap slots d in omega arith where
+      inside : (k t : ℕ) → 0 < k → t < slots (k - 1) → if1 (nat_lt 0 k && nat_lt t (slots (k - 1))) ≡ 1
+      inside k t a b = let x : nat_lt 0 k ≡ true = grind (arith, nat_tests) in let y : nat_lt t (slots (k - 1))
+          ≡ true = lt-ltb t (slots (k - 1)) b in rw (x, y) refl
