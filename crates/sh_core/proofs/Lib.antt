@@ -4,5 +4,5 @@ pub mod Lists
 pub mod Moves
 pub mod Kept
 pub mod Clauses
-pub mod Code
+pub mod Words
 pub mod Examples

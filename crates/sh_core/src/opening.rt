@@ -34,7 +34,7 @@ fn word_at(pages: u32, number: u32) -> u64
 }
 
 // The words of a heap of this shape as it opens. All their memory is asked for at once.
-#[tactic(auto, using(crate::proofs::Code::OpeningWords::opening_none, crate::proofs::Code::OpeningWords::opening_more))]
+#[tactic(auto, using(crate::proofs::Words::OpeningWords::opening_none, crate::proofs::Words::OpeningWords::opening_more))]
 fn words_of(alloc: Global, shape: &Shape) -> Result<Vec<u64>, AllocError>
     ensures { IfOk result (λ words. words.items ≡ opening_words (all_pages shape.now) (words_of shape.now)) }
 {

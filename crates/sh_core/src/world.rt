@@ -81,7 +81,7 @@ impl<L: KeyLayout> World<L> {
     }
 
     /// All replies so far, in the order of their deciding steps: a legal history.
-    #[tactic(auto, using(crate::proofs::Code::Stepping::reached_legal))]
+    #[tactic(auto, using(crate::proofs::Words::Stepping::reached_legal))]
     pub fn log(&self) -> &[Entry]
         ensures is { result.now ≡ self.now.log }
         ensures legal { Legal self.now.shape.passes L.layout.guard_max self.now.log }

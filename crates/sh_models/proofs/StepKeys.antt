@@ -24,8 +24,8 @@ use Rattle.sh_core.specs.Outcomes.{outcome_of, done}
 use Rattle.sh_core.specs.Refines.{FillsAreKeys}
 use Rattle.sh_step.specs.Conditions.{May}
 use Rattle.sh_step.proofs.ConditionLaws.{move_of_row}
-use Rattle.sh_core.proofs.Code.Steps.{row_of_at}
-use Rattle.sh_core.proofs.Code.Stepping.{row_of_past, outcome_done, outcome_skipped}
+use Rattle.sh_core.proofs.Words.Steps.{row_of_at}
+use Rattle.sh_core.proofs.Words.Stepping.{row_of_past, outcome_done, outcome_skipped}
 use Rattle.sh_models.specs.StepsKeys.{KeysWithin}
 
 -- a reply's key is below the bound

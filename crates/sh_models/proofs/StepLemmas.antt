@@ -12,7 +12,7 @@ use Rattle.sh_core.specs.declared.outcome.Outcome.TheVariants.{Skipped}
 use Rattle.sh_core.specs.Kept.{KeptWorld, StandsFor}
 use Rattle.sh_core.specs.Outcomes.{outcome_of, outcomes_from, outcomes}
 use Rattle.sh_core.specs.Worlds.{World, step, run, run_from, open_world}
-use Rattle.sh_core.proofs.Code.Steps.{run_snoc}
+use Rattle.sh_core.proofs.Words.Steps.{run_snoc}
 use Rattle.sh_models.specs.StepsKeys.{DoesEvent}
 use Rattle.sh_models.specs.StepsOutput.{event_shown, events_shown, event_line, event_lines}
 

@@ -26,7 +26,7 @@ use Rattle.sh_step.proofs.ListLaws.{none_left}
 use Rattle.sh_step.proofs.LookupLaws.{named_of, paged_of, slotted_of}
 use Rattle.sh_step.proofs.PageLaws.{page_within, name_of_page, name_of_slot}
 use Rattle.sh_step.proofs.PartTests.{idle_is, owns_is, none_of, no_cursor_is, zero_or_of}
-use Rattle.sh_step.proofs.Truths.{and2, and3, and4, and5, lt_of, le_of, not_of, no_bool, no_some, by_then, by_some}
+use Rattle.sh_step.proofs.Truths.{and2, and3, and4, and5, lt_of, le_of, not_of, no_some, by_then, by_some}
 
 module _ (plan : Plan) (p : Body) where
   -- the move may be done, and is the action's
@@ -145,9 +145,10 @@ module _ (plan : Plan) (p : Body) where
       let q : ℕ = page_of plan y in
       let t = by_then (idle p && own plan p q) (move.Follow q s) m e in
       let d = and2 (idle p) (own plan p q) t.0 in
-      as_this (action.Follow y) (move.Follow q s) m t.1
-      ((idle_is p d.0, page_within plan y small, owns_is plan p q d.1, is),
-      ap (λ (z : PageName). action.Follow z) (name_of_page plan y small))
+      as_this (action.Follow y) (move.Follow q s) m t.1 (
+        (idle_is p d.0, page_within plan y small, owns_is plan p q d.1, is),
+        ap (λ (z : PageName). action.Follow z) (name_of_page plan y small),
+      )
   follow_may y m None small is e = no_some m e
 
   adopt_may : (n : ℕ) (m : Move) (o : Option ℕ) → p.owned ≡ o → (elim o as (λ _. Option Move)
@@ -270,9 +271,10 @@ module _ (plan : Plan) (p : Body) where
       let n = paged_of plan y (λ q. then_some (idle p && own plan p q) (move.ReadPage q)) m e in
       let t = by_then (idle p && own plan p q) (move.ReadPage q) m n.1 in
       let d = and2 (idle p) (own plan p q) t.0 in
-      as_this (action.ReadPage y) (move.ReadPage q) m t.1
-      ((idle_is p d.0, page_within plan y n.0, owns_is plan p q d.1),
-      ap (λ (z : PageName). action.ReadPage z) (name_of_page plan y n.0))
+      as_this (action.ReadPage y) (move.ReadPage q) m t.1 (
+        (idle_is p d.0, page_within plan y n.0, owns_is plan p q d.1),
+        ap (λ (z : PageName). action.ReadPage z) (name_of_page plan y n.0),
+      )
   may_be (action.SetClass y c) m e =
       let n = paged_of plan y (λ q. elim (noted q p.classes) as (λ _. Option Move) [
         | Some n ↦ then_some (idle p && own plan p q && ((n == 0) || all_mine p q n) && nat_lt c 8) (move.SetClass q c)
@@ -307,9 +309,10 @@ module _ (plan : Plan) (p : Body) where
       (λ x. then_some (idle p && own plan p x.page && has (same_spot x) p.mine) (move.PutSlot x)) m e in
       let t = by_then (idle p && own plan p x.page && has (same_spot x) p.mine) (move.PutSlot x) m n.2 in
       let d = and3 (idle p) (own plan p x.page) (has (same_spot x) p.mine) t.0 in
-      as_this (action.PutSlot y) (move.PutSlot x) m t.1
-      ((idle_is p d.0, (page_within plan (its_page y) n.0, n.1), owns_is plan p x.page d.1, d.2),
-      ap (λ (z : SlotName). action.PutSlot z) (name_of_slot plan y n.0))
+      as_this (action.PutSlot y) (move.PutSlot x) m t.1 (
+        (idle_is p d.0, (page_within plan (its_page y) n.0, n.1), owns_is plan p x.page d.1, d.2),
+        ap (λ (z : SlotName). action.PutSlot z) (name_of_slot plan y n.0),
+      )
   may_be action.Tie m e = tie_may p.hand m refl e
   may_be (action.Adopt n) m e = adopt_may n m p.owned refl e
   may_be action.Leave m e = leave_may m p.owned refl e

@@ -27,8 +27,9 @@ module _ (plan : Plan) (p : Body) (busy : p.hand ≢ Idle) where
   no_idle : {A : Type 0} → p.hand ≡ Idle → A
   no_idle e = absurd (busy e)
 
-  nearer_by : (h left : Hand) → p.hand ≡ h → to_end left < to_end h → to_end left < to_end p.hand
-  nearer_by h left is less = subst (λ (u : Hand). to_end left < to_end u) (sym is) less
+  nearer_by : (m : Move) (n : ℕ) (h : Hand) → p.hand ≡ h → to_end ((row_of plan p m).part n).hand < to_end h
+      → to_end ((row_of plan p m).part n).hand < to_end p.hand
+  nearer_by m n h is less = subst (λ (u : Hand). to_end ((row_of plan p m).part n).hand < to_end u) (sym is) less
 
   dropped : (x : Spot) (g : ℕ) (b : Bool) → to_end (cond b (Finishing x g) Idle) < 6
   dropped x g true = omega arith
@@ -49,17 +50,17 @@ module _ (plan : Plan) (p : Body) (busy : p.hand ≢ Idle) where
   tied x l false = omega arith
 
   near : (m : Move) → May plan p m → (n : ℕ) → to_end ((row_of plan p m).part n).hand < to_end p.hand
-  near (Mark k x) may n = nearer_by (Removing k) _ may.0 (omega arith)
-  near (Drop x) may n = nearer_by (Leaving x) _ may
+  near (Mark k x) may n = nearer_by (Mark k x) n (Removing k) may.0 (omega arith)
+  near (Drop x) may n = nearer_by (Drop x) n (Leaving x) may
       (let st : Fields = fields_of n in dropped x st.generation (st.present && st.marked && (st.count == 1)))
-  near (Finish x g) may n = nearer_by (Finishing x g) _ may
+  near (Finish x g) may n = nearer_by (Finish x g) n (Finishing x g) may
       (finished x (is_reusable_after g plan.keys.gen_max n) (own plan p x.page))
-  near (Fill x v i c) may n = let less = may.1 in nearer_by (Filling x v i) _ may.0 (omega arith)
-  near (Publish x v) may n = nearer_by (Filling x v may.0) _ may.1 (omega arith)
-  near (Put x) may n = nearer_by (ToPut x) _ may (tying x (link_over (top_of n)) (is_armed n))
-  near (Tie x l r) may n = nearer_by (Tying x l r) _ may (tied x l r)
-  near (Ring q) may n = nearer_by (Ringing q) _ may (omega arith)
-  near (RingTie q l) may n = nearer_by (RingTying q l) _ may (omega arith)
+  near (Fill x v i c) may n = let less = may.1 in nearer_by (Fill x v i c) n (Filling x v i) may.0 (omega arith)
+  near (Publish x v) may n = nearer_by (Publish x v) n (Filling x v may.0) may.1 (omega arith)
+  near (Put x) may n = nearer_by (Put x) n (ToPut x) may (tying x (link_over (top_of n)) (is_armed n))
+  near (Tie x l r) may n = nearer_by (Tie x l r) n (Tying x l r) may (tied x l r)
+  near (Ring q) may n = nearer_by (Ring q) n (Ringing q) may (omega arith)
+  near (RingTie q l) may n = nearer_by (RingTie q l) n (RingTying q l) may (omega arith)
   -- each other asks for an idle hand
   near m may n = no_idle (assumption may)
 

@@ -1,5 +1,5 @@
 -- What an action names: a key, a page's name or a slot's name names a place exactly where the heap has it.
-use Rattle.std.proofs.Common.{◌≡◌, ℕ, ◌<◌, ◌&&◌, Bool, true, false, cond, refl, ap, ◌∙◌, Option, Some, None}
+use Rattle.std.proofs.Common.{◌≡◌, ℕ, ◌<◌, ◌&&◌, Bool, true, false, cond, refl, ap, subst, ◌∙◌, Option, Some, None}
 use Rattle.std.specs.Prelude.{nat_lt, option_and_then}
 use Rattle.sh_slots.specs.declared.hand.Spot.{Spot}
 use Rattle.sh_slots.specs.declared.hand.Name.{Name}
@@ -28,11 +28,12 @@ place_is plan k x h = go (plan.keys.unpack k) refl h where
   go (Some y) is h =
       let g = guarded (nat_lt y.page (heap_pages plan) && nat_lt y.slot 48) y x h in
       let d = and2 (nat_lt y.page (heap_pages plan)) (nat_lt y.slot 48) g.0 in
-      rw g.1 at record {
+      let names : Named plan k y = record {
         unpacks = is;
         page = lt_of y.page (heap_pages plan) d.0;
         slot = lt_of y.slot 48 d.1;
-      }
+      } in
+      subst (Named plan k) g.1 names
 
 pub page_is : (plan : Plan) (y : PageName) (q : ℕ) → page_named plan y ≡ Some q → HasPage plan y × (page_of plan y ≡ q)
 page_is plan y q h =

@@ -1,6 +1,6 @@
 -- The row of an action, by its move, and that there is none where what the action names is not of the heap.
-use Rattle.std.proofs.Common.{◌≡◌, ℕ, ◌==◌, ◌&&◌, length, Option, None, refl, sym, ap}
-use Rattle.std.specs.Prelude.{option_map, nat_lt}
+use Rattle.std.proofs.Common.{◌≡◌, ℕ, Option, None, refl, sym, ap}
+use Rattle.std.specs.Prelude.{option_map}
 use Rattle.sh_slots.specs.declared.hand.Hand.TheVariants.{Removing}
 use Rattle.sh_step.specs.declared.action.Action.{Action}
 use Rattle.sh_step.specs.declared.action.Action.TheVariants as action

@@ -1,20 +1,17 @@
 -- A move that may be done is what the table gives the move's action.
-use Rattle.std.proofs.Common.{◌≡◌, ℕ, ◌-◌, ◌==◌, ◌&&◌, ◌||◌, ◌∙◌, true, length, refl, ap, Option, Some, None}
-use Rattle.std.specs.Prelude.{not, nat_lt, nat_le}
-use Rattle.std.proofs.lemmas.Bool.{not_from_false}
+use Rattle.std.proofs.Common.{◌≡◌, ℕ, ◌-◌, ◌<◌, ◌==◌, ◌&&◌, ◌||◌, ◌∙◌, length, refl, ap, Option, Some, None}
+use Rattle.std.specs.Prelude.{nat_lt, option_and_then}
+use Rattle.std.specs.Bool.{then_some}
 use Rattle.sh_shape.specs.Classes.{width}
 use Rattle.sh_slots.specs.declared.hand.Spot.{Spot}
-use Rattle.sh_slots.specs.Slots.{same_spot}
 use Rattle.sh_step.specs.declared.body.Body.{Body}
-use Rattle.sh_step.specs.declared.action.PageName.{PageName}
-use Rattle.sh_step.specs.declared.action.SlotName.{SlotName}
 use Rattle.sh_step.specs.declared.moves.Move.{Move}
 use Rattle.sh_step.specs.declared.moves.Move.TheVariants as move
-use Rattle.sh_step.specs.Collections.{has}
+use Rattle.sh_step.specs.Collections.{noted}
 use Rattle.sh_step.specs.Conditions.{May, SpotWithin, action_of, page_name, slot_name, GivesAllThatMayBe}
-use Rattle.sh_step.specs.Moves.{move_of, row_of, row, place_named, page_named, slot_named}
+use Rattle.sh_step.specs.Moves.{move_of, row_of, row, page_named, slot_named}
 use Rattle.sh_step.specs.Plans.{Plan, heap_pages}
-use Rattle.sh_step.specs.Rows.{all_mine, class_word_noted}
+use Rattle.sh_step.specs.Rows.{idle, own, all_mine, class_word_noted}
 use Rattle.sh_step.proofs.LookupLaws.{is_place, is_page, is_slot}
 use Rattle.sh_step.proofs.PageLaws.{has_page, page_of_name, slot_of_name}
 use Rattle.sh_step.proofs.PartTests.{is_idle, is_own, is_none, is_no_cursor, is_empty, zero_or}
@@ -37,9 +34,14 @@ module _ (plan : Plan) (p : Body) where
   given (move.Drop x) h = rw h refl
   given (move.DropHold k x) h = rw (is_place plan k x h.1, is_idle p h.0, h.2) refl
   given (move.Finish x g) h = rw h refl
-  given (move.FillSlot x v) h = rw (slot_at x h.1, is_idle p h.0, is_own plan p x.page h.2, h.3,
-      lt_true 0 (class_word_noted p x.page) h.4,
-      le_true (length v) (width (class_word_noted p x.page - 1)) h.5) refl
+  given (move.FillSlot x v) h = rw (
+    slot_at x h.1,
+    is_idle p h.0,
+    is_own plan p x.page h.2,
+    h.3,
+    lt_true 0 (class_word_noted p x.page) h.4,
+    le_true (length v) (width (class_word_noted p x.page - 1)) h.5,
+  ) refl
   given (move.Fill x v i c) h = rw (h.0, lt_true i (length v) h.1, h.2) refl
   given (move.Publish x v) h = rw (h.1, le_true (length v) h.0 h.2) refl
   given (move.ReadClass k x) h = rw (is_place plan k x h.1, is_idle p h.0, h.2) refl
@@ -48,21 +50,50 @@ module _ (plan : Plan) (p : Body) where
       rw (is_place plan k x h.2, h.3, h.4, is_idle p h.1, h.5, lt_true i h.0 h.6) refl
   given (move.ReadPage q) h = rw (page_at q h.1, is_idle p h.0, is_own plan p q h.2) refl
   given (move.SetClass q c) h =
-      rw (page_at q h.2, h.4, is_idle p h.1, is_own plan p q h.3, zero_or h.0 (all_mine p q h.0) h.5, lt_true c 8 h.6)
-      refl
+      ap (option_and_then (λ q. elim (noted q p.classes) as (λ _. Option Move) [
+        | Some n ↦ then_some (idle p && own plan p q && ((n == 0) || all_mine p q n) && nat_lt c 8) (move.SetClass q c)
+        | None ↦ None
+      ])) (page_at q h.2)
+      ∙ (ap (λ (o : Option ℕ). elim o as (λ _. Option Move) [
+        | Some n ↦ then_some (idle p && own plan p q && ((n == 0) || all_mine p q n) && nat_lt c 8) (move.SetClass q c)
+        | None ↦ None
+      ]) h.4
+      ∙ rw (is_idle p h.1, is_own plan p q h.3, zero_or h.0 (all_mine p q h.0) h.5, lt_true c 8 h.6) refl)
   given (move.Take q) h =
-      rw (page_at q h.1, is_idle p h.0, is_own plan p q h.2, lt_true 0 (class_word_noted p q) h.3,
-      is_no_cursor p q h.4) refl
-  given (move.Follow q s) h = rw (page_at q h.1, h.3, is_idle p h.0, is_own plan p q h.2) refl
+      rw (
+        page_at q h.1,
+        is_idle p h.0,
+        is_own plan p q h.2,
+        lt_true 0 (class_word_noted p q) h.3,
+        is_no_cursor p q h.4,
+      ) refl
+  given (move.Follow q s) h =
+      ap (option_and_then (λ q. elim (noted q p.cursors) as (λ _. Option Move)
+      [ Some s ↦ then_some (idle p && own plan p q) (move.Follow q s) | None ↦ None ])) (page_at q h.1)
+      ∙ (ap (λ (o : Option ℕ). elim o as (λ _. Option Move)
+      [ Some s ↦ then_some (idle p && own plan p q) (move.Follow q s) | None ↦ None ]) h.3
+      ∙ rw (is_idle p h.0, is_own plan p q h.2) refl)
   given (move.Put x) h = rw h refl
   given (move.PutSlot x) h = rw (slot_at x h.1, is_idle p h.0, is_own plan p x.page h.2, h.3) refl
   given (move.Tie x l r) h = rw h refl
   given (move.Adopt n) h = rw (h.1, is_idle p h.0, lt_true n plan.shards h.2) refl
-  given (move.Leave n) h = rw (h.1, is_idle p h.0, is_empty p.mine h.2, is_empty p.cursors h.3, is_empty p.armed h.4,
-      is_none p.bell_cursor h.5) refl
+  given (move.Leave n) h = rw (
+    h.1,
+    is_idle p h.0,
+    is_empty p.mine h.2,
+    is_empty p.cursors h.3,
+    is_empty p.armed h.4,
+    is_none p.bell_cursor h.5,
+  ) refl
   given (move.Arm q) h =
-      rw (page_at q h.1, is_idle p h.0, is_own plan p q h.2, lt_true 0 (class_word_noted p q) h.3,
-      is_no_cursor p q h.4, h.5) refl
+      rw (
+        page_at q h.1,
+        is_idle p h.0,
+        is_own plan p q h.2,
+        lt_true 0 (class_word_noted p q) h.3,
+        is_no_cursor p q h.4,
+        h.5,
+      ) refl
   given (move.Ring q) h = rw h refl
   given (move.RingTie q l) h = rw h refl
   given (move.TakeBell n) h = rw (h.1, is_idle p h.0, is_none p.bell_cursor h.2) refl

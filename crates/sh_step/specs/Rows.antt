@@ -4,7 +4,7 @@ use Rattle.std.specs.Prelude.{ℕ, ◌+◌, ◌-◌, ◌*◌, ◌^◌, ◌==◌,
 use Rattle.std.specs.Prelude.{List, [], ◌∷◌, ◌++◌, Option, Some, None, slice_index, length}
 use Rattle.sh_word.specs.Fields.{fields_of}
 use Rattle.sh_slots.specs.declared.hand.Hand.{Hand}
-use Rattle.sh_slots.specs.declared.hand.Hand.TheVariants.{Idle, Leaving, Finishing, ToPut, Tying, Ringing}
+use Rattle.sh_slots.specs.declared.hand.Hand.TheVariants.{Idle, Leaving, ToPut, Tying, Ringing}
 use Rattle.sh_slots.specs.declared.hand.Hand.TheVariants.{RingTying, Filling}
 use Rattle.sh_slots.specs.declared.hand.Spot.{Spot}
 use Rattle.sh_slots.specs.declared.hand.Name.{Name}

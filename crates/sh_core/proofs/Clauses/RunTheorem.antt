@@ -190,13 +190,13 @@ pub theorem : (layout : Layout) (shape : Numbers) → IsLayout layout → IsShap
 theorem layout shape a b c es =
     let plan : Plan = plan_of layout shape in
     let laws : Lawful plan = plan_lawful layout shape a b c in
-    let open = all_open plan laws in
+    let opened = all_open plan laws in
     let last = last_open plan in
     refines plan (run plan es) (lists_of plan es) laws (run_keeps plan (Invariant plan) (open_world plan) no_lists es
     (record {
-      sums = open.sums;
-      lists = open.lists;
-      bounds = open.bounds;
+      sums = opened.sums;
+      lists = opened.lists;
+      bounds = opened.bounds;
       notes = reads_open plan;
       words = words_open plan;
       places = places_open plan;

@@ -1,7 +1,7 @@
 -- What is kept beside: a retired slot is in the last generation, and each entry is of a pass of the heap.
 use Rattle.std.proofs.Common.{◌≡◌, ℕ, ◌+◌, ◌-◌, ◌<◌, ◌≤◌, ◌==◌, ◌&&◌, Bool, true, false, cond, List, [], ◌∷◌, sym, refl}
 use Rattle.std.proofs.Common.{ap, ◌∙◌, arith, Option, Some, None, slice_get, eqb-true}
-use Rattle.std.specs.Prelude.{◌^◌, bit_or, Agreement as Each}
+use Rattle.std.specs.Prelude.{◌^◌, bit_or, All as Each}
 use Rattle.std.proofs.lemmas.List.Elements.{All-append, All-cons, All-nil}
 use Rattle.sh_history.specs.declared.entry.Entry.{Entry}
 use Rattle.sh_history.specs.Log.{pass_of}

@@ -1,5 +1,5 @@
 -- A step by its move: what the move leaves of the lists, and the one way to lift what moves keep to events and runs.
-use Rattle.std.proofs.Common.{◌≡◌, ℕ, ◌==◌, cond, List, [], ◌∷◌, drop, refl, sym, subst, Option, Some, None, slice_get}
+use Rattle.std.proofs.Common.{◌≡◌, ℕ, ◌==◌, cond, List, [], ◌∷◌, drop, refl, sym, ap, subst, Option, Some, None, slice_get}
 use Rattle.sh_step.specs.declared.action.Action.{Action}
 use Rattle.sh_step.specs.declared.action.Event.{Event}
 use Rattle.sh_step.specs.declared.body.Body.{Body}
@@ -37,10 +37,10 @@ after_move : (plan : Plan) (p : Body) (m : Move) → May plan p m → (n : ℕ) 
     → listed plan p (action_of plan m) n l ≡ lists_after plan p m n l
 unfolding listed
 after_move plan p (move.Put x) may n l = rw may refl
-after_move plan p (move.PutSlot x) may n l = rw (slot_of_name plan x) refl
-after_move plan p (move.Take q) may n l = rw (page_of_name plan q) refl
-after_move plan p (move.Arm q) may n l = rw (page_of_name plan q) refl
-after_move plan p (move.Follow q s) may n l = rw (page_of_name plan q) refl
+after_move plan p (move.PutSlot x) may n l = ap (pushed l) (slot_of_name plan x)
+after_move plan p (move.Take q) may n l = ap (taken l) (page_of_name plan q)
+after_move plan p (move.Arm q) may n l = ap (taken l) (page_of_name plan q)
+after_move plan p (move.Follow q s) may n l = ap (λ r. cond (n == 0) l (chain_followed l r)) (page_of_name plan q)
 after_move plan p (move.Ring q) may n l = rw may refl
 after_move plan p (move.TakeBell k) may n l = rw may.1 refl
 after_move plan p _ may n l = refl

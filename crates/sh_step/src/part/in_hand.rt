@@ -1,5 +1,5 @@
 //! What actions on what a pass has begun leave in its own part.
-ghost use Rattle.std.specs.Prelude.{◌≡◌, ◌+◌, ◌≤◌, ℕ, IfOk, IfErr, OnOk, OnErr};
+ghost use Rattle.std.specs.Prelude.{◌≡◌, ◌+◌, ◌≤◌, ℕ, None, IfOk, IfErr, OnOk, OnErr};
 ghost use Rattle.sh_shape.specs.Places.{all_pages};
 ghost use Rattle.sh_step.specs.Plans.{Plan, plan_of};
 ghost use Rattle.sh_step.specs.Parts.{ListGrows};
@@ -64,7 +64,7 @@ impl Part {
 
     // The store of a slot's link.
     pub(super) fn tie(&mut self, spot: Spot, ring: bool) -> Option<Reply>
-        ensures reply { (link found : ℕ) → result ≡ (tie self.old spot link ring).reply found }
+        ensures reply { result ≡ None }
         ensures part { (link found : ℕ) → self.new ≡ (tie self.old spot link ring).part found }
     {
         self.hand = if ring {
@@ -79,7 +79,7 @@ impl Part {
     #[tactic(auto, using(sh_shape::proofs::PlaceLaws::few_pages))]
     pub(super) fn ring(&mut self, shape: &Shape, page: u64, found: u64) -> Option<Reply>
         requires { found ≤ all_pages shape.now + 1 }
-        ensures reply { (plan : Plan) → result ≡ (ring plan self.old page).reply found }
+        ensures reply { result ≡ None }
         ensures part { (plan : Plan) → self.new ≡ (ring plan self.old page).part found }
     {
         let _pages = shape.pages();
@@ -89,7 +89,7 @@ impl Part {
 
     // The store of a page's link.
     pub(super) fn ring_tie(&mut self) -> Option<Reply>
-        ensures reply { (page link found : ℕ) → result ≡ (ring_tie self.old page link).reply found }
+        ensures reply { result ≡ None }
         ensures part { (page link found : ℕ) → self.new ≡ (ring_tie self.old page link).part found }
     {
         self.hand = Hand::Idle;

@@ -1,5 +1,5 @@
 //! What actions on keys leave in a pass's own part.
-ghost use Rattle.std.specs.Prelude.{◌≡◌, ℕ, IfOk, IfErr, OnOk, OnErr};
+ghost use Rattle.std.specs.Prelude.{◌≡◌, ℕ, None, IfOk, IfErr, OnOk, OnErr};
 ghost use Rattle.sh_shape.specs.Shape.{Numbers};
 ghost use Rattle.sh_step.specs.Plans.{Plan, plan_of};
 ghost use Rattle.sh_step.specs.Parts.{ListGrows};
@@ -136,8 +136,7 @@ impl Part {
         i: u64,
         found: u64,
     ) -> Result<Option<Reply>, Refusal>
-        ensures reply { (name : Name) (class_word : ℕ) → IfOk result
-            (λ reply. reply ≡ (read_word self.old key name class_word i).reply found) }
+        ensures reply { IfOk result (λ reply. reply ≡ None) }
         ensures part { (name : Name) (class_word : ℕ) → OnOk result
             (self.new ≡ (read_word self.old key name class_word i).part found) }
         ensures err { OnErr result (self.new ≡ self.old) }

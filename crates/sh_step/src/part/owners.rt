@@ -1,5 +1,5 @@
 //! What actions on shards and their bells leave in a pass's own part.
-ghost use Rattle.std.specs.Prelude.{◌≡◌, ◌+◌, ◌<◌, ◌≤◌, ℕ};
+ghost use Rattle.std.specs.Prelude.{◌≡◌, ◌+◌, ◌<◌, ◌≤◌, ℕ, None};
 ghost use Rattle.sh_shape.specs.Places.{all_pages};
 ghost use Rattle.sh_step.specs.Plans.{plan_of, over_heap};
 ghost use Rattle.sh_step.specs.Rows.{adopt, leave, take_bell, follow_bell};
@@ -42,7 +42,7 @@ impl Part {
 
     // A leave.
     pub(super) fn leave(&mut self) -> Option<Reply>
-        ensures reply { (shard found : ℕ) → result ≡ (leave self.old shard).reply found }
+        ensures reply { result ≡ None }
         ensures part { (shard found : ℕ) → self.new ≡ (leave self.old shard).part found }
     {
         self.owned = None;

@@ -1,5 +1,5 @@
 //! What actions on pages leave in a pass's own part.
-ghost use Rattle.std.specs.Prelude.{◌≡◌, ◌<◌, ℕ, length, IfOk, IfErr, OnOk, OnErr};
+ghost use Rattle.std.specs.Prelude.{◌≡◌, ◌<◌, ℕ, None, length, IfOk, IfErr, OnOk, OnErr};
 ghost use Rattle.sh_bell.specs.Bell.{top_of};
 ghost use Rattle.sh_step.specs.Parts.{ListGrows};
 ghost use Rattle.sh_step.specs.Rows.{read_page, set_class, take_page, follow, arm, point};
@@ -41,7 +41,7 @@ impl Part {
 
     // The change of a page's class: all its slots are then its own, and none but those.
     pub(super) fn set_class(&mut self, page: u64, class: u32) -> Result<Option<Reply>, Refusal>
-        ensures reply { (found : ℕ) → IfOk result (λ reply. reply ≡ (set_class self.old page class).reply found) }
+        ensures reply { IfOk result (λ reply. reply ≡ None) }
         ensures part { (found : ℕ) → OnOk result (self.new ≡ (set_class self.old page class).part found) }
         ensures err { OnErr result (self.new ≡ self.old) }
         ensures grows { (found : ℕ) → OnErr result (ListGrows self.old ((set_class self.old page class).part found)) }
@@ -69,7 +69,12 @@ impl Part {
     }
 
     // A read of the link of a page's slot that found this word: the slot is its own once the link is written.
-    pub(super) fn follow(&mut self, page: u64, slot: u64, found: u64) -> Result<Option<Reply>, Refusal>
+    pub(super) fn follow(
+        &mut self,
+        page: u64,
+        slot: u64,
+        found: u64,
+    ) -> Result<Option<Reply>, Refusal>
         ensures reply { IfOk result (λ reply. reply ≡ (follow self.old page slot).reply found) }
         ensures part { OnOk result (self.new ≡ (follow self.old page slot).part found) }
         ensures err { OnErr result (self.new ≡ self.old) }

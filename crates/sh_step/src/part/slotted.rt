@@ -1,5 +1,5 @@
 //! What actions on slots leave in a pass's own part.
-ghost use Rattle.std.specs.Prelude.{◌≡◌, ◌+◌, ◌^◌, ◌<◌, ℕ, Some};
+ghost use Rattle.std.specs.Prelude.{◌≡◌, ◌+◌, ◌^◌, ◌<◌, ℕ, Some, None};
 ghost use Rattle.sh_shape.specs.Places.{all_pages};
 ghost use Rattle.sh_slots.specs.Slots.{same_spot, published_name};
 ghost use Rattle.sh_step.specs.Plans.{plan_of};
@@ -16,7 +16,7 @@ use sh_value::Value;
 impl Part {
     // The begin of a filling.
     pub(super) fn fill_slot(&mut self, spot: Spot, value: &Value) -> Option<Reply>
-        ensures reply { (found : ℕ) → result ≡ (fill_slot self.old spot value.now).reply found }
+        ensures reply { result ≡ None }
         ensures part { (found : ℕ) → self.new ≡ (fill_slot self.old spot value.now).part found }
     {
         self.mine.remove(spot);
@@ -27,7 +27,7 @@ impl Part {
     // The store of the value's word of this number.
     pub(super) fn fill(&mut self, spot: Spot, value: &Value, i: u64) -> Option<Reply>
         requires { i + 1 < 2 ^ 64 }
-        ensures reply { (found : ℕ) → result ≡ (fill self.old spot value.now i).reply found }
+        ensures reply { result ≡ None }
         ensures part { (found : ℕ) → self.new ≡ (fill self.old spot value.now i).part found }
     {
         self.hand = Hand::Filling(spot, value.copy(), i + 1);

@@ -4,7 +4,7 @@ use Rattle.sh_shape.specs.declared.places.Place.TheVariants.{Class, Length, Payl
 use Rattle.sh_shape.specs.Classes.{width}
 use Rattle.sh_shape.specs.Places.{number}
 use Rattle.sh_core.specs.Kept.{word_at}
-use Rattle.sh_core.proofs.Code.KeptValues.{payload_range, row_within}
+use Rattle.sh_core.proofs.Words.KeptValues.{payload_range, row_within}
 use Rattle.sh_core.proofs.entry.value_in.Goals as goal
 
 pub returns : goal.returns

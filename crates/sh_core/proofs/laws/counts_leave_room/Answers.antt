@@ -1,4 +1,4 @@
-use Rattle.sh_core.proofs.Code.Operating.{fits_room}
+use Rattle.sh_core.proofs.Words.Operating.{fits_room}
 use Rattle.sh_core.proofs.laws.counts_leave_room.Goals as goal
 
 pub returns : goal.returns

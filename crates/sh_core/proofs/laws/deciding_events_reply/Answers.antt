@@ -1,4 +1,4 @@
-use Rattle.sh_core.proofs.Code.DecidingEvents.{deciding_events}
+use Rattle.sh_core.proofs.Words.DecidingEvents.{deciding_events}
 use Rattle.sh_core.proofs.laws.deciding_events_reply.Goals as goal
 
 pub returns : goal.returns

@@ -1,4 +1,4 @@
-use Rattle.sh_core.proofs.Code.Steps.{trail_grows, others_trails_stay, skips_leave_trails}
+use Rattle.sh_core.proofs.Words.Steps.{trail_grows, others_trails_stay, skips_leave_trails}
 use Rattle.sh_core.proofs.laws.trails_grow.Goals as goal
 
 pub returns-clause-own : goal.returns-clause-own

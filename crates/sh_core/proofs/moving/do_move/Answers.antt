@@ -6,7 +6,7 @@ use Rattle.sh_step.specs.Operations.{StoresWord}
 use Rattle.sh_step.specs.Plans.{plan_of}
 use Rattle.sh_step.specs.Moves.{row_of}
 use Rattle.sh_core.specs.Kept.{word_at}
-use Rattle.sh_core.proofs.Code.Operating.{operation_has_room}
+use Rattle.sh_core.proofs.Words.Operating.{operation_has_room}
 use Rattle.sh_core.proofs.moving.do_move.Goals as goal
 
 pub step-step-requires-clause-place : goal.step-step-requires-clause-place

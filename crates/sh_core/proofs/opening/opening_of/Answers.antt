@@ -1,7 +1,7 @@
 use Rattle.std.proofs.Common.{List, ℕ, sym, subst}
 use Rattle.sh_core.specs.Kept.{HoldsWords}
 use Rattle.sh_core.specs.Words.{opening}
-use Rattle.sh_core.proofs.Code.OpeningWords.{opening_holds}
+use Rattle.sh_core.proofs.Words.OpeningWords.{opening_holds}
 use Rattle.sh_core.proofs.opening.opening_of.Goals as goal
 
 pub returns-in-Ok-clause-opens : goal.returns-in-Ok-clause-opens

@@ -6,8 +6,8 @@ use Rattle.sh_step.specs.Plans.{plan_of}
 use Rattle.sh_shape.specs.Shape.{IsShape}
 use Rattle.sh_core.specs.Worlds.{World, run, open_world}
 use Rattle.sh_core.specs.Kept.{StandsFor}
-use Rattle.sh_core.proofs.Code.Steps.{run_none}
-use Rattle.sh_core.proofs.Code.Doing.{goes_on}
+use Rattle.sh_core.proofs.Words.Steps.{run_none}
+use Rattle.sh_core.proofs.Words.Doing.{goes_on}
 use Rattle.sh_core.proofs.Clauses.RunTheorem.{theorem, legal_of}
 use Rattle.sh_core.proofs.world.run.Goals as goal
 

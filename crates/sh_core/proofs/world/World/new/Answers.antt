@@ -1,7 +1,7 @@
 use Rattle.std.proofs.Common.{◌∙◌, ap, refl}
 use Rattle.std.specs.Prelude.{ℕ, replicate}
 use Rattle.sh_step.specs.Parts.{newcomer}
-use Rattle.sh_core.proofs.Code.Stepping.{stands_open, reached_open}
+use Rattle.sh_core.proofs.Words.Stepping.{stands_open, reached_open}
 use Rattle.sh_core.proofs.world.World.new.Goals as goal
 
 pub invariant_of-result : goal.invariant_of-result

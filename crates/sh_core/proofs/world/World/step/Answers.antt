@@ -7,9 +7,9 @@ use Rattle.sh_step.specs.Plans.{plan_of}
 use Rattle.sh_step.proofs.MoveLaws.{row_of_made}
 use Rattle.sh_core.specs.declared.outcome.Outcome.TheVariants.{Skipped}
 use Rattle.sh_core.specs.Kept.{KeptWorld, StepsWorld, IsDone, NeedsMemory}
-use Rattle.sh_core.proofs.Code.Doing.{reached_after, steps_after, done_after, needs_after, steps_past, steps_skipped}
-use Rattle.sh_core.proofs.Code.Doing.{set_here}
-use Rattle.sh_core.proofs.Code.Ready.{ready}
+use Rattle.sh_core.proofs.Words.Doing.{reached_after, steps_after, done_after, needs_after, steps_past, steps_skipped}
+use Rattle.sh_core.proofs.Words.Doing.{set_here}
+use Rattle.sh_core.proofs.Words.Ready.{ready}
 use Rattle.sh_core.proofs.world.World.step.Goals as goal
 
 pub returns-then-pass-len-clause-ok : goal.returns-then-pass-len-clause-ok

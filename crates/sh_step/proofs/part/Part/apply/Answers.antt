@@ -1,5 +1,6 @@
 -- Where a method's clause speaks of any plan or of any word found, at those of the move.
 use Rattle.std.proofs.Common.{◌≡◌, ◌∙◌, ℕ, Option, refl, sym, ap, subst}
+use Rattle.std.specs.Prelude.{OnOk}
 use Rattle.sh_slots.specs.declared.reply.Reply.{Reply}
 use Rattle.sh_step.specs.declared.body.Body.{Body}
 use Rattle.sh_step.specs.declared.moves.Move.{Move}
@@ -57,14 +58,16 @@ returns-in-Fill-clause-part g c =
 pub returns-in-ReadWord-clause-part : goal.returns-in-ReadWord-clause-part
 returns-in-ReadWord-clause-part g c =
     let plan = plan_of g.L.KeyLayout.layout c.args.shape.now in
-    c.read_word.ensures.part c.in-ReadWord.field-1 c.in-ReadWord.field-2
-    ∙ same_left plan c.args.self.now c.args.found _ _ c.in-ReadWord.is
+    subst (λ (m : Move). OnOk c.read_word.result
+    (c.read_word.new.self ≡ (row_of plan c.args.self.now m).part c.args.found)) (sym c.in-ReadWord.is)
+    (c.read_word.ensures.part c.in-ReadWord.field-1 c.in-ReadWord.field-2)
 
 pub returns-in-SetClass-clause-part : goal.returns-in-SetClass-clause-part
 returns-in-SetClass-clause-part g c =
     let plan = plan_of g.L.KeyLayout.layout c.args.shape.now in
-    c.set_class.ensures.part c.args.found ∙ same_left plan c.args.self.now c.args.found _ _
-    c.in-SetClass.is
+    subst (λ (m : Move). OnOk c.set_class.result
+    (c.set_class.new.self ≡ (row_of plan c.args.self.now m).part c.args.found)) (sym c.in-SetClass.is)
+    (c.set_class.ensures.part c.args.found)
 
 pub returns-in-Tie-clause-part : goal.returns-in-Tie-clause-part
 returns-in-Tie-clause-part g c =

@@ -20,9 +20,9 @@ use Rattle.sh_core.specs.Worlds.{World, step, apply, run, run_from, open_world, 
 use Rattle.sh_step.specs.Parts.{newcomer}
 use Rattle.sh_core.specs.Outcomes.{row_of_event, outcome_of, done}
 use Rattle.sh_core.specs.Kept.{KeptWorld, StandsFor, FromEvents, OpensWith}
-use Rattle.sh_core.proofs.Code.KeptWords.{hold_write}
+use Rattle.sh_core.proofs.Words.KeptWords.{hold_write}
 use Rattle.sh_core.proofs.Clauses.RunTheorem.{legal_of}
-use Rattle.sh_core.proofs.Code.Steps.{step_moves, step_skips, step_past, run_snoc}
+use Rattle.sh_core.proofs.Words.Steps.{step_moves, step_skips, step_past, run_snoc}
 
 -- what is kept once the row was done on the word n
 abbrev pub moved : KeptWorld → ℕ → Row → ℕ → Option Entry → KeptWorld

@@ -12,8 +12,8 @@ use Rattle.sh_core.specs.declared.outcome.Outcome.{Outcome}
 use Rattle.sh_core.specs.Words.{read}
 use Rattle.sh_core.specs.Worlds.{World, step, apply, entry, entry_of, joined, value_at_place}
 use Rattle.sh_core.specs.Outcomes.{row_of_event, outcome_of, done, IsTold, DecidingEventsReply}
-use Rattle.sh_core.proofs.Code.Steps.{step_moves}
-use Rattle.sh_core.proofs.Code.Stepping.{outcome_done}
+use Rattle.sh_core.proofs.Words.Steps.{step_moves}
+use Rattle.sh_core.proofs.Words.Stepping.{outcome_done}
 use Rattle.sh_core.proofs.Kept.LastGenerations.{of_its_pass}
 
 -- by whether something is replied

@@ -21,16 +21,16 @@ use Rattle.sh_core.specs.declared.outcome.Outcome.{Outcome}
 use Rattle.sh_core.specs.declared.outcome.Outcome.TheVariants.{Skipped}
 use Rattle.sh_core.specs.Words.{Words, read}
 use Rattle.std.proofs.lemmas.List.{take_more}
-use Rattle.sh_core.proofs.Code.Steps.{run_snoc, row_of_at}
+use Rattle.sh_core.proofs.Words.Steps.{run_snoc, row_of_at}
 use Rattle.sh_core.specs.Worlds.{World, step, run, open_world, words_from, value_at, value_at_place, entry_of, joined}
 use Rattle.sh_core.specs.Outcomes.{row_of_event, outcome_of, done}
 use Rattle.sh_core.specs.Kept.{KeptWorld, StandsFor, HoldsWords, FromEvents, IsReady, DoesRow, StepsWorld, IsDone}
 use Rattle.sh_core.specs.Kept.{AsksMemory, NeedsMemory, SlotHasValue, KeepsValue, value_in, value_kept, word_at}
 use Rattle.sh_core.specs.Kept.{new_entry}
 use Rattle.sh_shape.proofs.ClassLaws.{slots_few}
-use Rattle.sh_core.proofs.Code.KeptValues.{row_within}
-use Rattle.sh_core.proofs.Code.Stepping.{stands_moves, stands_skips, stands_past, row_of_past, outcome_done, outcome_skipped}
-use Rattle.sh_core.proofs.Code.Stepping.{outcome_not_skipped, reached_on, moved}
+use Rattle.sh_core.proofs.Words.KeptValues.{row_within}
+use Rattle.sh_core.proofs.Words.Stepping.{stands_moves, stands_skips, stands_past, row_of_past, outcome_done, outcome_skipped}
+use Rattle.sh_core.proofs.Words.Stepping.{outcome_not_skipped, reached_on, moved}
 
 words_same : (f g : ℕ → ℕ) (i n : ℕ) → ((j : ℕ) → i ≤ j → j < i + n → f j ≡ g j) → words_from f i n ≡ words_from g i n
 words_same f g i zero h = refl
