@@ -11,12 +11,9 @@ use crate::index::{Held, Issued, find_hold, hold_count, holds_on, issued_at};
 use crate::{Lookup, Store};
 use sh_history::Entry;
 use sh_key::KeyLayout;
-use sh_value::{Hold, Refusal, Value};
+use sh_value::{HOLDS_MAX, Hold, Refusal, Value};
 use std::alloc::Global;
 use std::marker::{Model, PhantomData};
-
-// How many holds a pass may have.
-const HOLDS_MAX: usize = 16;
 
 /// A store that keeps the entries of all its passes, and answers each call from them.
 ///

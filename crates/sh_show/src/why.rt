@@ -5,7 +5,7 @@ ghost use Rattle.std.specs.Prelude.{◌≤◌};
 use crate::class_named::class_named;
 use crate::reason::Reason;
 use sh_key::KeyLayout;
-use sh_shape::{Shape, slots, width};
+use sh_shape::{CLASS_COUNT, Shape, slots, width};
 use sh_slots::{Hand, Spot};
 use sh_step::names::{page_of_name, place_of_key, slot_of_name};
 use sh_step::{Action, PageName, Part, SlotName};
@@ -107,7 +107,7 @@ fn why_no_class<L: KeyLayout>(
     let (slots, _) = slots_under(class_word);
     let all_own = class_word == 0 || part.has_all_mine(page, slots);
     unless(all_own, Reason::NotAllOwn)?;
-    unless(class < 8, Reason::NoClass)
+    unless(class < CLASS_COUNT, Reason::NoClass)
 }
 
 fn why_no_take<L: KeyLayout>(shape: &Shape, part: &Part, name: PageName) -> Result<(), Reason> {
