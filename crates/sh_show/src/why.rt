@@ -1,6 +1,7 @@
 //! Which condition of an event does not hold. Each function looks at the conditions of some events, in the order in
 //! which a reader would, and answers the first that does not hold.
 ghost use Rattle.std.specs.Prelude.{◌≤◌};
+ghost use Rattle.sh_shape.specs.Places.{slot_places};
 
 use crate::class_named::class_named;
 use crate::reason::Reason;
@@ -18,7 +19,7 @@ fn unless(holds: bool, reason: Reason) -> Result<(), Reason> {
 
 // How many slots a page under a class word has, and how wide they are: none where it is blank.
 fn slots_under(class_word: u64) -> (u64, u64)
-    ensures { result.0 ≤ 48 }
+    ensures { result.0 ≤ slot_places }
 {
     match class_named(class_word) {
         Some(class) => (u64::from(slots(class)), u64::from(width(class))),
