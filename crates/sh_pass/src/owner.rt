@@ -107,7 +107,7 @@ impl<L: KeyLayout, H: KeepsHeap<L>> Owner<L, H> {
         ensures stands { ViewStands L.layout self.now.view }
     {
         // What holds of every owner holds of this one.
-        let _ = &self.held;
+        let _known = &self.held;
         let heap = self.heap.kept();
         heap.table.shape()
     }
@@ -136,7 +136,7 @@ impl<L: KeyLayout, H: KeepsHeap<L>> Owner<L, H> {
     {
         let heap = self.heap.kept();
         let shape = heap.table.shape();
-        let (_shards, _pages) = (shape.shards(), shape.pages());
+        let _known = (shape.shards(), shape.pages());
         u64::from(shape.page_number(name.shard as u32, name.page as u32))
     }
 

@@ -49,7 +49,7 @@ impl<L: KeyLayout> PassState<L> {
         ensures stands { ViewStands L.layout self.now.view }
     {
         // What holds of every pass holds of this one.
-        let _ = &self.held;
+        let _known = &self.held;
         heap.table.shape()
     }
 

@@ -204,9 +204,9 @@ impl<L: KeyLayout> Lookup for PlainStore<L> {
         ensures same { plain_setting L.layout self.new ≡ plain_setting L.layout self.old }
         ensures exact { Replied (get_reply L.layout self.old key) self.old result self.new }
     {
-        let _ = &self.entries;
+        let _known = &self.entries;
         let result = self.plain_get(key);
-        let _ = &self.entries;
+        let _known = &self.entries;
         result
     }
 
@@ -219,7 +219,7 @@ impl<L: KeyLayout> Lookup for PlainStore<L> {
         ensures unchanged { self.new ≡ self.old }
     {
         let result = self.plain_read(hold);
-        let _ = &self.entries;
+        let _known = &self.entries;
         result
     }
 
@@ -231,7 +231,7 @@ impl<L: KeyLayout> Lookup for PlainStore<L> {
         ensures exact { Replied (remove_reply L.layout self.old key) self.old result self.new }
     {
         let result = self.plain_remove(key);
-        let _ = &self.entries;
+        let _known = &self.entries;
         result
     }
 
@@ -243,7 +243,7 @@ impl<L: KeyLayout> Lookup for PlainStore<L> {
         ensures exact { Replied (release_reply self.old hold.key) self.old result self.new }
     {
         let result = self.plain_release(hold);
-        let _ = &self.entries;
+        let _known = &self.entries;
         result
     }
 }
@@ -263,9 +263,9 @@ impl<L: KeyLayout> Store for PlainStore<L> {
         ensures new_key { IfOk result (IsNewKey L.layout self.old.entries) }
     {
         // Reading a field brings in what is true of each plain store: here before the call, and below after it.
-        let _ = &self.entries;
+        let _known = &self.entries;
         let result = self.plain_insert(value);
-        let _ = &self.entries;
+        let _known = &self.entries;
         result
     }
 }

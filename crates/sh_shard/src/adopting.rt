@@ -33,7 +33,7 @@ impl<L: KeyLayout, H: KeepsHeap<L>> Shard<L, H> {
         match queues_of(alloc, &pages) {
             Ok(queues) => {
                 let shard = Shard { pages, queues };
-                shard.standing();
+                let _known = shard.standing();
                 Ok(shard)
             }
             Err(refusal) => Err((pages.give_up(), refusal)),

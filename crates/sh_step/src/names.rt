@@ -30,7 +30,7 @@ fn number_of_page(shape: &Shape, shard: u64, page: u64) -> u64
     requires page { page < pages_of shape.now }
     ensures { result ≡ shard * pages_of shape.now + page }
 {
-    let (_shards, _pages) = (shape.shards(), shape.pages());
+    let _known = (shape.shards(), shape.pages());
     u64::from(shape.page_number(shard as u32, page as u32))
 }
 
