@@ -2,9 +2,8 @@
 ghost use Rattle.std.specs.Prelude.{◌≡◌, IfOk, map, string_bytes};
 
 use std::alloc::{AllocError, Global};
-use std::env;
 use std::env::Env;
-use std::io;
+use std::{env, io};
 
 /// The words as texts, in their order.
 pub fn texts(alloc: Global, words: &[String]) -> Result<Vec<&str>, AllocError>
