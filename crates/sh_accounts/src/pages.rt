@@ -1,6 +1,6 @@
 //! The accounts of a page.
 ghost use Rattle.std.specs.Prelude.{◌≡◌, ◌+◌, ◌<◌, ◌≤◌, Some, None, IfSome, MatchOption, get_or};
-ghost use Rattle.sh_shape.specs.Places.{page_number};
+ghost use Rattle.sh_shape.specs.Places.{page_number, slot_places};
 ghost use Rattle.sh_shape.specs.Classes.{slots, class_count};
 ghost use Rattle.sh_core.specs.Lists.{class_named};
 ghost use Rattle.sh_accounts.specs.Kinds.{with_one};
@@ -10,7 +10,7 @@ ghost use Rattle.sh_accounts.specs.Accounts.{kind_in, counted};
 use crate::kinds::{SlotKind, slot_kind};
 use sh_core::{Accounts, World, refines_map};
 use sh_key::KeyLayout;
-use sh_shape::slots;
+use sh_shape::{CLASS_COUNT, slots};
 use sh_slots::Spot;
 
 // The class that a class word names.
@@ -19,7 +19,7 @@ fn class_of(word: u64) -> Option<u32>
     ensures known { IfSome result (λ class. class < class_count) }
 {
     match word {
-        1..=8 => Some(word as u32 - 1),
+        1..=CLASS_COUNT => Some(word as u32 - 1),
         _ => None,
     }
 }
@@ -52,7 +52,7 @@ fn no_slots(class: Option<u32>) -> Accounts
 
 // Counts one slot more.
 fn count_one(accounts: &mut Accounts, kind: SlotKind)
-    requires { all_slots accounts.old < 48 }
+    requires { all_slots accounts.old < slot_places }
     ensures is { accounts.new ≡ with_one accounts.old kind }
     ensures one { all_slots accounts.new ≡ all_slots accounts.old + 1 }
 {
@@ -69,7 +69,7 @@ fn count_one(accounts: &mut Accounts, kind: SlotKind)
 // What a slot of a page's class is.
 fn kind_at<L: KeyLayout>(world: &World<L>, shard: u32, page: u32, slot: u32) -> SlotKind
     requires page { ShapeHasPage world.now.shape shard page }
-    requires slot { slot < 48 }
+    requires slot { slot < slot_places }
     ensures { result ≡ kind_in world.now (record { page = page_number world.now.shape shard page; slot = slot }) }
 {
     let shape = world.shape();

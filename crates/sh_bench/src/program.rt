@@ -1,11 +1,11 @@
 //! The whole program, over the words of a command line and two writers.
 use crate::measuring::measure;
-use clap::Error;
 use sh_load::command_line::options_of;
 use sh_load::fault::Fault;
 use sh_load::options::Options;
 use sh_load::outcome::Outcome;
 use sh_load::{layout, workload};
+use sh_start::show;
 use std::alloc::Global;
 use std::io;
 use std::io::Write;
@@ -48,18 +48,6 @@ fn run_with<R: Threads + Clock + Sync, W: Write, E: Write>(
     tell_counts(options, &outcome, output)?;
     tell_times(options, &outcome, errors)?;
     Ok(())
-}
-
-// Shows why clap gave no options, and gives the exit status: help goes to `output`, a mistake to `errors`.
-fn show<W: Write, E: Write>(error: &Error, output: &mut W, errors: &mut E) -> u8 {
-    if error.use_stderr() {
-        let _ = write!(errors, "{error}");
-        return 2;
-    }
-    match write!(output, "{error}") {
-        Ok(()) => 0,
-        Err(_) => 3,
-    }
 }
 
 /// Runs the program, and gives the exit status.

@@ -7,7 +7,7 @@ ghost use Rattle.sh_c.specs.Told.{InsertTold, InsertsWords, PrepareTold, Prepare
 use crate::codes::{EMPTY, OK, SHORT, code};
 use sh_handles::{AnyMember, PassHandle};
 use sh_shape::classes;
-use sh_value::{Hold, Refusal, Value};
+use sh_value::{Hold, Refusal, Value, WORDS_MAX};
 use std::alloc::Global;
 
 // Puts the words of a value in front of the room, and tells how many they are.
@@ -72,9 +72,6 @@ pub extern "C" fn shardheap_raw_load(
     }
 }
 
-// The most words of a value.
-const MOST_WORDS: usize = 16;
-
 // Puts the words behind those of the value, where it is, so that the value is copied nowhere.
 fn put_words(value: &mut Value, words: &[u64])
     requires { length value.old + length words.now ≤ 16 }
@@ -89,7 +86,7 @@ fn put_words(value: &mut Value, words: &[u64])
 fn insert_words(member: &mut AnyMember, words: &[u64]) -> Result<u64, Refusal>
     ensures { InsertsWords words.now member.old result member.new }
 {
-    if words.len() > MOST_WORDS {
+    if words.len() > WORDS_MAX {
         return Err(Refusal::TooLong);
     }
     let mut value = Value::empty();

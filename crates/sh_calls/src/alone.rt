@@ -57,7 +57,7 @@ fn lines_in_turn<S: Side>(
         return Ok((output, None));
     };
     heed_last(&mut carrier, last);
-    carrier.whole();
+    let _known = carrier.whole();
     Ok((output, Some(carrier)))
 }
 

@@ -55,6 +55,6 @@ pub fn met<S: Side>(sides: Vec<S>) -> Option<S>
         carrier = Some(meet(carrier, side));
     }
     let carrier = carrier?;
-    carrier.whole();
+    let _known = carrier.whole();
     Some(carrier)
 }

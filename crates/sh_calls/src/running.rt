@@ -14,30 +14,30 @@ impl<'a, L: KeyLayout> Calls for Pass<'a, L> {
     ghost seen = { λ p. seen_of_caller L.layout p };
 
     fn get(&mut self, key: u64) -> Result<Hold, Refusal> {
-        let _ = self.shape();
+        let _known = self.shape();
         let result = Pass::get(self, key);
-        let _ = self.shape();
+        let _known = self.shape();
         result
     }
 
     fn read(&mut self, hold: Hold) -> Result<Value, Refusal> {
-        let _ = self.shape();
+        let _known = self.shape();
         let result = Pass::read(self, hold);
-        let _ = self.shape();
+        let _known = self.shape();
         result
     }
 
     fn remove(&mut self, key: u64) -> Result<(), Refusal> {
-        let _ = self.shape();
+        let _known = self.shape();
         let result = Pass::remove(self, key);
-        let _ = self.shape();
+        let _known = self.shape();
         result
     }
 
     fn release(&mut self, hold: Hold) -> Result<(), Refusal> {
-        let _ = self.shape();
+        let _known = self.shape();
         let result = Pass::release(self, hold);
-        let _ = self.shape();
+        let _known = self.shape();
         result
     }
 
@@ -50,7 +50,7 @@ impl<'a, L: KeyLayout> Calls for Pass<'a, L> {
     }
 
     fn whole(&self) {
-        let _ = self.shape();
+        let _known = self.shape();
     }
 }
 
@@ -59,22 +59,22 @@ impl<'a, L: KeyLayout> Calls for Shard<'a, L> {
     ghost seen = { λ s. seen_of_shard L.layout s };
 
     fn get(&mut self, key: u64) -> Result<Hold, Refusal> {
-        let _ = self.shape();
+        let _known = self.shape();
         Shard::get(self, key)
     }
 
     fn read(&mut self, hold: Hold) -> Result<Value, Refusal> {
-        let _ = self.shape();
+        let _known = self.shape();
         Shard::read(self, hold)
     }
 
     fn remove(&mut self, key: u64) -> Result<(), Refusal> {
-        let _ = self.shape();
+        let _known = self.shape();
         Shard::remove(self, key)
     }
 
     fn release(&mut self, hold: Hold) -> Result<(), Refusal> {
-        let _ = self.shape();
+        let _known = self.shape();
         Shard::release(self, hold)
     }
 
@@ -87,7 +87,7 @@ impl<'a, L: KeyLayout> Calls for Shard<'a, L> {
     }
 
     fn whole(&self) {
-        let _ = self.shape();
+        let _known = self.shape();
     }
 }
 
@@ -97,7 +97,7 @@ impl<'a, L: KeyLayout> Adopts<Shard<'a, L>> for Pass<'a, L> {
     }
 
     fn leave(shard: Shard<'a, L>) -> Result<Self, (Shard<'a, L>, Refusal)> {
-        let _ = shard.shape();
+        let _known = shard.shape();
         shard.leave()
     }
 
@@ -106,7 +106,7 @@ impl<'a, L: KeyLayout> Adopts<Shard<'a, L>> for Pass<'a, L> {
     }
 
     fn insert(shard: &mut Shard<'a, L>, value: &Value) -> Result<u64, Refusal> {
-        let _ = shard.shape();
+        let _known = shard.shape();
         shard.insert(value)
     }
 }

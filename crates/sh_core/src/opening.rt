@@ -6,16 +6,14 @@ ghost use Rattle.sh_core.specs.Opening.{opening_word, opening_words};
 ghost use Rattle.sh_core.specs.Kept.{OpensWith, RefusesToOpen};
 
 use sh_key::KeyLayout;
-use sh_shape::{Shape, fits};
+use sh_shape::{PAGE_WORDS, SLOT_PLACES, Shape, fits};
 use sh_value::Refusal;
 use std::alloc::{AllocError, Global};
 
-// How many words a page has, and between which of them its state words stand.
-const PAGE_WORDS: u32 = 195;
-
+// Between which words of a page its state words stand.
 const STATES: u32 = 3;
 
-const LINKS: u32 = 51;
+const LINKS: u32 = STATES + SLOT_PLACES;
 
 // A state word says that the slot is empty, in its first generation.
 const FIRST_GENERATION: u64 = 1 << 32;

@@ -6,6 +6,7 @@ use Rattle.sh_history.specs.declared.entry.Entry.{Entry}
 use Rattle.sh_history.specs.History.{value_of, is_removed, holds_on}
 use Rattle.sh_key.specs.Layout.{Layout, IsLayout}
 use Rattle.sh_shape.specs.Shape.{Numbers, IsShape, Fits}
+use Rattle.sh_shape.specs.Places.{slot_places}
 use Rattle.sh_slots.specs.declared.hand.Name.{Name}
 use Rattle.sh_slots.specs.declared.hand.Spot.{Spot}
 use Rattle.sh_slots.specs.Slots.{name_at, spots}
@@ -21,9 +22,9 @@ unfoldable pub keys_of_slots : Plan → List Spot → List ℕ
 keys_of_slots plan [] = []
 keys_of_slots plan (x ∷ xs) = keys_of_slot plan x plan.keys.gen_max ++ keys_of_slots plan xs
 
--- the keys of page q: of each of its 48 slots one of each generation
+-- the keys of page q: of each slot that it has a place for one of each generation
 abbrev pub page_keys : Plan → ℕ → List ℕ
-page_keys plan q = keys_of_slots plan (spots q 0 48)
+page_keys plan q = keys_of_slots plan (spots q 0 slot_places)
 
 -- its generation is the last that a slot has
 abbrev pub is_last_key : Plan → ℕ → Bool
@@ -41,8 +42,9 @@ is_retired_key plan history k = is_removed history k && is_last_key plan k && (h
 -- each key that names a slot of page q stands once among the page's keys, and whatever stands there is such a key
 abbrev pub PageKeysOnce : Plan → Type 0
 PageKeysOnce plan = (q k : ℕ) → q < heap_pages plan →
-    ((n : Name) → plan.keys.unpack k ≡ Some n → n.page ≡ q → n.slot < 48 → times k (page_keys plan q) ≡ 1)
-    × (0 < times k (page_keys plan q) → (n : Name) × (plan.keys.unpack k ≡ Some n) × (n.page ≡ q) × (n.slot < 48))
+    ((n : Name) → plan.keys.unpack k ≡ Some n → n.page ≡ q → n.slot < slot_places → times k (page_keys plan q) ≡ 1)
+    × (0 < times k (page_keys plan q) → (n : Name) × (plan.keys.unpack k ≡ Some n) × (n.page ≡ q)
+    × (n.slot < slot_places))
 
 abbrev pub PageKeysAreAll : Type 0
 PageKeysAreAll = (layout : Layout) (shape : Numbers) → IsLayout layout → IsShape shape → Fits layout shape

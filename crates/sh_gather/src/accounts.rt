@@ -2,7 +2,7 @@
 ghost use Rattle.std.specs.Prelude.{◌≡◌, ℕ, ◌+◌, ◌<◌, ◌≤◌, List, length, IfSome, MatchOption};
 ghost use Rattle.sh_word.specs.Fields.{fields_of};
 ghost use Rattle.sh_shape.specs.Classes.{class_count};
-ghost use Rattle.sh_shape.specs.Places.{all_pages, page_number};
+ghost use Rattle.sh_shape.specs.Places.{all_pages, page_number, slot_places};
 ghost use Rattle.sh_core.specs.Lists.{class_named, slots_under};
 ghost use Rattle.sh_table.specs.Whole.{IsWhole, Known};
 ghost use Rattle.sh_accounts.specs.Accounts.{ShapeHasPage, no_slots};
@@ -16,7 +16,7 @@ use sh_core::Accounts;
 use sh_key::KeyLayout;
 use sh_pass::KeepsHeap;
 use sh_pass::pass::Pass;
-use sh_shape::{Place, slots};
+use sh_shape::{CLASS_COUNT, Place, SLOT_PLACES, slots};
 use sh_word::{Kind, State};
 
 // The accounts of a page of this class, of which no slot is counted yet.
@@ -38,17 +38,17 @@ fn no_slots(class: Option<u32>) -> Accounts
 fn class_of(word: u64) -> (Option<u32>, u32)
     ensures class { word ≤ class_count → result.0 ≡ class_named word }
     ensures count { word ≤ class_count → result.1 ≡ slots_under word }
-    ensures few { result.1 ≤ 48 }
+    ensures few { result.1 ≤ slot_places }
 {
     match word {
-        1..=8 => (Some(word as u32 - 1), slots(word as u32 - 1)),
+        1..=CLASS_COUNT => (Some(word as u32 - 1), slots(word as u32 - 1)),
         _ => (None, 0),
     }
 }
 
 // Counts one slot more, by its state word.
 fn count_one(accounts: &mut Accounts, word: u64)
-    requires { states_counted accounts.old < 48 }
+    requires { states_counted accounts.old < slot_places }
     ensures is { accounts.new ≡ with_state accounts.old (fields_of word) }
     ensures one { states_counted accounts.new ≤ states_counted accounts.old + 1 }
 {
@@ -68,7 +68,7 @@ fn count_states<L: KeyLayout, H: KeepsHeap<L>>(
     count: u32,
 ) -> Accounts
     requires page { page < all_pages pass.old.heap.shape }
-    requires count { count ≤ 48 }
+    requires count { count ≤ slot_places }
     requires known { Known L.layout pass.old.view }
     requires gathered { IsGathered pass.old.view }
     ensures heap { pass.new.heap ≡ pass.old.heap }
@@ -88,7 +88,7 @@ fn count_states<L: KeyLayout, H: KeepsHeap<L>>(
 }
 
 // Walks the stack of a page, from its head word to the end, and counts its slots. Each slot of a page stands there once
-// at most, so 48 links are enough.
+// at most, so as many links are enough as it has places.
 fn walk<L: KeyLayout, H: KeepsHeap<L>>(pass: &mut Pass<L, H>, page: u64) -> u32
     requires page { page < all_pages pass.old.heap.shape }
     requires gathered { IsGathered pass.old.view }
@@ -102,13 +102,13 @@ fn walk<L: KeyLayout, H: KeepsHeap<L>>(pass: &mut Pass<L, H>, page: u64) -> u32
 {
     core_refines();
     let mut top = pass.load(Place::Head(page)) / 2;
-    for queued in 0..48 {
+    for queued in 0..SLOT_PLACES {
         if top == 0 {
             return queued;
         }
         top = pass.load(Place::Link(page, top - 1)) - 1;
     }
-    48
+    SLOT_PLACES
 }
 
 // The accounts of a shard's page. None where the heap has no such page.

@@ -56,7 +56,7 @@ pub fn gather<L: KeyLayout, H: KeepsHeap<L>>(
     let Some(last) = passes.pop() else {
         unreachable!()
     };
-    let _ = last.shape();
+    let _known = last.shape();
     match whole(met(last, passes)) {
         Ok(whole) => Ok(whole),
         Err(_) => unreachable!(),

@@ -57,7 +57,7 @@ fn held<'a, L: KeyLayout>(
 {
     let mut holders = Vec::with_capacity(alloc, passes.len())?;
     for pass in passes {
-        let _ = pass.shape();
+        let _known = pass.shape();
         holders.push(Holder::new(pass))?;
     }
     Ok(holders)
@@ -91,7 +91,7 @@ fn push_whole<L: KeyLayout>(output: &mut Vec<u8>, pass: Pass<'_, L>) -> Result<(
         × TellsTale L.layout pass.entry.heap.shape (tale_told (seen_of_caller L.layout pass.entry))
         pass.entry.view.orders text) }
 {
-    let _ = pass.shape();
+    let _known = pass.shape();
     let Ok(whole) = whole(pass) else {
         unreachable!()
     };
@@ -104,11 +104,11 @@ fn look<L: KeyLayout>(pass: Pass<'_, L>)
     requires whole { IsWhole pass.view }
     ensures { (events : List Event) × LeadsToWhole L.layout pass.entry events }
 {
-    let _ = pass.shape();
+    let _known = pass.shape();
     let Ok(whole) = whole(pass) else {
         unreachable!()
     };
-    let _ = WholeHeap::new(whole).accounts(0, 0);
+    let _known = WholeHeap::new(whole).accounts(0, 0);
 }
 
 // The replies, and after them the accounts where they are asked for, which the carrier tells.

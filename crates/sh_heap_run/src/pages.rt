@@ -49,7 +49,7 @@ impl<'a, L: KeyLayout> Pages for WholeHeap<'a, L> {
     }
 
     fn accounts(&mut self, shard: u32, page: u32) -> Accounts {
-        let _ = self.whole.shape();
+        let _known = self.whole.shape();
         match self.whole.accounts(shard, page) {
             Some(accounts) => accounts,
             None => unreachable!(),

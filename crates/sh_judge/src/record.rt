@@ -11,7 +11,7 @@ use crate::counts::{Count, Counts};
 use crate::fault::{Call, Fault, Wrong};
 use crate::line::{Line, Span, Told};
 use crate::pattern;
-use sh_value::{Hold, Refusal, Value};
+use sh_value::{HOLDS_MAX, Hold, Refusal, Value};
 use std::alloc::Global;
 
 /// A hold, and the line of the log that tells of it.
@@ -21,9 +21,6 @@ pub struct Held {
     pub hold: Hold,
     line: usize,
 }
-
-/// How many holds a pass may have.
-const HOLDS: usize = 16;
 
 /// The log of a pass, with its holds, its counts, and the first fault that it met.
 #[derive(Drop)]
@@ -152,7 +149,7 @@ impl Record {
     pub fn is_full(&self) -> bool
         ensures { IsTrue result ↔ (16 ≤ vec_len self.now.holds) }
     {
-        self.holds.len() >= HOLDS
+        self.holds.len() >= HOLDS_MAX
     }
 
     /// How many holds it has.

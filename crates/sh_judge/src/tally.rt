@@ -9,7 +9,7 @@ use sh_core::Accounts;
 use sh_history::Entry;
 use sh_history::look::{holds_on, is_removed, value_of};
 use sh_key::{KeyLayout, Parts};
-use sh_shape::{Shape, slots};
+use sh_shape::{CLASS_COUNT, Shape, slots};
 use std::alloc::{AllocError, Global};
 
 /// How many slots of a page must be of a kind.
@@ -131,7 +131,7 @@ pub fn agrees(accounts: &Accounts, tally: PageTally) -> bool
         + u64::from(accounts.retired)
         + u64::from(accounts.queued);
     let all = match accounts.class {
-        Some(class) if class < 8 => u64::from(slots(class)),
+        Some(class) if u64::from(class) < CLASS_COUNT => u64::from(slots(class)),
         _ => 0,
     };
     u64::from(accounts.live) == tally.live

@@ -21,30 +21,21 @@ mod share;
 mod story;
 mod worker;
 
-use std::alloc::{AllocError, Global};
+use sh_start::with_words;
 use std::io;
 use std::process::ExitCode;
 use std::thread::Threads;
 
-fn texts(alloc: Global, words: &[String]) -> Result<Vec<&str>, AllocError> {
-    let mut texts = Vec::new(alloc);
-    for word in words {
-        texts.push(word.as_str())?;
-    }
-    Ok(texts)
-}
-
 fn start<T: Threads + Sync>(rt: &HostRuntime, threads: &T) -> io::Result<u8> {
-    let alloc = rt.alloc();
-    let words: Vec<String> = std::env::args(rt)?.collect(alloc)?;
-    let words = texts(alloc, words.as_slice())?;
-    Ok(program::run_program(
-        threads,
-        alloc,
-        words.as_slice(),
-        &mut rt.stdout(),
-        &mut rt.stderr(),
-    ))
+    with_words(rt, |words| {
+        program::run_program(
+            threads,
+            rt.alloc(),
+            words,
+            &mut rt.stdout(),
+            &mut rt.stderr(),
+        )
+    })
 }
 
 fn main(rt: HostRuntime) -> ExitCode {

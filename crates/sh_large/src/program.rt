@@ -5,6 +5,7 @@ use crate::story::Story;
 use clap::Error;
 use clap::error::ErrorKind;
 use gearlongan::{Deep, Refusal, Wide};
+use sh_start::show;
 use std::alloc::Global;
 use std::io;
 use std::io::Write;
@@ -15,18 +16,11 @@ const WIDE_SHARDS: u32 = 64;
 
 const DEEP_SHARDS: u32 = 1;
 
-// Shows why clap gave no options, and gives the exit status: help goes to `output`, a mistake to `errors`.
-fn show<W: Write, E: Write>(error: &Error, output: &mut W, errors: &mut E) -> u8 {
-    if error.kind() == ErrorKind::OutOfMemory {
-        return refused(Refusal::Memory, errors);
-    }
-    if error.use_stderr() {
-        let _ = write!(errors, "{error}");
-        return 2;
-    }
-    match write!(output, "{error}") {
-        Ok(()) => 0,
-        Err(_) => 3,
+// Shows why clap gave no options, unless memory was refused, and gives the exit status.
+fn refuse<W: Write, E: Write>(error: &Error, output: &mut W, errors: &mut E) -> u8 {
+    match error.kind() {
+        ErrorKind::OutOfMemory => refused(Refusal::Memory, errors),
+        _ => show(error, output, errors),
     }
 }
 
@@ -86,7 +80,7 @@ pub fn run_program<W: Write, E: Write, R: Threads + Sync>(
 ) -> u8 {
     let options = match options_of(alloc, words) {
         Ok(options) => options,
-        Err(error) => return show(&error, output, errors),
+        Err(error) => return refuse(&error, output, errors),
     };
     match story_of(rt, alloc, &options) {
         Ok(story) => report(&options, &story, output, errors),

@@ -31,7 +31,7 @@ const NO_SLOTS: Thread = Thread {
 #[derive(Drop)]
 pub struct PageLists {
     // The slot that follows in the same list.
-    next: [u8; 48],
+    next: [u8; PLACES],
     free: Thread,
     local: Thread,
     cursor: Option<u32>,
@@ -60,7 +60,7 @@ impl PageLists {
         ensures { result ≡ record { free = []; local = []; cursor = None } }
     {
         PageLists {
-            next: [0; 48],
+            next: [0; PLACES],
             free: NO_SLOTS,
             local: NO_SLOTS,
             cursor: None,
@@ -72,7 +72,7 @@ impl PageLists {
         requires { slots ≤ 48 }
         ensures { result ≡ record { free = upward 0 slots; local = []; cursor = None } }
     {
-        let mut next = [0; 48];
+        let mut next = [0; PLACES];
         for slot in 1..PLACES {
             next[slot - 1] = slot as u8;
         }

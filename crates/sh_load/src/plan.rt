@@ -8,7 +8,7 @@ use crate::demand::Demand;
 use crate::fault::Fault;
 use crate::samples::Lengths;
 use sh_key::KeyLayout;
-use sh_shape::{Shape, classes, fits};
+use sh_shape::{SEGMENT_PAGES, Shape, classes, fits};
 
 /// The shape of the heap, and how many shards each owner's thread has, one after the other: one, unless its values need
 /// more pages than a shard has.
@@ -17,6 +17,9 @@ pub struct Plan {
     pub shape: Shape,
     pub shards: usize,
 }
+
+// How many pages a segment has.
+const SEGMENT: usize = SEGMENT_PAGES as usize;
 
 // As many shards as a thread's values are parted among at most.
 const MOST_SHARDS: usize = 16;
@@ -67,7 +70,7 @@ fn plan_with<L: KeyLayout>(demand: &Demand, shards: usize) -> Option<Plan>
     let pages = pages(demand.lengths, demand.values / shards + demand.more + 16);
     let owners = demand.owners * shards;
     let passes = demand.passes.max(owners + demand.others);
-    let segments = u32::try_from(pages / 8 + 1).ok()?;
+    let segments = u32::try_from(pages / SEGMENT + 1).ok()?;
     let shape = Shape::large(owners as u32, segments, passes as u32).ok()?;
     if fits::<L>(&shape) {
         Some(Plan { shape, shards })

@@ -4,7 +4,7 @@ ghost use Rattle.sh_load.specs.Samples.{AreSamples, IsSample, length_at};
 ghost use Rattle.sh_load.specs.declared.samples.Lengths.{Lengths as AnyLengths};
 
 use crate::fault::Fault;
-use sh_value::Value;
+use sh_value::{Value, WORDS_MAX};
 use std::alloc::Global;
 
 /// How long values are.
@@ -23,8 +23,8 @@ impl Lengths {
         ensures few { result ≤ 16 }
     {
         match self {
-            Lengths::Each(words) => words.min(16),
-            Lengths::Mixed => place % 16 + 1,
+            Lengths::Each(words) => words.min(WORDS_MAX),
+            Lengths::Mixed => place % WORDS_MAX + 1,
         }
     }
 }
@@ -41,7 +41,7 @@ fn sample(lengths: Lengths, place: usize) -> Result<Value, Fault>
     ensures is { IfOk result (IsSample lengths place) }
     ensures fits { IsOk result }
 {
-    let mut words = [0u64; 16];
+    let mut words = [0u64; WORDS_MAX];
     for (k, word) in words.iter_mut().enumerate() {
         *word = (place % 16 * 16 + k % 16) as u64;
     }

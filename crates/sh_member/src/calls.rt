@@ -23,9 +23,9 @@ fn fetch_by_owner<L: KeyLayout, H: KeepsHeap<L>>(
     ensures stays { StaysOwner L.layout owner.old owner.new }
 {
     // (that the shard is the owner's is known of it before and after)
-    owner.shape();
+    let _known = owner.shape();
     let answer = owner.fetch_into(key, value);
-    owner.shape();
+    let _known = owner.shape();
     answer
 }
 

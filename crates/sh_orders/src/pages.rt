@@ -2,16 +2,10 @@
 use sh_accounts::page;
 use sh_core::{Accounts, World};
 use sh_key::{KeyLayout, Tiny};
-use sh_shape::slots;
+use sh_shape::{CLASS_COUNT, SLOT_PLACES, slots};
 use sh_step::{PageName, SlotName};
 use sh_word::State;
 use std::alloc::{AllocError, Global};
-
-/// How many slots a page has places for.
-pub const SLOTS: u32 = 48;
-
-// How many classes there are.
-const CLASSES: u32 = 8;
 
 /// A page with a class.
 #[derive(Clone, Copy)]
@@ -49,7 +43,7 @@ impl Page {
 fn page_at(world: &World<Tiny>, shard: u32, number: u32) -> Option<Page> {
     let accounts = page(world, shard, number)?;
     match accounts.class {
-        Some(class) if class < CLASSES => Some(Page {
+        Some(class) if u64::from(class) < CLASS_COUNT => Some(Page {
             shard,
             page: number,
             accounts,
@@ -81,7 +75,7 @@ pub fn pages(alloc: Global, world: &World<Tiny>) -> Result<Vec<Page>, AllocError
 /// The state of a slot of the heap.
 pub fn state_at(world: &World<Tiny>, shard: u32, page: u32, slot: u32) -> Option<State> {
     let shape = world.shape();
-    if shard >= shape.shards() || page >= shape.pages() || slot >= SLOTS {
+    if shard >= shape.shards() || page >= shape.pages() || slot >= SLOT_PLACES {
         return None;
     }
     let word = world

@@ -1,21 +1,19 @@
 //! Ending what was begun, and finding every slot again.
 use crate::always::assert_always;
-use crate::pages::{Page, SLOTS, pages, state_at};
+use crate::pages::{Page, pages, state_at};
 use sh_core::{Outcome, World};
 use sh_history::Entry;
 use sh_key::Tiny;
+use sh_shape::SLOT_PLACES;
 use sh_slots::Hand;
 use sh_step::{Action, Event};
-use sh_value::{Refusal, Value};
+use sh_value::{HOLDS_MAX, Refusal, Value};
 use std::alloc::{AllocError, Global};
 use std::process::Abort;
 use std::test::Fail;
 
 // How many steps what a hand holds may take to its end: a value has at most 16 words.
 const HAND_STEPS: u32 = 20;
-
-// How many holds a pass may have.
-const HOLDS: u32 = 16;
 
 // What a pass with this hand has to do next.
 fn due(hand: &Hand) -> Option<Action> {
@@ -59,7 +57,7 @@ fn end_hand(world: &mut World<Tiny>, pass: u32) -> Result<(), Refusal> {
 
 // Has the pass release all its holds on the key.
 fn release(world: &mut World<Tiny>, pass: u32, key: u64) -> Result<(), Refusal> {
-    for _ in 0..HOLDS {
+    for _ in 0..HOLDS_MAX {
         if !does(world, pass, Action::DropHold(key))? {
             return Ok(());
         }
@@ -110,7 +108,7 @@ fn adopt(world: &mut World<Tiny>, shard: u32) -> Result<(), Refusal> {
 
 // Has the pass follow the page's cursor to the end.
 fn follow(world: &mut World<Tiny>, pass: u32, page: &Page) -> Result<(), Refusal> {
-    for _ in 0..SLOTS {
+    for _ in 0..SLOT_PLACES {
         does(world, pass, Action::Follow(page.name()))?;
     }
     Ok(())
@@ -151,7 +149,7 @@ fn fill(world: &mut World<Tiny>, pass: u32, page: &Page) -> Result<(), Refusal> 
 
 // No pass is on a slot of the page, and each slot of its class has a value or is retired.
 fn assert_found(rt: &impl Abort, world: &World<Tiny>, page: &Page) {
-    for slot in 0..SLOTS {
+    for slot in 0..SLOT_PLACES {
         let state = state_at(world, page.shard, page.page, slot).expect(rt, "it is a slot");
         assert_eq!(rt; state.count, 0, "slot {slot}");
     }

@@ -2,19 +2,14 @@
 use crate::moment::Moment;
 use crate::program::Program;
 use sh_history::Entry;
+use sh_shape::{PAGE_WORDS, SLOT_PLACES};
 use sh_slots::Spot;
 use sh_step::Part;
 use std::alloc::{AllocError, Global};
 use std::fmt::Write;
 
-// How many words a page has.
-const PAGE_WORDS: usize = 195;
-
 // The class word of a page without a class, which is its first word.
 const BLANK: u64 = 0;
-
-// How many slots a page has places for.
-const SLOTS: u64 = 48;
 
 // The words that are not as they were when the heap opened.
 fn tell_words(text: &mut String, words: &[u64], opening: &[u64]) -> Result<(), AllocError> {
@@ -32,7 +27,7 @@ fn tell_page(text: &mut String, part: &Part, page: u64) -> Result<(), AllocError
     let cursor = part.cursor(page);
     let armed = part.has_armed(page);
     write!(text, " page {page} {class:?} {cursor:?} {armed} mine")?;
-    for slot in 0..SLOTS {
+    for slot in 0..u64::from(SLOT_PLACES) {
         if part.has_mine(Spot { page, slot }) {
             write!(text, " {slot}")?;
         }
@@ -60,7 +55,7 @@ fn tell_part(
     let bell = part.bell_cursor();
     let holds = part.hold_count();
     write!(text, "\n{hand:?} {owned:?} {bell:?} {holds}")?;
-    for (page, words) in words.chunks_exact(PAGE_WORDS).enumerate() {
+    for (page, words) in words.chunks_exact(PAGE_WORDS as usize).enumerate() {
         if words.first() != Some(&BLANK) {
             tell_page(text, part, page as u64)?;
         }

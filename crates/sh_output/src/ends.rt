@@ -4,12 +4,12 @@ ghost use Rattle.std.specs.Prelude.{◌≡◌, ℕ, List, ◌<◌, ◌≤◌, On
 ghost use Rattle.std.specs.Io.KnownBytes.{Appends, Consumes};
 ghost use Rattle.sh_output.specs.Ends.{IsEndFault, MovesPiece, ReadsAtMostBytes, WroteBeginning};
 
-use sh_script::Fault;
+use sh_script::{Fault, SCRIPT_BYTES_MAX};
 use std::alloc::Global;
 use std::io::{Read, Write};
 
 // One more byte than a script may have: a longer text is as wrong as one of this length, and is left unread.
-const LIMIT: usize = 1_048_577;
+const LIMIT: usize = SCRIPT_BYTES_MAX + 1;
 
 // How many bytes are asked for at a time.
 const PIECE: usize = 4096;

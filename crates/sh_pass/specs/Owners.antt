@@ -6,7 +6,7 @@ use Rattle.sh_bell.specs.Bell.{is_armed, top_of}
 use Rattle.sh_history.specs.declared.log.LogEntry.{LogEntry}
 use Rattle.sh_key.specs.Layout.{Layout}
 use Rattle.sh_shape.specs.Classes.{slots}
-use Rattle.sh_shape.specs.Places.{pages_of, page_number}
+use Rattle.sh_shape.specs.Places.{pages_of, page_number, slot_places}
 use Rattle.sh_slots.specs.declared.hand.Hand.{Hand}
 use Rattle.sh_slots.specs.declared.hand.Hand.TheVariants.{Idle}
 use Rattle.sh_slots.specs.declared.hand.Name.{Name}
@@ -256,7 +256,7 @@ IsKeyOn layout v q key = (x : Name) × (place_named (plan_of layout v.view.shape
 -- this slot came to be its own, of a page of its shard, or none did and its pages are as before
 abbrev pub SlotCame : Option Spot → Caller → Caller → Type 0
 SlotCame None v w = SamePages v w
-SlotCame (Some x) v w = (y : PageName) × MayTouch v y × (x.page ≡ heap_page v y) × (x.slot < 48)
+SlotCame (Some x) v w = (y : PageName) × MayTouch v y × (x.page ≡ heap_page v y) × (x.slot < slot_places)
     × ((seen_page v x.page).mine x.slot ≡ false) × OnPage x.page (page_with (seen_page v x.page) x.slot) v w
 
 -- A call is over, and this slot came to be its own, or none did: shard, bells and tale are as before, and nothing was

@@ -13,13 +13,14 @@ use sh_stack::link_over;
 use sh_step::Action;
 use sh_step::operands::{gen_max, guard_max, place_of_key};
 use sh_table::{HeapTable, Token};
+use sh_value::HOLDS_MAX;
 
 /// What is kept of a pass that steps by hand.
 #[derive(Drop)]
 pub(crate) struct BusyState {
     pub(crate) seat: Token,
     // The keys that it holds, in any order.
-    pub(crate) held: ArrayVec<u64, 16>,
+    pub(crate) held: ArrayVec<u64, HOLDS_MAX>,
     // A bit for each pass that its tale names.
     pub(crate) named: u64,
     // What it has begun.

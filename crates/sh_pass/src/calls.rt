@@ -15,7 +15,7 @@ use sh_key::KeyLayout;
 use sh_slots::{GetAnswer, Name, Spot};
 use sh_step::operands::place_of_key;
 use sh_table::{HeapTable, Token};
-use sh_value::{Hold, Refusal, Value};
+use sh_value::{HOLDS_MAX, Hold, Refusal, Value};
 
 // Where the key stands first among the holds.
 pub(crate) fn find(held: &[u64], key: u64) -> Option<usize>
@@ -29,7 +29,7 @@ pub(crate) fn find(held: &[u64], key: u64) -> Option<usize>
 pub(crate) fn get_guard_of<L: KeyLayout>(
     table: &HeapTable<L>,
     seat: &mut Token,
-    held: &mut ArrayVec<u64, 16>,
+    held: &mut ArrayVec<u64, HOLDS_MAX>,
     key: u64,
     owned: Option<u64>,
 ) -> (Result<Guard<L>, Refusal>, Option<Spot>)
@@ -64,7 +64,7 @@ pub(crate) fn get_guard_of<L: KeyLayout>(
 pub(crate) fn get_key<L: KeyLayout>(
     table: &HeapTable<L>,
     seat: &mut Token,
-    held: &mut ArrayVec<u64, 16>,
+    held: &mut ArrayVec<u64, HOLDS_MAX>,
     key: u64,
     owned: Option<u64>,
 ) -> (Result<Hold, Refusal>, Option<Spot>)
@@ -116,7 +116,7 @@ pub(crate) fn remove_key<L: KeyLayout>(
 pub(crate) fn release_key<L: KeyLayout>(
     table: &HeapTable<L>,
     seat: &mut Token,
-    held: &mut ArrayVec<u64, 16>,
+    held: &mut ArrayVec<u64, HOLDS_MAX>,
     key: u64,
     place: Option<Name>,
     owned: Option<u64>,
@@ -147,7 +147,7 @@ pub(crate) fn release_key<L: KeyLayout>(
 pub(crate) fn read_key<L: KeyLayout>(
     table: &HeapTable<L>,
     seat: &mut Token,
-    held: &ArrayVec<u64, 16>,
+    held: &ArrayVec<u64, HOLDS_MAX>,
     key: u64,
     place: Option<Name>,
     value: &mut Value,

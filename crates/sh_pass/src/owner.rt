@@ -16,6 +16,7 @@ use sh_key::KeyLayout;
 use sh_shape::Shape;
 use sh_step::PageName;
 use sh_table::Token;
+use sh_value::HOLDS_MAX;
 use std::marker::{Model, PhantomData};
 
 /// A pass that may own a shard: what its shard is made with.
@@ -30,7 +31,7 @@ pub struct Owner<L: KeyLayout, H: KeepsHeap<L>> {
     pub(crate) heap: H,
     pub(crate) seat: Token,
     // The keys that it holds, in any order.
-    pub(crate) held: ArrayVec<u64, 16>,
+    pub(crate) held: ArrayVec<u64, HOLDS_MAX>,
     // A bit for each pass that its tale names.
     pub(crate) named: u64,
     // The shard that it owns.
@@ -106,7 +107,7 @@ impl<L: KeyLayout, H: KeepsHeap<L>> Owner<L, H> {
         ensures stands { ViewStands L.layout self.now.view }
     {
         // What holds of every owner holds of this one.
-        let _ = &self.held;
+        let _known = &self.held;
         let heap = self.heap.kept();
         heap.table.shape()
     }
@@ -135,7 +136,7 @@ impl<L: KeyLayout, H: KeepsHeap<L>> Owner<L, H> {
     {
         let heap = self.heap.kept();
         let shape = heap.table.shape();
-        let (_shards, _pages) = (shape.shards(), shape.pages());
+        let _known = (shape.shards(), shape.pages());
         u64::from(shape.page_number(name.shard as u32, name.page as u32))
     }
 

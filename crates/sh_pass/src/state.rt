@@ -12,7 +12,7 @@ use sh_key::KeyLayout;
 use sh_shape::Shape;
 use sh_step::operands::place_of_key;
 use sh_table::Token;
-use sh_value::{Hold, Refusal, Value};
+use sh_value::{HOLDS_MAX, Hold, Refusal, Value};
 use std::marker::{Model, PhantomData};
 
 /// A pass without its heap: it has no lifetime, and each call is given the heap that it is of.
@@ -23,7 +23,7 @@ use std::marker::{Model, PhantomData};
 pub struct PassState<L: KeyLayout> {
     pub(crate) seat: Token,
     // The keys that it holds, in any order.
-    pub(crate) held: ArrayVec<u64, 16>,
+    pub(crate) held: ArrayVec<u64, HOLDS_MAX>,
     // A bit for each pass that its tale names.
     pub(crate) named: u64,
     pub(crate) layout: PhantomData<L>,
@@ -49,7 +49,7 @@ impl<L: KeyLayout> PassState<L> {
         ensures stands { ViewStands L.layout self.now.view }
     {
         // What holds of every pass holds of this one.
-        let _ = &self.held;
+        let _known = &self.held;
         heap.table.shape()
     }
 

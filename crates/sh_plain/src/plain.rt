@@ -11,12 +11,9 @@ use crate::index::{Held, Issued, find_hold, hold_count, holds_on, issued_at};
 use crate::{Lookup, Store};
 use sh_history::Entry;
 use sh_key::KeyLayout;
-use sh_value::{Hold, Refusal, Value};
+use sh_value::{HOLDS_MAX, Hold, Refusal, Value};
 use std::alloc::Global;
 use std::marker::{Model, PhantomData};
-
-// How many holds a pass may have.
-const HOLDS_MAX: usize = 16;
 
 /// A store that keeps the entries of all its passes, and answers each call from them.
 ///
@@ -207,9 +204,9 @@ impl<L: KeyLayout> Lookup for PlainStore<L> {
         ensures same { plain_setting L.layout self.new ≡ plain_setting L.layout self.old }
         ensures exact { Replied (get_reply L.layout self.old key) self.old result self.new }
     {
-        let _ = &self.entries;
+        let _known = &self.entries;
         let result = self.plain_get(key);
-        let _ = &self.entries;
+        let _known = &self.entries;
         result
     }
 
@@ -222,7 +219,7 @@ impl<L: KeyLayout> Lookup for PlainStore<L> {
         ensures unchanged { self.new ≡ self.old }
     {
         let result = self.plain_read(hold);
-        let _ = &self.entries;
+        let _known = &self.entries;
         result
     }
 
@@ -234,7 +231,7 @@ impl<L: KeyLayout> Lookup for PlainStore<L> {
         ensures exact { Replied (remove_reply L.layout self.old key) self.old result self.new }
     {
         let result = self.plain_remove(key);
-        let _ = &self.entries;
+        let _known = &self.entries;
         result
     }
 
@@ -246,7 +243,7 @@ impl<L: KeyLayout> Lookup for PlainStore<L> {
         ensures exact { Replied (release_reply self.old hold.key) self.old result self.new }
     {
         let result = self.plain_release(hold);
-        let _ = &self.entries;
+        let _known = &self.entries;
         result
     }
 }
@@ -266,9 +263,9 @@ impl<L: KeyLayout> Store for PlainStore<L> {
         ensures new_key { IfOk result (IsNewKey L.layout self.old.entries) }
     {
         // Reading a field brings in what is true of each plain store: here before the call, and below after it.
-        let _ = &self.entries;
+        let _known = &self.entries;
         let result = self.plain_insert(value);
-        let _ = &self.entries;
+        let _known = &self.entries;
         result
     }
 }

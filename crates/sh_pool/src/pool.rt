@@ -103,7 +103,7 @@ impl<L: KeyLayout> Pool<L> {
     {
         let taken = take_from(self.berths.get(number)?, number)?;
         // What holds of every pass holds of this one.
-        taken.state.shape(&self.heap);
+        let _known = taken.state.shape(&self.heap);
         Some(taken)
     }
 

@@ -1,10 +1,9 @@
-//! The words of the process: as texts, and what is said where they cannot be had.
-ghost use Rattle.std.specs.Prelude.{◌≡◌, ◌≢◌, IfOk, map, string_bytes};
+//! What is said where the words of the process cannot be had.
+ghost use Rattle.std.specs.Prelude.{◌≡◌, ◌≢◌};
 ghost use Rattle.std.specs.IoError.{error_kind};
 
 use crate::program::report;
 use sh_script::Fault;
-use std::alloc::{AllocError, Global};
 use std::io;
 use std::io::{ErrorKind, Write};
 
@@ -22,15 +21,4 @@ pub fn refuse<E: Write>(error: &io::Error, errors: &mut E) -> u8
         "error: invalid UTF-8 was detected in one or more arguments"
     );
     2
-}
-
-/// The words as texts, in their order.
-pub fn texts(alloc: Global, words: &[String]) -> Result<Vec<&str>, AllocError>
-    ensures { IfOk result (λ texts. map (λ t. t.now) texts.items ≡ map string_bytes words.now) }
-{
-    let mut texts = Vec::new(alloc);
-    for word in words {
-        texts.push(word.as_str())?;
-    }
-    Ok(texts)
 }

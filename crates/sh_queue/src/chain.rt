@@ -151,7 +151,7 @@ impl Chain {
         ensures distinct { Distinct self.new.numbers }
     {
         // Reading a field brings in that the numbers differ, also where none is put in.
-        let _ = &self.next;
+        let _known = &self.next;
         for x in first..first + count {
             self.put_before(END, x);
         }

@@ -11,50 +11,50 @@ impl<L: KeyLayout, H: KeepsHeap<L>> Reader for Shard<L, H> {
     ghost caller = { λ s. s.pages.owner };
 
     fn get(&mut self, key: u64) -> Result<Hold, Refusal> {
-        let _before = self.shape();
+        let _known = self.shape();
         let answer = Shard::get(self, key);
-        let _after = self.shape();
+        let _known = self.shape();
         answer
     }
 
     fn read(&mut self, hold: Hold) -> Result<Value, Refusal> {
-        let _before = self.shape();
+        let _known = self.shape();
         let answer = Shard::read(self, hold);
-        let _after = self.shape();
+        let _known = self.shape();
         answer
     }
 
     fn read_into(&mut self, hold: Hold, value: &mut Value) -> Result<(), Refusal> {
-        let _before = self.shape();
+        let _known = self.shape();
         let answer = Shard::read_into(self, hold, value);
-        let _after = self.shape();
+        let _known = self.shape();
         answer
     }
 
     fn remove(&mut self, key: u64) -> Result<(), Refusal> {
-        let _before = self.shape();
+        let _known = self.shape();
         let answer = Shard::remove(self, key);
-        let _after = self.shape();
+        let _known = self.shape();
         answer
     }
 
     fn release(&mut self, hold: Hold) -> Result<(), Refusal> {
-        let _before = self.shape();
+        let _known = self.shape();
         let answer = Shard::release(self, hold);
-        let _after = self.shape();
+        let _known = self.shape();
         answer
     }
 
     fn receipt(&mut self) -> Receipt {
-        let _before = self.shape();
+        let _known = self.shape();
         let receipt = Shard::receipt(self);
-        let _after = self.shape();
+        let _known = self.shape();
         receipt
     }
 
     fn heed(&mut self, receipt: Receipt) {
-        let _before = self.shape();
+        let _known = self.shape();
         Shard::heed(self, receipt);
-        let _after = self.shape();
+        let _known = self.shape();
     }
 }

@@ -13,7 +13,7 @@ use crate::place::{page, slot};
 use crate::reader::ScriptBody;
 use crate::trouble::Trouble;
 use sh_step::{Action, ActionKind, Event, PageName};
-use sh_value::Value;
+use sh_value::{Value, WORDS_MAX};
 use std::alloc::Global;
 use std::marker::Model;
 
@@ -117,7 +117,7 @@ fn fill(alloc: Global, words: &[&[u8]]) -> Result<Action, Trouble>
     let Some((place, others)) = words.split_first() else {
         return Ok(Action::Fill);
     };
-    if others.len() > 16 {
+    if others.len() > WORDS_MAX {
         return Err(Trouble::Because(Cause::Count));
     }
     let slot = slot(place)?;

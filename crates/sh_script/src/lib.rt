@@ -26,4 +26,5 @@ pub use event::Events;
 pub use fault::{Cause, Fault};
 pub use header::{Header, Layout};
 pub use numbers::Numbers;
+pub use reader::{LINE_BYTES_MAX, SCRIPT_BYTES_MAX};
 pub use script::{parse_calls, parse_events};

@@ -13,6 +13,12 @@ use crate::trouble::Trouble;
 use crate::words::words;
 use std::alloc::Global;
 
+/// The most bytes of a line of a script, without its newline.
+pub const LINE_BYTES_MAX: usize = 512;
+
+/// The most bytes of a script.
+pub const SCRIPT_BYTES_MAX: usize = 1_048_576;
+
 /// What the lines behind the header add up to.
 pub trait ScriptBody<'a>: Drop {
     // What there is after a line with these words, where the header has so many passes.
@@ -39,7 +45,7 @@ fn is_text(line: &[u8]) -> bool
 fn words_of_line(alloc: Global, line: &[u8]) -> Result<Vec<&[u8]>, Trouble>
     ensures { Gives (λ words. map (λ w. w.now) words.items) result (whole_line line.now) }
 {
-    if line.len() > 512 {
+    if line.len() > LINE_BYTES_MAX {
         return Err(Trouble::Because(Cause::Size));
     }
     if !is_text(line) {
@@ -91,7 +97,7 @@ fn end<B: Drop>(read: Read<B>, number: u64, rest: &[u8]) -> Result<(Header, B), 
     ensures { result ≡ ended read number rest.now }
 {
     if !rest.is_empty() {
-        let cause = if rest.len() > 512 {
+        let cause = if rest.len() > LINE_BYTES_MAX {
             Cause::Size
         } else {
             Cause::Cut
@@ -135,7 +141,7 @@ pub fn parse<'a, B: ScriptBody<'a>>(
 ) -> Result<(Header, B), Fault>
     ensures { GivesScript (λ x. x) result (script_of B.adds start text.entry.now) }
 {
-    if text.len() > 1_048_576 {
+    if text.len() > SCRIPT_BYTES_MAX {
         return Err(Fault::Script(0, Cause::Size));
     }
     let mut read = Read {

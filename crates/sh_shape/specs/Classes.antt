@@ -1,5 +1,6 @@
 -- The classes of slots: how many words a slot of each class has, and how many slots a page of it.
 use Rattle.std.specs.Prelude.{ℕ, ◌+◌, ◌*◌, ◌<◌, ◌≤◌, nat_le, List, [], ◌∷◌, get_or, position, Option}
+use Rattle.sh_shape.specs.Places.{payload_words}
 
 -- how many classes there are
 abbrev pub class_count : ℕ
@@ -29,13 +30,14 @@ pub record IsClassOf (len class : ℕ) : Type 0 where
   pub wide_enough : len ≤ width class
   pub least : (c : ℕ) → c < class → width c < len
 
--- the slots of a page of a class fit its 48 payload words
+-- the slots of a page of a class fit its payload words
 abbrev pub SlotsFitPage : Type 0
-SlotsFitPage = (class : ℕ) → slots class * width class ≤ 48
+SlotsFitPage = (class : ℕ) → slots class * width class ≤ payload_words
 
 -- so does each word of each slot, where the words of slot s are those from s * width on
 abbrev pub SlotWordsFitPage : Type 0
-SlotWordsFitPage = (class slot i : ℕ) → slot < slots class → i < width class → slot * width class + i < 48
+SlotWordsFitPage =
+    (class slot i : ℕ) → slot < slots class → i < width class → slot * width class + i < payload_words
 
 -- a slot has no more words than a value may have
 abbrev pub WidthsAreFew : Type 0

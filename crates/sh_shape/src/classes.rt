@@ -1,6 +1,11 @@
 //! Classes of slots: a value lies in a slot of the least class that is wide enough for it.
 ghost use Rattle.std.specs.Prelude.{◌≡◌, ◌<◌, ◌*◌, ◌≤◌, nat_le, position, MatchOption};
 ghost use Rattle.sh_shape.specs.Classes.{class_count, width, slots, class_of, IsClassOf};
+ghost use Rattle.sh_shape.specs.Places.{slot_places, payload_words};
+
+/// How many classes there are. So it is the greatest class word: that of a page is 0 where it is blank, and else one
+/// more than its class.
+pub const CLASS_COUNT: u64 = 8;
 
 const WIDTHS: [u32; 8] = [1, 2, 3, 4, 6, 8, 12, 16];
 
@@ -40,8 +45,8 @@ pub fn slots(class: u32) -> u32
     requires { class < class_count }
     ensures is { result ≡ slots class }
     ensures some { 3 ≤ result }
-    ensures few { result ≤ 48 }
-    ensures fit { result * width class ≤ 48 }
+    ensures few { result ≤ slot_places }
+    ensures fit { result * width class ≤ payload_words }
 {
     SLOTS[class as usize]
 }

@@ -8,7 +8,7 @@ pub mod places;
 pub mod rooms;
 pub mod shape;
 
-pub use classes::{class_of, slots, width};
+pub use classes::{CLASS_COUNT, class_of, slots, width};
 pub use laws::{place_laws, slots_fit_page};
-pub use places::Place;
+pub use places::{PAGE_WORDS, PAYLOAD_WORDS, Place, SEGMENT_PAGES, SLOT_PLACES};
 pub use shape::{Shape, fits};

@@ -6,9 +6,18 @@ ghost use Rattle.sh_shape.specs.Places.{IsPlace, number, words_of};
 
 use crate::Shape;
 
-pub(crate) const SEGMENT_PAGES: u32 = 8;
+/// How many pages a segment has.
+pub const SEGMENT_PAGES: u32 = 8;
 
-const PAGE_WORDS: u32 = 195;
+/// For how many slots a page has places.
+pub const SLOT_PLACES: u32 = 48;
+
+/// How many payload words a page has.
+pub const PAYLOAD_WORDS: u32 = 48;
+
+/// How many words a page has: its class, its head and its page link, for each place of a slot a state, a link and a
+/// length, and the payload words.
+pub const PAGE_WORDS: u32 = 3 + 3 * SLOT_PLACES + PAYLOAD_WORDS;
 
 /// The place of a word. A page is given by its number over the whole heap, as `Shape::page_number` answers it.
 #[derive(Clone, Copy, Debug, PartialEq, Eq)]
@@ -67,7 +76,7 @@ impl Shape {
     /// How many words the heap has, at most 3,275,751,424.
     pub fn words(&self) -> u32
         ensures words { result ≡ words_of self.now }
-        ensures few { result ≤ 195 * 2 ^ 24 + 2 ^ 22 }
+        ensures few { result ≤ page_words * 2 ^ 24 + 2 ^ 22 }
     {
         PAGE_WORDS * self.all_pages() + 2 * self.shards()
     }
@@ -199,7 +208,7 @@ fn after_pages(pages: u32, shard: u64) -> u32
     requires pages { pages ≤ 2 ^ 24 }
     requires shard { shard < 2 ^ 21 }
     ensures is { result ≡ page_words * pages + 2 * shard }
-    ensures few { result < 195 * 2 ^ 24 + 2 ^ 22 }
+    ensures few { result < page_words * 2 ^ 24 + 2 ^ 22 }
 {
     PAGE_WORDS * pages + 2 * shard as u32
 }

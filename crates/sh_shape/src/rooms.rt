@@ -1,6 +1,7 @@
 //! How large a heap is that has room for values.
 ghost use Rattle.std.specs.Prelude.{◌≡◌, ℕ, ◌*◌, ◌≤◌, MatchResult};
 ghost use Rattle.sh_shape.specs.Shape.{segment_pages};
+ghost use Rattle.sh_shape.specs.Places.{slot_places};
 ghost use Rattle.sh_shape.specs.Rooms.{IsLeastRoomy, NoneRoomy};
 
 use crate::Shape;
@@ -52,7 +53,7 @@ impl Shape {
 // The least number of segments, at least one, whose pages of so many slots have room for these values.
 fn segments_for(values: u64, slots: u32) -> u64
     requires some { 1 ≤ slots }
-    requires few { slots ≤ 48 }
+    requires few { slots ≤ slot_places }
     ensures some { 1 ≤ result }
     ensures room { values ≤ segment_pages * result * slots }
     ensures least { (n : ℕ) → 1 ≤ n → values ≤ segment_pages * n * slots → result ≤ n }

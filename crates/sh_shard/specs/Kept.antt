@@ -4,7 +4,7 @@ use Rattle.std.specs.Prelude.{Some, None}
 use Rattle.sh_key.specs.Layout.{Layout}
 use Rattle.sh_lists.specs.Numbers.{Misses}
 use Rattle.sh_queue.specs.Numbers.{has_number}
-use Rattle.sh_shape.specs.Places.{pages_of}
+use Rattle.sh_shape.specs.Places.{pages_of, slot_places}
 use Rattle.sh_slots.specs.declared.hand.Hand.TheVariants.{Idle}
 use Rattle.sh_slots.specs.declared.hand.Spot.{Spot}
 use Rattle.sh_table.specs.Tales.{ViewStands}
@@ -43,7 +43,8 @@ pub record KeepsPages (layout : Layout) (v : Caller) (shard : ℕ) (rings : Opti
 -- the slot stands in no list of its page, which is one of the shard
 abbrev pub MayCome : ℕ → List PageState → Option Spot → Type 0
 MayCome shard states None = Unit {0}
-MayCome shard states (Some x) = (p : ℕ) × (p < length states) × (x.page ≡ shard * length states + p) × (x.slot < 48)
+MayCome shard states (Some x) = (p : ℕ) × (p < length states) × (x.page ≡ shard * length states + p)
+    × (x.slot < slot_places)
     × Misses x.slot ((get_or states p blank_state).lists.free ++ (get_or states p blank_state).lists.local)
 
 -- the slot came to the lists of its page, whose number in the shard is answered

@@ -5,7 +5,7 @@ use Rattle.sh_history.specs.declared.entry.Entry.TheVariants as entry
 use Rattle.sh_history.specs.declared.log.LogEntry.TheVariants.{Known}
 use Rattle.sh_key.specs.Layout.{Layout}
 use Rattle.sh_shape.specs.Classes.{slots}
-use Rattle.sh_shape.specs.Places.{pages_of}
+use Rattle.sh_shape.specs.Places.{pages_of, slot_places}
 use Rattle.sh_slots.specs.declared.hand.Hand.TheVariants.{Idle}
 use Rattle.sh_step.specs.Collections.{if1}
 use Rattle.sh_step.specs.Footsteps.{owner_met}
@@ -48,7 +48,7 @@ count_below f (suc n) = if1 (f n) + count_below f n
 
 -- how many of the page's slots are its owner's
 abbrev pub own_slots : SeenPage → ℕ
-own_slots g = count_below g.mine 48
+own_slots g = count_below g.mine slot_places
 
 -- how many slots a page with this class word has
 abbrev pub word_slots : ℕ → ℕ

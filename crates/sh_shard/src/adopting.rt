@@ -12,8 +12,12 @@ use sh_key::KeyLayout;
 use sh_pass::KeepsHeap;
 use sh_pass::pass::Pass;
 use sh_queue::{Filing, Queues};
+use sh_shape::SEGMENT_PAGES;
 use sh_value::Refusal;
 use std::alloc::Global;
+
+// How many pages a segment has.
+const SEGMENT: u64 = SEGMENT_PAGES as u64;
 
 impl<L: KeyLayout, H: KeepsHeap<L>> Shard<L, H> {
     /// Makes the pass the owner of shard `n`: it finds what those before it left there. Refused, with the pass, as
@@ -29,7 +33,7 @@ impl<L: KeyLayout, H: KeepsHeap<L>> Shard<L, H> {
         match queues_of(alloc, &pages) {
             Ok(queues) => {
                 let shard = Shard { pages, queues };
-                shard.standing();
+                let _known = shard.standing();
                 Ok(shard)
             }
             Err(refusal) => Err((pages.give_up(), refusal)),
@@ -48,8 +52,8 @@ fn queues_of<L: KeyLayout, H: KeepsHeap<L>>(
     ensures rising { IfOk result (λ queues. FilesRising queues) }
     ensures memory { IfErr result (λ refusal. refusal ≡ Refusal.Memory) }
 {
-    let segments = pages.count() / 8;
-    let opened = (classed_end(pages) + 7) / 8;
+    let segments = pages.count() / SEGMENT;
+    let opened = classed_end(pages).div_ceil(SEGMENT);
     let mut filing = Filing::new(alloc, opened as u32, (segments - opened) as u32)?;
     file_pages(pages, &mut filing);
     Ok(filing.into_queues())

@@ -1,6 +1,7 @@
 // Collecting what others put on a page's stack.
 ghost use Rattle.std.specs.Prelude.{◌≡◌, ℕ, ◌<◌, None, IfSome, MatchBool, false, true, cond};
 ghost use Rattle.sh_bell.specs.Bell.{is_armed as armed_by};
+ghost use Rattle.sh_shape.specs.Places.{slot_places};
 ghost use Rattle.sh_shard.specs.Pages.{page_at, seen_class, WorksOn, NoArming, TakesPage, CursorMoves, CursorStops};
 ghost use Rattle.sh_shard.specs.Pages.{CollectsPage, GuardsPage, StepsForSlots};
 
@@ -13,7 +14,7 @@ use sh_step::PageName;
 
 // The slot that a head or a link names, as the lists have it.
 fn small(slot: Option<u64>) -> Option<u32>
-    requires { IfSome slot (λ s. s < 48) }
+    requires { IfSome slot (λ s. s < slot_places) }
     ensures { result ≡ slot }
 {
     match slot {

@@ -1,5 +1,6 @@
 // What an owner knows of how full its shard is.
 ghost use Rattle.std.specs.Prelude.{◌≡◌, ◌<◌, ◌≤◌};
+ghost use Rattle.sh_shape.specs.Places.{slot_places};
 ghost use Rattle.sh_shard.specs.Pages.{page_at, blank_pages, page_out, slots_out};
 
 use crate::pages::Pages;
@@ -13,7 +14,7 @@ impl<L: KeyLayout, H: KeepsHeap<L>> Pages<L, H> {
     fn slots_out(&self, page: u64) -> u32
         requires { page < self.now.count }
         ensures is { result ≡ page_out (page_at self.now page) }
-        ensures few { result ≤ 48 }
+        ensures few { result ≤ slot_places }
     {
         let class_word = self.states.class_word(page);
         if class_word == 0 {

@@ -27,7 +27,7 @@ impl<L: KeyLayout, H: KeepsHeap<L>> Shard<L, H> {
             Err(pages) => {
                 return_all(&pages, &mut queues);
                 let shard = Shard { pages, queues };
-                shard.standing();
+                let _known = shard.standing();
                 Err((shard, Refusal::Waiting))
             }
         }

@@ -38,7 +38,7 @@ impl<L: KeyLayout, H: KeepsHeap<L>> Shard<L, H> {
         if let Some(key) = self.look(c, value) {
             return Ok(key);
         }
-        self.sorted();
+        let _known = self.sorted();
         self.insert_in_another(c, value)
     }
 
@@ -84,7 +84,7 @@ impl<L: KeyLayout, H: KeepsHeap<L>> Shard<L, H> {
         ensures queues { self.new.queues ≡ self.old.queues }
         ensures steps { IfSome result (λ _. TakesSteps (length value.now + 2) self.old.pages self.new.pages) }
     {
-        let _opened = self.queues.opened();
+        let _known = self.queues.opened();
         self.pages.use_slot(page as u64, value)
     }
 }

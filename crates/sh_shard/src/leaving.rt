@@ -70,7 +70,7 @@ impl<L: KeyLayout, H: KeepsHeap<L>> Pages<L, H> {
         for page in 0..opened {
             self.empty_page(page);
         }
-        self.blank_pages();
+        let _known = self.blank_pages();
     }
 
     // Whether the page has no cursor and is not armed.
@@ -100,7 +100,7 @@ impl<L: KeyLayout, H: KeepsHeap<L>> Pages<L, H> {
                 return false;
             }
         }
-        self.blank_pages();
+        let _known = self.blank_pages();
         true
     }
 
@@ -155,7 +155,7 @@ impl<L: KeyLayout, H: KeepsHeap<L>> Pages<L, H> {
         requires rest { AllAtRest self.old }
         ensures { PutsAllBack self.old self.new }
     {
-        self.blank_pages();
+        let _known = self.blank_pages();
         for page in 0..opened {
             self.put_back(page);
         }

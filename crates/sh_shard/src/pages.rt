@@ -171,6 +171,6 @@ impl<L: KeyLayout, H: KeepsHeap<L>> Pages<L, H> {
     pub(crate) fn blank_pages(&self)
         ensures { BlankHasNothing self.now }
     {
-        let _states = &self.states;
+        let _known = &self.states;
     }
 }

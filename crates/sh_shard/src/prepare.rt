@@ -25,7 +25,7 @@ impl<L: KeyLayout, H: KeepsHeap<L>> Shard<L, H> {
         ensures stays { StaysOwner L.layout self.old self.new }
     {
         let answer = self.give_page(class);
-        self.standing();
+        let _known = self.standing();
         answer
     }
 
@@ -50,7 +50,7 @@ impl<L: KeyLayout, H: KeepsHeap<L>> Shard<L, H> {
         requires spare { NoneSpare class self.old.pages }
         ensures { PrepareServes class self.old result self.new }
     {
-        let _opened = self.queues.opened();
+        let _known = self.queues.opened();
         if self.queues.unopened() == 0 {
             return Err(Refusal::Full);
         }
@@ -67,7 +67,7 @@ impl<L: KeyLayout, H: KeepsHeap<L>> Shard<L, H> {
         ensures { MatchOption result ((self.new ≡ self.old) × NoneOpenedBlank self.old)
             (λ page. PreparesPage class page self.old self.new) }
     {
-        let _opened = self.queues.opened();
+        let _known = self.queues.opened();
         let Some(page) = self.queues.blank() else {
             return None;
         };
@@ -87,7 +87,7 @@ impl<L: KeyLayout, H: KeepsHeap<L>> Shard<L, H> {
         let Some(page) = self.spare(class) else {
             return None;
         };
-        let _opened = self.queues.opened();
+        let _known = self.queues.opened();
         self.pages.give_class(page as u64, class);
         self.queues.to_front(class, page);
         Some(page)

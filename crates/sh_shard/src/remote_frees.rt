@@ -36,7 +36,7 @@ impl<L: KeyLayout, H: KeepsHeap<L>> Pages<L, H> {
         for page in 0..opened {
             self.collect_whole(page);
         }
-        self.blank_pages();
+        let _known = self.blank_pages();
     }
 }
 
@@ -55,6 +55,6 @@ impl<L: KeyLayout, H: KeepsHeap<L>> Shard<L, H> {
         self.pages.empty_bell();
         self.pages.collect_pages(opened as u64);
         return_all(&self.pages, &mut self.queues);
-        self.standing();
+        let _known = self.standing();
     }
 }

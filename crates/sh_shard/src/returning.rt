@@ -19,10 +19,10 @@ pub(crate) fn return_all<L: KeyLayout, H: KeepsHeap<L>>(pages: &Pages<L, H>, que
 {
     let opened = queues.opened();
     for page in 0..opened {
-        let _opened = queues.opened();
+        let _known = queues.opened();
         return_page(pages, queues, page as u64);
     }
-    let _returned = queues.opened();
+    let _known = queues.opened();
 }
 
 // A page to which a slot came goes back to its class, where it was full.
@@ -38,7 +38,7 @@ pub(crate) fn return_one<L: KeyLayout, H: KeepsHeap<L>>(
     let Some(page) = came else {
         return;
     };
-    let _opened = queues.opened();
+    let _known = queues.opened();
     return_page(pages, queues, page);
 }
 
@@ -68,7 +68,7 @@ fn is_full<L: KeyLayout, H: KeepsHeap<L>>(pages: &Pages<L, H>, page: u64) -> boo
     requires classed { 0 < seen_class (page_at pages.now page) }
     ensures { MatchBool result (FullPage (page_at pages.now page)) (Unit {0}) }
 {
-    let _word = pages.class_word(page);
+    let _known = pages.class_word(page);
     if !pages.is_armed(page) {
         return false;
     }

@@ -27,7 +27,7 @@ impl<L: KeyLayout, H: KeepsHeap<L>> Shard<L, H> {
         if let Some(key) = self.search(c, value) {
             return Some(key);
         }
-        self.sorted();
+        let _known = self.sorted();
         if !self.ring_out(c) {
             return None;
         }
@@ -48,7 +48,7 @@ impl<L: KeyLayout, H: KeepsHeap<L>> Shard<L, H> {
             return None;
         };
         for _turn in 0..opened {
-            let _opened = self.queues.opened();
+            let _known = self.queues.opened();
             let Some(page) = self.queues.front(c) else {
                 return None;
             };
@@ -76,7 +76,7 @@ impl<L: KeyLayout, H: KeepsHeap<L>> Shard<L, H> {
         ensures steps { MatchOption result (StepsAtMost 4 self.old.pages.owner self.new.pages.owner)
             (λ _. StepsAtMost (length value.now + 54) self.old.pages.owner self.new.pages.owner) }
     {
-        let _opened = self.queues.opened();
+        let _known = self.queues.opened();
         self.pages.try_page(page as u64, value)
     }
 
@@ -90,7 +90,7 @@ impl<L: KeyLayout, H: KeepsHeap<L>> Shard<L, H> {
             (λ _. Unit {0}) }
         ensures { Settles c page self.old self.new }
     {
-        let _opened = self.queues.opened();
+        let _known = self.queues.opened();
         if self.pages.has_cursor(page as u64) {
             self.queues.to_back(c, page);
         } else {

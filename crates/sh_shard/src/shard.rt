@@ -57,7 +57,7 @@ impl<L: KeyLayout, H: KeepsHeap<L>> Shard<L, H> {
             unreachable!()
         };
         let answer = self.insert_in(class, value);
-        self.standing();
+        let _known = self.standing();
         answer
     }
 
@@ -67,10 +67,10 @@ impl<L: KeyLayout, H: KeepsHeap<L>> Shard<L, H> {
         ensures does { GetDoes L.layout key self.old.pages.owner result self.new.pages.owner }
         ensures stays { StaysOwner L.layout self.old self.new }
     {
-        let _queues = &self.queues;
+        let _known = &self.queues;
         let (answer, came) = self.pages.get(key);
         return_one(&self.pages, &mut self.queues, came);
-        self.standing();
+        let _known = self.standing();
         answer
     }
 
@@ -79,10 +79,10 @@ impl<L: KeyLayout, H: KeepsHeap<L>> Shard<L, H> {
         ensures does { GetDoes L.layout key self.old.pages.owner result self.new.pages.owner }
         ensures stays { StaysOwner L.layout self.old self.new }
     {
-        let _queues = &self.queues;
+        let _known = &self.queues;
         let (answer, came) = self.pages.get_guard(key);
         return_one(&self.pages, &mut self.queues, came);
-        self.standing();
+        let _known = self.standing();
         answer
     }
 
@@ -102,9 +102,9 @@ impl<L: KeyLayout, H: KeepsHeap<L>> Shard<L, H> {
         ensures does { ReadIntoDoes hold.key self.old.pages.owner value.old result value.new self.new.pages.owner }
         ensures stays { StaysOwner L.layout self.old self.new }
     {
-        let _queues = &self.queues;
+        let _known = &self.queues;
         let answer = self.pages.read_into(hold, value);
-        self.standing();
+        let _known = self.standing();
         answer
     }
 
@@ -113,9 +113,9 @@ impl<L: KeyLayout, H: KeepsHeap<L>> Shard<L, H> {
         ensures does { ReadIntoDoes guard.now.key self.old.pages.owner value.old result value.new self.new.pages.owner }
         ensures stays { StaysOwner L.layout self.old self.new }
     {
-        let _queues = &self.queues;
+        let _known = &self.queues;
         let answer = self.pages.read_guard(guard, value);
-        self.standing();
+        let _known = self.standing();
         answer
     }
 
@@ -124,10 +124,10 @@ impl<L: KeyLayout, H: KeepsHeap<L>> Shard<L, H> {
         ensures does { RemoveDoes L.layout key self.old.pages.owner result self.new.pages.owner }
         ensures stays { StaysOwner L.layout self.old self.new }
     {
-        let _queues = &self.queues;
+        let _known = &self.queues;
         let (answer, came) = self.pages.remove(key);
         return_one(&self.pages, &mut self.queues, came);
-        self.standing();
+        let _known = self.standing();
         answer
     }
 
@@ -136,10 +136,10 @@ impl<L: KeyLayout, H: KeepsHeap<L>> Shard<L, H> {
         ensures does { ReleaseDoes L.layout hold.key self.old.pages.owner result self.new.pages.owner }
         ensures stays { StaysOwner L.layout self.old self.new }
     {
-        let _queues = &self.queues;
+        let _known = &self.queues;
         let (answer, came) = self.pages.release(hold);
         return_one(&self.pages, &mut self.queues, came);
-        self.standing();
+        let _known = self.standing();
         answer
     }
 
@@ -148,10 +148,10 @@ impl<L: KeyLayout, H: KeepsHeap<L>> Shard<L, H> {
         ensures does { ReleaseDoes L.layout guard.key self.old.pages.owner result self.new.pages.owner }
         ensures stays { StaysOwner L.layout self.old self.new }
     {
-        let _queues = &self.queues;
+        let _known = &self.queues;
         let (answer, came) = self.pages.release_guard(guard);
         return_one(&self.pages, &mut self.queues, came);
-        self.standing();
+        let _known = self.standing();
         answer
     }
 
@@ -160,6 +160,6 @@ impl<L: KeyLayout, H: KeepsHeap<L>> Shard<L, H> {
         ensures sorted { SortedPages self.now.pages self.now.queues }
         ensures once { EachOnce self.now.queues }
     {
-        let _opened = self.queues.opened();
+        let _known = self.queues.opened();
     }
 }

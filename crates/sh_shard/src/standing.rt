@@ -18,7 +18,7 @@ impl<L: KeyLayout, H: KeepsHeap<L>> Pages<L, H> {
         ensures idle { (own_body self.now.owner).hand ≡ Idle }
         ensures owned { (own_body self.now.owner).owned ≡ Some self.now.shard }
     {
-        let _owner = &self.owner;
+        let _known = &self.owner;
     }
 
     // The shape of the heap.
@@ -38,7 +38,7 @@ impl<L: KeyLayout, H: KeepsHeap<L>> Shard<L, H> {
         ensures same { self.now.pages.owner.view.shape ≡ self.now.pages.owner.heap.shape }
         ensures holds { HoldsShard L.layout self.now }
     {
-        self.standing();
+        let _known = self.standing();
         self.pages.shape()
     }
 
@@ -46,6 +46,6 @@ impl<L: KeyLayout, H: KeepsHeap<L>> Shard<L, H> {
     pub(crate) fn standing(&self)
         ensures { HoldsShard L.layout self.now }
     {
-        self.pages.known();
+        let _known = self.pages.known();
     }
 }

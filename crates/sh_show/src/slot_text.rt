@@ -5,12 +5,10 @@ use crate::view::View;
 use sh_shape::{Place, width};
 use sh_slots::{Hand, Spot};
 use sh_step::Part;
+use sh_value::WORDS_MAX;
 use sh_word::{Kind, State};
 use std::alloc::{AllocError, Global};
 use std::fmt::Write;
-
-// As many words as a value may have.
-const VALUE_WORDS: u64 = 16;
 
 // How a kind is written.
 fn kind_name(kind: Kind) -> &'static str {
@@ -42,7 +40,7 @@ fn push_value(out: &mut String, view: &View<'_>, spot: Spot) -> Result<(), Alloc
         return out.push_str("; the empty value");
     }
     out.push_str("; value")?;
-    for number in 0..length.min(VALUE_WORDS) {
+    for number in 0..length.min(WORDS_MAX as u64) {
         let word = view.value_word(spot, width, number);
         write!(out, " {word}")?;
     }

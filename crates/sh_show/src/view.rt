@@ -7,12 +7,14 @@ use sh_bell::{home_of, local_of};
 use sh_core::World;
 use sh_history::Entry;
 use sh_key::{KeyLayout, Tagged};
-use sh_shape::{Place, Shape};
+use sh_shape::{PAYLOAD_WORDS, Place, SLOT_PLACES, Shape};
 use sh_slots::Spot;
 use sh_step::Part;
 
 // For how many slots a page has places, and how many payload words it has.
-const IN_PAGE: u64 = 48;
+const SLOTS: u64 = SLOT_PLACES as u64;
+
+const PAYLOAD: u64 = PAYLOAD_WORDS as u64;
 
 // Each key of layout `tagged` is below this.
 const KEYS_END: u64 = 4_503_599_627_370_496;
@@ -26,9 +28,9 @@ fn has_place(shape: &Shape, place: Place) -> bool
     match place {
         Place::Class(page) | Place::Head(page) | Place::PageLink(page) => page < pages,
         Place::State(page, slot) | Place::Link(page, slot) | Place::Length(page, slot) => {
-            page < pages && slot < IN_PAGE
+            page < pages && slot < SLOTS
         }
-        Place::Payload(page, i) => page < pages && i < IN_PAGE,
+        Place::Payload(page, i) => page < pages && i < PAYLOAD,
         Place::Owner(shard) | Place::Bell(shard) => shard < shards,
     }
 }

@@ -1,11 +1,12 @@
 //! Which condition of an event does not hold. Each function looks at the conditions of some events, in the order in
 //! which a reader would, and answers the first that does not hold.
 ghost use Rattle.std.specs.Prelude.{◌≤◌};
+ghost use Rattle.sh_shape.specs.Places.{slot_places};
 
 use crate::class_named::class_named;
 use crate::reason::Reason;
 use sh_key::KeyLayout;
-use sh_shape::{Shape, slots, width};
+use sh_shape::{CLASS_COUNT, Shape, slots, width};
 use sh_slots::{Hand, Spot};
 use sh_step::names::{page_of_name, place_of_key, slot_of_name};
 use sh_step::{Action, PageName, Part, SlotName};
@@ -18,7 +19,7 @@ fn unless(holds: bool, reason: Reason) -> Result<(), Reason> {
 
 // How many slots a page under a class word has, and how wide they are: none where it is blank.
 fn slots_under(class_word: u64) -> (u64, u64)
-    ensures { result.0 ≤ 48 }
+    ensures { result.0 ≤ slot_places }
 {
     match class_named(class_word) {
         Some(class) => (u64::from(slots(class)), u64::from(width(class))),
@@ -107,7 +108,7 @@ fn why_no_class<L: KeyLayout>(
     let (slots, _) = slots_under(class_word);
     let all_own = class_word == 0 || part.has_all_mine(page, slots);
     unless(all_own, Reason::NotAllOwn)?;
-    unless(class < 8, Reason::NoClass)
+    unless(class < CLASS_COUNT, Reason::NoClass)
 }
 
 fn why_no_take<L: KeyLayout>(shape: &Shape, part: &Part, name: PageName) -> Result<(), Reason> {

@@ -2,6 +2,7 @@
 ghost use Rattle.std.specs.Prelude.{◌≡◌, ◌<◌, ◌≤◌, length, replicate, MatchOption, MatchBool, IfSome, IfOk};
 ghost use Rattle.std.specs.Vec.{vec_capacity};
 ghost use Rattle.sh_lists.specs.Lists.{SlotsOnce};
+ghost use Rattle.sh_shape.specs.Places.{slot_places};
 ghost use Rattle.sh_states.specs.States.{blank_state, state_at, kept_slots, WholeState, NoneWholeBelow, FirstWhole};
 
 mod changing;
@@ -96,7 +97,7 @@ impl PageStates {
     #[inline(always)]
     pub fn cursor(&self, page: u64) -> Option<u32>
         ensures cursor { result ≡ (state_at self.now page).lists.cursor }
-        ensures small { IfSome result (λ slot. slot < 48) }
+        ensures small { IfSome result (λ slot. slot < slot_places) }
     {
         self.written(page)?.lists.cursor()
     }

@@ -7,11 +7,8 @@ ghost use Rattle.sh_step.specs.Moves.{has_place, place_named, page_named, slot_n
 use crate::{PageName, SlotName};
 use sh_bell::{home_of, local_of};
 use sh_key::{KeyLayout, Parts};
-use sh_shape::Shape;
+use sh_shape::{SLOT_PLACES, Shape};
 use sh_slots::{Name, Spot};
-
-// For how many slots a page has places.
-const SLOT_PLACES: u32 = 48;
 
 // Whether the shape has the place of a key of these parts.
 fn has_place(shape: &Shape, parts: &Parts) -> bool
@@ -33,7 +30,7 @@ fn number_of_page(shape: &Shape, shard: u64, page: u64) -> u64
     requires page { page < pages_of shape.now }
     ensures { result ≡ shard * pages_of shape.now + page }
 {
-    let (_shards, _pages) = (shape.shards(), shape.pages());
+    let _known = (shape.shards(), shape.pages());
     u64::from(shape.page_number(shard as u32, page as u32))
 }
 

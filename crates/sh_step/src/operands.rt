@@ -9,12 +9,9 @@ ghost use Rattle.sh_step.specs.Rows.{payload_word};
 pub use crate::names::{key_of_name, page_of_name, place_of_key, slot_of_name};
 use sh_bell::{head_word, home_of, local_of};
 use sh_key::KeyLayout;
-use sh_shape::{Place, Shape, classes};
+use sh_shape::{CLASS_COUNT, Place, Shape, classes};
 use sh_stack::top_word;
 use sh_value::Value;
-
-// How many classes there are.
-const CLASSES: u64 = 8;
 
 // The class word of the pages whose slots have one word each.
 const ONE_WORD: u64 = 1;
@@ -25,7 +22,7 @@ pub fn width_of_word(class_word: u64) -> u64
     ensures few { result ≤ 16 }
 {
     let class = class_word.saturating_sub(1);
-    if class < CLASSES {
+    if class < CLASS_COUNT {
         u64::from(classes::width(class as u32))
     } else {
         0
@@ -38,7 +35,7 @@ pub fn slots_of_word(class_word: u64) -> u64
     ensures few { result ≤ 48 }
 {
     let class = class_word.saturating_sub(1);
-    if class < CLASSES {
+    if class < CLASS_COUNT {
         u64::from(classes::slots(class as u32))
     } else {
         0

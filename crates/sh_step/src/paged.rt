@@ -10,10 +10,7 @@ use crate::operands::slots_of_word;
 use crate::{Action, Move, PageName, Part};
 use sh_bell::home_of;
 use sh_key::KeyLayout;
-use sh_shape::Shape;
-
-// How many classes there are.
-const CLASSES: u64 = 8;
+use sh_shape::{CLASS_COUNT, Shape};
 
 /// Whether the page is of the shard that the pass owns.
 #[tactic(auto, unfolding(crate::specs::Plans::home))]
@@ -70,7 +67,7 @@ fn may_set_class<L: KeyLayout>(
 {
     may_touch::<L>(shape, part, page)
         && (class_word == 0 || has_whole_page(part, page, class_word))
-        && class < CLASSES
+        && class < CLASS_COUNT
 }
 
 /// The move of a read of a page's class.

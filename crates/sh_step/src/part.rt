@@ -16,12 +16,10 @@ use crate::lists::{has_number, value_noted};
 use crate::notes::Notes;
 use crate::own_slots::OwnSlots;
 use sh_slots::{Hand, Spot};
+use sh_value::HOLDS_MAX;
 use std::alloc::Global;
 use std::collections::VecDeque;
 use std::marker::Model;
-
-// How many holds a pass may have.
-const HOLDS_MAX: usize = 16;
 
 /// A pass's own part, as it is kept: lists newest first. A contract sees its body.
 #[derive(Drop)]

@@ -12,7 +12,7 @@ use sh_slots::Spot;
 use std::collections::VecDeque;
 
 // For how many slots a page has places.
-const SLOT_PLACES: u64 = 48;
+const SLOT_PLACES: u64 = sh_shape::SLOT_PLACES as u64;
 
 // Whether a run has the slot.
 fn any_run_has(runs: &VecDeque<Run>, spot: Spot) -> bool

@@ -7,6 +7,7 @@ use sh_judge::counts::{Count, Counts};
 use sh_judge::dice::Dice;
 use sh_judge::fault::Fault;
 use sh_key::{Tiny, Wide};
+use sh_start::show;
 use std::alloc::Global;
 use std::io::Write;
 use std::sync::Wait;
@@ -14,18 +15,6 @@ use std::thread::Threads;
 
 // After how many rounds progress is told.
 const ROUNDS_TOLD: u64 = 100;
-
-// Shows what clap says, and gives the exit status.
-fn show<W: Write, E: Write>(error: &Error, output: &mut W, errors: &mut E) -> u8 {
-    if error.use_stderr() {
-        let _ = write!(errors, "{error}");
-        return 2;
-    }
-    match write!(output, "{error}") {
-        Ok(()) => 0,
-        Err(_) => 3,
-    }
-}
 
 // Shows why clap gave no options, unless memory was refused, and gives the exit status.
 fn refuse<W: Write, E: Write>(error: &Error, output: &mut W, errors: &mut E) -> u8 {

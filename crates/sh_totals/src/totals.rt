@@ -1,6 +1,6 @@
 //! Sums over the pages of a whole heap.
 ghost use Rattle.std.specs.Prelude.{◌≡◌, ◌≤◌, ◌^◌, List, []};
-ghost use Rattle.sh_shape.specs.Places.{all_pages};
+ghost use Rattle.sh_shape.specs.Places.{all_pages, slot_places};
 ghost use Rattle.sh_accounts.specs.Accounts.{all_slots};
 ghost use Rattle.sh_gather.specs.Gathering.{NotedMore};
 ghost use Rattle.sh_totals.specs.declared.pages.PageAccounts.{PageAccounts};
@@ -49,7 +49,7 @@ impl Totals {
     // The totals with one page more.
     fn with(self, page: &PageAccounts) -> Totals
         requires room { AtMost (2 ^ 31) self }
-        requires page { all_slots page.now.accounts ≤ 48 }
+        requires page { all_slots page.now.accounts ≤ slot_places }
         ensures { result ≡ with_page page.now self }
     {
         let accounts = &page.accounts;

@@ -4,6 +4,7 @@
 
 use sh_script::Fault;
 use sh_show::watch;
+use sh_start::with_words;
 use std::alloc::Global;
 use std::io;
 use std::io::{BufReader, Write};
@@ -34,9 +35,9 @@ fn show_help(rt: &HostRuntime) -> u8 {
 }
 
 // Whether help is asked for.
-fn asks_help(words: &[String]) -> bool {
+fn asks_help(words: &[&str]) -> bool {
     match words.get(1) {
-        Some(word) => word.as_str() == "--help" || word.as_str() == "-h",
+        Some(word) => *word == "--help" || *word == "-h",
         None => false,
     }
 }
@@ -52,22 +53,20 @@ fn watch_input(rt: &HostRuntime, alloc: Global) -> io::Result<u8> {
     }
 }
 
-fn start(rt: &HostRuntime) -> io::Result<u8> {
-    let alloc = rt.alloc();
-    let words: Vec<String> = std::env::args(rt)?.collect(alloc)?;
-    if asks_help(words.as_slice()) {
+fn run(rt: &HostRuntime, words: &[&str]) -> io::Result<u8> {
+    if asks_help(words) {
         return Ok(show_help(rt));
     }
     if words.len() > 1 {
         let _ = eprintln!(rt; "sh_trace: it takes no words; sh_trace --help");
         return Ok(2);
     }
-    watch_input(rt, alloc)
+    watch_input(rt, rt.alloc())
 }
 
 fn main(rt: HostRuntime) -> ExitCode {
-    match start(&rt) {
-        Ok(status) => ExitCode::from(status),
-        Err(_) => ExitCode::from(3),
+    match with_words(&rt, |words| run(&rt, words)) {
+        Ok(Ok(status)) => ExitCode::from(status),
+        _ => ExitCode::from(3),
     }
 }

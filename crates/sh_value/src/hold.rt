@@ -1,5 +1,8 @@
 //! Holds.
 
+/// The most holds that a pass may have at a time.
+pub const HOLDS_MAX: usize = 16;
+
 /// The right to read the value of a key until the hold is released.
 ///
 /// A hold is a plain number: it counts only for the pass whose `get` answered it, and several holds of one pass on

@@ -9,7 +9,7 @@ pub mod refusal;
 pub mod short;
 pub mod value;
 
-pub use hold::Hold;
+pub use hold::{HOLDS_MAX, Hold};
 pub use record::Record;
 pub use refusal::Refusal;
-pub use value::Value;
+pub use value::{Value, WORDS_MAX};

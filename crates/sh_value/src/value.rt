@@ -5,10 +5,13 @@ use crate::Refusal;
 use arrayvec::ArrayVec;
 use std::marker::Model;
 
+/// The most words that a value may have.
+pub const WORDS_MAX: usize = 16;
+
 /// What is stored under a key: at most 16 words of 64 bits, in order. A contract sees it as the list of its words.
 #[derive(Drop, Debug, PartialEq, Eq)]
 pub struct Value {
-    words: ArrayVec<u64, 16>,
+    words: ArrayVec<u64, WORDS_MAX>,
 }
 
 impl Model for Value {

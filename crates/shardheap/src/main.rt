@@ -7,7 +7,8 @@ ghost use Rattle.std.specs.Prelude.{IfOk};
 ghost use Rattle.sh_program.specs.Program.{IsStatus};
 
 use sh_program::program;
-use sh_program::words::{refuse, texts};
+use sh_program::words::refuse;
+use sh_start::with_words;
 use std::io;
 use std::process::ExitCode;
 use std::sync::Wait;
@@ -16,17 +17,16 @@ use std::thread::Threads;
 fn start<T: Threads + Wait + Sync>(rt: &HostRuntime, threads: &T) -> io::Result<u8>
     ensures { IfOk result IsStatus }
 {
-    let alloc = rt.alloc();
-    let words: Vec<String> = std::env::args(rt)?.collect(alloc)?;
-    let words = texts(alloc, words.as_slice())?;
-    Ok(program::run(
-        threads,
-        alloc,
-        words.as_slice(),
-        &mut rt.stdin(),
-        &mut rt.stdout(),
-        &mut rt.stderr(),
-    ))
+    with_words(rt, |words| {
+        program::run(
+            threads,
+            rt.alloc(),
+            words,
+            &mut rt.stdin(),
+            &mut rt.stdout(),
+            &mut rt.stderr(),
+        )
+    })
 }
 
 fn main(rt: HostRuntime) -> ExitCode {

@@ -4,6 +4,7 @@ ghost use Rattle.std.specs.Prelude.{false};
 ghost use Rattle.std.specs.Vec.{vec_capacity};
 ghost use Rattle.sh_lists.specs.Numbers.{Misses, upward};
 ghost use Rattle.sh_shape.specs.Classes.{slots};
+ghost use Rattle.sh_shape.specs.Places.{slot_places};
 ghost use Rattle.sh_states.specs.States.{blank_state, state_at, kept_slots, WholeState, with_local, with_read};
 ghost use Rattle.sh_states.specs.States.{UsesNext};
 
@@ -17,7 +18,7 @@ impl PageStates {
     #[inline(always)]
     pub fn next_slot(&mut self, page: u64) -> Option<u32>
         ensures used { IfSome result (λ slot. UsesNext page slot self.old self.new) }
-        ensures small { IfSome result (λ slot. slot < 48) }
+        ensures small { IfSome result (λ slot. slot < slot_places) }
         ensures none { IfNone result (kept_slots (state_at self.old page) ≡ 0) }
         ensures same { IfNone result (self.new ≡ self.old) }
     {
@@ -31,7 +32,7 @@ impl PageStates {
     #[inline(always)]
     pub fn push_local(&mut self, page: u64, slot: u32)
         requires inside { page < length self.old }
-        requires small { slot < 48 }
+        requires small { slot < slot_places }
         requires apart { Misses slot ((state_at self.old page).lists.free ++ (state_at self.old page).lists.local) }
         ensures { self.new ≡ slice_set self.old page (with_local (state_at self.old page) slot) }
     {
@@ -44,9 +45,9 @@ impl PageStates {
     /// Puts a slot that stands in neither list of the page behind `free`, and says where reading goes on.
     pub fn add_read(&mut self, page: u64, slot: u32, cursor: Option<u32>)
         requires inside { page < length self.old }
-        requires small { slot < 48 }
+        requires small { slot < slot_places }
         requires apart { Misses slot ((state_at self.old page).lists.free ++ (state_at self.old page).lists.local) }
-        requires cursor { IfSome cursor (λ slot. slot < 48) }
+        requires cursor { IfSome cursor (λ slot. slot < slot_places) }
         ensures { self.new ≡ slice_set self.old page (with_read (state_at self.old page) slot cursor) }
     {
         write_up_to(&mut self.written, page);
@@ -59,7 +60,7 @@ impl PageStates {
     /// Says where reading the page's stack begins, once it was taken, and whether the page is armed.
     pub fn begin_reading(&mut self, page: u64, cursor: Option<u32>, armed: bool)
         requires inside { page < length self.old }
-        requires cursor { IfSome cursor (λ slot. slot < 48) }
+        requires cursor { IfSome cursor (λ slot. slot < slot_places) }
         ensures { self.new ≡ slice_set self.old page (record (state_at self.old page) {
           lists = record (state_at self.old page).lists { cursor = cursor };
           armed = armed;

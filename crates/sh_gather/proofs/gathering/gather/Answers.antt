@@ -12,7 +12,7 @@ unreachable-requires-in-Err g c =
     let all = subst (AreAll c.args.heap.now) (c.deref.ensures.value ∙ items) c.if-not-are_all.ensures.all in
     let of = front_is_of c.args.heap.now c.pop.new.self.items c.in-Some.last
     (subst (AreOf c.args.heap.now) items c.requires) in
-    let shape = c.shape.ensures.rest.shape ∙ ap (λ h. h.shape) of.1 in
+    let shape = c.shape-known.ensures.rest.shape ∙ ap (λ h. h.shape) of.1 in
     c.in-Err.ensures.1 (subst IsWhole (sym c.met.ensures.tale)
     (all_met c.args.heap.now c.pop.new.self.items c.in-Some.last shape all))
 

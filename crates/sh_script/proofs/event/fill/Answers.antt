@@ -9,4 +9,4 @@ unreachable-requires c =
     let count = numbers_count (map (λ w. w.now) others) [] c.in_ok-words.words c.in_ok-words.ensures in
     let same = length-map others (λ w. w.now) in
     let seen = ap (λ (xs : List ℕ). length xs) c.as_slice.ensures in
-    omega (arith, count, same, seen, c.in-Err.ensures.too_long.1, c.if-others-gt16.false)
+    omega (arith, count, same, seen, c.in-Err.ensures.too_long.1, c.if-others-gt-WORDS_MAX.false)

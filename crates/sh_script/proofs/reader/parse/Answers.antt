@@ -11,7 +11,7 @@ returns-in_err-read_line g c =
     rw (p.1, p.2) (ends adds c.in_err-read_line.field-0.0 _ c.loop-line.number c.in-Some.line.now c.loop-line.rest.now
     c.in-Some.more.now (script_of adds c.args.start c.args.text.now)
     c.in-Some.ensures.some c.in_err-read_line.ensures (c.loop-line.invariant.told
-    ∙ within adds c.args.start _ c.if-text-gt1048576.false))
+    ∙ within adds c.args.start _ c.if-text-gt-SCRIPT_BYTES_MAX.false))
 
 pub loop-line-preserved : goal.loop-line-preserved
 loop-line-preserved g c = record {

@@ -3,4 +3,4 @@ use Rattle.sh_calls.proofs.TaleLaws.{whole_tale}
 use Rattle.sh_calls.proofs.running.PassCalls.whole.Goals as goal
 
 pub returns : goal.returns
-returns g c = whole_tale g.L.KeyLayout.layout c.args.self.now (Alone c.args.self.now) c.shape.ensures.stands
+returns g c = whole_tale g.L.KeyLayout.layout c.args.self.now (Alone c.args.self.now) c.shape-known.ensures.stands

@@ -8,6 +8,6 @@ returns-clause-does g c =
     let does = c.release.ensures.does in
     let stays = c.release.ensures.stays in
     (release_answers g.L.KeyLayout.layout c.args.self.now.pages.owner c.release.new.self.pages.owner
-    c.shape.ensures.holds.stands c.shape.ensures.same
-    (stays.holds.owned ∙ (ap (λ n. Some n) stays.shard ∙ sym c.shape.ensures.holds.owned)) (Owning c.args.self.now)
+    c.shape-known.ensures.holds.stands c.shape-known.ensures.same
+    (stays.holds.owned ∙ (ap (λ n. Some n) stays.shard ∙ sym c.shape-known.ensures.holds.owned)) (Owning c.args.self.now)
     (Owning c.release.new.self) c.args.hold.key c.release.result does (does, stays)).0

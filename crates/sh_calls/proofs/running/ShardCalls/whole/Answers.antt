@@ -4,4 +4,4 @@ use Rattle.sh_calls.proofs.running.ShardCalls.whole.Goals as goal
 
 pub returns : goal.returns
 returns g c = whole_tale g.L.KeyLayout.layout c.args.self.now.pages.owner (Owning c.args.self.now)
-    c.shape.ensures.holds.stands
+    c.shape-known.ensures.holds.stands

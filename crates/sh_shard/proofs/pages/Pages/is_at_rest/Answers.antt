@@ -12,5 +12,5 @@ pub returns : goal.returns
 returns g c = record {
   bell = c.if-has_rings.ensures;
   pages = all_rest c.args.opened c.loop-page.page c.args.self.now c.loop-page.invariant c.requires.later
-      c.blank_pages.ensures (let z = c.loop-page-test.false in omega arith);
+      c.blank_pages-known.ensures (let z = c.loop-page-test.false in omega arith);
 }

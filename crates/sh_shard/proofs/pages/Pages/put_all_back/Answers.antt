@@ -20,5 +20,5 @@ loop-page-preserved g c = returning_more c.loop-page.page c.args.self.now c.loop
 
 pub returns : goal.returns
 returns g c = returned c.args.opened c.loop-page.page c.args.self.now c.loop-page.self c.loop-page.invariant
-    c.requires.rest.bell c.requires.later c.blank_pages.ensures (let z = c.loop-page-test.false in omega arith)
+    c.requires.rest.bell c.requires.later c.blank_pages-known.ensures (let z = c.loop-page-test.false in omega arith)
     (let e = c.requires.few in let z = c.loop-page.auto.page-end in omega arith)

@@ -3,7 +3,7 @@ use Rattle.sh_shard.proofs.shard.Shard.insert_slowly.Goals as goal
 
 pub returns-clause-serves : goal.returns-clause-serves
 returns-clause-serves g c = served_after _ c.args.c _ c.args.self.now c.look.new.self c.insert_in_another.new.self
-    c.requires.class c.in_default.ensures.looked c.sorted.ensures.sorted c.sorted.ensures.once
+    c.requires.class c.in_default.ensures.looked c.sorted-known.ensures.sorted c.sorted-known.ensures.once
     c.insert_in_another.result c.insert_in_another.ensures
 
 pub returns-clause-bounded : goal.returns-clause-bounded

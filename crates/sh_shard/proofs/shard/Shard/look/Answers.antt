@@ -11,12 +11,12 @@ pub returns-then-not-ring_out-clause-looked : goal.returns-then-not-ring_out-cla
 returns-then-not-ring_out-clause-looked g c =
     let P : Bool → Type 0 = λ b. RingsOut c.args.c b c.search.new.self c.ring_out.new.self in
     tried_once c.args.c c.args.self.now c.search.new.self c.ring_out.new.self c.in_default.ensures.searched
-    c.sorted.ensures.sorted (subst P c.if-not-ring_out.true c.ring_out.ensures)
+    c.sorted-known.ensures.sorted (subst P c.if-not-ring_out.true c.ring_out.ensures)
 
 pub returns-clause-looked : goal.returns-clause-looked
 returns-clause-looked g c = looked_again g.L.KeyLayout.layout c.args.c c.args.value.now c.ring_out.result
     c.args.self.now c.search.new.self c.ring_out.new.self c.search-2.new.self c.search-2.result
-    c.in_default.ensures.searched c.sorted.ensures.sorted c.sorted.ensures.once c.ring_out.ensures
+    c.in_default.ensures.searched c.sorted-known.ensures.sorted c.sorted-known.ensures.once c.ring_out.ensures
     c.search-2.ensures.searched
 
 pub returns-clause-steps : goal.returns-clause-steps

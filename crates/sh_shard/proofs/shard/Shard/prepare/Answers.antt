@@ -4,7 +4,7 @@ use Rattle.sh_shard.proofs.shard.Shard.prepare.Goals as goal
 
 pub returns-clause-stays : goal.returns-clause-stays
 returns-clause-stays g c = record {
-  holds = c.standing.ensures;
+  holds = c.standing-known.ensures;
   shard = prepare_shard c.args.class c.args.self.now c.give_page-answer.new.self c.give_page-answer.result
       c.give_page-answer.ensures;
   same = prepare_same c.args.class c.args.self.now c.give_page-answer.new.self c.give_page-answer.result

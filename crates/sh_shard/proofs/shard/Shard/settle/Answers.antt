@@ -11,7 +11,7 @@ invariant_of-self g c =
     let here : has_number c.args.page (class_queue c.self.inside.queues c.args.c)
     ≡ true = subst (λ (z : Sharded). has_number c.args.page (class_queue z.queues c.args.c) ≡ true)
     (sym c.self.view_is) c.requires.here in
-    sorted_back c.self.inside.pages c.self.inside.queues c.self.invariant c.opened-opened.ensures.once
+    sorted_back c.self.inside.pages c.self.inside.queues c.self.invariant c.opened-known.ensures.once
     c.to_back.new.self c.args.c c.args.page c.requires.class (c.self.invariant.classes c.args.c c.args.page here)
     c.to_back.ensures
 
@@ -26,7 +26,7 @@ invariant_of-self-else-has_cursor g c =
     ((page_at c.self.inside.pages c.args.page).armed ≡ true) (λ _. Unit {0}) = subst
     (λ (z : Sharded). MatchOption (page_at z.pages c.args.page).cursor ((page_at z.pages c.args.page).armed ≡ true)
     (λ _. Unit {0})) (sym c.self.view_is) c.requires.waits in
-    sorted_full c.self.inside.pages c.self.inside.queues c.self.invariant c.opened-opened.ensures.once
+    sorted_full c.self.inside.pages c.self.inside.queues c.self.invariant c.opened-known.ensures.once
     c.to_full.new.self c.args.page (full_page c.self.inside.pages c.self.inside.queues c.self.invariant
-    c.opened-opened.ensures.once c.args.c c.args.page c.requires.class here nothing c.if-has_cursor.ensures waits)
+    c.opened-known.ensures.once c.args.c c.args.page c.requires.class here nothing c.if-has_cursor.ensures waits)
     c.to_full.ensures
