@@ -91,8 +91,8 @@ met-requires g c κs within =
       ),
     )
 
-pub whole-requires : goal.whole-requires
-whole-requires g c =
+pub whole-known-requires : goal.whole-known-requires
+whole-known-requires g c =
     carrier_speaks g.at.0 g.at.1 c.args.tag c.args.lines.now c.loop-line.line-index c.loop-line.numbers.items
     (map g.S.Side.seen c.loop-line.sides.items) c.loop-line.output.items c.loop-line.last c.loop-line.invariant
     (g.S.Side.seen c.in-Some-met.carrier) (g.S.Side.seen c.heed_last-2.new.side) c.heed_last-2.ensures
