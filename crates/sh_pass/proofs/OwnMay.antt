@@ -40,12 +40,12 @@ owns_it layout v x m = is_own (plan_of layout v.view.shape) (own_body v) (heap_p
     (m.owned ∙ ap (λ n. Some n) (sym (home_is (plan_of layout v.view.shape) x.shard x.page m.page)))
 
 module _ (layout : Layout) (v : Caller) where
-  abbrev plan : Plan
-  plan = plan_of layout v.view.shape
+  abbrev heap_plan : Plan
+  heap_plan = plan_of layout v.view.shape
 
   -- a move that may be done is done by its action
-  may_do : (m : Move) → May plan (own_body v) m → MayDo layout v.view (action_of plan m) m
-  may_do m may = row_of_may plan (own_body v) m may
+  may_do : (m : Move) → May heap_plan (own_body v) m → MayDo layout v.view (action_of heap_plan m) m
+  may_do m may = row_of_may heap_plan (own_body v) m may
 
   pub may_tie_owned : (x : Spot) (l : ℕ) (ring : Bool) → (own_body v).hand ≡ Tying x l ring
       → MayDo layout v.view action.Tie (move.Tie x l ring)
