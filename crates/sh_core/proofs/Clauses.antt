@@ -1,5 +1,5 @@
--- The theorem: what is kept holds as a heap opens, `Invariant` holds after every list of events (`RunTheorem`), and each
--- clause of the theorem follows from it.
+-- The theorem: what is kept holds as a heap opens, `Invariant` holds after every list of events (`RunTheorem`), and
+-- each clause of the theorem follows from it.
 pub mod OpenSums
 pub mod RunRefines
 pub mod RunTheorem

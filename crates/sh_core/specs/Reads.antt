@@ -9,8 +9,8 @@ use Rattle.sh_core.specs.Lists.{times}
 use Rattle.sh_core.specs.Worlds.{World}
 
 -- each held key names a place of the shape; what was read of a key is of a held one, and true
-pub record ReadsAgree (plan : Plan) (class : ℕ → ℕ) (length : ℕ → ℕ → ℕ) (holds : List ℕ) (class_words lengths : List (ℕ × ℕ)) :
-    Type 0 where
+pub record ReadsAgree (plan : Plan) (class : ℕ → ℕ) (length : ℕ → ℕ → ℕ) (holds : List ℕ)
+    (class_words lengths : List (ℕ × ℕ)) : Type 0 where
   pub named : (k : ℕ) → 0 < times k holds → (n : Name) × (plan.keys.unpack k ≡ Some n) × (n.page < heap_pages plan)
       × (n.slot < 48)
   pub classed : (k c : ℕ) → noted k class_words ≡ Some c → (0 < times k holds)

@@ -23,8 +23,8 @@ pub record Fills (size class noted slot : ℕ) (payload : ℕ → ℕ) (v : List
   pub class_is : noted ≡ class
 
 abbrev pub FillAgrees : Words → Body → Hand → Type 0
-FillAgrees w p (Filling x v i) = Fills (w.length_at x.page x.slot) (w.class_at x.page) (class_word_noted p x.page) x.slot
-    (w.payload_at x.page) v i
+FillAgrees w p (Filling x v i) = Fills (w.length_at x.page x.slot) (w.class_at x.page)
+    (class_word_noted p x.page) x.slot (w.payload_at x.page) v i
 FillAgrees w p _ = Unit {0}
 
 abbrev pub ValuesAgree : Words → List Body → Type 0

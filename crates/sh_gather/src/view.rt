@@ -41,8 +41,8 @@ impl<L: KeyLayout, H: KeepsHeap<L>> Whole<L, H> {
         self.pass.shape()
     }
 
-    /// The pass that carries the tales, to go on with. It is whole for good, since nobody else has a pass; what it noted
-    /// holds until its next step.
+    /// The pass that carries the tales, to go on with. It is whole for good, since nobody else has a pass; what it
+    /// noted holds until its next step.
     pub fn into_pass(self) -> Pass<L, H>
         ensures { result ≡ self }
     {

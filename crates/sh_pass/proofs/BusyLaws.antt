@@ -1,6 +1,6 @@
 -- Steps by hand: where a condition fails, and what a step leaves.
-use Rattle.std.proofs.Common.{◌≡◌, ◌≢◌, ℕ, ◌<◌, ◌≤◌, ◌==◌, ◌&&◌, Bool, true, false, List, length, Option, Some, None, refl}
-use Rattle.std.proofs.Common.{ap, ◌∙◌, sym, subst, arith}
+use Rattle.std.proofs.Common.{◌≡◌, ◌≢◌, ℕ, ◌<◌, ◌≤◌, ◌==◌, ◌&&◌, Bool, true, false, List, length, Option, Some, None}
+use Rattle.std.proofs.Common.{refl, ap, ◌∙◌, sym, subst, arith}
 use Rattle.std.proofs.lemmas.Bool.{false≢true}
 use Rattle.std.proofs.lemmas.Bool.Decides.{nat_tests}
 use Rattle.std.specs.Prelude.{cond, nat_lt, option_and_then}
@@ -107,7 +107,8 @@ module _ (layout : Layout) (v : View) where
 
   -- an action on a key that asks for an idle hand and something more
   unless : (x : Action) (k : ℕ) (more : Bool) (made : Name → Move)
-      → move_of (plan_of layout v.shape) body x ≡ named (plan_of layout v.shape) k (λ y. then_some (idle body && more) (made y))
+      → move_of (plan_of layout v.shape) body x ≡ named (plan_of layout v.shape) k
+      (λ y. then_some (idle body && more) (made y))
       → (body.hand ≡ Idle → more ≡ true → ⊥) → Acts layout x v false v
   unless x k more made is fails = refused x (is ∙ none_behind (λ (y : Name). then_some (idle body && more) (made y))
       (place_named (plan_of layout v.shape) k) (λ y. none_unless (idle body && more) (made y)

@@ -68,8 +68,8 @@ move_of plan p (action.DropHold k) = named plan k
     (λ x. then_some (idle p && has (λ j. j == k) p.holds) (move.DropHold k x))
 move_of plan p action.Finish = elim (p.hand) [ Finishing x g ↦ Some (move.Finish x g) | _ ↦ None ]
 move_of plan p (action.FillSlot y v) = slotted plan y (λ x. then_some
-    (idle p && own plan p x.page && has (same_spot x) p.mine && nat_lt 0 (class_word_noted p x.page) && nat_le (length v)
-    (width (class_word_noted p x.page - 1))) (move.FillSlot x v))
+    (idle p && own plan p x.page && has (same_spot x) p.mine && nat_lt 0 (class_word_noted p x.page)
+    && nat_le (length v) (width (class_word_noted p x.page - 1))) (move.FillSlot x v))
 move_of plan p action.Fill = elim (p.hand) [
   | Filling x v n ↦ then_some (nat_lt n (length v))
       (move.Fill x v n (class_word_noted p x.page))

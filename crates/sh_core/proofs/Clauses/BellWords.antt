@@ -41,7 +41,8 @@ over_small plan n k m = go (nat_lt m k) refl where
   go true e = omega arith
   go false e = omega arith
 
-module _ (plan : Plan) (w : World) (l : PutLists) (laws : Lawful plan) (all : Agreement plan w l) (know : AllReadsAgree plan w)
+module _ (plan : Plan) (w : World) (l : PutLists) (laws : Lawful plan) (all : Agreement plan w l)
+    (know : AllReadsAgree plan w)
     (within : AllInHeap plan w) where
   names_small : (n : ℕ) (xs : List ℕ) → ((s : ℕ) → times s xs ≤ times s (l.bells n) + times s (l.bell_chain n))
       → (top xs ≤ heap_pages plan) × (link_to xs ≤ heap_pages plan + 1)

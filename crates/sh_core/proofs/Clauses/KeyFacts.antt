@@ -9,8 +9,8 @@ use Rattle.sh_core.specs.Placed.{Agreement}
 use Rattle.sh_core.specs.Refines.{KeysAreTold, HoldsAreTold, PastIsRemoved}
 use Rattle.sh_core.specs.Stories.{removals}
 use Rattle.sh_core.specs.Worlds.{World, value_at}
-use Rattle.sh_core.proofs.Slots.Permits.{value_none, value_one, value_some, removed_by, gots_are, releases_are, gots_by_are}
-use Rattle.sh_core.proofs.Slots.Permits.{releases_by_are}
+use Rattle.sh_core.proofs.Slots.Permits.{value_none, value_one, value_some, removed_by, gots_are, releases_are}
+use Rattle.sh_core.proofs.Slots.Permits.{gots_by_are, releases_by_are}
 
 module _ (plan : Plan) (w : World) (l : PutLists) (all : Agreement plan w l) where
   -- how often a key was removed says whether it was

@@ -41,7 +41,8 @@ links_on link owed tied (s ∷ xs) chained one none =
           xs chained.1 (λ t some. one t (let more = times_cons t s xs in omega arith)) none,
     )
 
-module _ (plan : Plan) (w : World) (l : PutLists) (laws : Lawful plan) (all : Agreement plan w l) (know : AllReadsAgree plan w)
+module _ (plan : Plan) (w : World) (l : PutLists) (laws : Lawful plan) (all : Agreement plan w l)
+    (know : AllReadsAgree plan w)
     (within : AllInHeap plan w) where
   -- a slot stands once at most on its page
   slot_link : (q s : ℕ) → 0 < times s (l.stack q) + times s (l.chain q)

@@ -17,8 +17,8 @@ use Rattle.sh_core.specs.Tallies.{room}
 use Rattle.sh_core.specs.InHeap.{AllInHeap}
 use Rattle.sh_core.specs.Worlds.{World}
 use Rattle.sh_core.proofs.Sums.ClassSlots.{room_under, room_placed}
-use Rattle.sh_core.proofs.Sums.ListCounts.{once_only, no_spots, no_numbers, no_notes, none_noted, noted_once, times_noted}
-use Rattle.sh_core.proofs.Sums.ListCounts.{first_few, first_one, first_times, noted_at}
+use Rattle.sh_core.proofs.Sums.ListCounts.{once_only, no_spots, no_numbers, no_notes, none_noted, noted_once}
+use Rattle.sh_core.proofs.Sums.ListCounts.{times_noted, first_few, first_one, first_times, noted_at}
 use Rattle.sh_core.proofs.Lists.ListsSteps.{alone_armed}
 use Rattle.sh_core.proofs.Slots.SlotSums.{room_few}
 use Rattle.sh_core.proofs.Sums.Totals.{total_at, total_two, some_part}
@@ -76,7 +76,8 @@ module _ (plan : Plan) (w : World) (l : PutLists) (all : Agreement plan w l) whe
 
 -- ---- what one pass has
 
-module _ (plan : Plan) (w : World) (l : PutLists) (laws : Lawful plan) (all : Agreement plan w l) (know : AllReadsAgree plan w)
+module _ (plan : Plan) (w : World) (l : PutLists) (laws : Lawful plan) (all : Agreement plan w l)
+    (know : AllReadsAgree plan w)
     (within : AllInHeap plan w) (a : ℕ) (p : Body) (at : slice_get w.parts a ≡ Some p) where
   -- what is not zero is not that of another's page
   own_or : (b : Bool) (n : ℕ) → 0 < n → (b ≡ false → n ≡ 0) → b ≡ true

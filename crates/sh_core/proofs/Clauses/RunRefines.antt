@@ -53,7 +53,8 @@ all_open plan laws = record {
     duty = λ q. let x = none_new (armed_at q) plan.passes refl in let y = none_new (rings q) plan.passes refl
         in (omega arith, omega arith);
     owned = λ n. let x = none_new (owns n) plan.passes refl in (sym x, omega arith);
-    own_notes = λ a p at. let e = part_new plan.passes a p at in let P : Body → Type 0 = λ u. OwnNotesOf plan (λ _. 0) u in
+    own_notes = λ a p at. let e = part_new plan.passes a p at in
+        let P : Body → Type 0 = λ u. OwnNotesOf plan (λ _. 0) u in
         subst P e (record {
           mines = λ x h. refl;
           points = λ q s h. refl;

@@ -50,8 +50,9 @@ abbrev words : ℕ → List Event → Words
 words n es = (run (small n) es).words
 
 unfoldable pub everything : ℕ
-unfolding fields_of word_of put put2 total without has noted off every home spots row move_of apply step run_from value_at
-    keys_of page_number local over_heap accounts listed list_step lists_from row_of_event outcome_of outcomes_from
+unfolding fields_of word_of put put2 total without has noted off every home spots row move_of apply step run_from
+    value_at keys_of page_number local over_heap accounts listed list_step lists_from row_of_event outcome_of
+    outcomes_from
 everything = 0
 
 -- a page of three slots

@@ -89,8 +89,10 @@ few_apply plan w l a p m sums at least old x =
     ⊎_elim (λ h. omega arith) (λ h. let h0 = h.0 in let h1 = h.1 in omega arith) (least x)
 
 pub holds_move : (plan : Plan) (w : World) (l : PutLists) (a : ℕ) (p : Body) (m : Move) → Sums plan w l
-    → slice_get w.parts a ≡ Some p → May plan p m → HoldsInBound plan w → HoldsInBound plan (apply w a (row_of plan p m))
-holds_move plan w l a p m sums at may old = few_apply plan w l a p (row_of plan p m) sums at (bounded plan w p m may) old
+    → slice_get w.parts a ≡ Some p → May plan p m → HoldsInBound plan w
+    → HoldsInBound plan (apply w a (row_of plan p m))
+holds_move plan w l a p m sums at may old = few_apply plan w l a p (row_of plan p m) sums at
+    (bounded plan w p m may) old
 
 pub holds_open : (plan : Plan) → HoldsInBound plan (open_world plan)
 unfolding total

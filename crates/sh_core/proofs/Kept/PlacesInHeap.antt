@@ -43,7 +43,8 @@ use Rattle.sh_core.proofs.Kept.StaysInHeap.{hand_within}
 use Rattle.sh_core.proofs.Lists.BellTakes.{owned_at, bell_home}
 use Rattle.sh_core.specs.Sums.{FillAgrees}
 
-module _ (plan : Plan) (w : World) (l : PutLists) (laws : Lawful plan) (all : Agreement plan w l) (know : AllReadsAgree plan w)
+module _ (plan : Plan) (w : World) (l : PutLists) (laws : Lawful plan) (all : Agreement plan w l)
+    (know : AllReadsAgree plan w)
     (within : AllInHeap plan w) where
   -- a cursor's slot
   pub pointed : (a : ℕ) (p : Body) (q s : ℕ) → slice_get w.parts a ≡ Some p → noted q p.cursors ≡ Some s → s < 48

@@ -70,7 +70,8 @@ knows_apply plan w a p m old owes b u h =
     (λ e. knows_words plan w (write w.words m.place (operate m.operation (read w.words m.place))) b u e.1 owes.words
     (old b u e.1)) (get_set w.parts a b p' u h)
 
-module _ (plan : Plan) (w : World) (l : PutLists) (a : ℕ) (p : Body) (all : Agreement plan w l) (old : AllReadsAgree plan w)
+module _ (plan : Plan) (w : World) (l : PutLists) (a : ℕ) (p : Body) (all : Agreement plan w l)
+    (old : AllReadsAgree plan w)
     (at : slice_get w.parts a ≡ Some p) where
   words_stay : HeldWordsStay plan w w.words
   words_stay b u k n h s e = (refl, refl)
@@ -119,7 +120,8 @@ module _ (plan : Plan) (w : World) (l : PutLists) (a : ℕ) (p : Body) (all : Ag
       → W.length_at ≡ w.words.length_at → ReadsAgreeOf plan W (hand (freed p k) h)
   drop_knows k is h W c d = let o = three_knows W p (same_words W c d) (refl, refl, refl) in record {
     named = λ j s. let t = times_without k j p.holds is in o.named j (omega arith);
-    classed = λ j v e. let q = known_left p.class_words j v (has (λ j. j == k) fewer) refl e in let r = o.classed j v q.0
+    classed = λ j v e. let q = known_left p.class_words j v (has (λ j. j == k) fewer) refl e in
+        let r = o.classed j v q.0
         in (q.1 r.0, r.1);
     measured = λ j v e. let q = known_left p.lengths j v (has (λ j. j == k) fewer) refl e in let r = o.measured j v q.0
         in (q.1 r.0, r.1);
@@ -147,7 +149,8 @@ module _ (plan : Plan) (w : World) (l : PutLists) (a : ℕ) (p : Body) (all : Ag
       o : ReadsAgreeOf plan w.words p
       o = old a p at
 
-      go : (j c : ℕ) (b : Bool) → (k == j) ≡ b → cond b (Some (w.words.class_at x.page)) (noted j p.class_words) ≡ Some c
+      go : (j c : ℕ) (b : Bool) → (k == j) ≡ b
+          → cond b (Some (w.words.class_at x.page)) (noted j p.class_words) ≡ Some c
           → (0 < times j p.holds) × ((n : Name) → plan.keys.unpack j ≡ Some n → w.words.class_at n.page ≡ c)
       go j c true e h =
           let i = eqb-true k j e in
@@ -270,7 +273,8 @@ module _ (plan : Plan) (w : World) (l : PutLists) (a : ℕ) (p : Body) (all : Ag
   owes m may = let s = keys_stay plan p m (read w.words (row_of plan p m).place) (λ z. z)
       in owes_quiet (row_of plan p m) (refl, refl) (s.0, s.1, s.2)
 
-pub reads_move : (plan : Plan) (w : World) (l : PutLists) (a : ℕ) (p : Body) (m : Move) → Agreement plan w l → AllReadsAgree plan w
+pub reads_move : (plan : Plan) (w : World) (l : PutLists) (a : ℕ) (p : Body) (m : Move) → Agreement plan w l
+    → AllReadsAgree plan w
     → slice_get w.parts a ≡ Some p → May plan p m → AllReadsAgree plan (apply w a (row_of plan p m))
 reads_move plan w l a p m all old at may = knows_apply plan w a p (row_of plan p m) old
     (owes plan w l a p all old at m may)

@@ -93,7 +93,8 @@ told_more log (Some e) holds x t = record {
 }
 
 -- of other holds, among which the key is
-told_of : (log : List Entry) (holds held : List ℕ) (x : Note) → WordNote log holds x → 0 < times x.0 held → WordNote log held x
+told_of : (log : List Entry) (holds held : List ℕ) (x : Note) → WordNote log holds x → 0 < times x.0 held
+    → WordNote log held x
 told_of log holds held x t some = record {
   held = some;
   value = t.value;
@@ -102,7 +103,8 @@ told_of log holds held x t some = record {
   says = t.says;
 }
 
-module _ (plan : Plan) (w : World) (l : PutLists) (a : ℕ) (p : Body) (all : Agreement plan w l) (know : AllReadsAgree plan w)
+module _ (plan : Plan) (w : World) (l : PutLists) (a : ℕ) (p : Body) (all : Agreement plan w l)
+    (know : AllReadsAgree plan w)
     (old : WordNotesOf w.log p) (at : slice_get w.parts a ≡ Some p) where
   abbrev Tells : Row → Type 0
   Tells m = WordNotesOf w.log (m.part (read w.words m.place))
@@ -177,7 +179,8 @@ module _ (plan : Plan) (w : World) (l : PutLists) (a : ℕ) (p : Body) (all : Ag
       (fields_of (w.words.state_at x.page x.slot)).count plan.keys.guard_max) (hand p (Leaving (spot_of x)))
       (refl, refl)
   tells (DropHold k x) (idle, named, is) = drop_tells k is
-  tells (ReadClass k x) may = same_told (record p { class_words = (k, w.words.class_at x.page) ∷ p.class_words }) (refl, refl)
+  tells (ReadClass k x) may = same_told (record p { class_words = (k, w.words.class_at x.page) ∷ p.class_words })
+      (refl, refl)
   tells (ReadLength k x) may = same_told (record p { lengths = (k, w.words.length_at x.page x.slot) ∷ p.lengths })
       (refl, refl)
   tells (ReadWord k x c i) (n, idle, named, width_is, length_is, is, less) =
@@ -191,7 +194,8 @@ module _ (plan : Plan) (w : World) (l : PutLists) (a : ℕ) (p : Body) (all : Ag
       let n : ℕ = read w.words (row_of plan p m).place in
       let s = keys_stay plan p m n (λ z. z) in same_told ((row_of plan p m).part n) (s.0, s.3)
 
-told_apply : (plan : Plan) (w : World) (a : ℕ) (m : Row) → WordNotesStand w → WordNotesOf w.log (m.part (read w.words m.place))
+told_apply : (plan : Plan) (w : World) (a : ℕ) (m : Row) → WordNotesStand w
+    → WordNotesOf w.log (m.part (read w.words m.place))
     → WordNotesStand (apply w a m)
 unfolding apply
 told_apply plan w a m old new b u h j x is =
@@ -199,7 +203,8 @@ told_apply plan w a m old new b u h j x is =
     told_more w.log o u.holds x (⊎_elim (λ e. (subst (WordNotesOf w.log) e.1 new) j x is) (λ e. old b u e.1 j x is)
     (get_set w.parts a b (m.part (read w.words m.place)) u h))
 
-pub words_move : (plan : Plan) (w : World) (l : PutLists) (a : ℕ) (p : Body) (m : Move) → Agreement plan w l → AllReadsAgree plan w
+pub words_move : (plan : Plan) (w : World) (l : PutLists) (a : ℕ) (p : Body) (m : Move) → Agreement plan w l
+    → AllReadsAgree plan w
     → slice_get w.parts a ≡ Some p → May plan p m → WordNotesStand w → WordNotesStand (apply w a (row_of plan p m))
 words_move plan w l a p m all know at may old = told_apply plan w a (row_of plan p m) old
     (tells plan w l a p all know (old a p at) at m may)
@@ -210,7 +215,8 @@ words_open plan a p at = let e = part_new plan.passes a p at in subst (WordNotes
 
 -- ---- so what a pass noted is true
 
-pub notes : (plan : Plan) (w : World) (l : PutLists) → Agreement plan w l → AllReadsAgree plan w → WordNotesStand w → NotesAreTrue plan w
+pub notes : (plan : Plan) (w : World) (l : PutLists) → Agreement plan w l → AllReadsAgree plan w → WordNotesStand w
+    → NotesAreTrue plan w
 unfolding value_at
 notes plan w l all know told a p at = record {
   class_words = (know a p at).classed;

@@ -22,7 +22,8 @@ use Rattle.sh_core.proofs.Sums.ListCounts.{times_cons}
 use Rattle.sh_core.proofs.Sums.Writes.{put_same, put_other}
 
 -- Ring puts the page on its shard's bell
-module _ (plan : Plan) (w : Words) (ps : List Body) (l : PutLists) (a : ℕ) (p : Body) (q : ℕ) (old : ListsAgreeOf plan w ps l)
+module _ (plan : Plan) (w : Words) (ps : List Body) (l : PutLists) (a : ℕ) (p : Body) (q : ℕ)
+    (old : ListsAgreeOf plan w ps l)
     (at : slice_get ps a ≡ Some (hand p (Ringing q))) where
   -- the shard whose bell it is
   abbrev ring_bell : ℕ

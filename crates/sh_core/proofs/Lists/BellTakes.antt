@@ -44,7 +44,8 @@ owned_at n m (Some k) x e = let i : k ≡ n = cc in rw i refl
 owned_at n m None x e = absurd (let z : None ≡ Some n = e in cc)
 
 -- TakeBell: the bell's pages become its chain
-module _ (plan : Plan) (w : Words) (ps : List Body) (l : PutLists) (a : ℕ) (p : Body) (n : ℕ) (old : ListsAgreeOf plan w ps l)
+module _ (plan : Plan) (w : Words) (ps : List Body) (l : PutLists) (a : ℕ) (p : Body) (n : ℕ)
+    (old : ListsAgreeOf plan w ps l)
     (at : slice_get ps a ≡ Some p) (mine : p.owned ≡ Some n) (no : p.bell_cursor ≡ None) where
   abbrev take_bell_after : Body
   take_bell_after = record p { bell_cursor = top_item (bell_head plan w.bell_at n) }
@@ -141,7 +142,8 @@ bell_home plan w ps l n q old some = go (n == home plan q) refl where
 
 -- FollowBell that finds a link: the chain's first page comes off, and is not armed
 module _ (plan : Plan) (w : Words) (ps : List Body) (l : PutLists) (a : ℕ) (p : Body) (n q : ℕ)
-    (old : ListsAgreeOf plan w ps l) (at : slice_get ps a ≡ Some p) (mine : p.owned ≡ Some n) (is : p.bell_cursor ≡ Some q)
+    (old : ListsAgreeOf plan w ps l) (at : slice_get ps a ≡ Some p) (mine : p.owned ≡ Some n)
+    (is : p.bell_cursor ≡ Some q)
     (found : (w.page_link_at q == 0) ≡ false) where
   abbrev follow_bell_after : Body
   follow_bell_after = record p {

@@ -53,7 +53,8 @@ pub homed_set : (plan : Plan) (class : ℕ → ℕ) (ps : List Body) (a : ℕ) (
 homed_set plan class ps a p' old new b u at = ⊎_elim (λ h. let P : Body → Type 0 = λ v. OwnNotesOf plan class v
     in subst P h.1 new) (λ h. old b u h.1) (get_set ps a b p' u at)
 
-pub lists_frame : (plan : Plan) (w : Words) (ps : List Body) (l : PutLists) (a : ℕ) (p p' : Body) → ListsAgreeOf plan w ps l
+pub lists_frame : (plan : Plan) (w : Words) (ps : List Body) (l : PutLists) (a : ℕ) (p p' : Body)
+    → ListsAgreeOf plan w ps l
     → slice_get ps a ≡ Some p → face plan p' ≡ face plan p → OwnNotesOf plan w.class_at p'
     → ListsAgreeOf plan w (set ps a p') l
 lists_frame plan w ps l a p p' r at same mine = record {

@@ -18,8 +18,8 @@ use Rattle.sh_step.specs.Rows.{hand, own, owned_by, point, unpoint}
 use Rattle.sh_core.specs.Tallies.{queued}
 use Rattle.sh_core.proofs.Sums.Totals.{total_same, total_set, total_at}
 use Rattle.sh_core.proofs.Slots.Slots.{same_spot-refl, if1_same_spot}
-use Rattle.sh_core.proofs.Lists.StackSteps.{chains_same, chains_push, chains_tie, chains_take, chains_follow, chain_link}
-use Rattle.sh_core.proofs.Lists.StackSteps.{tied_owes}
+use Rattle.sh_core.proofs.Lists.StackSteps.{chains_same, chains_push, chains_tie, chains_take, chains_follow}
+use Rattle.sh_core.proofs.Lists.StackSteps.{chain_link, tied_owes}
 use Rattle.sh_core.proofs.Lists.ListsSteps.{homed_set, alone_cursor, alone_armed, no_ties, point_total, point_link}
 use Rattle.sh_core.proofs.Sums.Tests.{eqb-comm, cond_if1-true, cond_if1-false, if1_bit}
 use Rattle.sh_core.proofs.Sums.ListCounts.{is_note, total_unnoted, not_noted, no_first, a_first, times_noted_as}

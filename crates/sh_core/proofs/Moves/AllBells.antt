@@ -31,7 +31,8 @@ module _ (plan : Plan) (w : World) (l : PutLists) (a : ℕ) (p : Body) (old : Ag
     go true e = record {
       sums = sums_quiet plan w l l a (idled p) (adopted (idled p) n) w.words.head_at w.words.page_link_at
           w.words.link_at (put w.words.owner_at n 1) w.words.bell_at old.sums at
-          (λ y st. tally_ext _ _ (sym ((old.lists.own_notes a (idled p) at).mines y (none_owned plan p.owned y.page free)))
+          (λ y st. tally_ext _ _ (sym ((old.lists.own_notes a (idled p) at).mines y
+          (none_owned plan p.owned y.page free)))
           refl refl refl refl refl) (λ y. refl) refl tt;
       lists = adopt_agrees plan w.words w.parts l a (idled p) n old.lists at free (eqb-true (w.words.owner_at n) 0 e);
       bounds = old.bounds;
@@ -76,7 +77,8 @@ module _ (plan : Plan) (w : World) (l : PutLists) (a : ℕ) (p : Body) (old : Ag
         }))) (cond b l (record l { bell_chain = put l.bell_chain n (drop 1 (l.bell_chain n)) }))
     go true e = all_load plan w l a (idled p) (idled p) (PageLink q) 0 old at (eqb-true (w.words.page_link_at q) 0 e)
         (λ y st. refl) refl tt
-        (lists_frame plan w.words w.parts l a (idled p) (idled p) old.lists at refl (old.lists.own_notes a (idled p) at))
+        (lists_frame plan w.words w.parts l a (idled p) (idled p) old.lists at refl
+        (old.lists.own_notes a (idled p) at))
     go false e = record {
       sums = sums_quiet plan w l (record l { bell_chain = put l.bell_chain n (drop 1 (l.bell_chain n)) }) a (idled p)
           (record (idled p) {
@@ -88,7 +90,8 @@ module _ (plan : Plan) (w : World) (l : PutLists) (a : ℕ) (p : Body) (old : Ag
       bounds = old.bounds;
     }
 
-pub all_ring : (plan : Plan) (w : World) (l : PutLists) (a : ℕ) (p : Body) (q : ℕ) → Agreement plan w l → slice_get w.parts a
+pub all_ring : (plan : Plan) (w : World) (l : PutLists) (a : ℕ) (p : Body) (q : ℕ) → Agreement plan w l
+    → slice_get w.parts a
     ≡ Some (hand p (Ringing q)) → Agreement plan (apply w a (ring plan (hand p (Ringing q)) q))
     (record l { bells = put l.bells (home plan q) (q ∷ l.bells (home plan q)) })
 unfolding apply
@@ -102,7 +105,8 @@ all_ring plan w l a p q old at = record {
 }
 
 pub all_ring_tie : (plan : Plan) (w : World) (l : PutLists) (a : ℕ) (p : Body) (q n : ℕ) → Agreement plan w l
-    → slice_get w.parts a ≡ Some (hand p (RingTying q n)) → Agreement plan (apply w a (ring_tie (hand p (RingTying q n)) q n))
+    → slice_get w.parts a ≡ Some (hand p (RingTying q n))
+    → Agreement plan (apply w a (ring_tie (hand p (RingTying q n)) q n))
     l
 unfolding apply
 all_ring_tie plan w l a p q n old at = record {

@@ -28,7 +28,8 @@ use Rattle.sh_core.proofs.Sums.Writes.{write_same}
 -- a step that writes nothing new
 pub all_load : (plan : Plan) (w : World) (l : PutLists) (a : ℕ) (p p' : Body) (pl : Place) (n : ℕ) → Agreement plan w l
     → slice_get w.parts a ≡ Some p → read w.words pl ≡ n → ((y : Spot) (st : Fields) → due plan y st p'
-    ≡ due plan y st p) → p'.holds ≡ p.holds → FillAgrees w.words p' p'.hand → ListsAgreeOf plan w.words (set w.parts a p') l
+    ≡ due plan y st p) → p'.holds ≡ p.holds → FillAgrees w.words p' p'.hand
+    → ListsAgreeOf plan w.words (set w.parts a p') l
     → Agreement plan (with w (write w.words pl n) a p') l
 all_load plan w l a p p' pl n old at is same holds fill rest =
     let P : Words → Type 0 = λ W. Agreement plan (with w W a p') l in

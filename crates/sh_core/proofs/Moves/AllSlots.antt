@@ -34,8 +34,8 @@ use Rattle.sh_core.proofs.Slots.MarkStep.{sums_mark, is_current}
 use Rattle.sh_core.proofs.Slots.SlotSums.{sums_drop, sums_publish, sums_gone, sums_got, room_to_enter, room_few}
 use Rattle.sh_core.proofs.Slots.FinishSums.{sums_enter_remove, sums_finish_hand, sums_drop_key}
 use Rattle.sh_core.proofs.Slots.FillSums.{sums_fill_slot, sums_fill}
-use Rattle.sh_core.proofs.Slots.SumsKinds.{sums_finish_fail, sums_finish_mine, sums_finish_last, found_is, retired_fields}
-use Rattle.sh_core.proofs.Slots.SumsKinds.{sums_remove_gone, sums_crowded}
+use Rattle.sh_core.proofs.Slots.SumsKinds.{sums_finish_fail, sums_finish_mine, sums_finish_last, found_is}
+use Rattle.sh_core.proofs.Slots.SumsKinds.{retired_fields, sums_remove_gone, sums_crowded}
 use Rattle.sh_core.proofs.Slots.ClassSums.{bounds_state, bounds_still, bounds_length}
 use Rattle.sh_core.proofs.Lists.ListsSteps.{face, lists_frame}
 use Rattle.sh_core.proofs.Lists.StackKinds.{apart_pages}
@@ -57,7 +57,8 @@ pub all_state : (plan : Plan) (w : World) (l : PutLists) (a : ℕ) (p : Body) (x
     → (let m : Row = record { place = State x.page x.slot; operation = operation; part = part; reply = reply }
     in Sums plan (apply w a m) l) → Plain plan w.words.class_at p (part (w.words.state_at x.page x.slot))
     → BoundsOf plan (write w.words (State x.page x.slot) (operate operation (w.words.state_at x.page x.slot)))
-    → Agreement plan (apply w a (record { place = State x.page x.slot; operation = operation; part = part; reply = reply })) l
+    → Agreement plan
+    (apply w a (record { place = State x.page x.slot; operation = operation; part = part; reply = reply })) l
 unfolding apply
 all_state plan w l a p x operation part reply old at sums plain bounds = record {
   sums = sums;
@@ -220,7 +221,8 @@ all_finish plan w l a p x g old at = go (n == marked_word g) (g == plan.keys.gen
           (let i : finish_next plan g n ≡ word_of (retired_fields g) = rw (e, f) refl in let P : ℕ
           → Type 0 = λ m. BoundsOf plan (write w.words (State x.page x.slot) m)
           in subst P (sym i) (bounds_state plan w.words x (word_of (retired_fields g)) old.bounds
-          (rw (fields_of-word_of (retired_fields g) (omega arith)) range) (λ _. old.bounds.lengths x.page x.slot there)))
+          (rw (fields_of-word_of (retired_fields g) (omega arith)) range)
+          (λ _. old.bounds.lengths x.page x.slot there)))
         where
           s : fields_of n ≡ record { generation = g; marked = true; present = true; count = 0 }
           s = found_is plan w l a p x g old.sums at e
@@ -288,7 +290,8 @@ pub class_noted : (plan : Plan) (w : World) (l : PutLists) (a : ℕ) (p : Body) 
 class_noted plan w l a p q old at mine some = sym ((old.lists.own_notes a p at).notes q (class_word_noted p q) mine
     (noted_class (noted q p.classes) some)).0
 
-pub all_fill_slot : (plan : Plan) (w : World) (l : PutLists) (a : ℕ) (p : Body) (x : Spot) (v : List ℕ) → Agreement plan w l
+pub all_fill_slot : (plan : Plan) (w : World) (l : PutLists) (a : ℕ) (p : Body) (x : Spot) (v : List ℕ)
+    → Agreement plan w l
     → slice_get w.parts a ≡ Some (hand p Idle) → own plan p x.page ≡ true → has (same_spot x) p.mine ≡ true
     → 0 < class_word_noted p x.page → length v ≤ width (class_word_noted p x.page - 1)
     → Agreement plan (apply w a (fill_slot (hand p Idle) x v)) l
@@ -302,7 +305,8 @@ all_fill_slot plan w l a p x v old at mine is some fits =
     let P : ℕ → Type 0 = λ k. length v ≤ width (k - 1) in
     record {
       sums = sums_fill_slot plan w l a p x v old.sums at is c (subst P c fits);
-      lists = lists_frame plan w.words w.parts l a (hand p Idle) (hand (record p { mine = without (same_spot x) p.mine })
+      lists = lists_frame plan w.words w.parts l a (hand p Idle)
+          (hand (record p { mine = without (same_spot x) p.mine })
           (Filling x v 0)) old.lists at refl
           (mine_less plan w.words.class_at p x is (old.lists.own_notes a (hand p Idle) at));
       bounds = bounds_length plan w.words x (length v) old.bounds

@@ -23,7 +23,8 @@ use Rattle.sh_core.proofs.Slots.Slots.{same_spot-true, if1_same_spot}
 use Rattle.sh_core.proofs.Slots.SlotSums.{room_few}
 use Rattle.sh_core.proofs.Slots.SumsKinds.{with, sums_quiet, sums_put, queued_taken, sums_follow, tied}
 use Rattle.sh_core.proofs.Lists.ListsSteps.{lists_frame, alone_armed}
-use Rattle.sh_core.proofs.Lists.StackKinds.{apart_pages, put_agrees, tie_agrees, no_chain, taken_agrees, chain_is, follow_agrees}
+use Rattle.sh_core.proofs.Lists.StackKinds.{apart_pages, put_agrees, tie_agrees, no_chain, taken_agrees, chain_is}
+use Rattle.sh_core.proofs.Lists.StackKinds.{follow_agrees}
 use Rattle.sh_core.proofs.Sums.Tests.{eqb-comm, if1_self, cond_if1-true, cond_if1-false, if1_bit, cond_either}
 use Rattle.sh_core.proofs.Sums.ListCounts.{times_cons, has_some, has_none, times_off_if}
 use Rattle.sh_core.proofs.Moves.AllReads.{idled, all_load}
@@ -48,7 +49,8 @@ module _ (plan : Plan) (w : World) (l : PutLists) (a : ℕ) (p : Body) (old : Ag
         w.words.page_link_at w.words.link_at w.words.owner_at w.words.bell_at old.sums at (λ y st. refl)
         (queued_taken l q (no_chain plan w.words w.parts l a (idled p) q 0 arms old.lists at mine free (omega arith)
         homes here there one)) refl tt;
-    lists = taken_agrees plan w.words w.parts l a (idled p) q 0 arms old.lists at mine free (omega arith) homes here there
+    lists = taken_agrees plan w.words w.parts l a (idled p) q 0 arms old.lists at mine free
+        (omega arith) homes here there
         one;
     bounds = old.bounds;
   } where
@@ -124,7 +126,8 @@ module _ (plan : Plan) (w : World) (l : PutLists) (a : ℕ) (p : Body) (old : Ag
         (cond b l (record l { chain = put l.chain q (drop 1 (l.chain q)) }))
     go true e = all_load plan w l a (idled p) (idled p) (Link q s) 0 old at (eqb-true (w.words.link_at q s) 0 e)
         (λ y st. refl) refl tt
-        (lists_frame plan w.words w.parts l a (idled p) (idled p) old.lists at refl (old.lists.own_notes a (idled p) at))
+        (lists_frame plan w.words w.parts l a (idled p) (idled p) old.lists at refl
+        (old.lists.own_notes a (idled p) at))
     go false e = record {
       sums = sums_follow plan w l a (idled p) (record (idled p) {
         cursors = point 2 q (w.words.link_at q s) (unpoint q p.cursors);
@@ -137,7 +140,8 @@ module _ (plan : Plan) (w : World) (l : PutLists) (a : ℕ) (p : Body) (old : Ag
     }
 
   pub all_put_slot : (x : Spot) → has (same_spot x) p.mine ≡ true
-      → Agreement plan (apply w a (put_at (hand (record p { mine = without (same_spot x) p.mine }) Idle) x)) (pushed l x)
+      → Agreement plan (apply w a (put_at (hand (record p { mine = without (same_spot x) p.mine }) Idle) x))
+      (pushed l x)
   unfolding apply
   all_put_slot x is = record {
     sums = sums_put plan w l a (idled p) p1 x (w.words.head_at x.page / 2 + 1) (w.words.head_at x.page % 2 == 1)
@@ -166,13 +170,15 @@ module _ (plan : Plan) (w : World) (l : PutLists) (a : ℕ) (p : Body) (old : Ag
         let m = has_some (same_spot x) p.mine is in omega arith
 
 pub all_put : (plan : Plan) (w : World) (l : PutLists) (a : ℕ) (p : Body) (x : Spot) → Agreement plan w l
-    → slice_get w.parts a ≡ Some (hand p (ToPut x)) → Agreement plan (apply w a (put_at (hand p (ToPut x)) x)) (pushed l x)
+    → slice_get w.parts a ≡ Some (hand p (ToPut x))
+    → Agreement plan (apply w a (put_at (hand p (ToPut x)) x)) (pushed l x)
 unfolding apply
 all_put plan w l a p x old at = record {
   sums = sums_put plan w l a (hand p (ToPut x)) p x (w.words.head_at x.page / 2 + 1) (w.words.head_at x.page % 2 == 1)
       (put w.words.head_at x.page ((x.slot + 1) * 2)) old.sums at refl (λ y st. refl)
       (λ y st. (refl, refl, refl, refl));
-  lists = let P : List Body → Type 0 = λ us. ListsAgreeOf plan (write w.words (Head x.page) ((x.slot + 1) * 2)) us (pushed l x)
+  lists = let P : List Body → Type 0 = λ us. ListsAgreeOf plan (write w.words (Head x.page) ((x.slot + 1) * 2)) us
+      (pushed l x)
       in
       subst P (set-set w.parts a (hand p Idle) (tied p x (w.words.head_at x.page / 2 + 1)
       (w.words.head_at x.page % 2 == 1)))
@@ -189,8 +195,10 @@ all_put plan w l a p x old at = record {
       let one = if1_same_spot x in
       let t = total_at (in_hand x) w.parts a (hand p (ToPut x)) at in omega arith
 
-pub all_tie : (plan : Plan) (w : World) (l : PutLists) (a : ℕ) (p : Body) (x : Spot) (n : ℕ) (r : Bool) → Agreement plan w l
-    → slice_get w.parts a ≡ Some (hand p (Tying x n r)) → Agreement plan (apply w a (tie (hand p (Tying x n r)) x n r)) l
+pub all_tie : (plan : Plan) (w : World) (l : PutLists) (a : ℕ) (p : Body) (x : Spot) (n : ℕ) (r : Bool)
+    → Agreement plan w l
+    → slice_get w.parts a ≡ Some (hand p (Tying x n r))
+    → Agreement plan (apply w a (tie (hand p (Tying x n r)) x n r)) l
 unfolding apply
 all_tie plan w l a p x n r old at = record {
   sums = sums_quiet plan w l l a (hand p (Tying x n r)) (hand p (cond r (Ringing x.page) Idle)) w.words.head_at

@@ -1,5 +1,6 @@
 -- A step by its move: what the move leaves of the lists, and the one way to lift what moves keep to events and runs.
-use Rattle.std.proofs.Common.{◌≡◌, ℕ, ◌==◌, cond, List, [], ◌∷◌, drop, refl, sym, ap, subst, Option, Some, None, slice_get}
+use Rattle.std.proofs.Common.{◌≡◌, ℕ, ◌==◌, cond, List, [], ◌∷◌, drop, refl, sym, ap, subst, Option, Some, None}
+use Rattle.std.proofs.Common.{slice_get}
 use Rattle.sh_step.specs.declared.action.Action.{Action}
 use Rattle.sh_step.specs.declared.action.Event.{Event}
 use Rattle.sh_step.specs.declared.body.Body.{Body}
@@ -102,7 +103,8 @@ MovesCount plan w p = (m : Move) → May plan p m → CountFits (row_of plan p m
 
 -- holds, and what was read of keys
 abbrev pub SameKeys : Body → Body → Type 0
-SameKeys p u = (u.holds ≡ p.holds) × (u.class_words ≡ p.class_words) × (u.lengths ≡ p.lengths) × (u.contents ≡ p.contents)
+SameKeys p u = (u.holds ≡ p.holds) × (u.class_words ≡ p.class_words) × (u.lengths ≡ p.lengths)
+    × (u.contents ≡ p.contents)
 
 -- these five moves change them
 abbrev pub ChangesKeys : Move → Type 0

@@ -19,8 +19,8 @@ use Rattle.sh_core.specs.Lists.{PutLists}
 use Rattle.sh_core.specs.Placed.{Agreement}
 use Rattle.sh_step.specs.Conditions.{May}
 use Rattle.sh_core.proofs.Moves.ByMove.{lists_after}
-use Rattle.sh_core.proofs.Moves.AllSlots.{all_enter_get, all_enter_remove, all_mark, all_drop_hand, all_drop_key, all_finish}
-use Rattle.sh_core.proofs.Moves.AllSlots.{all_fill_slot, all_fill, all_publish}
+use Rattle.sh_core.proofs.Moves.AllSlots.{all_enter_get, all_enter_remove, all_mark, all_drop_hand, all_drop_key}
+use Rattle.sh_core.proofs.Moves.AllSlots.{all_finish, all_fill_slot, all_fill, all_publish}
 use Rattle.sh_core.proofs.Moves.AllReads.{all_read_class, all_read_length, all_read_word, all_read_page, all_set_class}
 use Rattle.sh_core.proofs.Moves.AllStacks.{all_take, all_arm, all_follow, all_put, all_put_slot, all_tie}
 use Rattle.sh_core.proofs.Moves.AllBells.{all_adopt, all_leave, all_ring, all_ring_tie, all_take_bell, all_follow_bell}
@@ -29,7 +29,8 @@ module _ (plan : Plan) (w : World) (l : PutLists) (a : ℕ) (p : Body) (laws : L
     (at : slice_get w.parts a ≡ Some p) where
   -- after the move of a part
   abbrev After : Move → Body → Type 0
-  After m u = let r : Row = row_of plan u m in Agreement plan (apply w a r) (lists_after plan u m (read w.words r.place) l)
+  After m u = let r : Row = row_of plan u m in Agreement plan (apply w a r)
+      (lists_after plan u m (read w.words r.place) l)
 
   -- what holds of the part with the hand that it has, holds of it
   by_hand : (m : Move) (h : Hand) → p.hand ≡ h → (slice_get w.parts a ≡ Some (hand p h) → After m (hand p h))

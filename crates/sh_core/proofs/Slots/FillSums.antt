@@ -245,7 +245,8 @@ sums_fill plan w l a p x v i g bounds at less =
           (width (w.words.class_at y.page - 1)) h c
           (λ e. (ap (λ (q : ℕ). width (w.words.class_at q - 1)) e, within y k e)))
 
-      stays : (b : ℕ) (q : Body) → b ≢ a → slice_get w.parts b ≡ Some q → (h : Hand) → q.hand ≡ h → FillAgrees w.words q h
+      stays : (b : ℕ) (q : Body) → b ≢ a → slice_get w.parts b ≡ Some q → (h : Hand) → q.hand ≡ h
+          → FillAgrees w.words q h
           → i < C → FillAgrees W q h
       stays b q n at' (Filling y u j) e h c = record {
         length_is = h.length_is;

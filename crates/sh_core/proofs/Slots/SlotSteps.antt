@@ -17,7 +17,8 @@ use Rattle.sh_step.specs.Rows.{hand, freed}
 use Rattle.sh_core.specs.Tallies.{AddsUp, tally, due, visits, SlotsAddUp, at_spot, current, stale}
 use Rattle.sh_core.proofs.Sums.Totals.{total_at, total_without}
 use Rattle.sh_word.proofs.Words.{fields_of-sub, fields_of-add}
-use Rattle.sh_core.proofs.Slots.Slots.{tally_set, slots_state, same_spot-refl, tally_ext, lost_le, lost_most, if1_same_spot}
+use Rattle.sh_core.proofs.Slots.Slots.{tally_set, slots_state, same_spot-refl, tally_ext, lost_le, lost_most}
+use Rattle.sh_core.proofs.Slots.Slots.{if1_same_spot}
 use Rattle.sh_core.proofs.Sums.Tests.{if1_neither}
 
 pub fields_of-entered : (n : ℕ) → (fields_of n).count + 1 < 2 ^ 30 → fields_of (n + 1)
@@ -77,7 +78,8 @@ drop_slots plan w ps l a p x old at = let f = old x in let v = leaving plan ps a
       b = (fields_of n).present && (fields_of n).marked && ((fields_of n).count == 1)
 
 -- Enter, where the pass only visits: one visitor more
-pub enter_adds_up : (r q : ℕ) (st : Fields) (plan : Plan) (ps : List Body) (a : ℕ) (p : Body) (x : Spot) → slice_get ps a
+pub enter_adds_up : (r q : ℕ) (st : Fields) (plan : Plan) (ps : List Body) (a : ℕ) (p : Body) (x : Spot)
+    → slice_get ps a
     ≡ Some (hand p Idle) → AddsUp r q st (tally plan x st ps)
     → AddsUp r q (record st { count = st.count + 1 }) (tally plan x (record st { count = st.count + 1 })
     (set ps a (hand p (Leaving x))))
@@ -87,7 +89,8 @@ enter_adds_up r q st plan ps a p x at f =
     record { kinds = omega arith; counts = omega arith; none_lost = omega arith; owed = λ c d n. absurd (omega arith) }
 
 pub enter_slots : (plan : Plan) (w : Words) (ps : List Body) (l : PutLists) (a : ℕ) (p : Body) (x : Spot)
-    → SlotsAddUp plan w ps l → slice_get ps a ≡ Some (hand p Idle) → (fields_of (w.state_at x.page x.slot)).count + 1 < 2
+    → SlotsAddUp plan w ps l → slice_get ps a ≡ Some (hand p Idle)
+    → (fields_of (w.state_at x.page x.slot)).count + 1 < 2
     ^ 30
     → SlotsAddUp plan (write w (State x.page x.slot) (w.state_at x.page x.slot + 1)) (set ps a (hand p (Leaving x))) l
 enter_slots plan w ps l a p x old at few = let f = old x in
@@ -211,7 +214,8 @@ publish_adds_up r q st plan ps a p x v i small at f =
 pub fill_adds_up : (r q : ℕ) (st : Fields) (plan : Plan) (ps : List Body) (a : ℕ) (p : Body) (x : Spot) (v : List ℕ)
     → has (same_spot x) p.mine ≡ true
     → slice_get ps a ≡ Some (hand p Idle) → AddsUp r q st (tally plan x st ps)
-    → AddsUp r q st (tally plan x st (set ps a (hand (record p { mine = without (same_spot x) p.mine }) (Filling x v 0))))
+    → AddsUp r q st (tally plan x st (set ps a
+    (hand (record p { mine = without (same_spot x) p.mine }) (Filling x v 0))))
 fill_adds_up r q st plan ps a p x v is at f =
     let m = tally_set plan x st ps a (hand p Idle) (hand (record p { mine = without (same_spot x) p.mine })
     (Filling x v 0)) at in

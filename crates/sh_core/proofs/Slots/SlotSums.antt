@@ -27,8 +27,8 @@ use Rattle.sh_core.specs.Sums.{Sums, FillAgrees}
 use Rattle.sh_core.proofs.Sums.Totals.{total_at, total_few, total_length}
 use Rattle.sh_word.proofs.Words.{fields_of-sub, fields_of-or_present}
 use Rattle.sh_core.proofs.Slots.Slots.{slots_state, if1_same_spot}
-use Rattle.sh_core.proofs.Slots.SlotSteps.{drop_slots, leaving, enter_slots, get_adds_up, get_due, holding, publish_adds_up}
-use Rattle.sh_core.proofs.Slots.SlotSteps.{fields_of-entered}
+use Rattle.sh_core.proofs.Slots.SlotSteps.{drop_slots, leaving, enter_slots, get_adds_up, get_due, holding}
+use Rattle.sh_core.proofs.Slots.SlotSteps.{publish_adds_up, fields_of-entered}
 use Rattle.sh_core.proofs.Slots.Logs.{keys_state, keys_quiet, story_same, story_publish, gone_permitted, got_permitted}
 use Rattle.sh_core.proofs.Slots.Logs.{values_append, values_none, removals_snoc, live_parts}
 use Rattle.sh_core.proofs.Slots.MarkStep.{same_key, apart_key, other_key}

@@ -131,7 +131,8 @@ slots_state plan w ps l a p p' x n old at others this y = go (same_spot y x) ref
   written : Words
   written = write w (State x.page x.slot) n
 
-  go : (b : Bool) → same_spot y x ≡ b → AddsUp (room written y) (queued l y) (fields_of (written.state_at y.page y.slot))
+  go : (b : Bool) → same_spot y x ≡ b → AddsUp (room written y) (queued l y)
+      (fields_of (written.state_at y.page y.slot))
       (tally plan y (fields_of (written.state_at y.page y.slot)) (set ps a p'))
   go true h = let e : y ≡ x = same_spot-true x y h in rw (e, put2_same w.state_at x.page x.slot n) this
   go false h = rw (

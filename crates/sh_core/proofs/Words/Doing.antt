@@ -29,8 +29,8 @@ use Rattle.sh_core.specs.Kept.{AsksMemory, NeedsMemory, SlotHasValue, KeepsValue
 use Rattle.sh_core.specs.Kept.{new_entry}
 use Rattle.sh_shape.proofs.ClassLaws.{slots_few}
 use Rattle.sh_core.proofs.Words.KeptValues.{row_within}
-use Rattle.sh_core.proofs.Words.Stepping.{stands_moves, stands_skips, stands_past, row_of_past, outcome_done, outcome_skipped}
-use Rattle.sh_core.proofs.Words.Stepping.{outcome_not_skipped, reached_on, moved}
+use Rattle.sh_core.proofs.Words.Stepping.{stands_moves, stands_skips, stands_past, row_of_past, outcome_done}
+use Rattle.sh_core.proofs.Words.Stepping.{outcome_skipped, outcome_not_skipped, reached_on, moved}
 
 words_same : (f g : ℕ → ℕ) (i n : ℕ) → ((j : ℕ) → i ≤ j → j < i + n → f j ≡ g j) → words_from f i n ≡ words_from g i n
 words_same f g i zero h = refl

@@ -1,9 +1,11 @@
 use Rattle.sh_core.proofs.Examples.WrongRows.{crowded_too_early, key_is_removed_twice, stayed_count_is_nobodys}
-use Rattle.sh_core.proofs.Examples.WrongRows.{forgotten_end_never_comes, known_key_is_not_held, kept_generation_issues_twice}
-use Rattle.sh_core.proofs.Examples.WrongRows.{ignored_count_loses_held, wrapped_generation_issues_twice}
+use Rattle.sh_core.proofs.Examples.WrongRows.{forgotten_end_never_comes, known_key_is_not_held}
+use Rattle.sh_core.proofs.Examples.WrongRows.{kept_generation_issues_twice, ignored_count_loses_held}
+use Rattle.sh_core.proofs.Examples.WrongRows.{wrapped_generation_issues_twice}
 use Rattle.sh_core.proofs.Examples.WrongRows.{unretired_slot_has_no_key, early_link_is_wrong, unwritten_end_loses_slots}
-use Rattle.sh_core.proofs.Examples.WrongRows.{old_link_loses_slots, followed_twice_is_mine_twice, silent_freer_loses_ring}
-use Rattle.sh_core.proofs.Examples.WrongRows.{leaver_keeps_slots, left_bell_is_nobodys, forgotten_slot_has_two_kinds}
+use Rattle.sh_core.proofs.Examples.WrongRows.{old_link_loses_slots, followed_twice_is_mine_twice}
+use Rattle.sh_core.proofs.Examples.WrongRows.{silent_freer_loses_ring, leaver_keeps_slots, left_bell_is_nobodys}
+use Rattle.sh_core.proofs.Examples.WrongRows.{forgotten_slot_has_two_kinds}
 use Rattle.sh_core.proofs.Examples.WrongRows.{ninth_class_is_none, fifth_hold_is_too_many, flag_stays_over_slot}
 use Rattle.sh_core.proofs.Examples.WrongRows.{generation_is_no_key, end_may_never_come, gone_is_never_told}
 use Rattle.sh_core.proofs.Examples.NoRing.{unrung_never_ends}

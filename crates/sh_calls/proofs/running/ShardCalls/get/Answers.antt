@@ -9,5 +9,6 @@ returns-clause-does g c =
     let stays = c.get.ensures.stays in
     (get_answers g.L.KeyLayout.layout c.args.self.now.pages.owner c.get.new.self.pages.owner
     c.shape-known.ensures.holds.stands c.shape-known.ensures.same
-    (stays.holds.owned ∙ (ap (λ n. Some n) stays.shard ∙ sym c.shape-known.ensures.holds.owned)) (Owning c.args.self.now)
+    (stays.holds.owned ∙ (ap (λ n. Some n) stays.shard ∙ sym c.shape-known.ensures.holds.owned))
+    (Owning c.args.self.now)
     (Owning c.get.new.self) c.args.key c.get.result does (does, stays)).0

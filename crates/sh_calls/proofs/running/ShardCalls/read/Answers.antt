@@ -9,5 +9,6 @@ returns-clause-does g c =
     let stays = c.read.ensures.stays in
     (read_answers g.L.KeyLayout.layout c.args.self.now.pages.owner c.read.new.self.pages.owner
     c.shape-known.ensures.holds.stands c.shape-known.ensures.same
-    (stays.holds.owned ∙ (ap (λ n. Some n) stays.shard ∙ sym c.shape-known.ensures.holds.owned)) (Owning c.args.self.now)
+    (stays.holds.owned ∙ (ap (λ n. Some n) stays.shard ∙ sym c.shape-known.ensures.holds.owned))
+    (Owning c.args.self.now)
     (Owning c.read.new.self) c.args.hold.key c.read.result does (does, stays)).0

@@ -9,5 +9,6 @@ returns-clause-does g c =
     let stays = c.release.ensures.stays in
     (release_answers g.L.KeyLayout.layout c.args.self.now.pages.owner c.release.new.self.pages.owner
     c.shape-known.ensures.holds.stands c.shape-known.ensures.same
-    (stays.holds.owned ∙ (ap (λ n. Some n) stays.shard ∙ sym c.shape-known.ensures.holds.owned)) (Owning c.args.self.now)
+    (stays.holds.owned ∙ (ap (λ n. Some n) stays.shard ∙ sym c.shape-known.ensures.holds.owned))
+    (Owning c.args.self.now)
     (Owning c.release.new.self) c.args.hold.key c.release.result does (does, stays)).0
