@@ -6,7 +6,13 @@ use sh_judge::pattern;
 use sh_judge::tally::{PageTally, agrees};
 use sh_value::Value;
 use std::alloc::Global;
+use std::process::Abort;
 use std::test::Fail;
+
+// It is so.
+fn holds(rt: &impl Abort, it: bool) {
+    assert!(rt; it);
+}
 
 fn line(pass: u32, begin: u64, end: u64, told: Told) -> Line {
     Line {
@@ -35,7 +41,7 @@ fn answers_in_their_order_are_legal(rt: HostRuntime) {
         line(1, 9, 10, Told::Released),
         line(0, 11, 12, Told::Gone),
     ];
-    assert!(rt; is_legal(rt.alloc(), &lines));
+    holds(&rt, is_legal(rt.alloc(), &lines));
 }
 
 #[test]
@@ -45,7 +51,7 @@ fn a_get_after_the_removal_is_found(rt: HostRuntime) {
         line(2, 3, 4, Told::Removed),
         line(1, 5, 6, Told::Got(None)),
     ];
-    assert!(rt; !is_legal(rt.alloc(), &lines));
+    holds(&rt, !is_legal(rt.alloc(), &lines));
 }
 
 #[test]
@@ -55,19 +61,19 @@ fn a_get_during_the_removal_is_legal(rt: HostRuntime) {
         line(2, 3, 6, Told::Removed),
         line(1, 4, 5, Told::Got(None)),
     ];
-    assert!(rt; is_legal(rt.alloc(), &lines));
+    holds(&rt, is_legal(rt.alloc(), &lines));
 }
 
 #[test]
 fn a_key_gone_too_early_is_found(rt: HostRuntime) {
     let gone = [inserted(1, 2), line(1, 3, 4, Told::Gone)];
-    assert!(rt; !is_legal(rt.alloc(), &gone));
+    holds(&rt, !is_legal(rt.alloc(), &gone));
     let early = [
         inserted(1, 2),
         line(1, 3, 4, Told::Gone),
         line(2, 5, 6, Told::Removed),
     ];
-    assert!(rt; !is_legal(rt.alloc(), &early));
+    holds(&rt, !is_legal(rt.alloc(), &early));
 }
 
 #[test]
@@ -76,7 +82,7 @@ fn another_value_is_found(rt: HostRuntime) {
         inserted(1, 2),
         line(1, 3, 4, Told::Got(Some(pattern::value(8, 3)))),
     ];
-    assert!(rt; !is_legal(rt.alloc(), &lines));
+    holds(&rt, !is_legal(rt.alloc(), &lines));
 }
 
 #[test]
@@ -86,7 +92,7 @@ fn two_removals_are_found(rt: HostRuntime) {
         line(1, 3, 6, Told::Removed),
         line(2, 4, 5, Told::Removed),
     ];
-    assert!(rt; !is_legal(rt.alloc(), &lines));
+    holds(&rt, !is_legal(rt.alloc(), &lines));
 }
 
 // Two mark the key by hand, and one of them removes it: the one that may still do so when the key is got for the last
@@ -99,14 +105,14 @@ fn one_of_two_marks_removes(rt: HostRuntime) {
         line(2, 8, 10, Told::Marked),
         line(0, 4, 7, Told::Got(None)),
     ];
-    assert!(rt; is_legal(rt.alloc(), &legal));
+    holds(&rt, is_legal(rt.alloc(), &legal));
     let too_late = [
         inserted(1, 2),
         line(1, 3, 4, Told::Marked),
         line(2, 8, 10, Told::Marked),
         line(0, 5, 7, Told::Got(None)),
     ];
-    assert!(rt; !is_legal(rt.alloc(), &too_late));
+    holds(&rt, !is_legal(rt.alloc(), &too_late));
 }
 
 // A mark that was answered before another call removed the key found it removed by nobody, though the key was not yet
@@ -118,25 +124,25 @@ fn a_mark_before_the_removal_is_found(rt: HostRuntime) {
         inserted(2, 6),
         line(2, 7, 9, Told::Removed),
     ];
-    assert!(rt; !is_legal(rt.alloc(), &before));
+    holds(&rt, !is_legal(rt.alloc(), &before));
     let got_later = [
         line(1, 1, 4, Told::Marked),
         inserted(2, 6),
         line(2, 7, 9, Told::Got(None)),
     ];
-    assert!(rt; !is_legal(rt.alloc(), &got_later));
+    holds(&rt, !is_legal(rt.alloc(), &got_later));
     let behind = [
         inserted(2, 6),
         line(2, 7, 9, Told::Removed),
         line(1, 8, 10, Told::Marked),
     ];
-    assert!(rt; is_legal(rt.alloc(), &behind));
+    holds(&rt, is_legal(rt.alloc(), &behind));
 }
 
 #[test]
 fn a_release_without_a_hold_is_found(rt: HostRuntime) {
     let lines = [inserted(1, 2), line(1, 3, 4, Told::Released)];
-    assert!(rt; !is_legal(rt.alloc(), &lines));
+    holds(&rt, !is_legal(rt.alloc(), &lines));
 }
 
 // A key may have 4 holds. With 3 passes there must be 2 at least, where another is crowded out.
@@ -149,8 +155,11 @@ fn crowded_needs_holds(rt: HostRuntime) {
         line(0, 6, 7, Told::Released),
         line(2, 6, 8, Told::Crowded),
     ];
-    assert!(rt; is_legal(rt.alloc(), &lines));
-    assert!(rt; !is_legal(rt.alloc(), &[inserted(1, 2), line(2, 6, 8, Told::Crowded)]));
+    holds(&rt, is_legal(rt.alloc(), &lines));
+    holds(
+        &rt,
+        !is_legal(rt.alloc(), &[inserted(1, 2), line(2, 6, 8, Told::Crowded)]),
+    );
 }
 
 // A get that is refused as crowded may stand where others hold the key, and not only where its call began.
@@ -162,13 +171,13 @@ fn a_crowded_get_stands_where_most_hold(rt: HostRuntime) {
         line(0, 4, 5, Told::Got(None)),
         line(1, 6, 7, Told::Got(None)),
     ];
-    assert!(rt; is_legal(rt.alloc(), &lines));
+    holds(&rt, is_legal(rt.alloc(), &lines));
 }
 
 #[test]
 fn torn_values_are_found(rt: HostRuntime) -> Result<(), Fail> {
     for len in 0..17usize {
-        assert!(rt; pattern::is_whole(&pattern::value(41, len)));
+        holds(&rt, pattern::is_whole(&pattern::value(41, len)));
     }
     let one = pattern::value(41, 2);
     let other = pattern::value(42, 2);
@@ -178,7 +187,7 @@ fn torn_values_are_found(rt: HostRuntime) -> Result<(), Fail> {
     let Ok(torn) = Value::new(&[*first, *second]) else {
         return Err(Fail::from("a value"));
     };
-    assert!(rt; !pattern::is_whole(&torn));
+    holds(&rt, !pattern::is_whole(&torn));
     Ok(())
 }
 
@@ -198,16 +207,16 @@ fn accounts_must_add_up(rt: HostRuntime) {
         hand: 0,
         queued: 1,
     };
-    assert!(rt; agrees(&accounts, tally));
+    holds(&rt, agrees(&accounts, tally));
     let lost = Accounts {
         queued: 0,
         ..accounts
     };
-    assert!(rt; !agrees(&lost, tally));
+    holds(&rt, !agrees(&lost, tally));
     let in_hand = Accounts {
         hand: 1,
         queued: 0,
         ..accounts
     };
-    assert!(rt; !agrees(&in_hand, tally));
+    holds(&rt, !agrees(&in_hand, tally));
 }

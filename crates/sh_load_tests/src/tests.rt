@@ -6,8 +6,14 @@ use sh_load::options::Options;
 use sh_load::samples::Lengths;
 use sh_load::workload::Workload;
 use std::alloc::Global;
+use std::fmt::Debug;
 use std::process::Abort;
 use std::test::Fail;
+
+// What was found is what is wanted. It is a function, since each assertion that is written out is proved anew.
+fn agree<T: PartialEq + Debug + Drop>(rt: &impl Abort, found: T, wanted: T) {
+    assert_eq!(rt; found, wanted);
+}
 
 // What `sh_bench get` and two words more ask for.
 fn asked(rt: &impl Abort, alloc: Global, option: &str, number: &str) -> Options {
@@ -28,14 +34,14 @@ fn refused(rt: &impl Abort, alloc: Global, words: &[&str]) -> ErrorKind {
 #[test]
 fn each_option_has_a_default(rt: HostRuntime) -> Result<(), Fail> {
     let options = options_of(rt.alloc(), &["sh_bench", "get"])?;
-    assert_eq!(rt; options.workload, Workload::Get);
-    assert_eq!(rt; options.layout, Layout::Wide);
-    assert_eq!(rt; options.threads, 1);
-    assert_eq!(rt; options.operations, 1_000);
-    assert_eq!(rt; options.lengths, Lengths::Each(1));
-    assert_eq!(rt; options.live, 1);
-    assert_eq!(rt; options.freed, 0);
-    assert_eq!(rt; options.passes, 1);
+    agree(&rt, options.workload, Workload::Get);
+    agree(&rt, options.layout, Layout::Wide);
+    agree(&rt, options.threads, 1);
+    agree(&rt, options.operations, 1_000);
+    agree(&rt, options.lengths, Lengths::Each(1));
+    agree(&rt, options.live, 1);
+    agree(&rt, options.freed, 0);
+    agree(&rt, options.passes, 1);
     Ok(())
 }
 
@@ -58,7 +64,7 @@ fn each_workload_has_its_name(rt: HostRuntime) -> Result<(), Fail> {
     ];
     for (name, workload) in table {
         let options = options_of(rt.alloc(), &["sh_bench", name])?;
-        assert_eq!(rt; options.workload, workload, "{name}");
+        agree(&rt, (name, options.workload), (name, workload));
     }
     Ok(())
 }
@@ -71,7 +77,7 @@ fn each_layout_has_its_name(rt: HostRuntime) {
         ("deep", Layout::Deep),
     ] {
         let options = asked(&rt, rt.alloc(), "--layout", name);
-        assert_eq!(rt; options.layout, layout, "{name}");
+        agree(&rt, (name, options.layout), (name, layout));
     }
 }
 
@@ -94,12 +100,12 @@ fn each_number_is_its_own(rt: HostRuntime) -> Result<(), Fail> {
         "7",
     ];
     let options = options_of(rt.alloc(), &words)?;
-    assert_eq!(rt; options.threads, 2);
-    assert_eq!(rt; options.operations, 3);
-    assert_eq!(rt; options.lengths, Lengths::Each(4));
-    assert_eq!(rt; options.live, 5);
-    assert_eq!(rt; options.freed, 6);
-    assert_eq!(rt; options.passes, 7);
+    agree(&rt, options.threads, 2);
+    agree(&rt, options.operations, 3);
+    agree(&rt, options.lengths, Lengths::Each(4));
+    agree(&rt, options.live, 5);
+    agree(&rt, options.freed, 6);
+    agree(&rt, options.passes, 7);
     Ok(())
 }
 
@@ -107,24 +113,38 @@ fn each_number_is_its_own(rt: HostRuntime) -> Result<(), Fail> {
 #[test]
 fn numbers_reach_both_bounds(rt: HostRuntime) {
     let alloc = rt.alloc();
-    assert_eq!(rt; asked(&rt, alloc, "--threads", "1").threads, 1);
-    assert_eq!(rt; asked(&rt, alloc, "--threads", "16").threads, 16);
-    assert_eq!(rt; asked(&rt, alloc, "--operations", "1").operations, 1);
-    assert_eq!(rt;
+    agree(&rt, asked(&rt, alloc, "--threads", "1").threads, 1);
+    agree(&rt, asked(&rt, alloc, "--threads", "16").threads, 16);
+    agree(&rt, asked(&rt, alloc, "--operations", "1").operations, 1);
+    agree(
+        &rt,
         asked(&rt, alloc, "--operations", "1000000000").operations,
-        1_000_000_000
+        1_000_000_000,
     );
-    assert_eq!(rt; asked(&rt, alloc, "--words", "0").lengths, Lengths::Each(0));
-    assert_eq!(rt;
+    agree(
+        &rt,
+        asked(&rt, alloc, "--words", "0").lengths,
+        Lengths::Each(0),
+    );
+    agree(
+        &rt,
         asked(&rt, alloc, "--words", "16").lengths,
-        Lengths::Each(16)
+        Lengths::Each(16),
     );
-    assert_eq!(rt; asked(&rt, alloc, "--live", "1").live, 1);
-    assert_eq!(rt; asked(&rt, alloc, "--live", "10000000").live, 10_000_000);
-    assert_eq!(rt; asked(&rt, alloc, "--freed", "0").freed, 0);
-    assert_eq!(rt; asked(&rt, alloc, "--freed", "10000000").freed, 10_000_000);
-    assert_eq!(rt; asked(&rt, alloc, "--passes", "1").passes, 1);
-    assert_eq!(rt; asked(&rt, alloc, "--passes", "64").passes, 64);
+    agree(&rt, asked(&rt, alloc, "--live", "1").live, 1);
+    agree(
+        &rt,
+        asked(&rt, alloc, "--live", "10000000").live,
+        10_000_000,
+    );
+    agree(&rt, asked(&rt, alloc, "--freed", "0").freed, 0);
+    agree(
+        &rt,
+        asked(&rt, alloc, "--freed", "10000000").freed,
+        10_000_000,
+    );
+    agree(&rt, asked(&rt, alloc, "--passes", "1").passes, 1);
+    agree(&rt, asked(&rt, alloc, "--passes", "64").passes, 64);
 }
 
 #[test]
@@ -143,47 +163,57 @@ fn numbers_beyond_a_bound_are_refused(rt: HostRuntime) {
     ];
     for (option, number) in table {
         let kind = refused(&rt, rt.alloc(), &["sh_bench", "get", option, number]);
-        assert_eq!(rt; kind, ErrorKind::ValueValidation, "{option} {number}");
+        agree(
+            &rt,
+            (option, number, kind),
+            (option, number, ErrorKind::ValueValidation),
+        );
     }
 }
 
 #[test]
 fn mixed_values_take_the_place_of_a_length(rt: HostRuntime) -> Result<(), Fail> {
     let options = options_of(rt.alloc(), &["sh_bench", "insert", "--mixed"])?;
-    assert_eq!(rt; options.lengths, Lengths::Mixed);
+    agree(&rt, options.lengths, Lengths::Mixed);
     let options = options_of(
         rt.alloc(),
         &["sh_bench", "insert", "--words", "3", "--mixed"],
     )?;
-    assert_eq!(rt; options.lengths, Lengths::Mixed);
+    agree(&rt, options.lengths, Lengths::Mixed);
     Ok(())
 }
 
 #[test]
 fn other_words_are_refused(rt: HostRuntime) {
     let alloc = rt.alloc();
-    assert_eq!(rt;
+    agree(
+        &rt,
         refused(&rt, alloc, &["sh_bench"]),
-        ErrorKind::MissingRequiredArgument
+        ErrorKind::MissingRequiredArgument,
     );
-    assert_eq!(rt;
+    agree(
+        &rt,
         refused(&rt, alloc, &["sh_bench", "table"]),
-        ErrorKind::InvalidValue
+        ErrorKind::InvalidValue,
     );
-    assert_eq!(rt;
+    agree(
+        &rt,
         refused(&rt, alloc, &["sh_bench", "get", "--layout", "tiny"]),
-        ErrorKind::InvalidValue
+        ErrorKind::InvalidValue,
     );
-    assert_eq!(rt;
+    agree(
+        &rt,
         refused(&rt, alloc, &["sh_bench", "get", "--speed", "1"]),
-        ErrorKind::UnknownArgument
+        ErrorKind::UnknownArgument,
     );
-    assert_eq!(rt;
+    agree(
+        &rt,
         refused(&rt, alloc, &["sh_bench", "--help"]),
-        ErrorKind::DisplayHelp
+        ErrorKind::DisplayHelp,
     );
-    assert_eq!(rt;
+    agree(
+        &rt,
         refused(&rt, alloc, &["sh_bench", "--version"]),
-        ErrorKind::DisplayVersion
+        ErrorKind::DisplayVersion,
     );
 }

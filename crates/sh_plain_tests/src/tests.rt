@@ -3,8 +3,14 @@ ghost use Rattle.std.specs.Prelude.{◌≡◌};
 use sh_key::{Tiny, Wide};
 use sh_plain::{Lookup, PlainStore, Store};
 use sh_value::{Hold, Refusal, Value};
+use std::fmt::Debug;
 use std::process::Abort;
 use std::test::Fail;
+
+// What was found is what is wanted. It is a function, since each assertion that is written out is proved anew.
+fn agree<T: PartialEq + Debug + Drop>(rt: &impl Abort, found: T, wanted: T) {
+    assert_eq!(rt; found, wanted);
+}
 
 fn value(words: &[u64], rt: &impl Abort) -> Value {
     Value::new(words).expect(rt, "few words")
@@ -15,11 +21,15 @@ fn gives_each_key_once(rt: HostRuntime) -> Result<(), Fail> {
     let mut store = PlainStore::<Tiny>::new(rt.alloc(), 2);
     let empty = value(&[], &rt);
     for n in 0..12288 {
-        assert_eq!(rt; store.insert(&empty), Ok(4096 + n));
+        agree(&rt, store.insert(&empty), Ok(4096 + n));
     }
-    assert_eq!(rt; store.insert(&empty), Err(Refusal::Full));
+    agree(&rt, store.insert(&empty), Err(Refusal::Full));
     let hold = store.get(16383).expect(&rt, "it was inserted");
-    assert_eq!(rt; store.read(hold).expect(&rt, "it is held").words().len(), 0);
+    agree(
+        &rt,
+        store.read(hold).expect(&rt, "it is held").words().len(),
+        0,
+    );
     Ok(())
 }
 
@@ -29,47 +39,47 @@ fn many_entries_are_kept(rt: HostRuntime) -> Result<(), Fail> {
     let mut store = PlainStore::<Wide>::new(rt.alloc(), 1);
     let word = value(&[7], &rt);
     for key in 16_777_216..16_847_216u64 {
-        assert_eq!(rt; store.insert(&word), Ok(key));
-        assert_eq!(rt; store.remove(key), Ok(()));
+        agree(&rt, store.insert(&word), Ok(key));
+        agree(&rt, store.remove(key), Ok(()));
     }
-    assert_eq!(rt; store.get(16_777_216), Err(Refusal::Gone));
-    assert_eq!(rt; store.get(16_847_215), Err(Refusal::Gone));
-    assert_eq!(rt; store.insert(&word), Ok(16_847_216));
-    assert_eq!(rt; store.get(16_847_216), Ok(Hold { key: 16_847_216 }));
+    agree(&rt, store.get(16_777_216), Err(Refusal::Gone));
+    agree(&rt, store.get(16_847_215), Err(Refusal::Gone));
+    agree(&rt, store.insert(&word), Ok(16_847_216));
+    agree(&rt, store.get(16_847_216), Ok(Hold { key: 16_847_216 }));
     Ok(())
 }
 
 #[test]
 fn removed_values_stay_while_they_are_held(rt: HostRuntime) -> Result<(), Fail> {
     let mut store = PlainStore::<Tiny>::new(rt.alloc(), 2);
-    assert_eq!(rt; store.insert(&value(&[7, 8], &rt)), Ok(4096));
+    agree(&rt, store.insert(&value(&[7, 8], &rt)), Ok(4096));
     store.turn(1);
     let hold = store.get(4096).expect(&rt, "it was inserted");
     store.turn(0);
-    assert_eq!(rt; store.read(hold), Err(Refusal::NotHeld));
-    assert_eq!(rt; store.remove(4096), Ok(()));
-    assert_eq!(rt; store.remove(4096), Err(Refusal::Gone));
+    agree(&rt, store.read(hold), Err(Refusal::NotHeld));
+    agree(&rt, store.remove(4096), Ok(()));
+    agree(&rt, store.remove(4096), Err(Refusal::Gone));
     store.turn(1);
-    assert_eq!(rt; store.read(hold), Ok(value(&[7, 8], &rt)));
-    assert_eq!(rt; store.get(4096), Err(Refusal::Gone));
-    assert_eq!(rt; store.release(hold), Ok(()));
-    assert_eq!(rt; store.release(hold), Err(Refusal::NotHeld));
+    agree(&rt, store.read(hold), Ok(value(&[7, 8], &rt)));
+    agree(&rt, store.get(4096), Err(Refusal::Gone));
+    agree(&rt, store.release(hold), Ok(()));
+    agree(&rt, store.release(hold), Err(Refusal::NotHeld));
     Ok(())
 }
 
 #[test]
 fn a_fifth_hold_on_a_tiny_key_is_crowded(rt: HostRuntime) -> Result<(), Fail> {
     let mut store = PlainStore::<Tiny>::new(rt.alloc(), 1);
-    assert_eq!(rt; store.insert(&value(&[1], &rt)), Ok(4096));
+    agree(&rt, store.insert(&value(&[1], &rt)), Ok(4096));
     let hold = Hold { key: 4096 };
     for _ in 0..4 {
-        assert_eq!(rt; store.get(4096), Ok(hold));
+        agree(&rt, store.get(4096), Ok(hold));
     }
-    assert_eq!(rt; store.get(4096), Err(Refusal::Crowded));
+    agree(&rt, store.get(4096), Err(Refusal::Crowded));
     for _ in 0..4 {
-        assert_eq!(rt; store.release(hold), Ok(()));
+        agree(&rt, store.release(hold), Ok(()));
     }
-    assert_eq!(rt; store.release(hold), Err(Refusal::NotHeld));
+    agree(&rt, store.release(hold), Err(Refusal::NotHeld));
     Ok(())
 }
 
@@ -77,11 +87,11 @@ fn a_fifth_hold_on_a_tiny_key_is_crowded(rt: HostRuntime) -> Result<(), Fail> {
 fn forged_keys_are_refused(rt: HostRuntime) -> Result<(), Fail> {
     let mut store = PlainStore::<Tiny>::new(rt.alloc(), 1);
     for key in [0, 4095, 16384, 9223372036854775808] {
-        assert_eq!(rt; store.get(key), Err(Refusal::BadKey), "{key}");
-        assert_eq!(rt; store.remove(key), Err(Refusal::BadKey), "{key}");
+        agree(&rt, (key, store.get(key)), (key, Err(Refusal::BadKey)));
+        agree(&rt, (key, store.remove(key)), (key, Err(Refusal::BadKey)));
     }
-    assert_eq!(rt; store.get(4096), Err(Refusal::Gone));
-    assert_eq!(rt; store.remove(12288), Err(Refusal::Gone));
+    agree(&rt, store.get(4096), Err(Refusal::Gone));
+    agree(&rt, store.remove(12288), Err(Refusal::Gone));
     Ok(())
 }
 
@@ -90,7 +100,7 @@ fn get_once_more(store: &mut PlainStore<Tiny>, key: u64, rt: &impl Abort) -> Res
     let before = store.read(Hold { key });
     match store.get(key) {
         Err(Refusal::Memory) => {
-            assert_eq!(rt; store.read(Hold { key }), before);
+            agree(rt, store.read(Hold { key }), before);
             store.get(key)
         }
         answer => answer,
@@ -104,7 +114,7 @@ fn remove_once_more(store: &mut PlainStore<Tiny>, key: u64, rt: &impl Abort) -> 
     let before = store.read(Hold { key });
     match store.remove(key) {
         Err(Refusal::Memory) => {
-            assert_eq!(rt; store.read(Hold { key }), before);
+            agree(rt, store.read(Hold { key }), before);
             store.remove(key)
         }
         answer => answer,
@@ -122,7 +132,7 @@ fn insert_with_memory(
 {
     match store.insert(value) {
         Err(Refusal::Memory) => {
-            assert_eq!(rt; store.get(key), Err(Refusal::Gone));
+            agree(rt, store.get(key), Err(Refusal::Gone));
             store.insert(value)
         }
         answer => answer,
@@ -135,8 +145,8 @@ fn get_with_memory(store: &mut PlainStore<Tiny>, key: u64, rt: &impl Abort) -> R
 {
     match store.get(key) {
         Err(Refusal::Memory) => {
-            assert_eq!(rt; store.read(Hold { key }), Err(Refusal::NotHeld));
-            assert_eq!(rt; store.release(Hold { key }), Err(Refusal::NotHeld));
+            agree(rt, store.read(Hold { key }), Err(Refusal::NotHeld));
+            agree(rt, store.release(Hold { key }), Err(Refusal::NotHeld));
             store.get(key)
         }
         answer => answer,
@@ -151,8 +161,8 @@ fn remove_with_memory(
 ) -> Result<(), Refusal> {
     match store.remove(key) {
         Err(Refusal::Memory) => {
-            assert_eq!(rt; store.get(key), Ok(Hold { key }));
-            assert_eq!(rt; store.release(Hold { key }), Ok(()));
+            agree(rt, store.get(key), Ok(Hold { key }));
+            agree(rt, store.release(Hold { key }), Ok(()));
             store.remove(key)
         }
         answer => answer,
@@ -168,7 +178,7 @@ fn release_with_memory(
 ) -> Result<(), Refusal> {
     match store.release(hold) {
         Err(Refusal::Memory) => {
-            assert_eq!(rt; store.read(hold), Ok(value.copy()));
+            agree(rt, store.read(hold), Ok(value.copy()));
             store.release(hold)
         }
         answer => answer,
@@ -183,19 +193,39 @@ fn a_call_refused_for_memory_changes_nothing(rt: HostRuntime) -> Result<(), Fail
     for before in 0..4 {
         let mut store = PlainStore::<Tiny>::new(rt.alloc(), 1);
         for _ in 0..before {
-            assert_eq!(rt; get_once_more(&mut store, 4096, &rt), Err(Refusal::Gone));
+            agree(
+                &rt,
+                get_once_more(&mut store, 4096, &rt),
+                Err(Refusal::Gone),
+            );
         }
         for key in 4096..4113 {
             let hold = Hold { key };
-            assert_eq!(rt; insert_with_memory(&mut store, key, &words, &rt), Ok(key));
-            assert_eq!(rt; get_with_memory(&mut store, key, &rt), Ok(hold));
-            assert_eq!(rt; store.read(hold), Ok(words.copy()));
-            assert_eq!(rt; remove_with_memory(&mut store, key, &rt), Ok(()));
-            assert_eq!(rt; release_with_memory(&mut store, hold, &words, &rt), Ok(()));
-            assert_eq!(rt; store.release(hold), Err(Refusal::NotHeld));
+            agree(
+                &rt,
+                insert_with_memory(&mut store, key, &words, &rt),
+                Ok(key),
+            );
+            agree(&rt, get_with_memory(&mut store, key, &rt), Ok(hold));
+            agree(&rt, store.read(hold), Ok(words.copy()));
+            agree(&rt, remove_with_memory(&mut store, key, &rt), Ok(()));
+            agree(
+                &rt,
+                release_with_memory(&mut store, hold, &words, &rt),
+                Ok(()),
+            );
+            agree(&rt, store.release(hold), Err(Refusal::NotHeld));
         }
-        assert_eq!(rt; get_once_more(&mut store, 4096, &rt), Err(Refusal::Gone));
-        assert_eq!(rt; insert_with_memory(&mut store, 4113, &words, &rt), Ok(4113));
+        agree(
+            &rt,
+            get_once_more(&mut store, 4096, &rt),
+            Err(Refusal::Gone),
+        );
+        agree(
+            &rt,
+            insert_with_memory(&mut store, 4113, &words, &rt),
+            Ok(4113),
+        );
     }
     Ok(())
 }
@@ -208,23 +238,35 @@ fn a_hold_refused_for_memory_is_not_taken(rt: HostRuntime) -> Result<(), Fail> {
     for before in 0..4 {
         let mut store = PlainStore::<Tiny>::new(rt.alloc(), 2);
         for _ in 0..before {
-            assert_eq!(rt; remove_once_more(&mut store, 4096, &rt), Err(Refusal::Gone));
+            agree(
+                &rt,
+                remove_once_more(&mut store, 4096, &rt),
+                Err(Refusal::Gone),
+            );
         }
         for key in 4096..4105 {
-            assert_eq!(rt; insert_with_memory(&mut store, key, &words, &rt), Ok(key));
+            agree(
+                &rt,
+                insert_with_memory(&mut store, key, &words, &rt),
+                Ok(key),
+            );
         }
         for pass in 0..2 {
             store.turn(pass);
             for key in 4096..4105 {
                 let hold = Hold { key };
-                assert_eq!(rt; get_with_memory(&mut store, key, &rt), Ok(hold));
-                assert_eq!(rt; store.read(hold), Ok(words.copy()));
+                agree(&rt, get_with_memory(&mut store, key, &rt), Ok(hold));
+                agree(&rt, store.read(hold), Ok(words.copy()));
             }
         }
         for key in 4096..4105 {
             let hold = Hold { key };
-            assert_eq!(rt; release_with_memory(&mut store, hold, &words, &rt), Ok(()));
-            assert_eq!(rt; store.read(hold), Err(Refusal::NotHeld));
+            agree(
+                &rt,
+                release_with_memory(&mut store, hold, &words, &rt),
+                Ok(()),
+            );
+            agree(&rt, store.read(hold), Err(Refusal::NotHeld));
         }
     }
     Ok(())
@@ -235,22 +277,43 @@ fn a_hold_refused_for_memory_is_not_taken(rt: HostRuntime) -> Result<(), Fail> {
 fn a_refusal_refused_for_memory_is_answered_after_it(rt: HostRuntime) -> Result<(), Fail> {
     let words = value(&[1], &rt);
     let mut store = PlainStore::<Tiny>::new(rt.alloc(), 1);
-    assert_eq!(rt; insert_with_memory(&mut store, 4096, &words, &rt), Ok(4096));
+    agree(
+        &rt,
+        insert_with_memory(&mut store, 4096, &words, &rt),
+        Ok(4096),
+    );
     for _ in 0..4 {
-        assert_eq!(rt;
+        agree(
+            &rt,
             get_once_more(&mut store, 4096, &rt),
-            Ok(Hold { key: 4096 })
+            Ok(Hold { key: 4096 }),
         );
     }
     for _ in 0..30 {
-        assert_eq!(rt; get_once_more(&mut store, 4096, &rt), Err(Refusal::Crowded));
-        assert_eq!(rt; get_once_more(&mut store, 4097, &rt), Err(Refusal::Gone));
-        assert_eq!(rt; remove_once_more(&mut store, 4097, &rt), Err(Refusal::Gone));
+        agree(
+            &rt,
+            get_once_more(&mut store, 4096, &rt),
+            Err(Refusal::Crowded),
+        );
+        agree(
+            &rt,
+            get_once_more(&mut store, 4097, &rt),
+            Err(Refusal::Gone),
+        );
+        agree(
+            &rt,
+            remove_once_more(&mut store, 4097, &rt),
+            Err(Refusal::Gone),
+        );
     }
     let hold = Hold { key: 4096 };
     for _ in 0..4 {
-        assert_eq!(rt; release_with_memory(&mut store, hold, &words, &rt), Ok(()));
+        agree(
+            &rt,
+            release_with_memory(&mut store, hold, &words, &rt),
+            Ok(()),
+        );
     }
-    assert_eq!(rt; store.release(hold), Err(Refusal::NotHeld));
+    agree(&rt, store.release(hold), Err(Refusal::NotHeld));
     Ok(())
 }

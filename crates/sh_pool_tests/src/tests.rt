@@ -5,8 +5,19 @@ use sh_pool::{Pool, Share, Taken, give_pass, take_pass};
 use sh_shape::Shape;
 use sh_value::Refusal;
 use std::alloc::Global;
+use std::fmt::Debug;
 use std::process::Abort;
 use std::thread::join;
+
+// What was found is what is wanted. It is a function, since each assertion that is written out is proved anew.
+pub(crate) fn agree<T: PartialEq + Debug + Drop>(rt: &impl Abort, found: T, wanted: T) {
+    assert_eq!(rt; found, wanted);
+}
+
+// It is so.
+pub(crate) fn holds(rt: &impl Abort, it: bool) {
+    assert!(rt; it);
+}
 
 fn opened(rt: &impl Abort, alloc: Global, passes: u32) -> Pool<Tiny> {
     let shape = Shape::new(1, 1, passes).expect(rt, "a shape");
@@ -16,21 +27,21 @@ fn opened(rt: &impl Abort, alloc: Global, passes: u32) -> Pool<Tiny> {
 #[test]
 fn each_pass_is_taken_once_and_comes_home(rt: HostRuntime) {
     let pool = opened(&rt, rt.alloc(), 2);
-    assert_eq!(rt; pool.berths(), 2);
+    agree(&rt, pool.berths(), 2);
     let (Some(one), Some(other)) = (pool.take(), pool.take()) else {
         panic!(rt; "not two passes")
     };
-    assert_eq!(rt; (one.berth.number(), other.berth.number()), (0, 1));
-    assert!(rt; pool.take().is_none());
-    assert!(rt; pool.give(other.state, other.berth).is_ok());
-    assert!(rt; pool.take_at(0).is_none());
-    assert!(rt; pool.take_at(2).is_none());
+    agree(&rt, (one.berth.number(), other.berth.number()), (0, 1));
+    holds(&rt, pool.take().is_none());
+    holds(&rt, pool.give(other.state, other.berth).is_ok());
+    holds(&rt, pool.take_at(0).is_none());
+    holds(&rt, pool.take_at(2).is_none());
     let Some(again) = pool.take() else {
         panic!(rt; "no pass has come home")
     };
-    assert_eq!(rt; again.berth.number(), 1);
-    assert!(rt; pool.give(one.state, one.berth).is_ok());
-    assert!(rt; pool.give(again.state, again.berth).is_ok());
+    agree(&rt, again.berth.number(), 1);
+    holds(&rt, pool.give(one.state, one.berth).is_ok());
+    holds(&rt, pool.give(again.state, again.berth).is_ok());
 }
 
 // The berths of another pool: the first one's pass is at home here, and the third one's number is too large.
@@ -50,9 +61,9 @@ fn a_berth_of_another_pool_is_refused(rt: HostRuntime) {
     let Err((state, third)) = pool.give(state, third.berth) else {
         panic!(rt; "it is given to a berth that is not there")
     };
-    assert_eq!(rt; (first.number(), third.number()), (0, 2));
-    assert!(rt; pool.give(state, berth).is_ok());
-    assert!(rt; pool.take_at(1).is_some());
+    agree(&rt, (first.number(), third.number()), (0, 2));
+    holds(&rt, pool.give(state, berth).is_ok());
+    holds(&rt, pool.take_at(1).is_some());
 }
 
 #[test]
@@ -62,11 +73,11 @@ fn a_pass_outlives_the_share_that_it_was_taken_by(rt: HostRuntime) {
     let Some((mut pass, berth)) = take_pass(&share) else {
         panic!(rt; "no pass")
     };
-    assert!(rt; take_pass(&share).is_none());
+    holds(&rt, take_pass(&share).is_none());
     drop(share);
-    assert_eq!(rt; pass.get(0), Err(Refusal::BadKey));
-    assert_eq!(rt; pass.get(4_096), Err(Refusal::Gone));
-    assert!(rt; give_pass(pass, berth).is_ok());
+    agree(&rt, pass.get(0), Err(Refusal::BadKey));
+    agree(&rt, pass.get(4_096), Err(Refusal::Gone));
+    holds(&rt, give_pass(pass, berth).is_ok());
 }
 
 // Takes a pass, looks a key up and gives the pass back, over and over: how often there was a pass, and how often one
@@ -97,9 +108,9 @@ fn two_threads_share_a_pool(rt: HostRuntime) {
         move || taken_and_given(one),
         move || taken_and_given(other),
     );
-    assert_eq!(rt; (seen.1, seen_too.1), (0, 0));
-    assert!(rt; seen.0 > 0 && seen_too.0 > 0);
-    assert!(rt; share.pool().take().is_some());
+    agree(&rt, (seen.1, seen_too.1), (0, 0));
+    holds(&rt, seen.0 > 0 && seen_too.0 > 0);
+    holds(&rt, share.pool().take().is_some());
 }
 
 // A pool of two passes, opened once more where memory was refused.
@@ -108,7 +119,7 @@ fn opened_with_memory(rt: &impl Abort, alloc: Global) -> Pool<Tiny> {
     match Pool::<Tiny>::open(alloc, shape) {
         Ok(pool) => pool,
         Err(why) => {
-            assert_eq!(rt; why, Refusal::Memory);
+            agree(rt, why, Refusal::Memory);
             opened(rt, alloc, 2)
         }
     }
@@ -121,11 +132,11 @@ fn refused_memory_is_told(rt: HostRuntime) {
     let share = match Share::new(rt.alloc(), pool) {
         Ok(share) => share,
         Err(why) => {
-            assert_eq!(rt; why, Refusal::Memory);
+            agree(&rt, why, Refusal::Memory);
             let pool = opened(&rt, rt.alloc(), 2);
             Share::new(rt.alloc(), pool).expect(&rt, "a share")
         }
     };
-    assert_eq!(rt; share.pool().berths(), 2);
-    assert!(rt; take_pass(&share).is_some());
+    agree(&rt, share.pool().berths(), 2);
+    holds(&rt, take_pass(&share).is_some());
 }

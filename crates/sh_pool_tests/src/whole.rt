@@ -1,5 +1,6 @@
 //! What no clause says: that a pass that is away is found to be, that those that were called are home again after it,
 //! and that what was joined once stays joined.
+use crate::tests::{agree, holds};
 use sh_gather::Accounts;
 use sh_key::Tiny;
 use sh_pool::{Pool, Share, give_pass, take_pass};
@@ -32,36 +33,36 @@ fn a_pass_that_is_away_is_missed(rt: HostRuntime) {
     let Some(away) = pool.take_at(1) else {
         panic!(rt; "no pass")
     };
-    assert_eq!(rt; gather_pool(rt.alloc(), &pool), Err(NotTold::Away));
-    assert_eq!(rt; pool_totals(&pool), Err(NotTold::Away));
-    assert_eq!(rt; pool_accounts(&pool, 0, 0), Err(NotTold::Away));
+    agree(&rt, gather_pool(rt.alloc(), &pool), Err(NotTold::Away));
+    agree(&rt, pool_totals(&pool), Err(NotTold::Away));
+    agree(&rt, pool_accounts(&pool, 0, 0), Err(NotTold::Away));
     // Both of the others are at home again, and still two.
     let (Some(one), Some(other)) = (pool.take_at(0), pool.take_at(2)) else {
         panic!(rt; "a pass was lost")
     };
-    assert_eq!(rt; gather_pool(rt.alloc(), &pool), Err(NotTold::Away));
+    agree(&rt, gather_pool(rt.alloc(), &pool), Err(NotTold::Away));
     for taken in [one, away, other] {
-        assert!(rt; pool.give(taken.state, taken.berth).is_ok());
+        holds(&rt, pool.give(taken.state, taken.berth).is_ok());
     }
-    assert_eq!(rt; gather_pool(rt.alloc(), &pool), Ok(()));
-    assert_eq!(rt; pool_totals(&pool), Ok(NOTHING));
+    agree(&rt, gather_pool(rt.alloc(), &pool), Ok(()));
+    agree(&rt, pool_totals(&pool), Ok(NOTHING));
 }
 
 #[test]
 fn passes_that_met_are_one(rt: HostRuntime) {
     let pool = opened(&rt, rt.alloc(), 4);
-    assert_eq!(rt; pool_totals(&pool), Err(NotTold::Away));
-    assert_eq!(rt; gather_pool(rt.alloc(), &pool), Ok(()));
+    agree(&rt, pool_totals(&pool), Err(NotTold::Away));
+    agree(&rt, gather_pool(rt.alloc(), &pool), Ok(()));
     let Some(carrier) = pool.take() else {
         panic!(rt; "the pass that carries the tales is not at home")
     };
-    assert!(rt; pool.take().is_none());
-    assert_eq!(rt; pool_totals(&pool), Err(NotTold::Away));
-    assert!(rt; pool.give(carrier.state, carrier.berth).is_ok());
-    assert_eq!(rt; gather_pool(rt.alloc(), &pool), Ok(()));
-    assert_eq!(rt; pool_totals(&pool), Ok(NOTHING));
-    assert_eq!(rt; pool_accounts(&pool, 1, 0), Err(NotTold::NoPage));
-    assert_eq!(rt; pool_accounts(&pool, 0, 8), Err(NotTold::NoPage));
+    holds(&rt, pool.take().is_none());
+    agree(&rt, pool_totals(&pool), Err(NotTold::Away));
+    holds(&rt, pool.give(carrier.state, carrier.berth).is_ok());
+    agree(&rt, gather_pool(rt.alloc(), &pool), Ok(()));
+    agree(&rt, pool_totals(&pool), Ok(NOTHING));
+    agree(&rt, pool_accounts(&pool, 1, 0), Err(NotTold::NoPage));
+    agree(&rt, pool_accounts(&pool, 0, 8), Err(NotTold::NoPage));
 }
 
 // Inserts two values by a pass that is at home, and removes the first.
@@ -73,12 +74,12 @@ fn one_value(rt: &impl Abort, alloc: Global, share: &Share<Tiny>) {
         panic!(rt; "the shard is not adopted")
     };
     let key = shard.insert(&Value::of([7])).expect(rt, "a key");
-    assert!(rt; shard.insert(&Value::of([8])).is_ok());
-    assert!(rt; shard.remove(key).is_ok());
+    holds(rt, shard.insert(&Value::of([8])).is_ok());
+    holds(rt, shard.remove(key).is_ok());
     let Ok(pass) = shard.leave() else {
         panic!(rt; "the shard is not left")
     };
-    assert!(rt; give_pass(pass, berth).is_ok());
+    holds(rt, give_pass(pass, berth).is_ok());
 }
 
 #[test]
@@ -86,7 +87,7 @@ fn what_was_inserted_is_told(rt: HostRuntime) {
     let pool = opened(&rt, rt.alloc(), 2);
     let share = Share::new(rt.alloc(), pool).expect(&rt, "a share");
     one_value(&rt, rt.alloc(), &share);
-    assert_eq!(rt; gather_pool(rt.alloc(), share.pool()), Ok(()));
+    agree(&rt, gather_pool(rt.alloc(), share.pool()), Ok(()));
     let page = Accounts {
         class: Some(0),
         live: 1,
@@ -96,7 +97,7 @@ fn what_was_inserted_is_told(rt: HostRuntime) {
         hand: 0,
         queued: 47,
     };
-    assert_eq!(rt; pool_accounts(share.pool(), 0, 0), Ok(page));
+    agree(&rt, pool_accounts(share.pool(), 0, 0), Ok(page));
     let sums = Totals {
         live: 1,
         queued: 47,
@@ -104,11 +105,11 @@ fn what_was_inserted_is_told(rt: HostRuntime) {
         blank_pages: 7,
         ..NOTHING
     };
-    assert_eq!(rt; pool_totals(share.pool()), Ok(sums));
+    agree(&rt, pool_totals(share.pool()), Ok(sums));
     // And the pass goes on.
     one_value(&rt, rt.alloc(), &share);
     let live = pool_totals(share.pool()).map(|sums| sums.live);
-    assert_eq!(rt; live, Ok(2));
+    agree(&rt, live, Ok(2));
 }
 
 // Refused memory: nobody is called, and the same call then answers.
@@ -121,7 +122,7 @@ fn refused_memory_calls_nobody(rt: HostRuntime) {
         return;
     };
     if gather_pool(rt.alloc(), &pool) == Err(NotTold::Memory) {
-        assert!(rt; pool.take_at(0).is_some());
-        assert!(rt; pool.take_at(1).is_some());
+        holds(&rt, pool.take_at(0).is_some());
+        holds(&rt, pool.take_at(1).is_some());
     }
 }

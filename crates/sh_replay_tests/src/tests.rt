@@ -8,3 +8,16 @@ mod sizes;
 mod threads;
 mod worked;
 mod workers;
+
+use std::fmt::Debug;
+use std::process::Abort;
+
+// What was found is what is wanted. It is a function, since each assertion that is written out is proved anew.
+fn agree<T: PartialEq + Debug + Drop>(rt: &impl Abort, found: T, wanted: T) {
+    assert_eq!(rt; found, wanted);
+}
+
+// It is so.
+fn holds(rt: &impl Abort, it: bool) {
+    assert!(rt; it);
+}

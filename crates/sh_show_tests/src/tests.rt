@@ -1,7 +1,19 @@
 use sh_script::{Cause, Fault};
 use sh_show::watch;
 use std::alloc::Global;
+use std::fmt::Debug;
+use std::process::Abort;
 use std::test::Fail;
+
+// What was found is what is wanted. It is a function, since each assertion that is written out is proved anew.
+fn agree<T: PartialEq + Debug + Drop>(rt: &impl Abort, found: T, wanted: T) {
+    assert_eq!(rt; found, wanted);
+}
+
+// It is so.
+fn holds(rt: &impl Abort, it: bool) {
+    assert!(rt; it);
+}
 
 const OPENING: &str = "heap tiny 2 1 2\n0 Adopt 0\n0 Read 0.0\n0 SetClass 0.0 7\n";
 
@@ -53,8 +65,8 @@ fn trace_of(alloc: Global, lines: &str) -> Result<String, Fail> {
 fn each_event_is_told_behind_its_line(rt: HostRuntime) -> Result<(), Fail> {
     let script = "heap tiny 1 1 2\n0 Adopt 0\n; a page\n0 Read 0.0\n0 SetClass 0.0 7\n";
     let (ended, output) = trace(rt.alloc(), script);
-    assert_eq!(rt; ended, Ok(()));
-    assert_eq!(rt; output.as_slice(), OPENED.as_bytes());
+    agree(&rt, ended, Ok(()));
+    agree(&rt, output.as_slice(), OPENED.as_bytes());
     Ok(())
 }
 
@@ -88,7 +100,7 @@ fn faults_name_the_line_of_the_script(rt: HostRuntime) -> Result<(), Fail> {
     ];
     for (script, fault) in table {
         let (ended, _) = trace(rt.alloc(), script);
-        assert_eq!(rt; ended, Err(fault));
+        agree(&rt, ended, Err(fault));
     }
     Ok(())
 }
@@ -159,7 +171,7 @@ fn skipped_events_say_why(rt: HostRuntime) -> Result<(), Fail> {
     ];
     for (lines, reason) in table {
         let text = trace_of(rt.alloc(), lines)?;
-        assert!(rt; text.as_str().contains(reason));
+        holds(&rt, text.as_str().contains(reason));
     }
     Ok(())
 }
@@ -188,7 +200,7 @@ fn links_are_told_with_those_who_owe_them(rt: HostRuntime) -> Result<(), Fail> {
     ];
     for (lines, part) in table {
         let text = trace_of(rt.alloc(), lines)?;
-        assert!(rt; text.as_str().contains(part));
+        holds(&rt, text.as_str().contains(part));
     }
     Ok(())
 }
@@ -213,7 +225,7 @@ fn reads_that_are_skipped_say_why(rt: HostRuntime) -> Result<(), Fail> {
     for (lines, reason) in table {
         let lines = format!(in rt.alloc(); "{HELD}{lines}")?;
         let text = trace_of(rt.alloc(), lines.as_str())?;
-        assert!(rt; text.as_str().contains(reason));
+        holds(&rt, text.as_str().contains(reason));
     }
     Ok(())
 }
@@ -228,12 +240,13 @@ fn a_pass_has_16_holds_at_most(rt: HostRuntime) -> Result<(), Fail> {
         script.push_str("0 Enter get 16777216\n")?;
     }
     let (ended, output) = trace(rt.alloc(), script.as_str());
-    assert_eq!(rt; ended, Ok(()));
+    agree(&rt, ended, Ok(()));
     let text = String::from_utf8(output).expect(&rt, "it is a text");
-    assert!(rt; text.as_str().contains("holds 16777216 16 times\n"));
-    assert!(rt;
+    holds(&rt, text.as_str().contains("holds 16777216 16 times\n"));
+    holds(
+        &rt,
         text.as_str()
-            .contains("0 Enter skipped: the pass has 16 holds already\n")
+            .contains("0 Enter skipped: the pass has 16 holds already\n"),
     );
     Ok(())
 }
@@ -248,7 +261,7 @@ fn holds_are_counted(rt: HostRuntime) -> Result<(), Fail> {
     for (lines, part) in table {
         let lines = format!(in rt.alloc(); "{HELD}{lines}")?;
         let text = trace_of(rt.alloc(), lines.as_str())?;
-        assert!(rt; text.as_str().contains(part));
+        holds(&rt, text.as_str().contains(part));
     }
     Ok(())
 }
@@ -258,12 +271,16 @@ fn keys_have_the_tag_of_the_header(rt: HostRuntime) -> Result<(), Fail> {
     let script =
         "version 2\nheap tagged 1 1 1 tag 1\n0 Enter get 1048576\n0 Enter get 72057594038976512\n";
     let (ended, output) = trace(rt.alloc(), script);
-    assert_eq!(rt; ended, Ok(()));
+    agree(&rt, ended, Ok(()));
     let text = String::from_utf8(output).expect(&rt, "it is a text");
-    assert!(rt;
+    holds(
+        &rt,
         text.as_str()
-            .contains("0 Enter skipped: the key has not the tag of the header\n")
+            .contains("0 Enter skipped: the key has not the tag of the header\n"),
     );
-    assert!(rt; text.as_str().contains("0 Enter Gone 72057594038976512\n"));
+    holds(
+        &rt,
+        text.as_str().contains("0 Enter Gone 72057594038976512\n"),
+    );
     Ok(())
 }

@@ -1,5 +1,6 @@
 ghost use Rattle.std.specs.Prelude.{◌≡◌};
 
+use crate::tests::{agree, holds};
 use sh_key::Tiny;
 use sh_shape::Shape;
 use sh_slots::{Hand, Name, Reply, Spot};
@@ -36,15 +37,15 @@ fn a_hold_is_noted_where_the_value_is(rt: HostRuntime) -> Result<(), Fail> {
     let entry = Move::EnterGet(4096, NAME);
     match part.apply::<Tiny>(&shape, &entry, LIVE) {
         Ok(reply) => {
-            assert_eq!(rt; reply, Some(Reply::Got(4096)));
-            assert!(rt; part.has_hold(4096));
+            agree(&rt, reply, Some(Reply::Got(4096)));
+            holds(&rt, part.has_hold(4096));
         }
         Err(refusal) => {
-            assert_eq!(rt; refusal, Refusal::Memory);
-            assert!(rt; !part.has_hold(4096));
+            agree(&rt, refusal, Refusal::Memory);
+            holds(&rt, !part.has_hold(4096));
         }
     }
-    assert!(rt; part.is_idle());
+    holds(&rt, part.is_idle());
     Ok(())
 }
 
@@ -56,8 +57,8 @@ fn an_entry_of_an_empty_slot_leaves_again(rt: HostRuntime) -> Result<(), Fail> {
     let reply = part
         .apply::<Tiny>(&shape, &entry, 4294967296)
         .expect(&rt, "nothing is noted");
-    assert_eq!(rt; reply, Some(Reply::Gone(4096)));
-    assert_eq!(rt; *part.hand(), Hand::Leaving(FIRST));
+    agree(&rt, reply, Some(Reply::Gone(4096)));
+    agree(&rt, part.hand(), &Hand::Leaving(FIRST));
     Ok(())
 }
 
@@ -70,19 +71,19 @@ fn a_generation_ends_where_nobody_is_on_the_slot(rt: HostRuntime) -> Result<(), 
     let finish = Move::Finish(FIRST, 1);
     part.apply::<Tiny>(&shape, &finish, MARKED_ONE)
         .expect(&rt, "nothing is noted");
-    assert_eq!(rt; *part.hand(), Hand::Idle);
+    agree(&rt, part.hand(), &Hand::Idle);
     part.apply::<Tiny>(&shape, &finish, MARKED)
         .expect(&rt, "nothing is noted");
-    assert_eq!(rt; *part.hand(), Hand::ToPut(FIRST));
+    agree(&rt, part.hand(), &Hand::ToPut(FIRST));
     part.apply::<Tiny>(&shape, &Move::Put(FIRST), 1)
         .expect(&rt, "nothing is noted");
-    assert_eq!(rt; *part.hand(), Hand::Tying(FIRST, 1, true));
+    agree(&rt, part.hand(), &Hand::Tying(FIRST, 1, true));
     part.apply::<Tiny>(&shape, &Move::Tie(FIRST, 1, true), 0)
         .expect(&rt, "nothing is noted");
-    assert_eq!(rt; *part.hand(), Hand::Ringing(0));
+    agree(&rt, part.hand(), &Hand::Ringing(0));
     part.apply::<Tiny>(&shape, &Move::Ring(0), 0)
         .expect(&rt, "nothing is noted");
-    assert_eq!(rt; *part.hand(), Hand::RingTying(0, 1));
+    agree(&rt, part.hand(), &Hand::RingTying(0, 1));
     Ok(())
 }
 
@@ -92,16 +93,16 @@ fn page_is_given_a_class(rt: &impl Abort, shape: &Shape, part: &mut Part) -> boo
     requires { shape.now ≡ record { shards = 1; segments = 1; passes = 1 } }
 {
     if part.apply::<Tiny>(shape, &Move::SetClass(0, 7), 0).is_err() {
-        assert_eq!(rt; part.class_noted(0), None);
-        assert!(rt; !part.has_mine(FIRST));
+        agree(rt, part.class_noted(0), None);
+        holds(rt, !part.has_mine(FIRST));
         return false;
     }
-    assert_eq!(rt; part.class_noted(0), Some(8));
-    assert!(rt; part.has_all_mine(0, 3));
-    assert!(rt; !part.has_all_mine(0, 4));
+    agree(rt, part.class_noted(0), Some(8));
+    holds(rt, part.has_all_mine(0, 3));
+    holds(rt, !part.has_all_mine(0, 4));
     part.apply::<Tiny>(shape, &Move::PutSlot(FIRST), 0)
         .expect(rt, "nothing is noted");
-    assert!(rt; !part.has_mine(FIRST));
+    holds(rt, !part.has_mine(FIRST));
     true
 }
 
@@ -109,12 +110,12 @@ fn page_is_armed(rt: &impl Abort, shape: &Shape, part: &mut Part) -> bool
     requires { shape.now ≡ record { shards = 1; segments = 1; passes = 1 } }
 {
     if part.apply::<Tiny>(shape, &Move::Arm(0), 2).is_err() {
-        assert!(rt; !part.has_armed(0));
-        assert_eq!(rt; part.cursor(0), None);
+        holds(rt, !part.has_armed(0));
+        agree(rt, part.cursor(0), None);
         return false;
     }
-    assert!(rt; part.has_armed(0));
-    assert_eq!(rt; part.cursor(0), Some(0));
+    holds(rt, part.has_armed(0));
+    agree(rt, part.cursor(0), Some(0));
     true
 }
 
@@ -124,14 +125,14 @@ fn link_is_followed(rt: &impl Abort, shape: &Shape, part: &mut Part) -> bool
     let follow = Move::Follow(0, 0);
     part.apply::<Tiny>(shape, &follow, 0)
         .expect(rt, "nothing is noted");
-    assert_eq!(rt; part.cursor(0), Some(0));
-    assert!(rt; !part.has_mine(FIRST));
+    agree(rt, part.cursor(0), Some(0));
+    holds(rt, !part.has_mine(FIRST));
     if part.apply::<Tiny>(shape, &follow, 1).is_err() {
-        assert_eq!(rt; part.cursor(0), Some(0));
+        agree(rt, part.cursor(0), Some(0));
         return false;
     }
-    assert_eq!(rt; part.cursor(0), None);
-    assert!(rt; part.has_mine(FIRST));
+    agree(rt, part.cursor(0), None);
+    holds(rt, part.has_mine(FIRST));
     true
 }
 
@@ -140,15 +141,15 @@ fn bell_is_followed(rt: &impl Abort, shape: &Shape, part: &mut Part)
 {
     part.apply::<Tiny>(shape, &Move::TakeBell(0), 1)
         .expect(rt, "nothing is noted");
-    assert_eq!(rt; part.bell_cursor(), Some(0));
+    agree(rt, part.bell_cursor(), Some(0));
     let follow_bell = Move::FollowBell(0);
     part.apply::<Tiny>(shape, &follow_bell, 0)
         .expect(rt, "nothing is noted");
-    assert_eq!(rt; part.bell_cursor(), Some(0));
+    agree(rt, part.bell_cursor(), Some(0));
     part.apply::<Tiny>(shape, &follow_bell, 1)
         .expect(rt, "nothing is noted");
-    assert_eq!(rt; part.bell_cursor(), None);
-    assert!(rt; !part.has_armed(0));
+    agree(rt, part.bell_cursor(), None);
+    holds(rt, !part.has_armed(0));
 }
 
 #[test]
@@ -157,7 +158,7 @@ fn an_owner_arms_and_follows_a_page(rt: HostRuntime) -> Result<(), Fail> {
     let mut part = Part::new(rt.alloc());
     part.apply::<Tiny>(&shape, &Move::Adopt(0), 0)
         .expect(&rt, "nothing is noted");
-    assert_eq!(rt; part.owned(), Some(0));
+    agree(&rt, part.owned(), Some(0));
     if page_is_given_a_class(&rt, &shape, &mut part)
         && page_is_armed(&rt, &shape, &mut part)
         && link_is_followed(&rt, &shape, &mut part)

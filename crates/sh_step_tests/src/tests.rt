@@ -9,8 +9,19 @@ use sh_step::operands::{
 };
 use sh_step::{Action, ActionKind, Move, Operation, PageName, Part, SlotName, enabled};
 use sh_value::Value;
+use std::fmt::Debug;
 use std::process::Abort;
 use std::test::Fail;
+
+// What was found is what is wanted. It is a function, since each assertion that is written out is proved anew.
+pub(crate) fn agree<T: PartialEq + Debug + Drop>(rt: &impl Abort, found: T, wanted: T) {
+    assert_eq!(rt; found, wanted);
+}
+
+// It is so.
+pub(crate) fn holds(rt: &impl Abort, it: bool) {
+    assert!(rt; it);
+}
 
 fn one_shard(rt: &impl Abort) -> Shape
     ensures { result ≡ record { shards = 1; segments = 1; passes = 1 } }
@@ -27,24 +38,28 @@ fn forms_are_of_their_kinds(rt: HostRuntime) -> Result<(), Fail> {
         slot: 0,
     };
     let value = Value::new(&[5]).expect(&rt, "one word fits");
-    assert_eq!(rt; Action::EnterGet(4096).kind().name(), "Enter");
-    assert_eq!(rt; Action::EnterRemove(4096).kind(), ActionKind::Enter);
-    assert_eq!(rt; Action::FillSlot(slot, value).kind().name(), "Fill");
-    assert_eq!(rt; Action::DropHold(4096).kind(), ActionKind::Drop);
-    assert_eq!(rt; Action::Arm(page).kind().name(), "Arm");
+    agree(&rt, Action::EnterGet(4096).kind().name(), "Enter");
+    agree(&rt, Action::EnterRemove(4096).kind(), ActionKind::Enter);
+    agree(&rt, Action::FillSlot(slot, value).kind().name(), "Fill");
+    agree(&rt, Action::DropHold(4096).kind(), ActionKind::Drop);
+    agree(&rt, Action::Arm(page).kind().name(), "Arm");
     Ok(())
 }
 
 #[test]
 fn operations_leave_words(rt: HostRuntime) {
-    assert_eq!(rt; Operation::FetchAdd(1).after(5368709120), 5368709121);
-    assert_eq!(rt; Operation::FetchSub(1).after(5368709121), 5368709120);
-    assert_eq!(rt; Operation::FetchOr(1 << 31).after(5368709120), 7516192768);
-    assert_eq!(rt; Operation::Swap(96).after(1), 96);
-    assert_eq!(rt; Operation::Store(3).after(7), 3);
-    assert_eq!(rt; Operation::CompareExchange(7, 8).after(7), 8);
-    assert_eq!(rt; Operation::CompareExchange(7, 8).after(9), 9);
-    assert_eq!(rt; Operation::Load.after(7), 7);
+    agree(&rt, Operation::FetchAdd(1).after(5368709120), 5368709121);
+    agree(&rt, Operation::FetchSub(1).after(5368709121), 5368709120);
+    agree(
+        &rt,
+        Operation::FetchOr(1 << 31).after(5368709120),
+        7516192768,
+    );
+    agree(&rt, Operation::Swap(96).after(1), 96);
+    agree(&rt, Operation::Store(3).after(7), 3);
+    agree(&rt, Operation::CompareExchange(7, 8).after(7), 8);
+    agree(&rt, Operation::CompareExchange(7, 8).after(9), 9);
+    agree(&rt, Operation::Load.after(7), 7);
 }
 
 // An idle pass may enter the slot of a key, and has nothing to drop.
@@ -52,19 +67,28 @@ fn operations_leave_words(rt: HostRuntime) {
 fn moves_have_steps(rt: HostRuntime) -> Result<(), Fail> {
     let shape = one_shard(&rt);
     let part = Part::new(rt.alloc());
-    assert!(rt; enabled::<Tiny>(&shape, &part, &Action::EnterGet(4096)));
-    assert!(rt; !enabled::<Tiny>(&shape, &part, &Action::EnterGet(4095)));
-    assert!(rt; !enabled::<Tiny>(&shape, &part, &Action::Drop));
-    assert!(rt; !enabled::<Tiny>(&shape, &part, &Action::Leave));
-    assert!(rt; Move::of::<Tiny>(&shape, &part, &Action::Adopt(0)).is_some());
-    assert!(rt; Move::of::<Tiny>(&shape, &part, &Action::Adopt(1)).is_none());
+    holds(&rt, enabled::<Tiny>(&shape, &part, &Action::EnterGet(4096)));
+    holds(
+        &rt,
+        !enabled::<Tiny>(&shape, &part, &Action::EnterGet(4095)),
+    );
+    holds(&rt, !enabled::<Tiny>(&shape, &part, &Action::Drop));
+    holds(&rt, !enabled::<Tiny>(&shape, &part, &Action::Leave));
+    holds(
+        &rt,
+        Move::of::<Tiny>(&shape, &part, &Action::Adopt(0)).is_some(),
+    );
+    holds(
+        &rt,
+        Move::of::<Tiny>(&shape, &part, &Action::Adopt(1)).is_none(),
+    );
     let spot = Spot { page: 0, slot: 2 };
     let put = Move::Put(spot).step::<Tiny>(&shape);
-    assert_eq!(rt; put.place, Place::Head(0));
-    assert_eq!(rt; put.operation, Operation::Swap(6));
+    agree(&rt, put.place, Place::Head(0));
+    agree(&rt, put.operation, Operation::Swap(6));
     let followed = Move::Follow(0, 2).step::<Tiny>(&shape);
-    assert_eq!(rt; followed.place, Place::Link(0, 2));
-    assert_eq!(rt; followed.operation, Operation::Swap(0));
+    agree(&rt, followed.place, Place::Link(0, 2));
+    agree(&rt, followed.operation, Operation::Swap(0));
     Ok(())
 }
 
@@ -76,15 +100,17 @@ fn generations_end_in_one_exchange(rt: HostRuntime) -> Result<(), Fail> {
     let part = Part::new(rt.alloc());
     let spot = Spot { page: 0, slot: 2 };
     let ended = Move::Finish(spot, 1).step::<Tiny>(&shape);
-    assert_eq!(rt; ended.place, Place::State(0, 2));
-    assert_eq!(rt;
+    agree(&rt, ended.place, Place::State(0, 2));
+    agree(
+        &rt,
         ended.operation,
-        Operation::CompareExchange(7516192768, 8589934592)
+        Operation::CompareExchange(7516192768, 8589934592),
     );
     let used_up = Move::Finish(spot, 3).step::<Tiny>(&shape);
-    assert_eq!(rt;
+    agree(
+        &rt,
         used_up.operation,
-        Operation::CompareExchange(16106127360, 15032385536)
+        Operation::CompareExchange(16106127360, 15032385536),
     );
     Ok(())
 }
@@ -94,15 +120,15 @@ fn generations_end_in_one_exchange(rt: HostRuntime) -> Result<(), Fail> {
 fn steps_are_done_with_these_words(rt: HostRuntime) -> Result<(), Fail> {
     let shape = one_shard(&rt);
     let value = Value::new(&[5, 6]).expect(&rt, "two words fit");
-    assert_eq!(rt; width_of_word(8), 16);
-    assert_eq!(rt; slots_of_word(8), 3);
-    assert_eq!(rt; width_of_word(0), 1);
-    assert_eq!(rt; payload_word(2, 8, 1), 33);
-    assert_eq!(rt; word_of_value(&value, 1), 6);
-    assert_eq!(rt; put_word(2), 6);
-    assert_eq!(rt; bell_of::<Tiny>(&shape, 3), Place::Bell(0));
-    assert_eq!(rt; bell_word::<Tiny>(&shape, 3), 4);
-    assert_eq!(rt; gen_max::<Tiny>(), 3);
-    assert_eq!(rt; guard_max::<Tiny>(), 4);
+    agree(&rt, width_of_word(8), 16);
+    agree(&rt, slots_of_word(8), 3);
+    agree(&rt, width_of_word(0), 1);
+    agree(&rt, payload_word(2, 8, 1), 33);
+    agree(&rt, word_of_value(&value, 1), 6);
+    agree(&rt, put_word(2), 6);
+    agree(&rt, bell_of::<Tiny>(&shape, 3), Place::Bell(0));
+    agree(&rt, bell_word::<Tiny>(&shape, 3), 4);
+    agree(&rt, gen_max::<Tiny>(), 3);
+    agree(&rt, guard_max::<Tiny>(), 4);
     Ok(())
 }

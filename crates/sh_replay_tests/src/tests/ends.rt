@@ -1,5 +1,6 @@
 //! Ends that fail once and then go on, and ends that move few bytes at a time, in each mode.
 use super::worked::{EACH_MODE, Worked};
+use super::{agree, holds};
 use sh_replay::{Mode, replay, replay_alone};
 use sh_script::Fault;
 use std::alloc::Global;
@@ -90,11 +91,19 @@ fn fails_at_read<R: Threads + Wait + Sync + Abort>(
     };
     let mut out = Vec::new(alloc);
     let ended = replay(rt, alloc, &mut reader, &mut out, mode, true);
-    assert_eq!(rt; ended, Err(Fault::Io), "{mode:?} {most} {left}");
-    assert!(rt; out.is_empty(), "{mode:?} {most} {left}");
+    agree(
+        rt,
+        (mode, most, left, ended),
+        (mode, most, left, Err(Fault::Io)),
+    );
+    holds(rt, out.is_empty());
     // None is read after the one that fails.
     let read = most.saturating_mul(left).min(worked.script.len());
-    assert_eq!(rt; reader.rest.len(), worked.script.len().saturating_sub(read));
+    agree(
+        rt,
+        reader.rest.len(),
+        worked.script.len().saturating_sub(read),
+    );
 }
 
 /// The output is written by at most so many bytes a write, of which one fails, and a beginning of it has gone out.
@@ -116,16 +125,20 @@ fn fails_at_write<R: Threads + Wait + Sync + Abort>(
     };
     let mut script = worked.script.as_bytes();
     let ended = replay(rt, alloc, &mut script, &mut writer, mode, true);
-    assert_eq!(rt; ended, Err(Fault::Io), "{mode:?} {most} {left} {failure:?}");
-    assert!(rt;
+    agree(
+        rt,
+        (mode, most, left, ended),
+        (mode, most, left, Err(Fault::Io)),
+    );
+    holds(
+        rt,
         worked
             .output
             .as_bytes()
             .starts_with(writer.taken.as_slice()),
-        "{mode:?} {most} {left} {failure:?}"
     );
     // None is written after the one that fails.
-    assert_eq!(rt; writer.taken.len(), most.saturating_mul(left));
+    agree(rt, writer.taken.len(), most.saturating_mul(left));
 }
 
 /// By ends that do not fail, and move at most so many bytes each time, the whole output goes out.
@@ -149,11 +162,11 @@ fn goes_out_whole<R: Threads + Wait + Sync + Abort>(
         failure: Failure::Error,
     };
     let ended = replay(rt, alloc, &mut reader, &mut writer, mode, true);
-    assert_eq!(rt; ended, Ok(()), "{mode:?} {most}");
-    assert_eq!(rt;
-        writer.taken.as_slice(),
-        worked.output.as_bytes(),
-        "{mode:?} {most}"
+    agree(rt, (mode, most, ended), (mode, most, Ok(())));
+    agree(
+        rt,
+        (mode, most, writer.taken.as_slice()),
+        (mode, most, worked.output.as_bytes()),
     );
 }
 
@@ -209,7 +222,7 @@ fn a_long_output_goes_out_by_short_writes(rt: HostRuntime) -> Result<(), Fail> {
         failure: Failure::Error,
     };
     let result = replay_alone(rt.alloc(), &mut reader, &mut writer, Mode::Steps, true);
-    assert_eq!(rt; result, Ok(()));
-    assert!(rt; writer.taken.as_slice() == output.as_bytes());
+    agree(&rt, result, Ok(()));
+    holds(&rt, writer.taken.as_slice() == output.as_bytes());
     Ok(())
 }

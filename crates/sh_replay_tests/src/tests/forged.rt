@@ -1,4 +1,5 @@
 //! Keys that nobody was answered, by all the modes of calls.
+use super::{agree, holds};
 use sh_replay::{Mode, replay};
 use std::alloc::Global;
 use std::process::Abort;
@@ -61,15 +62,15 @@ fn expect<R: Threads + Wait + Sync + Abort>(
 ) -> Result<(), Fail> {
     let script = script_of(alloc, command)?;
     let (output, keys) = output_of(alloc, command, mode)?;
-    assert_eq!(rt; keys, wanted);
+    agree(rt, keys, wanted);
     let mut reader = script.as_bytes();
     let mut out = Vec::new(alloc);
-    assert_eq!(rt;
-        replay(rt, alloc, &mut reader, &mut out, mode, true),
-        Ok(()),
-        "{mode:?}"
+    agree(
+        rt,
+        (mode, replay(rt, alloc, &mut reader, &mut out, mode, true)),
+        (mode, Ok(())),
     );
-    assert!(rt; out.as_slice() == output.as_bytes(), "{command} {mode:?}");
+    holds(rt, out.as_slice() == output.as_bytes());
     Ok(())
 }
 

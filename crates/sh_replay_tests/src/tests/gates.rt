@@ -1,4 +1,5 @@
 //! What a gate is told: each call of each pass by its number, before it and after it.
+use super::{agree, holds};
 use sh_replay::{Gate, Mode, replay_gated};
 use std::sync::atomic::{AtomicU64, Ordering};
 use std::thread::yield_now;
@@ -110,18 +111,18 @@ fn a_gate_is_told_of_each_call_before_and_after_it(rt: HostRuntime) {
         false,
         &gate,
     );
-    assert_eq!(rt; end, Ok(()));
-    assert_eq!(rt; gate.missed.load(Ordering::SeqCst), 0);
-    assert_eq!(rt; gate.count.load(Ordering::SeqCst), TOLD as u64);
+    agree(&rt, end, Ok(()));
+    agree(&rt, gate.missed.load(Ordering::SeqCst), 0);
+    agree(&rt, gate.count.load(Ordering::SeqCst), TOLD as u64);
     for pass in 0..PASSES {
         let mut last = 0;
         for call in 0..CALLS {
             let before = gate.time(pass, call, false);
             let after = gate.time(pass, call, true);
-            assert!(rt; last < before && before < after, "pass {pass} call {call}");
+            holds(&rt, last < before && before < after);
             last = after;
         }
     }
     let output = "0 adopt ok\n0 insert 4096\n1 get ok\n1 read 1 7\n0 leave ok\n1 release ok\n";
-    assert_eq!(rt; out.as_slice(), output.as_bytes());
+    agree(&rt, out.as_slice(), output.as_bytes());
 }

@@ -1,5 +1,6 @@
 //! A shard that changes hands: each owner gives pages a class, and once all passes met, the accounts of each page add
 //! up.
+use super::agree;
 use sh_core::Accounts;
 use sh_gather::{Whole, join, whole};
 use sh_key::{KeyLayout, Tiny};
@@ -22,13 +23,17 @@ fn empty(class: Option<u32>, queued: u32) -> Accounts {
 }
 
 fn add_up<L: KeyLayout>(rt: &impl Abort, all: &mut Whole<'_, L>) {
-    assert_eq!(rt; all.accounts(0, 0), Some(empty(Some(7), 3)));
-    assert_eq!(rt; all.accounts(0, 1), Some(empty(Some(0), 48)));
-    assert_eq!(rt; all.accounts(0, 2), Some(empty(Some(7), 3)));
+    agree(rt, all.accounts(0, 0), Some(empty(Some(7), 3)));
+    agree(rt, all.accounts(0, 1), Some(empty(Some(0), 48)));
+    agree(rt, all.accounts(0, 2), Some(empty(Some(7), 3)));
     for page in 3..8 {
-        assert_eq!(rt; all.accounts(0, page), Some(empty(None, 0)), "page {page}");
+        agree(
+            rt,
+            (page, all.accounts(0, page)),
+            (page, Some(empty(None, 0))),
+        );
     }
-    assert_eq!(rt; all.accounts(0, 8), None);
+    agree(rt, all.accounts(0, 8), None);
 }
 
 #[test]
@@ -44,15 +49,15 @@ fn pages_of_two_owners_add_up(rt: HostRuntime) {
     let Ok(mut shard) = Shard::adopt(rt.alloc(), first, 0) else {
         panic!(rt; "the first pass adopts the shard")
     };
-    assert_eq!(rt; shard.prepare(7), Ok(0));
-    assert_eq!(rt; shard.prepare(0), Ok(1));
+    agree(&rt, shard.prepare(7), Ok(0));
+    agree(&rt, shard.prepare(0), Ok(1));
     let Ok(first) = shard.leave() else {
         panic!(rt; "the first owner leaves")
     };
     let Ok(mut shard) = Shard::adopt(rt.alloc(), second, 0) else {
         panic!(rt; "the second pass adopts the shard")
     };
-    assert_eq!(rt; shard.prepare(7), Ok(2));
+    agree(&rt, shard.prepare(7), Ok(2));
     let Ok(second) = shard.leave() else {
         panic!(rt; "the second owner leaves")
     };

@@ -1,5 +1,6 @@
 //! Refused memory in each mode. With `rt try --test --fail-alloc N` the N-th allocation of a test is refused; each of
 //! these survives that anywhere.
+use super::{agree, holds};
 use sh_replay::{Mode, replay};
 use sh_script::Fault;
 use std::alloc::Global;
@@ -21,7 +22,7 @@ fn survives<R: Threads + Wait + Sync + Abort>(
     let mut refused = false;
     for _ in 0..2 {
         let Ok(mut out) = Vec::with_capacity(alloc, 1024) else {
-            assert!(rt; !refused);
+            holds(rt, !refused);
             refused = true;
             continue;
         };
@@ -30,18 +31,22 @@ fn survives<R: Threads + Wait + Sync + Abort>(
         if end == Ok(()) && out.as_slice() == output.as_bytes() {
             continue;
         }
-        assert!(rt; !refused);
+        holds(rt, !refused);
         refused = true;
         match end {
-            Ok(()) => assert!(rt;
+            Ok(()) => holds(
+                rt,
                 others
                     .iter()
-                    .any(|other| out.as_slice() == other.as_bytes())
+                    .any(|other| out.as_slice() == other.as_bytes()),
             ),
             Err(fault) => {
                 // `Io` is a thread that could not be started.
-                assert!(rt; fault == Fault::Memory || fault == Fault::Io && mode == Mode::Threads);
-                assert!(rt; out.is_empty());
+                holds(
+                    rt,
+                    fault == Fault::Memory || fault == Fault::Io && mode == Mode::Threads,
+                );
+                holds(rt, out.is_empty());
             }
         }
     }
@@ -119,9 +124,12 @@ fn tells<R: Threads + Wait + Sync + Abort>(rt: &R, alloc: Global, mode: Mode, gr
     let mut reader = OWNERS.as_bytes();
     let mut out = Vec::new(alloc);
     let end = replay(rt, alloc, &mut reader, &mut out, mode, true);
-    assert_eq!(rt; end, Ok(()));
+    agree(rt, end, Ok(()));
     let refused = OWNERS_REFUSED[growth.min(2)];
-    assert!(rt; out.as_slice() == OWNERS_OUTPUT.as_bytes() || out.as_slice() == refused.as_bytes());
+    holds(
+        rt,
+        out.as_slice() == OWNERS_OUTPUT.as_bytes() || out.as_slice() == refused.as_bytes(),
+    );
 }
 
 #[test]

@@ -1,5 +1,6 @@
 //! Scripts of more than one read, of as many bytes as a script may have, and of more.
 use super::ends::Reading;
+use super::{agree, holds};
 use sh_replay::{Mode, replay};
 use sh_script::{Cause, Fault};
 use std::alloc::{AllocError, Global};
@@ -49,7 +50,7 @@ fn a_script_of_several_reads_is_run(rt: HostRuntime) -> Result<(), Fail> {
         for (mode, last, output) in WORKED {
             for most in [1_000_000, 4095, 7] {
                 let script = script_of(rt.alloc(), pieces, last)?;
-                assert_eq!(rt; script.len(), 64 * pieces);
+                agree(&rt, script.len(), 64 * pieces);
                 let rest = script.as_bytes();
                 let mut reader = Reading {
                     rest,
@@ -58,9 +59,9 @@ fn a_script_of_several_reads_is_run(rt: HostRuntime) -> Result<(), Fail> {
                 };
                 let mut out = Vec::new(rt.alloc());
                 let result = replay(&rt, rt.alloc(), &mut reader, &mut out, mode, true);
-                assert_eq!(rt; result, Ok(()));
-                assert_eq!(rt; out.as_slice(), output.as_bytes());
-                assert!(rt; reader.rest.is_empty());
+                agree(&rt, result, Ok(()));
+                agree(&rt, out.as_slice(), output.as_bytes());
+                holds(&rt, reader.rest.is_empty());
             }
         }
     }
@@ -71,12 +72,12 @@ fn a_script_of_several_reads_is_run(rt: HostRuntime) -> Result<(), Fail> {
 fn a_script_of_the_limit_is_run_and_one_byte_more_is_a_fault(rt: HostRuntime) -> Result<(), Fail> {
     for (mode, last, output) in WORKED {
         let mut script = script_of(rt.alloc(), 16_384, last)?;
-        assert_eq!(rt; script.len(), 1_048_576);
+        agree(&rt, script.len(), 1_048_576);
         let mut reader = script.as_bytes();
         let mut out = Vec::new(rt.alloc());
         let result = replay(&rt, rt.alloc(), &mut reader, &mut out, mode, true);
-        assert_eq!(rt; result, Ok(()));
-        assert_eq!(rt; out.as_slice(), output.as_bytes());
+        agree(&rt, result, Ok(()));
+        agree(&rt, out.as_slice(), output.as_bytes());
 
         // Of what is longer, one byte more than a script may have is read.
         let size = Err(Fault::Script(0, Cause::Size));
@@ -85,9 +86,9 @@ fn a_script_of_the_limit_is_run_and_one_byte_more_is_a_fault(rt: HostRuntime) ->
             let mut reader = script.as_bytes();
             let mut out = Vec::new(rt.alloc());
             let result = replay(&rt, rt.alloc(), &mut reader, &mut out, mode, true);
-            assert_eq!(rt; result, size);
-            assert!(rt; out.is_empty());
-            assert_eq!(rt; reader.len(), unread);
+            agree(&rt, result, size);
+            holds(&rt, out.is_empty());
+            agree(&rt, reader.len(), unread);
         }
     }
     Ok(())

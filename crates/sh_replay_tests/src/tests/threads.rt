@@ -1,4 +1,5 @@
 //! Mode threads: the calls of each pass are made in a thread of its own.
+use super::agree;
 use sh_replay::{Gate, Mode, replay_gated};
 use std::sync::atomic::{AtomicBool, AtomicU64, Ordering};
 use std::thread::yield_now;
@@ -58,8 +59,8 @@ fn workers_run_together(rt: HostRuntime) {
         false,
         &gate,
     );
-    assert_eq!(rt; end, Ok(()));
-    assert_eq!(rt; gate.missed.load(Ordering::SeqCst), 0);
+    agree(&rt, end, Ok(()));
+    agree(&rt, gate.missed.load(Ordering::SeqCst), 0);
     let output = "0 get refused 1 BadKey\n1 get refused 1 BadKey\n";
-    assert_eq!(rt; out.as_slice(), output.as_bytes());
+    agree(&rt, out.as_slice(), output.as_bytes());
 }

@@ -3,6 +3,7 @@ ghost use Rattle.std.specs.Prelude.{◌≡◌, ◌<◌};
 ghost use Rattle.std.specs.List.{All};
 ghost use Rattle.sh_script.specs.declared.calls.CallLine.{CallLine};
 
+use super::{agree, holds};
 use sh_calls::side::Side;
 use sh_heap_run::heap_lines::{PassHolder, holders};
 use sh_key::Tiny;
@@ -77,9 +78,9 @@ fn a_closed_board_tells_of_what_is_bound_and_waits_for_nothing(rt: HostRuntime) 
     let bound = told_of(&rt, rt.alloc(), 0).expect(&rt, "it runs");
     let open = told_of(&rt, rt.alloc(), 1).expect(&rt, "it runs");
     let absent = told_of(&rt, rt.alloc(), 2).expect(&rt, "it runs");
-    assert_eq!(rt; bound, Some(None));
-    assert_eq!(rt; open, None);
-    assert_eq!(rt; absent, None);
+    agree(&rt, bound, Some(None));
+    agree(&rt, open, None);
+    agree(&rt, absent, None);
 }
 
 #[test]
@@ -107,9 +108,10 @@ fn names_are_waited_for(rt: HostRuntime) {
         },
     ];
     let output = replies(&rt, rt.alloc(), &lines, &OpenGate).expect(&rt, "it runs");
-    assert_eq!(rt;
+    agree(
+        &rt,
         output.as_slice(),
-        b"1 leave refused 10 NoShard\n1 post ok\n0 wait ok\n0 post ok\n1 get unbound\n".as_slice()
+        b"1 leave refused 10 NoShard\n1 post ok\n0 wait ok\n0 post ok\n1 get unbound\n".as_slice(),
     );
 }
 
@@ -131,5 +133,5 @@ fn a_worker_that_stops_ends_the_others(rt: HostRuntime) {
         },
     ];
     let ended = replies(&rt, rt.alloc(), &lines, &OpenGate);
-    assert!(rt; matches!(ended, Err(Fault::Io)));
+    holds(&rt, matches!(ended, Err(Fault::Io)));
 }

@@ -1,3 +1,4 @@
+use super::{agree, holds};
 use sh_script::{Call, CallLine, Layout, Reference, parse_calls};
 use std::test::Fail;
 
@@ -30,15 +31,15 @@ fn is_insert(line: &CallLine, pass: u32, value: &[u64]) -> bool {
 fn the_first_script(rt: HostRuntime) {
     let text = b"heap tiny 1 1 2\n0 adopt 0\n0 insert a 7\n0 get a\n0 read a\n";
     let calls = parse_calls(rt.alloc(), text).expect(&rt, "it is a script");
-    assert_eq!(rt; calls.header.layout, Layout::Tiny);
-    assert_eq!(rt; calls.header.shape.shards(), 1);
-    assert_eq!(rt; calls.header.shape.segments(), 1);
-    assert_eq!(rt; calls.header.shape.passes(), 2);
-    assert_eq!(rt; calls.lines.len(), 4);
-    assert!(rt; is_adopt(&calls.lines[0], 0, 0));
-    assert!(rt; is_insert(&calls.lines[1], 0, &[7]));
-    assert!(rt; is_get(&calls.lines[2], 0, Reference::Name(0)));
-    assert!(rt; is_read(&calls.lines[3], 0, Reference::Name(0)));
+    agree(&rt, calls.header.layout, Layout::Tiny);
+    agree(&rt, calls.header.shape.shards(), 1);
+    agree(&rt, calls.header.shape.segments(), 1);
+    agree(&rt, calls.header.shape.passes(), 2);
+    agree(&rt, calls.lines.len(), 4);
+    holds(&rt, is_adopt(&calls.lines[0], 0, 0));
+    holds(&rt, is_insert(&calls.lines[1], 0, &[7]));
+    holds(&rt, is_get(&calls.lines[2], 0, Reference::Name(0)));
+    holds(&rt, is_read(&calls.lines[3], 0, Reference::Name(0)));
 }
 
 #[test]
@@ -47,12 +48,15 @@ fn spaces_comments_and_blank_lines(rt: HostRuntime) {
         b"\n; a heap\n  heap  tiny 4 2 64 \n   \n;x 0 get b\n 63  insert  b_9 0 18446744073709551615\n\
         0 insert c\n1 get #4096\n2 read c\n";
     let calls = parse_calls(rt.alloc(), text).expect(&rt, "it is a script");
-    assert_eq!(rt; calls.header.shape.passes(), 64);
-    assert_eq!(rt; calls.lines.len(), 4);
-    assert!(rt; is_insert(&calls.lines[0], 63, &[0, 18446744073709551615]));
-    assert!(rt; is_insert(&calls.lines[1], 0, &[]));
-    assert!(rt; is_get(&calls.lines[2], 1, Reference::Key(4096)));
-    assert!(rt; is_read(&calls.lines[3], 2, Reference::Name(1)));
+    agree(&rt, calls.header.shape.passes(), 64);
+    agree(&rt, calls.lines.len(), 4);
+    holds(
+        &rt,
+        is_insert(&calls.lines[0], 63, &[0, 18446744073709551615]),
+    );
+    holds(&rt, is_insert(&calls.lines[1], 0, &[]));
+    holds(&rt, is_get(&calls.lines[2], 1, Reference::Key(4096)));
+    holds(&rt, is_read(&calls.lines[3], 2, Reference::Name(1)));
 }
 
 #[test]
@@ -61,16 +65,28 @@ fn each_command(rt: HostRuntime) {
         b"heap tiny 1 1 2\n1 post p\n0 wait p\n0 insert a\n0 wait a\n0 remove a\n1 release a\n0 remove #4096\n\
         1 release #0\n0 leave\n";
     let calls = parse_calls(rt.alloc(), text).expect(&rt, "it is a script");
-    assert_eq!(rt; calls.lines.len(), 9);
-    assert!(rt; matches!(calls.lines[0].call, Call::Post));
-    assert!(rt; matches!(calls.lines[1].call, Call::Wait(0)));
-    assert!(rt; is_insert(&calls.lines[2], 0, &[]));
-    assert!(rt; matches!(calls.lines[3].call, Call::Wait(1)));
-    assert!(rt; matches!(calls.lines[4].call, Call::Remove(Reference::Name(1))));
-    assert!(rt; matches!(calls.lines[5].call, Call::Release(Reference::Name(1))));
-    assert!(rt; matches!(calls.lines[6].call, Call::Remove(Reference::Key(4096))));
-    assert!(rt; matches!(calls.lines[7].call, Call::Release(Reference::Key(0))));
-    assert!(rt; matches!(calls.lines[8].call, Call::Leave));
+    agree(&rt, calls.lines.len(), 9);
+    holds(&rt, matches!(calls.lines[0].call, Call::Post));
+    holds(&rt, matches!(calls.lines[1].call, Call::Wait(0)));
+    holds(&rt, is_insert(&calls.lines[2], 0, &[]));
+    holds(&rt, matches!(calls.lines[3].call, Call::Wait(1)));
+    holds(
+        &rt,
+        matches!(calls.lines[4].call, Call::Remove(Reference::Name(1))),
+    );
+    holds(
+        &rt,
+        matches!(calls.lines[5].call, Call::Release(Reference::Name(1))),
+    );
+    holds(
+        &rt,
+        matches!(calls.lines[6].call, Call::Remove(Reference::Key(4096))),
+    );
+    holds(
+        &rt,
+        matches!(calls.lines[7].call, Call::Release(Reference::Key(0))),
+    );
+    holds(&rt, matches!(calls.lines[8].call, Call::Leave));
 }
 
 // The search for a name takes no longer where many are bound: as many as a script of 1,048,576 bytes has room for,
@@ -86,10 +102,10 @@ fn many_names(rt: HostRuntime) -> Result<(), Fail> {
     for _ in text.len()..1_048_576 {
         text.push(b'\n')?;
     }
-    assert_eq!(rt; text.len(), 1_048_576);
+    agree(&rt, text.len(), 1_048_576);
     let calls = parse_calls(alloc, text.as_slice()).expect(&rt, "it is a script");
-    assert_eq!(rt; calls.lines.len(), 75_690);
-    assert!(rt; matches!(calls.lines[75_689].call, Call::Wait(75_688)));
+    agree(&rt, calls.lines.len(), 75_690);
+    holds(&rt, matches!(calls.lines[75_689].call, Call::Wait(75_688)));
     Ok(())
 }
 
@@ -102,7 +118,7 @@ fn many_words(rt: HostRuntime) -> Result<(), Fail> {
         text.extend_from_slice(b" 1")?;
     }
     text.push(b'\n')?;
-    assert_eq!(rt; text.len(), 529);
+    agree(&rt, text.len(), 529);
     let calls = parse_calls(alloc, text.as_slice()).expect(&rt, "it is a script");
     let Some(line) = calls.lines.first() else {
         return Err(Fail::from("a line"));
@@ -110,6 +126,6 @@ fn many_words(rt: HostRuntime) -> Result<(), Fail> {
     let Call::Insert(words) = &line.call else {
         return Err(Fail::from("an insert"));
     };
-    assert_eq!(rt; words.as_slice().len(), 251);
+    agree(&rt, words.as_slice().len(), 251);
     Ok(())
 }

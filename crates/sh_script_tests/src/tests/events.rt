@@ -1,3 +1,4 @@
+use super::{agree, holds};
 use sh_script::{Layout, parse_events};
 use sh_step::{Action, Event, PageName, SlotName};
 use sh_value::Value;
@@ -56,10 +57,10 @@ fn each_event(rt: HostRuntime) -> Result<(), Fail> {
         Action::FollowBell,
         Action::FillSlot(SLOT, none),
     ];
-    assert_eq!(rt; events.lines.len(), actions.len());
+    agree(&rt, events.lines.len(), actions.len());
     for i in 0..actions.len() {
         let pass = if i == 1 { 1 } else { 0 };
-        assert!(rt; is_event(&events.lines[i], pass, &actions[i]), "{i}");
+        holds(&rt, is_event(&events.lines[i], pass, &actions[i]));
     }
     Ok(())
 }
@@ -70,10 +71,13 @@ fn keys_keep_their_tags(rt: HostRuntime) {
     let text =
         b"version 2\nheap tagged 1 1 1 tag 5\n; a comment\n\n 0  Enter get  360287970190688256 \n";
     let events = parse_events(rt.alloc(), text).expect(&rt, "it is a script");
-    assert_eq!(rt; events.header.layout, Layout::Tagged);
-    assert_eq!(rt; events.header.tag, Some(5));
-    assert_eq!(rt; events.lines.len(), 1);
-    assert!(rt; is_event(&events.lines[0], 0, &Action::EnterGet(360287970190688256)));
+    agree(&rt, events.header.layout, Layout::Tagged);
+    agree(&rt, events.header.tag, Some(5));
+    agree(&rt, events.lines.len(), 1);
+    holds(
+        &rt,
+        is_event(&events.lines[0], 0, &Action::EnterGet(360287970190688256)),
+    );
 }
 
 // A script of many lines is read as fast as its bytes.
@@ -85,6 +89,6 @@ fn many_events(rt: HostRuntime) -> Result<(), Fail> {
         text.extend_from_slice(b"0 Tie\n0 Put 0.0.0\n")?;
     }
     let events = parse_events(alloc, text.as_slice()).expect(&rt, "it is a script");
-    assert_eq!(rt; events.lines.len(), 100_000);
+    agree(&rt, events.lines.len(), 100_000);
     Ok(())
 }

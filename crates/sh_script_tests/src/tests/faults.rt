@@ -1,30 +1,25 @@
-use super::{calls_fault, events_fault};
+use super::{agree, calls_fault, events_fault};
 use sh_script::{Cause, Fault};
 use std::alloc::{AllocError, Global};
 use std::test::Fail;
 
+const TEXTS: [(Fault, &str); 5] = [
+    (
+        Fault::Script(3, Cause::Unbound),
+        "fault 14 Script line 3 Unbound",
+    ),
+    (Fault::BadShape, "fault 12 BadShape"),
+    (Fault::Memory, "fault 8 Memory"),
+    (Fault::Waiting, "fault 11 Waiting"),
+    (Fault::Io, "fault 15 Io"),
+];
+
 #[test]
 fn faults_have_their_text(rt: HostRuntime) -> Result<(), Fail> {
-    let alloc = rt.alloc();
-    let table = [
-        (
-            Fault::Script(3, Cause::Unbound),
-            "fault 14 Script line 3 Unbound",
-        ),
-        (Fault::BadShape, "fault 12 BadShape"),
-        (Fault::Memory, "fault 8 Memory"),
-        (Fault::Waiting, "fault 11 Waiting"),
-        (Fault::Io, "fault 15 Io"),
-    ];
-    for (fault, text) in table {
-        assert_eq!(rt; format!(in alloc; "{fault}")?.as_str(), text);
+    for (fault, text) in &TEXTS {
+        agree(&rt, format!(in rt.alloc(); "{fault}")?.as_str(), *text);
     }
     Ok(())
-}
-
-// A fault of the second line, after the header.
-fn second(cause: Cause) -> Option<Fault> {
-    Some(Fault::Script(2, cause))
 }
 
 // The lines behind `heap tiny 1 1 1`.
@@ -34,129 +29,137 @@ fn after_header(alloc: Global, lines: &[u8]) -> Result<Vec<u8>, AllocError> {
     Ok(text)
 }
 
+// Lines of calls behind a header, which is line 1, and the line that is at fault.
+const CALLS_WITH_A_FAULT: [(&[u8], u64, Cause); 27] = [
+    (b"0 adopt 00\n", 2, Cause::Number),
+    (b"x adopt 0\n", 2, Cause::Number),
+    (b"1 adopt 0\n", 2, Cause::Pass),
+    (b"0\n", 2, Cause::Count),
+    (b"0 jump\n", 2, Cause::Command),
+    (b"0 adopt\n", 2, Cause::Count),
+    (b"0 insert A 1\n", 2, Cause::Name),
+    (b"0 insert a\n0 insert a\n", 3, Cause::Bound),
+    (b"0 post p\n0 get p\n", 3, Cause::Unbound),
+    (b"0 get #x\n", 2, Cause::Number),
+    (b"0 insert a 18446744073709551616\n", 2, Cause::Number),
+    (b"0\tadopt 0\n", 2, Cause::Byte),
+    (b"0 get a\n", 2, Cause::Unbound),
+    (b"0 adopt 0", 2, Cause::Cut),
+    (b"0 insert\n", 2, Cause::Count),
+    (b"0 insert a\n0 post a\n", 3, Cause::Bound),
+    (b"0 post p\n0 release p\n", 3, Cause::Unbound),
+    (b"0 wait p\n", 2, Cause::Unbound),
+    (b"0 wait #1\n", 2, Cause::Name),
+    (b"0 leave 0\n", 2, Cause::Count),
+    (b"0 adopt 0 0\n0 jump\n", 2, Cause::Count),
+    (b"0 Adopt 0\n", 2, Cause::Command),
+    // Of two faults in a line the first of the table is named.
+    (b"1 jump\n", 2, Cause::Pass),
+    (b"x jump\n", 2, Cause::Number),
+    (b"0 get #x y\n", 2, Cause::Count),
+    (b"0 insert A x\n", 2, Cause::Name),
+    (
+        b"0 post a23456789012345678901234567890123\n",
+        2,
+        Cause::Name,
+    ),
+];
+
+const CALLS_WITH_NO_FAULT: [&[u8]; 3] = [
+    // A name of 32 bytes is one.
+    b"0 post a2345678901234567890123456789012\n",
+    b"0 post a_\n0 insert a__ 0\n0 get a__\n",
+    b"0 insert a 18446744073709551615\n",
+];
+
 #[test]
 fn call_lines_with_a_fault(rt: HostRuntime) -> Result<(), Fail> {
-    let third = |cause: Cause| -> Option<Fault> { Some(Fault::Script(3, cause)) };
-    let table: [(&[u8], Option<Fault>); 30] = [
-        (b"0 adopt 00\n", second(Cause::Number)),
-        (b"x adopt 0\n", second(Cause::Number)),
-        (b"1 adopt 0\n", second(Cause::Pass)),
-        (b"0\n", second(Cause::Count)),
-        (b"0 jump\n", second(Cause::Command)),
-        (b"0 adopt\n", second(Cause::Count)),
-        (b"0 insert A 1\n", second(Cause::Name)),
-        (b"0 insert a\n0 insert a\n", third(Cause::Bound)),
-        (b"0 post p\n0 get p\n", third(Cause::Unbound)),
-        (b"0 get #x\n", second(Cause::Number)),
-        (b"0 insert a 18446744073709551616\n", second(Cause::Number)),
-        (b"0\tadopt 0\n", second(Cause::Byte)),
-        (b"0 get a\n", second(Cause::Unbound)),
-        (b"0 adopt 0", second(Cause::Cut)),
-        (b"0 insert\n", second(Cause::Count)),
-        (b"0 insert a\n0 post a\n", third(Cause::Bound)),
-        (b"0 post p\n0 release p\n", third(Cause::Unbound)),
-        (b"0 wait p\n", second(Cause::Unbound)),
-        (b"0 wait #1\n", second(Cause::Name)),
-        (b"0 leave 0\n", second(Cause::Count)),
-        (b"0 adopt 0 0\n0 jump\n", second(Cause::Count)),
-        (b"0 Adopt 0\n", second(Cause::Command)),
-        // Of two faults in a line the first of the table is named.
-        (b"1 jump\n", second(Cause::Pass)),
-        (b"x jump\n", second(Cause::Number)),
-        (b"0 get #x y\n", second(Cause::Count)),
-        (b"0 insert A x\n", second(Cause::Name)),
-        // A name of 32 bytes is a name, and one of 33 is none.
-        (b"0 post a2345678901234567890123456789012\n", None),
-        (
-            b"0 post a23456789012345678901234567890123\n",
-            second(Cause::Name),
-        ),
-        (b"0 post a_\n0 insert a__ 0\n0 get a__\n", None),
-        (b"0 insert a 18446744073709551615\n", None),
-    ];
-    for (lines, fault) in table {
+    for (lines, line, cause) in &CALLS_WITH_A_FAULT {
         let text = after_header(rt.alloc(), lines)?;
-        assert_eq!(rt;
-            calls_fault(rt.alloc(), text.as_slice()),
-            fault,
-            "{fault:?}"
-        );
+        let found = calls_fault(rt.alloc(), text.as_slice());
+        agree(&rt, found, Some(Fault::Script(*line, *cause)));
+    }
+    for lines in &CALLS_WITH_NO_FAULT {
+        let text = after_header(rt.alloc(), lines)?;
+        agree(&rt, calls_fault(rt.alloc(), text.as_slice()), None);
     }
     Ok(())
 }
 
+// The same of lines of events.
+const EVENTS_WITH_A_FAULT: [(&[u8], u64, Cause); 45] = [
+    (b"x Tie\n", 2, Cause::Number),
+    (b"00 Tie\n", 2, Cause::Number),
+    (b"1 Tie\n", 2, Cause::Pass),
+    (b"0\n", 2, Cause::Count),
+    (b"0 tie\n", 2, Cause::Command),
+    (b"0 adopt 0\n", 2, Cause::Command),
+    (b"0 Tie 0\n", 2, Cause::Count),
+    (b"0\tTie\n", 2, Cause::Byte),
+    (b"0 Tie", 2, Cause::Cut),
+    (b"0 Enter\n", 2, Cause::Count),
+    (b"0 Enter put\n", 2, Cause::Command),
+    (b"0 Enter put 1 2\n", 2, Cause::Command),
+    (b"0 Enter get\n", 2, Cause::Count),
+    (b"0 Enter remove 1 2\n", 2, Cause::Count),
+    (b"0 Enter get #1\n", 2, Cause::Number),
+    (b"0 Enter get a\n", 2, Cause::Number),
+    (b"0 Drop 1 2\n", 2, Cause::Count),
+    (b"0 Drop x\n", 2, Cause::Number),
+    (b"0 Mark 1\n", 2, Cause::Count),
+    (b"0 Read\n", 2, Cause::Count),
+    (b"0 Read 1 2 3\n", 2, Cause::Count),
+    (b"0 Read 1\n", 2, Cause::Number),
+    (b"0 Read 0.0.0\n", 2, Cause::Number),
+    (b"0 Read 0.0 0\n", 2, Cause::Number),
+    (b"0 Read 1 x\n", 2, Cause::Number),
+    (b"0 SetClass 0.0\n", 2, Cause::Count),
+    (b"0 SetClass 0.0 7 7\n", 2, Cause::Count),
+    (b"0 SetClass 0 7\n", 2, Cause::Number),
+    (b"0 SetClass 0.0 07\n", 2, Cause::Number),
+    (b"0 Take\n", 2, Cause::Count),
+    (b"0 Take .0\n", 2, Cause::Number),
+    (b"0 Take 0.\n", 2, Cause::Number),
+    (b"0 Take 0..0\n", 2, Cause::Number),
+    (b"0 Follow 0.01\n", 2, Cause::Number),
+    (b"0 Arm 0.18446744073709551616\n", 2, Cause::Number),
+    (b"0 Put 0.0\n", 2, Cause::Number),
+    (b"0 Put 0.0.0.0\n", 2, Cause::Number),
+    (b"0 Put 0.0.0 0\n", 2, Cause::Count),
+    (b"0 Adopt\n", 2, Cause::Count),
+    (b"0 Adopt a\n", 2, Cause::Number),
+    (b"0 Leave 0\n", 2, Cause::Count),
+    (b"0 Fill 0.0\n", 2, Cause::Number),
+    (b"0 Fill 0.0.0 x\n", 2, Cause::Number),
+    (
+        b"0 Fill 0.0.0 1 2 3 4 5 6 7 8 9 10 11 12 13 14 15 16 17\n",
+        2,
+        Cause::Count,
+    ),
+    // Too many words are found before the place and the words are looked at.
+    (
+        b"0 Fill x 1 2 3 4 5 6 7 8 9 10 11 12 13 14 15 16 y\n",
+        2,
+        Cause::Count,
+    ),
+];
+
+const EVENTS_WITH_NO_FAULT: [&[u8]; 2] = [
+    b"0 Fill 0.0.0 1 2 3 4 5 6 7 8 9 10 11 12 13 14 15 16\n",
+    // Numbers outside the shape are no fault.
+    b"0 Adopt 18446744073709551615\n0 Take 9.99\n0 SetClass 9.9 99\n",
+];
+
 #[test]
 fn event_lines_with_a_fault(rt: HostRuntime) -> Result<(), Fail> {
-    let table: [(&[u8], Option<Fault>); 47] = [
-        (b"x Tie\n", second(Cause::Number)),
-        (b"00 Tie\n", second(Cause::Number)),
-        (b"1 Tie\n", second(Cause::Pass)),
-        (b"0\n", second(Cause::Count)),
-        (b"0 tie\n", second(Cause::Command)),
-        (b"0 adopt 0\n", second(Cause::Command)),
-        (b"0 Tie 0\n", second(Cause::Count)),
-        (b"0\tTie\n", second(Cause::Byte)),
-        (b"0 Tie", second(Cause::Cut)),
-        (b"0 Enter\n", second(Cause::Count)),
-        (b"0 Enter put\n", second(Cause::Command)),
-        (b"0 Enter put 1 2\n", second(Cause::Command)),
-        (b"0 Enter get\n", second(Cause::Count)),
-        (b"0 Enter remove 1 2\n", second(Cause::Count)),
-        (b"0 Enter get #1\n", second(Cause::Number)),
-        (b"0 Enter get a\n", second(Cause::Number)),
-        (b"0 Drop 1 2\n", second(Cause::Count)),
-        (b"0 Drop x\n", second(Cause::Number)),
-        (b"0 Mark 1\n", second(Cause::Count)),
-        (b"0 Read\n", second(Cause::Count)),
-        (b"0 Read 1 2 3\n", second(Cause::Count)),
-        (b"0 Read 1\n", second(Cause::Number)),
-        (b"0 Read 0.0.0\n", second(Cause::Number)),
-        (b"0 Read 0.0 0\n", second(Cause::Number)),
-        (b"0 Read 1 x\n", second(Cause::Number)),
-        (b"0 SetClass 0.0\n", second(Cause::Count)),
-        (b"0 SetClass 0.0 7 7\n", second(Cause::Count)),
-        (b"0 SetClass 0 7\n", second(Cause::Number)),
-        (b"0 SetClass 0.0 07\n", second(Cause::Number)),
-        (b"0 Take\n", second(Cause::Count)),
-        (b"0 Take .0\n", second(Cause::Number)),
-        (b"0 Take 0.\n", second(Cause::Number)),
-        (b"0 Take 0..0\n", second(Cause::Number)),
-        (b"0 Follow 0.01\n", second(Cause::Number)),
-        (b"0 Arm 0.18446744073709551616\n", second(Cause::Number)),
-        (b"0 Put 0.0\n", second(Cause::Number)),
-        (b"0 Put 0.0.0.0\n", second(Cause::Number)),
-        (b"0 Put 0.0.0 0\n", second(Cause::Count)),
-        (b"0 Adopt\n", second(Cause::Count)),
-        (b"0 Adopt a\n", second(Cause::Number)),
-        (b"0 Leave 0\n", second(Cause::Count)),
-        (b"0 Fill 0.0\n", second(Cause::Number)),
-        (b"0 Fill 0.0.0 x\n", second(Cause::Number)),
-        (
-            b"0 Fill 0.0.0 1 2 3 4 5 6 7 8 9 10 11 12 13 14 15 16\n",
-            None,
-        ),
-        (
-            b"0 Fill 0.0.0 1 2 3 4 5 6 7 8 9 10 11 12 13 14 15 16 17\n",
-            second(Cause::Count),
-        ),
-        // Too many words are found before the place and the words are looked at.
-        (
-            b"0 Fill x 1 2 3 4 5 6 7 8 9 10 11 12 13 14 15 16 y\n",
-            second(Cause::Count),
-        ),
-        // Numbers outside the shape are no fault.
-        (
-            b"0 Adopt 18446744073709551615\n0 Take 9.99\n0 SetClass 9.9 99\n",
-            None,
-        ),
-    ];
-    for (lines, fault) in table {
+    for (lines, line, cause) in &EVENTS_WITH_A_FAULT {
         let text = after_header(rt.alloc(), lines)?;
-        assert_eq!(rt;
-            events_fault(rt.alloc(), text.as_slice()),
-            fault,
-            "{fault:?}"
-        );
+        let found = events_fault(rt.alloc(), text.as_slice());
+        agree(&rt, found, Some(Fault::Script(*line, *cause)));
+    }
+    for lines in &EVENTS_WITH_NO_FAULT {
+        let text = after_header(rt.alloc(), lines)?;
+        agree(&rt, events_fault(rt.alloc(), text.as_slice()), None);
     }
     Ok(())
 }
@@ -181,29 +184,34 @@ fn long_line(
     Ok(text)
 }
 
+// The first byte of a line, its length, its last byte, whether a newline follows, and its fault. Comments and blank lines
+// are lines too.
+const LONG_LINES: [(u8, usize, u8, bool, Option<Cause>); 13] = [
+    (b';', 512, b' ', true, None),
+    (b';', 513, b' ', true, Some(Cause::Size)),
+    (b' ', 512, b' ', true, None),
+    (b' ', 513, b' ', true, Some(Cause::Size)),
+    (b';', 512, b' ', false, Some(Cause::Cut)),
+    (b' ', 2, b' ', false, Some(Cause::Cut)),
+    (b';', 513, b' ', false, Some(Cause::Size)),
+    (b';', 512, b'\t', true, Some(Cause::Byte)),
+    (b';', 512, 127, true, Some(Cause::Byte)),
+    (b'\r', 2, b' ', true, Some(Cause::Byte)),
+    (b';', 513, b'\t', true, Some(Cause::Size)),
+    (b'0', 512, b'!', true, Some(Cause::Command)),
+    (b'0', 513, b'!', true, Some(Cause::Size)),
+];
+
 #[test]
 fn long_lines(rt: HostRuntime) -> Result<(), Fail> {
-    let alloc = rt.alloc();
-    // Comments and blank lines are lines too.
-    let table = [
-        (b';', 512, b' ', true, None),
-        (b';', 513, b' ', true, second(Cause::Size)),
-        (b' ', 512, b' ', true, None),
-        (b' ', 513, b' ', true, second(Cause::Size)),
-        (b';', 512, b' ', false, second(Cause::Cut)),
-        (b' ', 2, b' ', false, second(Cause::Cut)),
-        (b';', 513, b' ', false, second(Cause::Size)),
-        (b';', 512, b'\t', true, second(Cause::Byte)),
-        (b';', 512, 127, true, second(Cause::Byte)),
-        (b'\r', 2, b' ', true, second(Cause::Byte)),
-        (b';', 513, b'\t', true, second(Cause::Size)),
-        (b'0', 512, b'!', true, second(Cause::Command)),
-        (b'0', 513, b'!', true, second(Cause::Size)),
-    ];
-    for (first, bytes, last, ends, fault) in table {
-        let text = long_line(alloc, first, bytes, last, ends)?;
-        assert_eq!(rt; calls_fault(alloc, text.as_slice()), fault, "{bytes}");
-        assert_eq!(rt; events_fault(alloc, text.as_slice()), fault, "{bytes}");
+    for (first, bytes, last, ends, cause) in &LONG_LINES {
+        let text = long_line(rt.alloc(), *first, *bytes, *last, *ends)?;
+        let fault = match cause {
+            Some(cause) => Some(Fault::Script(2, *cause)),
+            None => None,
+        };
+        agree(&rt, calls_fault(rt.alloc(), text.as_slice()), fault);
+        agree(&rt, events_fault(rt.alloc(), text.as_slice()), fault);
     }
     Ok(())
 }
@@ -215,11 +223,11 @@ fn long_scripts(rt: HostRuntime) -> Result<(), Fail> {
     for _ in text.len()..1_048_576 {
         text.push(b'\n')?;
     }
-    assert_eq!(rt; calls_fault(alloc, text.as_slice()), None);
-    assert_eq!(rt; events_fault(alloc, text.as_slice()), None);
+    agree(&rt, calls_fault(alloc, text.as_slice()), None);
+    agree(&rt, events_fault(alloc, text.as_slice()), None);
     text.push(b'\n')?;
     let size = Some(Fault::Script(0, Cause::Size));
-    assert_eq!(rt; calls_fault(alloc, text.as_slice()), size);
-    assert_eq!(rt; events_fault(alloc, text.as_slice()), size);
+    agree(&rt, calls_fault(alloc, text.as_slice()), size);
+    agree(&rt, events_fault(alloc, text.as_slice()), size);
     Ok(())
 }

@@ -1,3 +1,4 @@
+use super::{agree, holds};
 use sh_script::{Call, Fault, Reference, parse_calls, parse_events};
 use sh_step::{Action, SlotName};
 use sh_value::Value;
@@ -22,11 +23,11 @@ fn refused_memory_is_a_fault_of_calls(rt: HostRuntime) -> Result<(), Fail> {
         answer => answer,
     };
     let calls = calls.expect(&rt, "it is a script");
-    assert_eq!(rt; calls.header.shape.passes(), 1);
-    assert_eq!(rt; calls.lines.len(), 20);
+    agree(&rt, calls.header.shape.passes(), 1);
+    agree(&rt, calls.lines.len(), 20);
     for at in 0..20 {
         let line = &calls.lines[at];
-        assert_eq!(rt; line.pass, 0);
+        agree(&rt, line.pass, 0);
         let is_as_written = match &line.call {
             Call::Insert(words) if at == 0 => words.as_slice() == WORDS,
             Call::Insert(words) => at <= 16 && words.as_slice().is_empty(),
@@ -35,7 +36,7 @@ fn refused_memory_is_a_fault_of_calls(rt: HostRuntime) -> Result<(), Fail> {
             Call::Get(key) => at == 19 && *key == Reference::Name(16),
             _ => false,
         };
-        assert!(rt; is_as_written, "{at}");
+        holds(&rt, is_as_written);
     }
     Ok(())
 }
@@ -60,13 +61,13 @@ fn refused_memory_is_a_fault_of_events(rt: HostRuntime) -> Result<(), Fail> {
     let events = events.expect(&rt, "it is a script");
     let words = [0, 1, 2, 3, 4, 5, 6, 7, 8, 9, 10, 11, 12, 13, 14, 15];
     let value = Value::new(&words).expect(&rt, "16 words fit");
-    assert_eq!(rt; events.header.tag, Some(5));
-    assert_eq!(rt; events.lines.len(), 18);
-    assert_eq!(rt; events.lines[0].action, Action::FillSlot(SLOT, value));
+    agree(&rt, events.header.tag, Some(5));
+    agree(&rt, events.lines.len(), 18);
+    holds(&rt, events.lines[0].action == Action::FillSlot(SLOT, value));
     for at in 1..17 {
-        assert_eq!(rt; events.lines[at].pass, 0);
-        assert_eq!(rt; events.lines[at].action, Action::Fill, "{at}");
+        agree(&rt, events.lines[at].pass, 0);
+        holds(&rt, events.lines[at].action == Action::Fill);
     }
-    assert_eq!(rt; events.lines[17].action, Action::Publish);
+    holds(&rt, events.lines[17].action == Action::Publish);
     Ok(())
 }

@@ -8,8 +8,19 @@ use sh_key::Tiny;
 use sh_plain::PlainStore;
 use sh_value::Value;
 use std::alloc::Global;
+use std::fmt::Debug;
 use std::process::Abort;
 use std::test::Fail;
+
+// What was found is what is wanted. It is a function, since each assertion that is written out is proved anew.
+fn agree<T: PartialEq + Debug + Drop>(rt: &impl Abort, found: T, wanted: T) {
+    assert_eq!(rt; found, wanted);
+}
+
+// It is so.
+fn holds(rt: &impl Abort, it: bool) {
+    assert!(rt; it);
+}
 
 // A record of kind 1 with two words.
 #[derive(Clone, Copy, Debug, PartialEq, Eq)]
@@ -79,7 +90,7 @@ fn value(words: &[u64], rt: &impl Abort) -> Value {
 // A store with the value `1 5 6`, stored as a record under 4096.
 fn store_with_a_point(alloc: Global, rt: &impl Abort) -> PlainStore<Tiny> {
     let mut points = Typed::<_, Point>::new(PlainStore::<Tiny>::new(alloc, 1));
-    assert_eq!(rt; points.insert(&Point { x: 5, y: 6 }), Ok(4096));
+    agree(rt, points.insert(&Point { x: 5, y: 6 }), Ok(4096));
     points.into_store()
 }
 
@@ -87,7 +98,7 @@ fn store_with_a_point(alloc: Global, rt: &impl Abort) -> PlainStore<Tiny> {
 fn a_record_is_stored_as_its_kind_and_its_words(rt: HostRuntime) -> Result<(), Fail> {
     let mut store = store_with_a_point(rt.alloc(), &rt);
     let hold = store.get(4096).expect(&rt, "it was inserted");
-    assert_eq!(rt; store.read(hold), Ok(value(&[1, 5, 6], &rt)));
+    agree(&rt, store.read(hold), Ok(value(&[1, 5, 6], &rt)));
     Ok(())
 }
 
@@ -95,11 +106,11 @@ fn a_record_is_stored_as_its_kind_and_its_words(rt: HostRuntime) -> Result<(), F
 fn a_record_is_given_back(rt: HostRuntime) -> Result<(), Fail> {
     let mut points = Typed::<_, Point>::new(store_with_a_point(rt.alloc(), &rt));
     let hold = Hold { key: 4096 };
-    assert_eq!(rt; points.get(4096), Ok((hold, Point { x: 5, y: 6 })));
-    assert_eq!(rt; points.remove(4096), Ok(()));
-    assert_eq!(rt; points.get(4096), Err(Refusal::Gone));
-    assert_eq!(rt; points.release(hold), Ok(()));
-    assert_eq!(rt; points.release(hold), Err(Refusal::NotHeld));
+    agree(&rt, points.get(4096), Ok((hold, Point { x: 5, y: 6 })));
+    agree(&rt, points.remove(4096), Ok(()));
+    agree(&rt, points.get(4096), Err(Refusal::Gone));
+    agree(&rt, points.release(hold), Ok(()));
+    agree(&rt, points.release(hold), Err(Refusal::NotHeld));
     Ok(())
 }
 
@@ -108,23 +119,31 @@ fn a_record_is_given_back(rt: HostRuntime) -> Result<(), Fail> {
 fn another_kind_is_refused_and_not_held(rt: HostRuntime) -> Result<(), Fail> {
     let mut counts = Typed::<_, Count>::new(store_with_a_point(rt.alloc(), &rt));
     for _ in 0..5 {
-        assert_eq!(rt; counts.get(4096), Err(Refusal::WrongKind));
+        agree(&rt, counts.get(4096), Err(Refusal::WrongKind));
     }
-    assert_eq!(rt; counts.release(Hold { key: 4096 }), Err(Refusal::NotHeld));
+    agree(
+        &rt,
+        counts.release(Hold { key: 4096 }),
+        Err(Refusal::NotHeld),
+    );
     let mut points = Typed::<_, Point>::new(counts.into_store());
-    assert!(rt; points.get(4096).is_ok());
+    holds(&rt, points.get(4096).is_ok());
     Ok(())
 }
 
 #[test]
 fn words_that_do_not_decode_are_refused(rt: HostRuntime) -> Result<(), Fail> {
     let mut store = PlainStore::<Tiny>::new(rt.alloc(), 1);
-    assert_eq!(rt; store.insert(&value(&[], &rt)), Ok(4096));
-    assert_eq!(rt; store.insert(&value(&[1, 5], &rt)), Ok(4097));
+    agree(&rt, store.insert(&value(&[], &rt)), Ok(4096));
+    agree(&rt, store.insert(&value(&[1, 5], &rt)), Ok(4097));
     let mut points = Typed::<_, Point>::new(store);
-    assert_eq!(rt; points.get(4096), Err(Refusal::WrongKind));
-    assert_eq!(rt; points.get(4097), Err(Refusal::WrongKind));
-    assert_eq!(rt; points.release(Hold { key: 4097 }), Err(Refusal::NotHeld));
+    agree(&rt, points.get(4096), Err(Refusal::WrongKind));
+    agree(&rt, points.get(4097), Err(Refusal::WrongKind));
+    agree(
+        &rt,
+        points.release(Hold { key: 4097 }),
+        Err(Refusal::NotHeld),
+    );
     Ok(())
 }
 
@@ -141,42 +160,43 @@ fn idle_lender(words: &[u64], rt: &impl Abort) -> Lender {
 fn the_stores_own_refusals_are_answered(rt: HostRuntime) {
     let point = Point { x: 5, y: 6 };
     let mut points = Typed::<_, Point>::new(idle_lender(&[1, 5, 6], &rt));
-    assert_eq!(rt; points.insert(&point), Err(Refusal::Full));
-    assert_eq!(rt; points.get(LENT_KEY + 1), Err(Refusal::BadKey));
-    assert_eq!(rt; points.remove(LENT_KEY + 1), Err(Refusal::BadKey));
-    assert_eq!(rt; points.remove(LENT_KEY), Err(Refusal::Memory));
+    agree(&rt, points.insert(&point), Err(Refusal::Full));
+    agree(&rt, points.get(LENT_KEY + 1), Err(Refusal::BadKey));
+    agree(&rt, points.remove(LENT_KEY + 1), Err(Refusal::BadKey));
+    agree(&rt, points.remove(LENT_KEY), Err(Refusal::Memory));
     let hold = Hold { key: LENT_KEY };
-    assert_eq!(rt; points.release(hold), Err(Refusal::NotHeld));
-    assert_eq!(rt; points.get(LENT_KEY), Ok((hold, point)));
-    assert_eq!(rt; points.get(LENT_KEY), Err(Refusal::HoldsFull));
+    agree(&rt, points.release(hold), Err(Refusal::NotHeld));
+    agree(&rt, points.get(LENT_KEY), Ok((hold, point)));
+    agree(&rt, points.get(LENT_KEY), Err(Refusal::HoldsFull));
     let mut store = points.into_store();
     store.has_memory = false;
     let mut points = Typed::<_, Point>::new(store);
-    assert_eq!(rt; points.insert(&point), Err(Refusal::Memory));
-    assert_eq!(rt; points.get(LENT_KEY), Err(Refusal::Memory));
-    assert_eq!(rt; points.release(hold), Err(Refusal::Memory));
+    agree(&rt, points.insert(&point), Err(Refusal::Memory));
+    agree(&rt, points.get(LENT_KEY), Err(Refusal::Memory));
+    agree(&rt, points.release(hold), Err(Refusal::Memory));
     let mut store = points.into_store();
-    assert_eq!(rt; store.stage, Stage::Read);
+    agree(&rt, store.stage, Stage::Read);
     store.has_memory = true;
     let mut points = Typed::<_, Point>::new(store);
-    assert_eq!(rt; points.release(hold), Ok(()));
-    assert_eq!(rt; points.release(hold), Err(Refusal::NotHeld));
+    agree(&rt, points.release(hold), Ok(()));
+    agree(&rt, points.release(hold), Err(Refusal::NotHeld));
 }
 
 // The hold on another kind goes back, or stays where memory for that is refused.
 #[test]
 fn a_hold_on_another_kind_goes_back_where_it_can(rt: HostRuntime) {
     let mut counts = Typed::<_, Count>::new(idle_lender(&[1, 5, 6], &rt));
-    assert_eq!(rt; counts.get(LENT_KEY), Err(Refusal::WrongKind));
-    assert_eq!(rt; counts.into_store().stage, Stage::Returned);
+    agree(&rt, counts.get(LENT_KEY), Err(Refusal::WrongKind));
+    agree(&rt, counts.into_store().stage, Stage::Returned);
     let mut store = idle_lender(&[1, 5, 6], &rt);
     store.has_memory = false;
     let mut counts = Typed::<_, Count>::new(store);
-    assert_eq!(rt; counts.get(LENT_KEY), Err(Refusal::Memory));
+    agree(&rt, counts.get(LENT_KEY), Err(Refusal::Memory));
     let mut store = counts.into_store();
-    assert_eq!(rt; store.stage, Stage::Read);
-    assert_eq!(rt;
+    agree(&rt, store.stage, Stage::Read);
+    agree(
+        &rt,
         store.read(Hold { key: LENT_KEY }),
-        Ok(value(&[1, 5, 6], &rt))
+        Ok(value(&[1, 5, 6], &rt)),
     );
 }
