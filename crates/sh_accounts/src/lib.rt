@@ -2,10 +2,8 @@
 //! events.
 #![tactic(auto)]
 
-mod kinds;
+pub mod kinds;
 pub mod pages;
-#[cfg(test)]
-mod tests;
 
 pub use pages::page;
 pub use sh_core::Accounts;

@@ -6,8 +6,6 @@ mod accounts;
 mod borrowing;
 pub mod gathering;
 pub mod laws;
-#[cfg(test)]
-mod tests;
 pub mod view;
 
 pub use borrowing::Whole;

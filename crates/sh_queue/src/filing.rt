@@ -113,6 +113,3 @@ fn mark_of(class: Option<u32>) -> u32
         None => END,
     }
 }
-
-#[cfg(test)]
-mod tests;

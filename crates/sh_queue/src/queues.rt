@@ -181,6 +181,3 @@ fn page_of(number: u32) -> Option<u32>
         Some(number - FIRST_PAGE)
     }
 }
-
-#[cfg(test)]
-mod tests;

@@ -7,8 +7,6 @@ pub mod fill;
 pub mod free;
 pub mod hand;
 pub mod reply;
-#[cfg(test)]
-mod tests;
 
 pub use enter::{GetAnswer, after_enter_remove, answer_to_get, is_live_at};
 pub use fill::published_name;

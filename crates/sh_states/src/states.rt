@@ -180,6 +180,3 @@ fn is_whole(state: &PageState) -> bool
     }
     slots >= classes::slots((state.class_word - 1) as u32)
 }
-
-#[cfg(test)]
-mod tests;

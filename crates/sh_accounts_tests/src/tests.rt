@@ -1,10 +1,12 @@
-use crate::kinds::{SlotKind, slot_kind};
-use crate::{Accounts, page};
+use sh_accounts::kinds::{SlotKind, slot_kind};
+use sh_accounts::{Accounts, page};
 use sh_core::World;
 use sh_key::{Tiny, Wide};
 use sh_shape::Shape;
 use sh_slots::Spot;
 use sh_word::{Kind, State};
+use std::fmt::Debug;
+use std::process::Abort;
 use std::test::Fail;
 
 // A page without a class, of whose slots nothing is counted.
@@ -18,12 +20,17 @@ const BLANK: Accounts = Accounts {
     queued: 0,
 };
 
+// What was found is what is wanted. It is a function, since each assertion that is written out is proved anew.
+fn agree<T: PartialEq + Debug + Drop>(rt: &impl Abort, found: T, wanted: T) {
+    assert_eq!(rt; found, wanted);
+}
+
 #[test]
 fn pages_of_a_fresh_heap_are_blank(rt: HostRuntime) -> Result<(), Fail> {
     let shape = Shape::new(2, 1, 1).expect(&rt, "two shards of one segment are a shape");
     let world = World::<Tiny>::new(rt.alloc(), shape).expect(&rt, "it fits tiny");
-    assert_eq!(rt; page(&world, 0, 0), Some(BLANK));
-    assert_eq!(rt; page(&world, 1, 7), Some(BLANK));
+    agree(&rt, page(&world, 0, 0), Some(BLANK));
+    agree(&rt, page(&world, 1, 7), Some(BLANK));
     Ok(())
 }
 
@@ -31,9 +38,9 @@ fn pages_of_a_fresh_heap_are_blank(rt: HostRuntime) -> Result<(), Fail> {
 fn page_that_is_not_there_has_no_accounts(rt: HostRuntime) -> Result<(), Fail> {
     let shape = Shape::new(2, 1, 1).expect(&rt, "two shards of one segment are a shape");
     let world = World::<Wide>::new(rt.alloc(), shape).expect(&rt, "it fits wide");
-    assert_eq!(rt; page(&world, 2, 0), None);
-    assert_eq!(rt; page(&world, 0, 8), None);
-    assert_eq!(rt; page(&world, 4294967295, 4294967295), None);
+    agree(&rt, page(&world, 2, 0), None);
+    agree(&rt, page(&world, 0, 8), None);
+    agree(&rt, page(&world, 4294967295, 4294967295), None);
     Ok(())
 }
 
@@ -51,7 +58,7 @@ fn state_words_say_what_slots_are(rt: HostRuntime) -> Result<(), Fail> {
     ];
     for (kind, expected) in table {
         let word = State::new(kind, 1, 0).word();
-        assert_eq!(rt; slot_kind(word, world.parts(), spot), expected);
+        agree(&rt, slot_kind(word, world.parts(), spot), expected);
     }
     Ok(())
 }

@@ -1,5 +1,12 @@
-use super::*;
+use sh_states::PageStates;
+use std::alloc::Global;
+use std::fmt::Debug;
 use std::process::Abort;
+
+// What was found is what is wanted. It is a function, since each assertion that is written out is proved anew.
+fn agree<T: PartialEq + Debug + Drop>(rt: &impl Abort, found: T, wanted: T) {
+    assert_eq!(rt; found, wanted);
+}
 
 // Pages of a shard, all blank.
 fn blank_pages(rt: &impl Abort, alloc: Global, count: u64) -> PageStates {
@@ -49,50 +56,52 @@ fn looks(states: &mut PageStates, page: u64) -> Option<(Option<u64>, Option<u64>
 #[test]
 fn a_blank_page_has_nothing(rt: HostRuntime) {
     let mut states = blank_pages(&rt, rt.alloc(), 3);
-    assert_eq!(rt; states.len(), 3);
+    agree(&rt, states.len(), 3);
     for page in 0..3u64 {
-        assert_eq!(rt; states.class_word(page), 0);
-        assert_eq!(rt; states.slots(page), 0);
-        assert_eq!(rt; states.cursor(page), None);
-        assert!(rt; !states.is_armed(page));
-        assert!(rt; !states.is_whole(page));
-        assert_eq!(rt; states.next_slot(page), None);
+        agree(&rt, states.class_word(page), 0);
+        agree(&rt, states.slots(page), 0);
+        agree(&rt, states.cursor(page), None);
+        agree(&rt, states.is_armed(page), false);
+        agree(&rt, states.is_whole(page), false);
+        agree(&rt, states.next_slot(page), None);
     }
-    assert_eq!(rt; first(&mut states, 3), None);
+    agree(&rt, first(&mut states, 3), None);
 }
 
 #[test]
 fn pages_behind_the_last_that_is_used_stay_blank(rt: HostRuntime) {
     let mut states = blank_pages(&rt, rt.alloc(), 1000);
     give(&mut states, 7, 7);
-    assert_eq!(rt; states.len(), 1000);
-    assert_eq!(rt;
+    agree(&rt, states.len(), 1000);
+    agree(
+        &rt,
         (
             states.class_word(6),
             states.class_word(7),
-            states.class_word(8)
+            states.class_word(8),
         ),
-        (0, 8, 0)
+        (0, 8, 0),
     );
-    assert_eq!(rt;
+    agree(
+        &rt,
         (states.slots(6), states.slots(7), states.slots(999)),
-        (0, 3, 0)
+        (0, 3, 0),
     );
     give(&mut states, 999, 0);
-    assert_eq!(rt; (states.slots(998), states.slots(999)), (0, 48));
+    agree(&rt, (states.slots(998), states.slots(999)), (0, 48));
 }
 
 #[test]
 fn slots_are_used_in_order_and_those_that_came_back_then(rt: HostRuntime) {
     let mut states = blank_pages(&rt, rt.alloc(), 2);
     give(&mut states, 1, 7);
-    assert_eq!(rt; use_and_free(&mut states, 1), Some(0));
-    assert_eq!(rt; states.slots(1), 3);
+    agree(&rt, use_and_free(&mut states, 1), Some(0));
+    agree(&rt, states.slots(1), 3);
     for slot in [1, 2, 0] {
-        assert_eq!(rt; states.next_slot(1), Some(slot));
+        agree(&rt, states.next_slot(1), Some(slot));
     }
-    assert_eq!(rt; states.next_slot(1), None);
-    assert_eq!(rt; states.slots(1), 0);
+    agree(&rt, states.next_slot(1), None);
+    agree(&rt, states.slots(1), 0);
 }
 
 #[test]
@@ -100,11 +109,11 @@ fn a_page_keeps_its_cursor_whatever_class_it_is_given(rt: HostRuntime) {
     let mut states = blank_pages(&rt, rt.alloc(), 4);
     give(&mut states, 2, 7);
     begin(&mut states, 2, 2);
-    assert!(rt; states.is_armed(2));
+    agree(&rt, states.is_armed(2), true);
     give(&mut states, 2, 0);
-    assert_eq!(rt; (states.class_word(2), states.slots(2)), (1, 48));
-    assert_eq!(rt; states.cursor(2), Some(2));
-    assert!(rt; states.is_armed(2));
+    agree(&rt, (states.class_word(2), states.slots(2)), (1, 48));
+    agree(&rt, states.cursor(2), Some(2));
+    agree(&rt, states.is_armed(2), true);
 }
 
 #[test]
@@ -113,36 +122,36 @@ fn the_first_whole_page_is_found_though_it_was_none_before(rt: HostRuntime) {
     for page in 0..16u64 {
         give(&mut states, page, 7);
     }
-    assert_eq!(rt; first(&mut states, 16), Some(0));
+    agree(&rt, first(&mut states, 16), Some(0));
     for page in 0..16u64 {
-        assert_eq!(rt; states.next_slot(page), Some(0));
+        agree(&rt, states.next_slot(page), Some(0));
     }
-    assert_eq!(rt; first(&mut states, 16), None);
+    agree(&rt, first(&mut states, 16), None);
     // A slot that comes to a page of which another is out does not make it whole.
-    assert_eq!(rt; use_and_free(&mut states, 9), Some(1));
-    assert_eq!(rt; first(&mut states, 16), None);
+    agree(&rt, use_and_free(&mut states, 9), Some(1));
+    agree(&rt, first(&mut states, 16), None);
     give(&mut states, 9, 6);
-    assert_eq!(rt; first(&mut states, 9), None);
-    assert_eq!(rt; first(&mut states, 16), Some(9));
-    assert_eq!(rt; use_and_free(&mut states, 9), Some(0));
-    assert_eq!(rt; first(&mut states, 16), Some(9));
+    agree(&rt, first(&mut states, 9), None);
+    agree(&rt, first(&mut states, 16), Some(9));
+    agree(&rt, use_and_free(&mut states, 9), Some(0));
+    agree(&rt, first(&mut states, 16), Some(9));
     give(&mut states, 5, 0);
-    assert_eq!(rt; first(&mut states, 16), Some(5));
-    assert_eq!(rt; states.next_slot(5), Some(0));
-    assert_eq!(rt; first(&mut states, 16), Some(9));
+    agree(&rt, first(&mut states, 16), Some(5));
+    agree(&rt, states.next_slot(5), Some(0));
+    agree(&rt, first(&mut states, 16), Some(9));
 }
 
 #[test]
 fn a_page_is_whole_again_once_its_last_slot_comes_back(rt: HostRuntime) {
     let mut states = blank_pages(&rt, rt.alloc(), 8);
     give(&mut states, 3, 7);
-    assert_eq!(rt; first(&mut states, 8), Some(3));
-    assert_eq!(rt; looks(&mut states, 3), Some((None, Some(3))));
-    assert!(rt; states.is_whole(3));
+    agree(&rt, first(&mut states, 8), Some(3));
+    agree(&rt, looks(&mut states, 3), Some((None, Some(3))));
+    agree(&rt, states.is_whole(3), true);
 }
 
 #[test]
 fn more_pages_than_memory_has_room_for_are_refused(rt: HostRuntime) {
-    assert!(rt; PageStates::new(rt.alloc(), 1 << 60).is_err());
-    assert!(rt; PageStates::new(rt.alloc(), 0).is_ok());
+    agree(&rt, PageStates::new(rt.alloc(), 1 << 60).is_err(), true);
+    agree(&rt, PageStates::new(rt.alloc(), 0).is_ok(), true);
 }

@@ -1,10 +1,10 @@
-//! Whole heaps: one pass alone cannot tell, and all together can; and the accounts of pages that nobody owns.
-use crate::{Accounts, Whole, join, whole};
+use sh_gather::{Accounts, Whole, join, whole};
 use sh_key::{KeyLayout, Tagged, Tiny, Wide};
 use sh_pass::Heap;
 use sh_shape::Shape;
 use sh_value::Refusal;
 use std::alloc::Global;
+use std::fmt::Debug;
 use std::process::Abort;
 use std::test::Fail;
 
@@ -18,6 +18,11 @@ const BLANK: Accounts = Accounts {
     hand: 0,
     queued: 0,
 };
+
+// What was found is what is wanted. It is a function, since each assertion that is written out is proved anew.
+fn agree<T: PartialEq + Debug + Drop>(rt: &impl Abort, found: T, wanted: T) {
+    assert_eq!(rt; found, wanted);
+}
 
 // Of three passes two are joined, and then all.
 fn whole_needs_all<L: KeyLayout>(rt: &impl Abort, alloc: Global) {
@@ -35,7 +40,7 @@ fn whole_needs_all<L: KeyLayout>(rt: &impl Abort, alloc: Global) {
     let Err(both) = whole(join(first, third)) else {
         panic!(rt; "two of three passes are no whole")
     };
-    assert!(rt; whole(join(both, second)).is_ok());
+    agree(rt, whole(join(both, second)).is_ok(), true);
 }
 
 #[test]
@@ -57,7 +62,7 @@ fn pages_are_blank<L: KeyLayout>(rt: &impl Abort, alloc: Global, key: u64) {
     let (Some(mut second), Some(first)) = (passes.pop(), passes.pop()) else {
         panic!(rt; "not two passes")
     };
-    assert_eq!(rt; second.get(key), Err(Refusal::Gone));
+    agree(rt, second.get(key), Err(Refusal::Gone));
     let Ok(mut all) = whole(join(first, second)) else {
         panic!(rt; "both passes are the whole")
     };
@@ -70,20 +75,20 @@ fn pages_are_blank<L: KeyLayout>(rt: &impl Abort, alloc: Global, key: u64) {
 fn blank_in_each_shard<L: KeyLayout>(rt: &impl Abort, all: &mut Whole<'_, L>) {
     for shard in 0..2 {
         for page in 0..8 {
-            assert_eq!(rt;
-                all.accounts(shard, page),
-                Some(BLANK),
-                "page {shard}.{page}"
+            agree(
+                rt,
+                (shard, page, all.accounts(shard, page)),
+                (shard, page, Some(BLANK)),
             );
         }
     }
 }
 
 fn none_past_the_last<L: KeyLayout>(rt: &impl Abort, all: &mut Whole<'_, L>) {
-    assert_eq!(rt; all.accounts(0, 8), None);
-    assert_eq!(rt; all.accounts(1, 8), None);
-    assert_eq!(rt; all.accounts(2, 0), None);
-    assert_eq!(rt; all.accounts(4294967295, 4294967295), None);
+    agree(rt, all.accounts(0, 8), None);
+    agree(rt, all.accounts(1, 8), None);
+    agree(rt, all.accounts(2, 0), None);
+    agree(rt, all.accounts(4294967295, 4294967295), None);
 }
 
 // The least key of each layout names slot 0 of page 0 of shard 0, in generation 1.

@@ -1,0 +1,5 @@
+//! Tests of the checker of histories: which entry it names, and why.
+#![tactic(auto)]
+
+#[cfg(test)]
+mod tests;

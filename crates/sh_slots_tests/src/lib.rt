@@ -1,0 +1,5 @@
+//! Tests of the words of a slot: what a step makes of the word that it finds.
+#![tactic(auto)]
+
+#[cfg(test)]
+mod tests;
