@@ -2,7 +2,7 @@
 use Rattle.std.specs.Prelude.{◌||◌, ◌-◌, true, ℕ, ◌≡◌, ◌+◌, ◌^◌, ◌<◌, ◌≤◌, List, Some, slice_get}
 use Rattle.sh_key.specs.Layout.{Layout}
 use Rattle.sh_shape.specs.Shape.{Numbers}
-use Rattle.sh_shape.specs.Places.{IsPlace}
+use Rattle.sh_shape.specs.Places.{IsPlace, slot_places, payload_words}
 use Rattle.sh_shape.specs.declared.places.Place.{Place}
 use Rattle.sh_shape.specs.declared.places.Place.TheVariants.{Class, Head, PageLink, State, Link, Length, Payload, Owner}
 use Rattle.sh_shape.specs.declared.places.Place.TheVariants.{Bell}
@@ -17,7 +17,7 @@ use Rattle.sh_step.specs.Conditions.{Named, SpotWithin}
 use Rattle.sh_step.specs.Plans.{Plan, plan_of, heap_pages}
 use Rattle.sh_step.specs.Moves.{row}
 use Rattle.sh_step.specs.Rows.{Row}
-use Rattle.sh_shape.specs.Classes.{width, slots}
+use Rattle.sh_shape.specs.Classes.{class_count, width, slots}
 use Rattle.sh_word.specs.Fields.{fields_of}
 use Rattle.sh_step.specs.declared.operation.Operation.{Operation}
 use Rattle.sh_step.specs.declared.operation.Operation.TheVariants.{FetchAdd, FetchSub}
@@ -54,10 +54,10 @@ abbrev pub HasPlace : Plan → Place → Type 0
 HasPlace plan (Class q) = q < heap_pages plan
 HasPlace plan (Head q) = q < heap_pages plan
 HasPlace plan (PageLink q) = q < heap_pages plan
-HasPlace plan (State q s) = (q < heap_pages plan) × (s < 48)
-HasPlace plan (Link q s) = (q < heap_pages plan) × (s < 48)
-HasPlace plan (Length q s) = (q < heap_pages plan) × (s < 48)
-HasPlace plan (Payload q i) = (q < heap_pages plan) × (i < 48)
+HasPlace plan (State q s) = (q < heap_pages plan) × (s < slot_places)
+HasPlace plan (Link q s) = (q < heap_pages plan) × (s < slot_places)
+HasPlace plan (Length q s) = (q < heap_pages plan) × (s < slot_places)
+HasPlace plan (Payload q i) = (q < heap_pages plan) × (i < payload_words)
 HasPlace plan (Owner n) = n < plan.shards
 HasPlace plan (Bell n) = n < plan.shards
 
@@ -109,6 +109,6 @@ BellsAreSmall plan w = ((n : ℕ) → w.words.bell_at n ≤ heap_pages plan)
 abbrev pub ValuesFit : Plan → World → Type 0
 ValuesFit plan w = (x : Spot) → ((fields_of (w.words.state_at x.page x.slot)).present ||
     (fields_of (w.words.state_at x.page x.slot)).marked) ≡ true
-    → (0 < w.words.class_at x.page) × (w.words.class_at x.page ≤ 8) × (x.page < heap_pages plan)
+    → (0 < w.words.class_at x.page) × (w.words.class_at x.page ≤ class_count) × (x.page < heap_pages plan)
     × (x.slot < slots (w.words.class_at x.page - 1)) × (w.words.length_at x.page x.slot ≤ width
     (w.words.class_at x.page - 1))

@@ -5,7 +5,7 @@ use Rattle.sh_history.specs.declared.entry.Entry.{Entry}
 use Rattle.sh_key.specs.Layout.{Layout, IsLayout}
 use Rattle.sh_shape.specs.declared.places.Place.{Place}
 use Rattle.sh_shape.specs.declared.places.Place.TheVariants.{Class, State, Length, Payload}
-use Rattle.sh_shape.specs.Classes.{width, slots}
+use Rattle.sh_shape.specs.Classes.{class_count, width, slots}
 use Rattle.sh_shape.specs.Shape.{Numbers, IsShape, Fits}
 use Rattle.sh_shape.specs.Places.{IsPlace, number, words_of, all_pages}
 use Rattle.sh_slots.specs.declared.hand.Spot.{Spot}
@@ -52,7 +52,7 @@ value_in shape list x = words_from (λ i. word_at shape list (Payload x.page i))
 pub record SlotHasValue (shape : Numbers) (list : List ℕ) (x : Spot) : Type 0 where
   pub page : x.page < all_pages shape
   pub has_class : 0 < word_at shape list (Class x.page)
-  pub is_class : word_at shape list (Class x.page) ≤ 8
+  pub is_class : word_at shape list (Class x.page) ≤ class_count
   pub slot : x.slot < slots (word_at shape list (Class x.page) - 1)
   pub length : word_at shape list (Length x.page x.slot) ≤ width (word_at shape list (Class x.page) - 1)
 

@@ -5,7 +5,7 @@ use Rattle.sh_slots.specs.declared.hand.Spot.{Spot}
 use Rattle.sh_core.specs.Words.{Words}
 use Rattle.sh_word.specs.Fields.{fields_of}
 use Rattle.sh_step.specs.Plans.{Plan, heap_pages}
-use Rattle.sh_shape.specs.Classes.{width}
+use Rattle.sh_shape.specs.Classes.{class_count, width}
 use Rattle.sh_slots.specs.Slots.{same_spot}
 use Rattle.sh_step.specs.Collections.{total, if1, noted}
 use Rattle.sh_step.specs.declared.body.Body.{Body}
@@ -21,7 +21,7 @@ use Rattle.sh_core.specs.Sums.{Sums}
 pub record Bounds (plan : Plan) (class : ℕ → ℕ) (state length : ℕ → ℕ → ℕ) : Type 0 where
   pub generations : (q s : ℕ) → (0 < (fields_of (state q s)).generation)
       × ((fields_of (state q s)).generation ≤ plan.keys.gen_max)
-  pub classes : (q : ℕ) → (class q ≤ 8) × (0 < class q → q < heap_pages plan)
+  pub classes : (q : ℕ) → (class q ≤ class_count) × (0 < class q → q < heap_pages plan)
   pub lengths : (q s : ℕ) → ((fields_of (state q s)).present || (fields_of (state q s)).marked) ≡ true
       → length q s ≤ width (class q - 1)
 

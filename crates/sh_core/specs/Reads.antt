@@ -1,5 +1,6 @@
 -- What a pass knows of the keys that it holds.
 use Rattle.std.specs.Prelude.{ℕ, ◌≡◌, ◌<◌, List, Some, slice_get}
+use Rattle.sh_shape.specs.Places.{slot_places}
 use Rattle.sh_slots.specs.declared.hand.Name.{Name}
 use Rattle.sh_core.specs.Words.{Words}
 use Rattle.sh_step.specs.Plans.{Plan, heap_pages}
@@ -12,7 +13,7 @@ use Rattle.sh_core.specs.Worlds.{World}
 pub record ReadsAgree (plan : Plan) (class : ℕ → ℕ) (length : ℕ → ℕ → ℕ) (holds : List ℕ)
     (class_words lengths : List (ℕ × ℕ)) : Type 0 where
   pub named : (k : ℕ) → 0 < times k holds → (n : Name) × (plan.keys.unpack k ≡ Some n) × (n.page < heap_pages plan)
-      × (n.slot < 48)
+      × (n.slot < slot_places)
   pub classed : (k c : ℕ) → noted k class_words ≡ Some c → (0 < times k holds)
       × ((n : Name) → plan.keys.unpack k ≡ Some n → class n.page ≡ c)
   pub measured : (k c : ℕ) → noted k lengths ≡ Some c → (0 < times k holds)

@@ -7,6 +7,7 @@ use Rattle.sh_slots.specs.declared.hand.Name.{Name}
 use Rattle.sh_word.specs.Fields.{Fields}
 use Rattle.sh_key.specs.Layout.{Layout, IsLayout}
 use Rattle.sh_shape.specs.Shape.{Numbers, IsShape, Fits}
+use Rattle.sh_shape.specs.Places.{slot_places, payload_words}
 use Rattle.sh_step.specs.Moves.{row}
 use Rattle.sh_step.specs.Rows.{own, unpoint}
 use Rattle.sh_step.specs.Ends.{HandNames, ComesNearer, HasNext}
@@ -80,7 +81,7 @@ pub record KeyStands (plan : Plan) (w : World) (k : ℕ) : Type 0 where
   pub name : Name
   pub unpacks : plan.keys.unpack k ≡ Some name
   pub page : name.page < heap_pages plan
-  pub slot : name.slot < 48
+  pub slot : name.slot < slot_places
   pub present : (state_of w (spot_of name)).present ≡ true
   pub generation : (state_of w (spot_of name)).generation ≡ name.generation
   pub value : value_of w.log k ≡ Some (value_at w.words name.page name.slot)
@@ -92,7 +93,8 @@ HeldStands plan w = (a : ℕ) (p : Body) (k : ℕ) → slice_get w.parts a ≡ S
 abbrev pub ReadsWithin : Plan → World → Type 0
 ReadsWithin plan w = (a : ℕ) (p : Body) (k : ℕ) (n : Name) (c m i : ℕ) → slice_get w.parts a ≡ Some p
     → plan.keys.unpack k ≡ Some n → noted k p.class_words ≡ Some c → noted k p.lengths ≡ Some m → i < m →
-    (c ≡ w.words.class_at n.page) × (m ≡ w.words.length_at n.page n.slot) × (n.slot * width (c - 1) + i < 48)
+    (c ≡ w.words.class_at n.page) × (m ≡ w.words.length_at n.page n.slot)
+    × (n.slot * width (c - 1) + i < payload_words)
 
 -- what a pass noted of a key is of one that it holds, and true: the class word of its page, the length of its value,
 -- and words of it

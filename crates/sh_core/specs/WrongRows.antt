@@ -2,7 +2,7 @@
 use Rattle.std.specs.Prelude.{ℕ, ◌-◌, ◌==◌, nat_lt, Bool, true, false, cond, not, ◌&&◌, ◌||◌, ◌∷◌, Some, None, length}
 use Rattle.std.specs.Bool.{then_some}
 use Rattle.sh_shape.specs.declared.places.Place.TheVariants.{State, Link, Head}
-use Rattle.sh_shape.specs.Classes.{slots}
+use Rattle.sh_shape.specs.Classes.{class_count, slots}
 use Rattle.sh_slots.specs.declared.hand.Hand.TheVariants.{Idle, Removing, Leaving, Finishing, ToPut, Tying, Ringing}
 use Rattle.sh_slots.specs.declared.hand.Spot.{Spot}
 use Rattle.sh_slots.specs.declared.reply.Reply.TheVariants as reply
@@ -266,7 +266,8 @@ most_mine p q n = every (λ x. has (same_spot x) p.mine) (spots q 0 (slots (n - 
 
 unfoldable pub forgets_last_slot : Table
 forgets_last_slot plan p (SetClass y c) = paged plan y (λ q. elim (noted q p.classes) [
-  | Some n ↦ then_some (idle p && own plan p q && ((n == 0) || most_mine p q n) && nat_lt c 8) (set_class p q c)
+  | Some n ↦ then_some (idle p && own plan p q && ((n == 0) || most_mine p q n) && nat_lt c class_count)
+      (set_class p q c)
   | None
       ↦ None
 ])

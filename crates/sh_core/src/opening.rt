@@ -6,14 +6,9 @@ ghost use Rattle.sh_core.specs.Opening.{opening_word, opening_words};
 ghost use Rattle.sh_core.specs.Kept.{OpensWith, RefusesToOpen};
 
 use sh_key::KeyLayout;
-use sh_shape::{PAGE_WORDS, SLOT_PLACES, Shape, fits};
+use sh_shape::{FIRST_LINK, FIRST_STATE, PAGE_WORDS, Shape, fits};
 use sh_value::Refusal;
 use std::alloc::{AllocError, Global};
-
-// Between which words of a page its state words stand.
-const STATES: u32 = 3;
-
-const LINKS: u32 = STATES + SLOT_PLACES;
 
 // A state word says that the slot is empty, in its first generation.
 const FIRST_GENERATION: u64 = 1 << 32;
@@ -24,7 +19,7 @@ fn word_at(pages: u32, number: u32) -> u64
     ensures { result ≡ opening_word pages number }
 {
     let offset = number % PAGE_WORDS;
-    if number < PAGE_WORDS * pages && STATES <= offset && offset < LINKS {
+    if number < PAGE_WORDS * pages && FIRST_STATE <= offset && offset < FIRST_LINK {
         FIRST_GENERATION
     } else {
         0

@@ -1,5 +1,6 @@
 -- The two lists of free slots of a page.
 use Rattle.std.specs.Prelude.{◌≡◌, ℕ, zero, suc, ◌<◌, List, [], ◌∷◌, ◌++◌, get_or, Option, IfSome}
+use Rattle.sh_shape.specs.Places.{slot_places}
 use Rattle.sh_lists.specs.Numbers.{Distinct, AllBelow}
 
 -- the slots from which allocation takes, the owner's own frees, each list from its front, and the slot at which reading
@@ -9,11 +10,11 @@ pub record Lists : Type 0 where
   pub local : List ℕ
   pub cursor : Option ℕ
 
--- a slot stands in one of the lists at most, there once, and is one of 48, as the cursor is
+-- a slot stands in one of the lists at most, there once, and is one that a page has a place for, as the cursor is
 pub record SlotsOnce (l : Lists) : Type 0 where
   pub distinct : Distinct (l.free ++ l.local)
-  pub small : AllBelow 48 (l.free ++ l.local)
-  pub cursor : IfSome l.cursor (λ slot. slot < 48)
+  pub small : AllBelow slot_places (l.free ++ l.local)
+  pub cursor : IfSome l.cursor (λ slot. slot < slot_places)
 
 -- `local` has become `free` where that was empty
 abbrev pub refilled_by : List ℕ → Lists → Lists
@@ -41,6 +42,6 @@ EndsIn (x ∷ xs) e = LastFrom x xs e
 -- the slots of two lists differ, and each list has this end
 pub record Threaded (free : List ℕ) (free_end : ℕ) (local : List ℕ) (local_end : ℕ) : Type 0 where
   pub distinct : Distinct (free ++ local)
-  pub small : AllBelow 48 (free ++ local)
+  pub small : AllBelow slot_places (free ++ local)
   pub free_ends : EndsIn free free_end
   pub local_ends : EndsIn local local_end

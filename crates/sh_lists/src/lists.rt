@@ -1,12 +1,13 @@
 //! The two lists of free slots of a page, threaded through one array.
 ghost use Rattle.std.specs.Prelude.{◌≡◌, ◌+◌, ◌<◌, ◌≤◌, [], ◌∷◌, ◌++◌, length, None, IfSome, IfNone};
+ghost use Rattle.sh_shape.specs.Places.{slot_places};
 ghost use Rattle.sh_lists.specs.Numbers.{Misses, upward};
 ghost use Rattle.sh_lists.specs.Lists.{SlotsOnce, refilled};
 
+use sh_shape::SLOT_PLACES;
 use std::marker::Model;
 
-// How many slots a page has at most.
-const PLACES: usize = 48;
+const PLACES: usize = SLOT_PLACES as usize;
 
 // One of the lists: its first slot, its last, and how many it has. Where it has none, the other two say nothing.
 #[derive(Clone, Copy)]
@@ -39,6 +40,7 @@ pub struct PageLists {
 
 impl Model for PageLists {
     ghost use Rattle.std.specs.Prelude.{◌<◌, IfSome};
+    ghost use Rattle.sh_shape.specs.Places.{slot_places};
     ghost use Rattle.sh_lists.specs.Lists.{Lists, walk, Threaded};
 
     ghost Value = { Lists };
@@ -51,7 +53,7 @@ impl Model for PageLists {
     } };
 
     ghost invariant = { λ p. Threaded (walk p.next p.free.front p.free.count) p.free.end
-        (walk p.next p.local.front p.local.count) p.local.end × IfSome p.cursor (λ slot. slot < 48) };
+        (walk p.next p.local.front p.local.count) p.local.end × IfSome p.cursor (λ slot. slot < slot_places) };
 }
 
 impl PageLists {
@@ -69,7 +71,7 @@ impl PageLists {
 
     /// The slots 0 to `slots - 1` are free, at most 48, in ascending order. There is no cursor.
     pub fn full(slots: u32) -> Self
-        requires { slots ≤ 48 }
+        requires { slots ≤ slot_places }
         ensures { result ≡ record { free = upward 0 slots; local = []; cursor = None } }
     {
         let mut next = [0; PLACES];
@@ -100,14 +102,14 @@ impl PageLists {
     /// The slot at which reading the page's stack goes on.
     pub fn cursor(&self) -> Option<u32>
         ensures cursor { result ≡ self.now.cursor }
-        ensures small { IfSome result (λ slot. slot < 48) }
+        ensures small { IfSome result (λ slot. slot < slot_places) }
     {
         self.cursor
     }
 
     /// Says at which slot reading the page's stack goes on.
     pub fn set_cursor(&mut self, cursor: Option<u32>)
-        requires { IfSome cursor (λ slot. slot < 48) }
+        requires { IfSome cursor (λ slot. slot < slot_places) }
         ensures { self.new ≡ record self.old { cursor = cursor } }
     {
         self.cursor = cursor;
@@ -117,7 +119,7 @@ impl PageLists {
     pub fn pop(&mut self) -> Option<u32>
         ensures front { IfSome result (λ slot. self.old ≡ record self.new { free = slot ∷ self.new.free }) }
         ensures apart { IfSome result (λ slot. Misses slot (self.new.free ++ self.new.local)) }
-        ensures small { IfSome result (λ slot. slot < 48) }
+        ensures small { IfSome result (λ slot. slot < slot_places) }
         ensures none { IfNone result (self.old.free ≡ []) }
         ensures same { IfNone result (self.new ≡ self.old) }
     {
@@ -135,7 +137,7 @@ impl PageLists {
     pub fn next_slot(&mut self) -> Option<u32>
         ensures front { IfSome result (λ slot. refilled self.old ≡ record self.new { free = slot ∷ self.new.free }) }
         ensures apart { IfSome result (λ slot. Misses slot (self.new.free ++ self.new.local)) }
-        ensures small { IfSome result (λ slot. slot < 48) }
+        ensures small { IfSome result (λ slot. slot < slot_places) }
         ensures no_free { IfNone result (self.old.free ≡ []) }
         ensures no_local { IfNone result (self.old.local ≡ []) }
         ensures same { IfNone result (self.new ≡ self.old) }
@@ -149,7 +151,7 @@ impl PageLists {
 
     /// Puts a slot that stands in neither list in front of `local`.
     pub fn push_local(&mut self, slot: u32)
-        requires small { slot < 48 }
+        requires small { slot < slot_places }
         requires apart { Misses slot (self.old.free ++ self.old.local) }
         ensures { self.new ≡ record self.old { local = slot ∷ self.old.local } }
     {
@@ -178,7 +180,7 @@ impl PageLists {
 
     /// Puts a slot that stands in neither list, one that was read from the page's stack, behind `free`.
     pub fn add_read(&mut self, slot: u32)
-        requires small { slot < 48 }
+        requires small { slot < slot_places }
         requires apart { Misses slot (self.old.free ++ self.old.local) }
         ensures { self.new ≡ record self.old { free = self.old.free ++ slot ∷ [] } }
     {

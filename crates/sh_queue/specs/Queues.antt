@@ -2,11 +2,13 @@
 use Rattle.std.specs.Prelude.{◌≡◌, ◌↔◌, ℕ, zero, suc, ◌+◌, ◌-◌, ◌*◌, ◌^◌, ◌<◌, ◌≤◌, ◌==◌, nat_lt, Bool, true, false}
 use Rattle.std.specs.Prelude.{cond, List, [], ◌∷◌, ◌++◌, map, replicate, length, get_or, slice_set, Option, Some, None}
 use Rattle.std.specs.List.{concat}
+use Rattle.sh_shape.specs.Classes.{class_count}
+use Rattle.sh_shape.specs.Shape.{segment_pages}
 use Rattle.sh_lists.specs.Numbers.{Distinct, upward}
 use Rattle.sh_queue.specs.Numbers.{has_number, without_number, RisesFrom}
 
--- how many pages are opened, the first ones; how many segments are not; the pages that stand in the queue of each of
--- the 8 classes, in the full queue, and the blank pages, each list from its front
+-- how many pages are opened, the first ones; how many segments are not; the pages that stand in the queue of each
+-- class, in the full queue, and the blank pages, each list from its front
 pub record PageQueues : Type 0 where
   pub opened : ℕ
   pub unopened : ℕ
@@ -24,7 +26,7 @@ queued_pages q = concat q.classes ++ (q.full ++ q.blank)
 
 -- each opened page, and no other, stands in exactly one of the queues, and there once
 pub record EachOnce (q : PageQueues) : Type 0 where
-  pub classes : length q.classes ≡ 8
+  pub classes : length q.classes ≡ class_count
   pub once : Distinct (queued_pages q)
   pub opened : (page : ℕ) → (has_number page (queued_pages q) ≡ true) ↔ (page < q.opened)
 
@@ -32,7 +34,8 @@ pub record EachOnce (q : PageQueues) : Type 0 where
 
 -- no page is opened
 abbrev pub none_opened : ℕ → PageQueues
-none_opened segments = record { opened = 0; unopened = segments; classes = replicate 8 []; full = []; blank = [] }
+none_opened segments =
+    record { opened = 0; unopened = segments; classes = replicate class_count []; full = []; blank = [] }
 
 -- the page stands nowhere
 abbrev pub taken_out : ℕ → PageQueues → PageQueues
@@ -60,10 +63,14 @@ at_back c page q = with_class c (without_number page (class_queue q c) ++ page �
 abbrev pub among_full : ℕ → PageQueues → PageQueues
 among_full page q = record (taken_out page q) { full = without_number page q.full ++ page ∷ [] }
 
--- the next 8 pages are opened, and blank
+-- the pages of the next segment are opened, and blank
 abbrev pub one_more_segment : PageQueues → PageQueues
 one_more_segment q =
-    record q { opened = q.opened + 8; unopened = q.unopened - 1; blank = q.blank ++ upward q.opened 8 }
+    record q {
+      opened = q.opened + segment_pages;
+      unopened = q.unopened - 1;
+      blank = q.blank ++ upward q.opened segment_pages;
+    }
 
 -- ---- queues that are being filled
 
@@ -113,7 +120,7 @@ queues_from (suc n) k numbers = pages_behind k numbers ∷ queues_from n (suc k)
 
 -- the queues of the classes
 unfoldable pub class_queues : List ℕ → List (List ℕ)
-class_queues numbers = queues_from 8 0 numbers
+class_queues numbers = queues_from class_count 0 numbers
 
 -- what the chain says of the queues
 abbrev pub queues_shown : List ℕ → ℕ → ℕ → PageQueues
@@ -138,7 +145,7 @@ filing_shown numbers filed unopened notes = record {
 pub record KeepsQueues (numbers : List ℕ) (size opened unopened : ℕ) (notes : List Bool) : Type 0 where
   pub room : 11 + opened ≤ size
   pub lean : size ≤ 19 + opened
-  pub few : opened + 8 * unopened ≤ 2 ^ 24
+  pub few : opened + segment_pages * unopened ≤ 2 ^ 24
   pub distinct : Distinct numbers
   pub marked : marks numbers ≡ upward 0 11
   pub none_ahead : pages_to_mark numbers ≡ []
@@ -153,6 +160,6 @@ pub record KeepsQueues (numbers : List ℕ) (size opened unopened : ℕ) (notes 
 pub record KeepsFiling (numbers : List ℕ) (size filed unopened : ℕ) (notes : List Bool) : Type 0 where
   pub room : size ≡ 11 + length notes
   pub some_left : filed ≤ length notes
-  pub few : length notes + 8 * unopened ≤ 2 ^ 24
+  pub few : length notes + segment_pages * unopened ≤ 2 ^ 24
   pub none_noted : notes ≡ replicate (length notes) false
   pub kept : KeepsQueues numbers (11 + filed) filed unopened (replicate filed false)

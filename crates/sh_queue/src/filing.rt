@@ -1,11 +1,14 @@
 //! The pages of an owner come to their queues one after the other.
 ghost use Rattle.std.specs.Prelude.{◌≡◌, ◌≢◌, ◌+◌, ◌*◌, ◌^◌, ◌<◌, ◌≤◌, false, replicate, IfSome, IfOk, IfErr};
+ghost use Rattle.sh_shape.specs.Classes.{class_count};
+ghost use Rattle.sh_shape.specs.Shape.{segment_pages};
 ghost use Rattle.sh_lists.specs.Numbers.{upward};
 ghost use Rattle.sh_queue.specs.Chain.{ChainNumbers};
 ghost use Rattle.sh_queue.specs.Queues.{FilingQueues, mark_behind, next_filed, none_opened};
 
 use crate::chain::{Chain, END};
-use crate::queues::{BLANK, FIRST_PAGE, Queues, SEGMENT_PAGES};
+use crate::queues::{BLANK, FIRST_PAGE, Queues};
+use sh_shape::SEGMENT_PAGES;
 use sh_value::Refusal;
 use std::alloc::{AllocError, Global};
 use std::marker::Model;
@@ -37,7 +40,10 @@ impl Filing {
     /// 2^21 in all. Refused as `Memory`.
     pub fn new(alloc: Global, opened: u32, unopened: u32) -> Result<Self, Refusal>
         requires { opened + unopened ≤ 2 ^ 21 }
-        ensures ok { IfOk result (λ filing. filing ≡ record { queues = none_opened unopened; pages = 8 * opened }) }
+        ensures ok { IfOk result (λ filing. filing ≡ record {
+          queues = none_opened unopened;
+          pages = segment_pages * opened;
+        }) }
         ensures err { IfErr result (λ refusal. refusal ≡ Refusal.Memory) }
     {
         match room_for(alloc, SEGMENT_PAGES * opened) {
@@ -61,7 +67,7 @@ impl Filing {
     /// Files the next page, of which there is one: it is blank, or the last of a class from 0 to 7.
     pub fn file(&mut self, class: Option<u32>)
         requires inside { self.old.queues.opened < self.old.pages }
-        requires class { IfSome class (λ c. c < 8) }
+        requires class { IfSome class (λ c. c < class_count) }
         ensures { self.new ≡ record self.old { queues = next_filed class self.old.queues } }
     {
         self.chain
@@ -103,7 +109,7 @@ fn room_for(alloc: Global, pages: u32) -> Result<(Chain, Vec<bool>), AllocError>
 
 // The mark behind the pages of a class, or behind the blank pages.
 fn mark_of(class: Option<u32>) -> u32
-    requires { IfSome class (λ c. c < 8) }
+    requires { IfSome class (λ c. c < class_count) }
     ensures is { result ≡ mark_behind class }
     ensures few { result < 11 }
     ensures behind { result ≢ 0 }

@@ -2,17 +2,18 @@
 ghost use Rattle.std.specs.Prelude.{◌≡◌, ◌≢◌, ℕ, ◌+◌, ◌-◌, ◌*◌, ◌^◌, ◌<◌, ◌≤◌, ◌++◌, true, false, length};
 ghost use Rattle.std.specs.Prelude.{max, replicate, None, slice_get, IfSome, IfOk, IfErr, OnOk, OnErr};
 ghost use Rattle.std.specs.List.{last_or};
+ghost use Rattle.sh_shape.specs.Classes.{class_count};
+ghost use Rattle.sh_shape.specs.Shape.{segment_pages};
 ghost use Rattle.sh_queue.specs.Numbers.{has_number};
 ghost use Rattle.sh_queue.specs.Chain.{ChainNumbers};
 ghost use Rattle.sh_queue.specs.Queues.{EachOnce, page_numbered, class_queue, at_front, at_back};
 ghost use Rattle.sh_queue.specs.Queues.{among_full, one_more_segment};
 
 use crate::chain::Chain;
+use sh_shape::SEGMENT_PAGES;
 use sh_value::Refusal;
 use std::alloc::{AllocError, Global};
 use std::marker::Model;
-
-pub(crate) const SEGMENT_PAGES: u32 = 8;
 
 // All queues are one chain. A number below 11 marks where a queue begins: 0 to 7 stand ahead of the queues of the
 // classes, these two ahead of the full queue and of the blank pages, and the last number of the chain behind these.
@@ -51,7 +52,7 @@ impl Queues {
     /// How many pages are opened: the pages 0 to `opened() - 1`.
     pub fn opened(&self) -> u32
         ensures opened { result ≡ self.now.opened }
-        ensures few { self.now.opened + 8 * self.now.unopened ≤ 2 ^ 24 }
+        ensures few { self.now.opened + segment_pages * self.now.unopened ≤ 2 ^ 24 }
         ensures once { EachOnce self.now }
     {
         self.opened
@@ -96,7 +97,7 @@ impl Queues {
 
     /// The front page of a class.
     pub fn front(&self, c: u32) -> Option<u32>
-        requires { c < 8 }
+        requires { c < class_count }
         ensures front { result ≡ slice_get (class_queue self.now c) 0 }
         ensures opened { IfSome result (λ page. page < self.now.opened) }
     {
@@ -105,7 +106,7 @@ impl Queues {
 
     /// The last page of a class.
     pub fn last(&self, c: u32) -> Option<u32>
-        requires { c < 8 }
+        requires { c < class_count }
         ensures last { result ≡ last_or None (class_queue self.now c) }
         ensures opened { IfSome result (λ page. page < self.now.opened) }
     {
@@ -122,7 +123,7 @@ impl Queues {
 
     /// Moves an opened page, from wherever it stands, to the front of a class.
     pub fn to_front(&mut self, c: u32, page: u32)
-        requires class { c < 8 }
+        requires class { c < class_count }
         requires opened { page < self.old.opened }
         ensures { self.new ≡ at_front c page self.old }
     {
@@ -134,7 +135,7 @@ impl Queues {
 
     /// Moves an opened page, from wherever it stands, to the back of a class.
     pub fn to_back(&mut self, c: u32, page: u32)
-        requires class { c < 8 }
+        requires class { c < class_count }
         requires opened { page < self.old.opened }
         ensures { self.new ≡ at_back c page self.old }
     {

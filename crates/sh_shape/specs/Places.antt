@@ -15,9 +15,23 @@ slot_places = 48
 abbrev pub payload_words : ℕ
 payload_words = 48
 
+-- behind how many of a page's words each kind of them begins: the states behind the class, the head and the page link,
+-- and each other kind behind the kind before it
+abbrev pub first_state : ℕ
+first_state = 3
+
+abbrev pub first_link : ℕ
+first_link = first_state + slot_places
+
+abbrev pub first_length : ℕ
+first_length = first_link + slot_places
+
+abbrev pub first_payload : ℕ
+first_payload = first_length + slot_places
+
 -- how many words a page has
 abbrev pub page_words : ℕ
-page_words = 195
+page_words = first_payload + payload_words
 
 -- how many pages a shard has
 abbrev pub pages_of : Numbers → ℕ
@@ -61,10 +75,10 @@ abbrev pub number : Numbers → Place → ℕ
 number shape (Class page) = page_words * page
 number shape (Head page) = page_words * page + 1
 number shape (PageLink page) = page_words * page + 2
-number shape (State page slot) = page_words * page + (3 + slot)
-number shape (Link page slot) = page_words * page + (51 + slot)
-number shape (Length page slot) = page_words * page + (99 + slot)
-number shape (Payload page i) = page_words * page + (147 + i)
+number shape (State page slot) = page_words * page + (first_state + slot)
+number shape (Link page slot) = page_words * page + (first_link + slot)
+number shape (Length page slot) = page_words * page + (first_length + slot)
+number shape (Payload page i) = page_words * page + (first_payload + i)
 number shape (Owner shard) = page_words * all_pages shape + 2 * shard
 number shape (Bell shard) = page_words * all_pages shape + 2 * shard + 1
 

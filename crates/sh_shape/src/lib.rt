@@ -10,5 +10,7 @@ pub mod shape;
 
 pub use classes::{CLASS_COUNT, class_of, slots, width};
 pub use laws::{place_laws, slots_fit_page};
-pub use places::{PAGE_WORDS, PAYLOAD_WORDS, Place, SEGMENT_PAGES, SLOT_PLACES};
+pub use places::{
+    FIRST_LINK, FIRST_STATE, PAGE_WORDS, PAYLOAD_WORDS, Place, SEGMENT_PAGES, SLOT_PLACES,
+};
 pub use shape::{Shape, fits};

@@ -15,9 +15,20 @@ pub const SLOT_PLACES: u32 = 48;
 /// How many payload words a page has.
 pub const PAYLOAD_WORDS: u32 = 48;
 
+/// Behind how many of a page's words its states begin: behind its class, its head and its page link.
+pub const FIRST_STATE: u32 = 3;
+
+/// Behind how many of a page's words its links begin: behind its states, one for each place of a slot.
+pub const FIRST_LINK: u32 = FIRST_STATE + SLOT_PLACES;
+
+// Its lengths begin behind its links, and its payload words behind its lengths.
+const FIRST_LENGTH: u32 = FIRST_LINK + SLOT_PLACES;
+
+const FIRST_PAYLOAD: u32 = FIRST_LENGTH + SLOT_PLACES;
+
 /// How many words a page has: its class, its head and its page link, for each place of a slot a state, a link and a
 /// length, and the payload words.
-pub const PAGE_WORDS: u32 = 3 + 3 * SLOT_PLACES + PAYLOAD_WORDS;
+pub const PAGE_WORDS: u32 = FIRST_PAYLOAD + PAYLOAD_WORDS;
 
 /// The place of a word. A page is given by its number over the whole heap, as `Shape::page_number` answers it.
 #[derive(Clone, Copy, Debug, PartialEq, Eq)]
@@ -92,10 +103,10 @@ impl Shape {
             Place::Class(page) => in_page(page, 0),
             Place::Head(page) => in_page(page, 1),
             Place::PageLink(page) => in_page(page, 2),
-            Place::State(page, slot) => in_page(page, 3 + slot),
-            Place::Link(page, slot) => in_page(page, 51 + slot),
-            Place::Length(page, slot) => in_page(page, 99 + slot),
-            Place::Payload(page, i) => in_page(page, 147 + i),
+            Place::State(page, slot) => in_page(page, u64::from(FIRST_STATE) + slot),
+            Place::Link(page, slot) => in_page(page, u64::from(FIRST_LINK) + slot),
+            Place::Length(page, slot) => in_page(page, u64::from(FIRST_LENGTH) + slot),
+            Place::Payload(page, i) => in_page(page, u64::from(FIRST_PAYLOAD) + i),
             Place::Owner(shard) => after_pages(pages, shard),
             Place::Bell(shard) => after_pages(pages, shard) + 1,
         }

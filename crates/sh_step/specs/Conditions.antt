@@ -1,6 +1,7 @@
 -- The condition of each move: what it asks of the pass's own part.
 use Rattle.std.specs.Prelude.{ℕ, ◌≡◌, ◌-◌, ◌<◌, ◌≤◌, ◌==◌, ◌⊎◌, true, false, [], length, Some, None}
-use Rattle.sh_shape.specs.Classes.{width}
+use Rattle.sh_shape.specs.Classes.{class_count, width}
+use Rattle.sh_shape.specs.Places.{slot_places}
 use Rattle.sh_slots.specs.declared.hand.Spot.{Spot}
 use Rattle.sh_slots.specs.declared.hand.Name.{Name}
 use Rattle.sh_slots.specs.declared.hand.Hand.TheVariants.{Idle, Removing, Leaving, Finishing, ToPut, Tying, Ringing}
@@ -22,7 +23,7 @@ use Rattle.sh_step.specs.Rows.{class_word_noted, all_mine}
 pub record Named (plan : Plan) (k : ℕ) (x : Name) : Type 0 where
   pub unpacks : plan.keys.unpack k ≡ Some x
   pub page : x.page < heap_pages plan
-  pub slot : x.slot < 48
+  pub slot : x.slot < slot_places
 
 -- the heap has the page of that name
 pub record HasPage (plan : Plan) (y : PageName) : Type 0 where
@@ -35,7 +36,7 @@ its_page y = record { shard = y.shard; page = y.page }
 
 -- the heap has the slot
 abbrev pub SpotWithin : Plan → Spot → Type 0
-SpotWithin plan x = (x.page < heap_pages plan) × (x.slot < 48)
+SpotWithin plan x = (x.page < heap_pages plan) × (x.slot < slot_places)
 
 -- the page is of the shard that the pass owns
 abbrev pub Owns : Plan → Body → ℕ → Type 0
@@ -67,7 +68,7 @@ May plan p (move.ReadWord k x c i) = (n : ℕ) × (p.hand ≡ Idle) × Named pla
     × (noted k p.lengths ≡ Some n) × Holds p k × (i < n)
 May plan p (move.ReadPage q) = (p.hand ≡ Idle) × (q < heap_pages plan) × Owns plan p q
 May plan p (move.SetClass q c) = (n : ℕ) × (p.hand ≡ Idle) × (q < heap_pages plan) × Owns plan p q
-    × (noted q p.classes ≡ Some n) × ((n ≡ 0) ⊎ (all_mine p q n ≡ true)) × (c < 8)
+    × (noted q p.classes ≡ Some n) × ((n ≡ 0) ⊎ (all_mine p q n ≡ true)) × (c < class_count)
 May plan p (move.Take q) = (p.hand ≡ Idle) × (q < heap_pages plan) × Owns plan p q × (0 < class_word_noted p q)
     × (noted q p.cursors ≡ None)
 May plan p (move.Follow q s) = (p.hand ≡ Idle) × (q < heap_pages plan) × Owns plan p q × (noted q p.cursors ≡ Some s)

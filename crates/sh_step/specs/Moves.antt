@@ -3,9 +3,9 @@ use Rattle.std.specs.Prelude.{ℕ, ◌≡◌, ◌-◌, ◌==◌, nat_lt, nat_le,
 use Rattle.std.specs.Prelude.{Option, Some, None, is_some, option_map, option_and_then}
 use Rattle.std.specs.Bool.{then_some}
 use Rattle.sh_key.specs.declared.parts.Parts.{Parts}
-use Rattle.sh_shape.specs.Classes.{width}
+use Rattle.sh_shape.specs.Classes.{class_count, width}
 use Rattle.sh_shape.specs.Shape.{Numbers}
-use Rattle.sh_shape.specs.Places.{pages_of}
+use Rattle.sh_shape.specs.Places.{pages_of, slot_places}
 use Rattle.sh_slots.specs.declared.hand.Hand.TheVariants.{Removing, Leaving, Finishing, ToPut, Tying, Ringing}
 use Rattle.sh_slots.specs.declared.hand.Hand.TheVariants.{RingTying, Filling}
 use Rattle.sh_slots.specs.declared.hand.Spot.{Spot}
@@ -30,12 +30,12 @@ use Rattle.sh_step.specs.Rows.{ring_tie, take_bell, follow_bell}
 
 -- the shape has the place of a key of these parts
 abbrev pub has_place : Numbers → Parts → Bool
-has_place shape p = nat_lt p.shard shape.shards && nat_lt p.page (pages_of shape) && nat_lt p.slot 48
+has_place shape p = nat_lt p.shard shape.shards && nat_lt p.page (pages_of shape) && nat_lt p.slot slot_places
 
 -- the place that a key, a page's name or a slot's name names, where the shape has it
 abbrev pub place_named : Plan → ℕ → Option Name
 place_named plan k = elim (plan.keys.unpack k) [
-  | Some x ↦ cond (nat_lt x.page (heap_pages plan) && nat_lt x.slot 48)
+  | Some x ↦ cond (nat_lt x.page (heap_pages plan) && nat_lt x.slot slot_places)
       (Some x) None
   | None ↦ None
 ]
@@ -44,7 +44,7 @@ abbrev pub page_named : Plan → PageName → Option ℕ
 page_named plan x = cond (nat_lt x.shard plan.shards && nat_lt x.page plan.pages) (Some (page_of plan x)) None
 
 abbrev pub slot_named : Plan → SlotName → Option Spot
-slot_named plan x = cond (nat_lt x.shard plan.shards && nat_lt x.page plan.pages && nat_lt x.slot 48)
+slot_named plan x = cond (nat_lt x.shard plan.shards && nat_lt x.page plan.pages && nat_lt x.slot slot_places)
     (Some (slot_of plan x)) None
 
 -- what there is of the place that a key, a page's name or a slot's name names: nothing where the heap has no such place
@@ -88,7 +88,8 @@ move_of plan p (action.ReadWord k i) = named plan k (λ x. elim (noted k p.class
 ])
 move_of plan p (action.ReadPage y) = paged plan y (λ q. then_some (idle p && own plan p q) (move.ReadPage q))
 move_of plan p (action.SetClass y c) = paged plan y (λ q. elim (noted q p.classes) [
-  | Some n ↦ then_some (idle p && own plan p q && ((n == 0) || all_mine p q n) && nat_lt c 8) (move.SetClass q c)
+  | Some n ↦ then_some (idle p && own plan p q && ((n == 0) || all_mine p q n) && nat_lt c class_count)
+      (move.SetClass q c)
   | None ↦ None
 ])
 move_of plan p (action.Take y) = paged plan y

@@ -3,6 +3,7 @@ use Rattle.std.specs.Prelude.{ℕ, ◌≡◌, ◌+◌, ◌-◌, ◌*◌, ◌^◌
 use Rattle.sh_key.specs.declared.parts.Parts.{Parts}
 use Rattle.sh_key.specs.Layout.{Layout, packed, unpacked}
 use Rattle.sh_shape.specs.Shape.{Numbers, segment_pages}
+use Rattle.sh_shape.specs.Places.{slot_places}
 use Rattle.sh_bell.specs.Bell.{home_of, local_of}
 use Rattle.sh_slots.specs.declared.hand.Spot.{Spot}
 use Rattle.sh_slots.specs.declared.hand.Name.{Name}
@@ -84,8 +85,8 @@ slot_of plan x = record { page = page_number plan x.shard x.page; slot = x.slot 
 
 -- the laws of a plan on which the core rests: a key names one place and generation, and counts have room
 pub record Lawful (plan : Plan) : Type 0 where
-  pub names : (n : Name) → 0 < n.generation → n.generation ≤ plan.keys.gen_max → n.page < heap_pages plan → n.slot < 48
-      → plan.keys.unpack (plan.keys.pack n) ≡ Some n
+  pub names : (n : Name) → 0 < n.generation → n.generation ≤ plan.keys.gen_max → n.page < heap_pages plan
+      → n.slot < slot_places → plan.keys.unpack (plan.keys.pack n) ≡ Some n
   pub keys : (k : ℕ) (n : Name) → plan.keys.unpack k ≡ Some n → k ≡ plan.keys.pack n
   pub begins : (k : ℕ) (n : Name) → plan.keys.unpack k ≡ Some n → 0 < n.generation
   pub passes : plan.passes ≤ 64

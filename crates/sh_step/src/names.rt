@@ -1,7 +1,7 @@
 //! What keys and names of pages and slots name.
 ghost use Rattle.std.specs.Prelude.{◌≡◌, ◌+◌, ◌*◌, ◌<◌, nat_lt, ◌&&◌, Some};
 ghost use Rattle.sh_step.specs.Plans.{plan_of};
-ghost use Rattle.sh_shape.specs.Places.{all_pages, pages_of};
+ghost use Rattle.sh_shape.specs.Places.{all_pages, pages_of, slot_places};
 ghost use Rattle.sh_step.specs.Moves.{has_place, place_named, page_named, slot_named};
 
 use crate::{PageName, SlotName};
@@ -81,7 +81,7 @@ pub fn slot_of_name<L: KeyLayout>(shape: &Shape, name: SlotName) -> Option<Spot>
 #[tactic(auto, using(crate::proofs::KeyLaws::parts_in_range), unfolding(crate::specs::Plans::keys_of))]
 pub fn key_of_name<L: KeyLayout>(shape: &Shape, name: Name) -> u64
     requires page { name.page < all_pages shape.now }
-    requires slot { name.slot < 48 }
+    requires slot { name.slot < slot_places }
     requires names { (plan_of L.layout shape.now).keys.unpack ((plan_of L.layout shape.now).keys.pack name)
         ≡ Some name }
     ensures { result ≡ (plan_of L.layout shape.now).keys.pack name }

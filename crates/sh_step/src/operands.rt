@@ -1,6 +1,7 @@
 //! What steps are done with: words and numbers, by shape and layout and what a move names, and by no part.
 ghost use Rattle.std.specs.Prelude.{◌≡◌, ◌-◌, ◌^◌, ◌<◌, ◌≤◌, ℕ, slice_index};
 ghost use Rattle.sh_shape.specs.Classes.{width, slots};
+ghost use Rattle.sh_shape.specs.Places.{slot_places, payload_words};
 ghost use Rattle.sh_stack.specs.Stack.{top_word};
 ghost use Rattle.sh_bell.specs.Bell.{head_word};
 ghost use Rattle.sh_step.specs.Plans.{keys_of, plan_of, home, local};
@@ -32,7 +33,7 @@ pub fn width_of_word(class_word: u64) -> u64
 /// How many slots a page of this class word has; of a number that is no class word 0.
 pub fn slots_of_word(class_word: u64) -> u64
     ensures is { result ≡ slots (class_word - 1) }
-    ensures few { result ≤ 48 }
+    ensures few { result ≤ slot_places }
 {
     let class = class_word.saturating_sub(1);
     if class < CLASS_COUNT {
@@ -44,7 +45,7 @@ pub fn slots_of_word(class_word: u64) -> u64
 
 /// The payload word of this number, from 0, of a slot of a page of this class word. The page has it.
 pub fn payload_word(slot: u64, class_word: u64, i: u64) -> u64
-    requires { payload_word slot class_word i < 48 }
+    requires { payload_word slot class_word i < payload_words }
     ensures { result ≡ payload_word slot class_word i }
 {
     // (Values of one word are told apart, so that the place of their word waits for no load of the class word: the

@@ -1,5 +1,6 @@
 //! The slots that are a pass's own to fill.
 ghost use Rattle.std.specs.Prelude.{◌≡◌, ◌==◌, ◌∷◌, ◌++◌, ◌≤◌, [], length, IfErr, IsOk, OnOk, OnErr};
+ghost use Rattle.sh_shape.specs.Places.{slot_places};
 ghost use Rattle.sh_slots.specs.Slots.{same_spot, spots};
 ghost use Rattle.sh_step.specs.Collections.{has, without, off, every};
 
@@ -49,7 +50,7 @@ impl OwnSlots {
 
     /// Whether the first slots of a page, so many, are all there.
     pub fn has_first(&self, page: u64, count: u64) -> bool
-        requires { count ≤ 48 }
+        requires { count ≤ slot_places }
         ensures { result ≡ every (λ x. has (same_spot x) self.now) (spots page 0 count) }
     {
         has_slots(&self.runs, page, count)
@@ -95,7 +96,7 @@ impl OwnSlots {
         classes: &mut Notes,
         word: u64,
     ) -> Result<(), Refusal>
-        requires { count ≤ 48 }
+        requires { count ≤ slot_places }
         ensures slots { OnOk result (self.new ≡ spots page 0 count ++ off (λ x. x.page == page) self.old) }
         ensures noted { OnOk result (classes.new ≡ (page, word) ∷ classes.old) }
         ensures err { OnErr result (self.new ≡ self.old) }

@@ -1,5 +1,6 @@
 //! The moves of actions on pages.
 ghost use Rattle.std.specs.Prelude.{◌≡◌, ◌==◌, ◌&&◌, ◌||◌, not, nat_lt};
+ghost use Rattle.sh_shape.specs.Classes.{class_count};
 ghost use Rattle.sh_step.specs.Plans.{plan_of};
 ghost use Rattle.sh_step.specs.Collections.{has};
 ghost use Rattle.sh_step.specs.Rows.{idle, own, class_word_noted, no_cursor, all_mine};
@@ -63,7 +64,7 @@ fn may_set_class<L: KeyLayout>(
     class: u64,
 ) -> bool
     ensures { result ≡ (idle part.now && own (plan_of L.layout shape.now) part.now page &&
-        ((class_word == 0) || all_mine part.now page class_word) && nat_lt class 8) }
+        ((class_word == 0) || all_mine part.now page class_word) && nat_lt class class_count) }
 {
     may_touch::<L>(shape, part, page)
         && (class_word == 0 || has_whole_page(part, page, class_word))

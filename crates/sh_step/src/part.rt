@@ -1,5 +1,6 @@
 //! What a pass has of its own, as it is kept.
 ghost use Rattle.std.specs.Prelude.{◌≡◌, ◌<◌, ◌≤◌, ◌==◌, [], None, length, is_none, nat_lt, ◌&&◌};
+ghost use Rattle.sh_shape.specs.Places.{slot_places};
 ghost use Rattle.sh_slots.specs.Slots.{same_spot, spots};
 ghost use Rattle.sh_slots.specs.declared.hand.Hand.TheVariants.{Idle};
 ghost use Rattle.sh_step.specs.Collections.{has, noted, every};
@@ -216,7 +217,7 @@ impl Part {
 
     /// Whether the first slots of a page, so many, are its own to fill.
     pub fn has_all_mine(&self, page: u64, count: u64) -> bool
-        requires { count ≤ 48 }
+        requires { count ≤ slot_places }
         ensures { result ≡ every (λ x. has (same_spot x) self.now.mine) (spots page 0 count) }
     {
         self.mine.has_first(page, count)

@@ -1,5 +1,6 @@
 //! Some slots of a page, as a pass keeps those that are its own.
 ghost use Rattle.std.specs.Prelude.{◌≡◌, ◌≢◌, ◌<◌, ◌≤◌, ◌^◌, ◌-◌, ◌/◌, ◌==◌, ◌&&◌, ◌∷◌, [], length, IsTrue};
+ghost use Rattle.sh_shape.specs.Places.{slot_places};
 ghost use Rattle.sh_slots.specs.Slots.{same_spot, spots};
 ghost use Rattle.sh_step.specs.Collections.{has, without};
 ghost use Rattle.sh_step.specs.Runs.{odd, picked, slots_of};
@@ -58,7 +59,7 @@ pub fn run_of_spot(spot: Spot) -> Run
 
 /// The run of the first slots of a page, so many.
 pub fn run_of_page(page: u64, count: u64) -> Run
-    requires { count ≤ 48 }
+    requires { count ≤ slot_places }
     ensures { slots_of result ≡ spots page 0 count }
 {
     Run {

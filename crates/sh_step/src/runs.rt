@@ -3,16 +3,17 @@ ghost use Rattle.std.specs.Prelude.{ℕ, ◌≡◌, get_or, false, ◌==◌, ◌
 ghost use Rattle.std.specs.Prelude.{slice_set, Some};
 ghost use Rattle.std.specs.VecDeque.{deque_len, deque_capacity};
 ghost use Rattle.std.specs.List.{list_any, list_all, position};
+ghost use Rattle.sh_shape.specs.Places.{slot_places};
 ghost use Rattle.sh_slots.specs.Slots.{same_spot, spots};
 ghost use Rattle.sh_step.specs.Collections.{has, without, off, every};
 ghost use Rattle.sh_step.specs.Runs.{slots_of, slots_in};
 
 use crate::run::{Run, is_empty_run, run_has, run_without};
+use sh_shape::SLOT_PLACES;
 use sh_slots::Spot;
 use std::collections::VecDeque;
 
-// For how many slots a page has places.
-const SLOT_PLACES: u64 = sh_shape::SLOT_PLACES as u64;
+const PLACES: usize = SLOT_PLACES as usize;
 
 // Whether a run has the slot.
 fn any_run_has(runs: &VecDeque<Run>, spot: Spot) -> bool
@@ -59,9 +60,9 @@ pub fn has_no_spot(runs: &VecDeque<Run>) -> bool
 }
 
 // Notes a slot of the page as seen, where the run has it.
-fn see_slot(seen: &mut [bool; 48], run: Run, page: u64, slot: u64)
-    requires { slot < 48 }
-    ensures { (x : ℕ) → x < 48 → get_or seen.new x false ≡
+fn see_slot(seen: &mut [bool; PLACES], run: Run, page: u64, slot: u64)
+    requires { slot < slot_places }
+    ensures { (x : ℕ) → x < slot_places → get_or seen.new x false ≡
         (get_or seen.old x false || ((x == slot) && has (same_spot (record { page = page; slot = x }))
         (slots_of run))) }
 {
@@ -71,24 +72,24 @@ fn see_slot(seen: &mut [bool; 48], run: Run, page: u64, slot: u64)
 }
 
 // Notes the slots of a run that are of the page as seen.
-fn see_run(seen: &mut [bool; 48], run: Run, page: u64)
-    ensures { (x : ℕ) → x < 48 → get_or seen.new x false ≡
+fn see_run(seen: &mut [bool; PLACES], run: Run, page: u64)
+    ensures { (x : ℕ) → x < slot_places → get_or seen.new x false ≡
         (get_or seen.old x false || has (same_spot (record { page = page; slot = x })) (slots_of run)) }
 {
     if run.page != page {
         return;
     }
-    for slot in 0..SLOT_PLACES {
+    for slot in 0..SLOT_PLACES as u64 {
         see_slot(seen, run, page, slot);
     }
 }
 
 // Which slots of the page are there.
-fn slots_seen(runs: &VecDeque<Run>, page: u64) -> [bool; 48]
-    ensures { (slot : ℕ) → slot < 48 → get_or result slot false ≡ has (same_spot (record { page = page; slot = slot }))
-        (slots_in runs.now.items) }
+fn slots_seen(runs: &VecDeque<Run>, page: u64) -> [bool; PLACES]
+    ensures { (slot : ℕ) → slot < slot_places → get_or result slot false ≡
+        has (same_spot (record { page = page; slot = slot })) (slots_in runs.now.items) }
 {
-    let mut seen = [false; 48];
+    let mut seen = [false; PLACES];
     for i in 0..runs.len() {
         see_run(&mut seen, runs[i], page);
     }
@@ -97,7 +98,7 @@ fn slots_seen(runs: &VecDeque<Run>, page: u64) -> [bool; 48]
 
 /// Whether the first slots of a page, so many, are all there.
 pub fn has_slots(runs: &VecDeque<Run>, page: u64, count: u64) -> bool
-    requires { count ≤ 48 }
+    requires { count ≤ slot_places }
     ensures { result ≡ every (λ x. has (same_spot x) (slots_in runs.now.items)) (spots page 0 count) }
 {
     let seen = slots_seen(runs, page);

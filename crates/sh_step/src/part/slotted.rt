@@ -1,6 +1,6 @@
 //! What actions on slots leave in a pass's own part.
 ghost use Rattle.std.specs.Prelude.{◌≡◌, ◌+◌, ◌^◌, ◌<◌, ℕ, Some, None};
-ghost use Rattle.sh_shape.specs.Places.{all_pages};
+ghost use Rattle.sh_shape.specs.Places.{all_pages, slot_places};
 ghost use Rattle.sh_slots.specs.Slots.{same_spot, published_name};
 ghost use Rattle.sh_step.specs.Plans.{plan_of};
 ghost use Rattle.sh_step.specs.Collections.{without};
@@ -44,7 +44,7 @@ impl Part {
         found: u64,
     ) -> Option<Reply>
         requires page { spot.page < all_pages shape.now }
-        requires slot { spot.slot < 48 }
+        requires slot { spot.slot < slot_places }
         requires names { (plan_of L.layout shape.now).keys.unpack
             ((plan_of L.layout shape.now).keys.pack (published_name spot found)) ≡ Some (published_name spot found) }
         ensures reply { result ≡ (publish (plan_of L.layout shape.now) self.old spot value.now).reply found }
