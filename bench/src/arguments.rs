@@ -1,5 +1,7 @@
 //! The command line.
+use crate::row::Row;
 use crate::selection::{selected, selected_large};
+use crate::sides::Side;
 use std::path::PathBuf;
 use std::slice::Iter;
 
@@ -7,7 +9,7 @@ use std::slice::Iter;
 const ROUNDS: usize = 15;
 
 /// What the program is asked for.
-#[derive(Debug, PartialEq, Eq)]
+#[derive(Debug, PartialEq)]
 pub enum Request {
     /// The tables of times: so many rounds of the rows with the word in their title.
     Times {
@@ -31,6 +33,11 @@ pub enum Request {
     },
     /// The table of bytes a value.
     Bytes,
+    /// One turn of a rival, as this program asks it of itself.
+    Turn {
+        side: Side,
+        row: Row,
+    },
     Help,
 }
 
@@ -113,11 +120,18 @@ fn large(words: &[&str]) -> Result<Request, String> {
     Ok(Request::Large { rounds: asked.unwrap_or(ROUNDS), word: selecting.unwrap_or_default() })
 }
 
+// What stands behind `turn`: a rival, and the arguments of a row.
+fn turn(words: &[&str]) -> Option<Request> {
+    let (side, row) = words.split_first()?;
+    Some(Request::Turn { side: Side::of_name(side)?, row: Row::of_arguments(row)? })
+}
+
 /// What the words ask for, of which the first is not the program's name; or, in one line, why they are wrong.
 pub fn request(words: &[&str]) -> Result<Request, String> {
     match words {
         ["-h" | "--help"] => Ok(Request::Help),
         ["large", words @ ..] => large(words),
+        ["turn", words @ ..] => turn(words).ok_or_else(|| "turn wants a side and the words of a row".to_string()),
         ["library"] => Ok(Request::Library { rounds: ROUNDS }),
         ["library", word] => rounds(word).map(|rounds| Request::Library { rounds }),
         ["library", _, word, ..] => Err(format!("library takes no {word}")),
@@ -133,6 +147,7 @@ pub fn request(words: &[&str]) -> Result<Request, String> {
 #[cfg(test)]
 mod tests {
     use super::*;
+    use crate::workload::Workload;
 
     fn times_of(rounds: usize, word: &str) -> Result<Request, String> {
         Ok(Request::Times { rounds, word: word.to_string(), plots: None })
@@ -158,6 +173,9 @@ mod tests {
         assert_eq!(request(&["library", "3"]), Ok(Request::Library { rounds: 3 }));
         assert_eq!(request(&["opening", "3"]), Ok(Request::Opening { rounds: 3 }));
         assert_eq!(request(&["bytes"]), Ok(Request::Bytes));
+        let row = Row::new(Workload::Get, 2, 1);
+        let turn = ["turn", "bare atomics", "get", "--threads", "2"];
+        assert_eq!(request(&turn), Ok(Request::Turn { side: Side::Model, row }));
         assert_eq!(request(&["--help"]), Ok(Request::Help));
     }
 
@@ -184,6 +202,8 @@ mod tests {
             (&["library", "3", "4"], "library takes no 4"),
             (&["opening", "3", "4"], "opening takes no 4"),
             (&["bytes", "3"], "bytes takes no 3"),
+            (&["turn", "ours", "get"], "turn wants a side and the words of a row"),
+            (&["turn", "bare atomics", "jump"], "turn wants a side and the words of a row"),
             (&["3", "bytes"], "bytes is no number of rounds"),
         ];
         for (words, why) in table {

@@ -35,6 +35,7 @@ mod svg;
 mod table;
 mod times;
 mod title;
+mod turning;
 mod workload;
 mod workloads;
 
@@ -128,6 +129,7 @@ fn do_as_asked(request: Request) -> Result<(), String> {
             println!("{}\n\n{}", bytes::ABOUT, bytes::table());
             Ok(())
         }
+        Request::Turn { side, row } => turning::tell(side, &row),
         Request::Help => {
             println!("{}", arguments::HELP);
             Ok(())

@@ -4,7 +4,7 @@ use crate::sides::Side;
 use crate::workload::Workload;
 
 /// One row: the same numbers as the options of `sh_bench`.
-#[derive(Clone, Copy, Debug)]
+#[derive(Clone, Copy, Debug, PartialEq)]
 pub struct Row {
     pub workload: Workload,
     /// In `hand` pairs of threads.
@@ -20,7 +20,7 @@ pub struct Row {
 }
 
 /// The ratios to `sharded_slab` and to bare atomics that the heap was designed for.
-#[derive(Clone, Copy, Debug, Default)]
+#[derive(Clone, Copy, Debug, Default, PartialEq)]
 pub struct Aims {
     pub sharded: Option<f64>,
     pub model: Option<f64>,
@@ -105,6 +105,35 @@ impl Row {
         words
     }
 
+    /// The row that has these arguments, without its aims.
+    pub fn of_arguments(words: &[&str]) -> Option<Self> {
+        let (name, options) = words.split_first()?;
+        let mut row = Row::new(Workload::of_name(name)?, 1, 1);
+        let mut rest = options.iter();
+        while let Some(option) = rest.next() {
+            match *option {
+                "--mixed" => row.lengths = Lengths::Mixed,
+                "--layout" => row.is_deep = *rest.next()? == "deep",
+                option => row.set(option, rest.next()?.parse().ok()?)?,
+            }
+        }
+        Some(row)
+    }
+
+    // Sets the number of an option.
+    fn set(&mut self, option: &str, number: usize) -> Option<()> {
+        match option {
+            "--threads" => self.threads = number,
+            "--operations" => self.operations = number,
+            "--live" => self.live = number,
+            "--freed" => self.freed = number,
+            "--passes" => self.passes = number,
+            "--words" => self.lengths = Lengths::Each(number),
+            _ => return None,
+        }
+        Some(())
+    }
+
     /// How many threads run.
     pub fn running(&self) -> usize {
         match self.workload {
@@ -129,6 +158,26 @@ mod tests {
     fn a_deep_row_names_its_layout() {
         let told = Row::new(Workload::Get, 1, 5).live(1_000_000).deep().arguments().join(" ");
         assert!(told.ends_with("--words 1 --layout deep"), "{told}");
+    }
+
+    #[test]
+    fn arguments_tell_the_row() {
+        let rows = [
+            Row::new(Workload::ReadInto, 2, 300).live(1000).lengths(Lengths::Each(16)),
+            Row::new(Workload::Get, 1, 5).live(1_000_000).deep(),
+            Row::new(Workload::Leave, 1, 5).freed(7).passes(3).lengths(Lengths::Mixed),
+        ];
+        for row in rows {
+            let words = row.arguments();
+            let words: Vec<&str> = words.iter().map(String::as_str).collect();
+            assert_eq!(Row::of_arguments(&words), Some(row));
+            assert_eq!(Row::of_arguments(&words[..words.len() - 1]), words.ends_with(&["--mixed"]).then(|| Row {
+                lengths: Lengths::Each(1),
+                ..row
+            }));
+        }
+        assert_eq!(Row::of_arguments(&["jump"]), None);
+        assert_eq!(Row::of_arguments(&["get", "--speed", "1"]), None);
     }
 
     #[test]

@@ -4,6 +4,7 @@ use crate::ours;
 use crate::rival::Rival;
 use crate::rivals::{with_rival, Room, Task};
 use crate::row::Row;
+use crate::turning;
 use crate::workload::Workload;
 use crate::workloads;
 use std::path::Path;
@@ -54,21 +55,38 @@ impl Side {
         }
     }
 
-    fn rival_turn(self, row: &Row) -> Option<f64> {
-        let room = Room { shards: row.threads, values: row.most() + BESIDES, lengths: row.lengths };
+    /// The rival of this name.
+    pub fn of_name(name: &str) -> Option<Self> {
+        RIVALS.into_iter().find(|side| side.name() == name)
+    }
+
+    // Whether it has the workload of the row.
+    fn has(self, row: &Row) -> bool {
         match (self, row.workload.changes_hands()) {
-            (Side::Model, true) => Some(changing::measure(row)),
-            (_, true) => None,
-            (_, false) if row.passes > 1 || row.workload == Workload::Heed => None,
-            (_, false) => with_rival(self, &room, Measures(row)),
+            (Side::Ours, _) => true,
+            (Side::Model, true) => true,
+            (_, true) => false,
+            (_, false) => row.passes == 1 && row.workload != Workload::Heed,
         }
     }
 
-    /// The nanoseconds of one operation, in one turn; nothing where the side has no such workload.
+    /// The nanoseconds of one operation of a rival, in this process; nothing where it has no such workload.
+    pub fn turn_here(self, row: &Row) -> Option<f64> {
+        let room = Room { shards: row.threads, values: row.most() + BESIDES, lengths: row.lengths };
+        match (self.has(row), row.workload.changes_hands()) {
+            (false, _) => None,
+            (true, true) => Some(changing::measure(row)),
+            (true, false) => with_rival(self, &room, Measures(row)),
+        }
+    }
+
+    /// The nanoseconds of one operation, in one turn, which is a process of its own; nothing where the side has no such
+    /// workload.
     pub fn turn(self, program: &Path, row: &Row) -> Result<Option<f64>, String> {
         match self {
             Side::Ours => ours::measure(program, row).map(Some),
-            _ => Ok(self.rival_turn(row)),
+            _ if !self.has(row) => Ok(None),
+            _ => turning::measure(self, row).map(Some),
         }
     }
 }
@@ -79,7 +97,7 @@ mod tests {
 
     #[test]
     fn passes_receipts_and_owners_that_change_are_asked_of_those_alone_that_have_them() {
-        let with = |row: Row| RIVALS.map(|side| side.rival_turn(&row).is_some());
+        let with = |row: Row| RIVALS.map(|side| side.turn_here(&row).is_some());
         assert_eq!(with(Row::new(Workload::Get, 1, 10)), [true; 6]);
         assert_eq!(with(Row::new(Workload::Get, 1, 10).passes(2)), [false; 6]);
         assert_eq!(with(Row::new(Workload::Heed, 1, 10)), [false; 6]);

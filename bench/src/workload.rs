@@ -24,7 +24,28 @@ pub enum Workload {
     Heed,
 }
 
+const WORKLOADS: [Workload; 13] = [
+    Workload::Get,
+    Workload::GetGuard,
+    Workload::Read,
+    Workload::ReadInto,
+    Workload::ReadGuard,
+    Workload::Insert,
+    Workload::Fill,
+    Workload::Remove,
+    Workload::Churn,
+    Workload::Hand,
+    Workload::Adopt,
+    Workload::Leave,
+    Workload::Heed,
+];
+
 impl Workload {
+    /// The one with this name.
+    pub fn of_name(name: &str) -> Option<Self> {
+        WORKLOADS.into_iter().find(|workload| workload.name() == name)
+    }
+
     /// Its name, the first argument of `sh_bench`. A workload that is added there is added here by the same name; what
     /// else it is told are the options of `Row::arguments`.
     pub fn name(self) -> &'static str {
