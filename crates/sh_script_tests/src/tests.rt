@@ -9,7 +9,8 @@ use std::alloc::Global;
 use std::fmt::Debug;
 use std::process::Abort;
 
-// What was found is what is wanted. It is a function, since each assertion that is written out is proved anew.
+// What was found is what is wanted. It is a function, since each assertion that is written out is proved anew; those
+// stand written out by which what follows knows how many lines there are.
 fn agree<T: PartialEq + Debug + Drop>(rt: &impl Abort, found: T, wanted: T) {
     assert_eq!(rt; found, wanted);
 }

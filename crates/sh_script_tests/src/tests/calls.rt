@@ -35,7 +35,7 @@ fn the_first_script(rt: HostRuntime) {
     agree(&rt, calls.header.shape.shards(), 1);
     agree(&rt, calls.header.shape.segments(), 1);
     agree(&rt, calls.header.shape.passes(), 2);
-    agree(&rt, calls.lines.len(), 4);
+    assert_eq!(rt; calls.lines.len(), 4);
     holds(&rt, is_adopt(&calls.lines[0], 0, 0));
     holds(&rt, is_insert(&calls.lines[1], 0, &[7]));
     holds(&rt, is_get(&calls.lines[2], 0, Reference::Name(0)));
@@ -49,7 +49,7 @@ fn spaces_comments_and_blank_lines(rt: HostRuntime) {
         0 insert c\n1 get #4096\n2 read c\n";
     let calls = parse_calls(rt.alloc(), text).expect(&rt, "it is a script");
     agree(&rt, calls.header.shape.passes(), 64);
-    agree(&rt, calls.lines.len(), 4);
+    assert_eq!(rt; calls.lines.len(), 4);
     holds(
         &rt,
         is_insert(&calls.lines[0], 63, &[0, 18446744073709551615]),
@@ -65,7 +65,7 @@ fn each_command(rt: HostRuntime) {
         b"heap tiny 1 1 2\n1 post p\n0 wait p\n0 insert a\n0 wait a\n0 remove a\n1 release a\n0 remove #4096\n\
         1 release #0\n0 leave\n";
     let calls = parse_calls(rt.alloc(), text).expect(&rt, "it is a script");
-    agree(&rt, calls.lines.len(), 9);
+    assert_eq!(rt; calls.lines.len(), 9);
     holds(&rt, matches!(calls.lines[0].call, Call::Post));
     holds(&rt, matches!(calls.lines[1].call, Call::Wait(0)));
     holds(&rt, is_insert(&calls.lines[2], 0, &[]));
@@ -104,7 +104,7 @@ fn many_names(rt: HostRuntime) -> Result<(), Fail> {
     }
     agree(&rt, text.len(), 1_048_576);
     let calls = parse_calls(alloc, text.as_slice()).expect(&rt, "it is a script");
-    agree(&rt, calls.lines.len(), 75_690);
+    assert_eq!(rt; calls.lines.len(), 75_690);
     holds(&rt, matches!(calls.lines[75_689].call, Call::Wait(75_688)));
     Ok(())
 }

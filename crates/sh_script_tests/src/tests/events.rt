@@ -57,7 +57,7 @@ fn each_event(rt: HostRuntime) -> Result<(), Fail> {
         Action::FollowBell,
         Action::FillSlot(SLOT, none),
     ];
-    agree(&rt, events.lines.len(), actions.len());
+    assert_eq!(rt; events.lines.len(), actions.len());
     for i in 0..actions.len() {
         let pass = if i == 1 { 1 } else { 0 };
         holds(&rt, is_event(&events.lines[i], pass, &actions[i]));
@@ -73,7 +73,7 @@ fn keys_keep_their_tags(rt: HostRuntime) {
     let events = parse_events(rt.alloc(), text).expect(&rt, "it is a script");
     agree(&rt, events.header.layout, Layout::Tagged);
     agree(&rt, events.header.tag, Some(5));
-    agree(&rt, events.lines.len(), 1);
+    assert_eq!(rt; events.lines.len(), 1);
     holds(
         &rt,
         is_event(&events.lines[0], 0, &Action::EnterGet(360287970190688256)),

@@ -24,7 +24,7 @@ fn refused_memory_is_a_fault_of_calls(rt: HostRuntime) -> Result<(), Fail> {
     };
     let calls = calls.expect(&rt, "it is a script");
     agree(&rt, calls.header.shape.passes(), 1);
-    agree(&rt, calls.lines.len(), 20);
+    assert_eq!(rt; calls.lines.len(), 20);
     for at in 0..20 {
         let line = &calls.lines[at];
         agree(&rt, line.pass, 0);
@@ -62,7 +62,7 @@ fn refused_memory_is_a_fault_of_events(rt: HostRuntime) -> Result<(), Fail> {
     let words = [0, 1, 2, 3, 4, 5, 6, 7, 8, 9, 10, 11, 12, 13, 14, 15];
     let value = Value::new(&words).expect(&rt, "16 words fit");
     agree(&rt, events.header.tag, Some(5));
-    agree(&rt, events.lines.len(), 18);
+    assert_eq!(rt; events.lines.len(), 18);
     holds(&rt, events.lines[0].action == Action::FillSlot(SLOT, value));
     for at in 1..17 {
         agree(&rt, events.lines[at].pass, 0);
