@@ -33,19 +33,19 @@ fn a_pass_that_is_away_is_missed(rt: HostRuntime) {
     let Some(away) = pool.take_at(1) else {
         panic!(rt; "no pass")
     };
-    agree(&rt, gather_pool(rt.alloc(), &pool), Err(NotTold::Away));
-    agree(&rt, pool_totals(&pool), Err(NotTold::Away));
-    agree(&rt, pool_accounts(&pool, 0, 0), Err(NotTold::Away));
+    assert_eq!(rt; gather_pool(rt.alloc(), &pool), Err(NotTold::Away));
+    assert_eq!(rt; pool_totals(&pool), Err(NotTold::Away));
+    assert_eq!(rt; pool_accounts(&pool, 0, 0), Err(NotTold::Away));
     // Both of the others are at home again, and still two.
     let (Some(one), Some(other)) = (pool.take_at(0), pool.take_at(2)) else {
         panic!(rt; "a pass was lost")
     };
-    agree(&rt, gather_pool(rt.alloc(), &pool), Err(NotTold::Away));
+    assert_eq!(rt; gather_pool(rt.alloc(), &pool), Err(NotTold::Away));
     for taken in [one, away, other] {
-        holds(&rt, pool.give(taken.state, taken.berth).is_ok());
+        assert!(rt; pool.give(taken.state, taken.berth).is_ok());
     }
-    agree(&rt, gather_pool(rt.alloc(), &pool), Ok(()));
-    agree(&rt, pool_totals(&pool), Ok(NOTHING));
+    assert_eq!(rt; gather_pool(rt.alloc(), &pool), Ok(()));
+    assert_eq!(rt; pool_totals(&pool), Ok(NOTHING));
 }
 
 #[test]

@@ -49,15 +49,15 @@ fn pages_of_two_owners_add_up(rt: HostRuntime) {
     let Ok(mut shard) = Shard::adopt(rt.alloc(), first, 0) else {
         panic!(rt; "the first pass adopts the shard")
     };
-    agree(&rt, shard.prepare(7), Ok(0));
-    agree(&rt, shard.prepare(0), Ok(1));
+    assert_eq!(rt; shard.prepare(7), Ok(0));
+    assert_eq!(rt; shard.prepare(0), Ok(1));
     let Ok(first) = shard.leave() else {
         panic!(rt; "the first owner leaves")
     };
     let Ok(mut shard) = Shard::adopt(rt.alloc(), second, 0) else {
         panic!(rt; "the second pass adopts the shard")
     };
-    agree(&rt, shard.prepare(7), Ok(2));
+    assert_eq!(rt; shard.prepare(7), Ok(2));
     let Ok(second) = shard.leave() else {
         panic!(rt; "the second owner leaves")
     };
