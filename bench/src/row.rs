@@ -171,13 +171,10 @@ mod tests {
             let words = row.arguments();
             let words: Vec<&str> = words.iter().map(String::as_str).collect();
             assert_eq!(Row::of_arguments(&words), Some(row));
-            assert_eq!(Row::of_arguments(&words[..words.len() - 1]), words.ends_with(&["--mixed"]).then(|| Row {
-                lengths: Lengths::Each(1),
-                ..row
-            }));
         }
         assert_eq!(Row::of_arguments(&["jump"]), None);
         assert_eq!(Row::of_arguments(&["get", "--speed", "1"]), None);
+        assert_eq!(Row::of_arguments(&["get", "--threads"]), None);
     }
 
     #[test]
