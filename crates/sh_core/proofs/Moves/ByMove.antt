@@ -7,7 +7,7 @@ use Rattle.sh_step.specs.declared.body.Body.{Body}
 use Rattle.sh_step.specs.declared.moves.Move.{Move}
 use Rattle.sh_step.specs.declared.moves.Move.TheVariants as move
 use Rattle.sh_step.specs.Conditions.{May, action_of}
-use Rattle.sh_step.specs.Moves.{row_of, row}
+use Rattle.sh_step.specs.Moves.{move_of, row_of, row}
 use Rattle.sh_step.specs.Plans.{Plan, home}
 use Rattle.sh_step.specs.Rows.{Row, own}
 use Rattle.sh_step.proofs.ConditionLaws.{move_of_row}
@@ -46,10 +46,17 @@ after_move plan p (move.Ring q) may n l = rw may refl
 after_move plan p (move.TakeBell k) may n l = rw may.1 refl
 after_move plan p _ may n l = refl
 
+-- the move of an action that has this row
+abbrev HasMove : Plan → Body → Action → Row → Type 0
+HasMove plan p x r = (m : Move) × (move_of plan p x ≡ Some m) × May plan p m × (action_of plan m ≡ x)
+    × (r ≡ row_of plan p m)
+
 -- what holds of the row of each move that may be done holds of the row of each action that has one
 pub by_move : (plan : Plan) (p : Body) (x : Action) (r : Row) (P : Row → Type 0) → row plan p x ≡ Some r
     → ((m : Move) → May plan p m → P (row_of plan p m)) → P r
-by_move plan p x r P e each = let d = move_of_row plan p x r e in subst P (sym d.4) (each d.0 d.2)
+by_move plan p x r P e each = go (move_of_row plan p x r e) where
+  go : HasMove plan p x r → P r
+  go (m, _, may, _, is) = subst P (sym is) (each m may)
 
 -- what each move keeps, each event keeps
 pub step_keeps : (plan : Plan) (P : World → PutLists → Type 0) (w : World) (l : PutLists) (e : Event) → P w l
@@ -75,14 +82,15 @@ step_keeps plan P w l e old keeps = go (slice_get w.parts e.pass) refl where
         (elim o as (λ _. World) [ Some m ↦ apply w e.pass m | None ↦ w ])
         (elim o as (λ _. PutLists) [ Some m ↦ listed plan p e.action (read w.words m.place) l | None ↦ l ])
     by None h = old
-    by (Some r) h =
-        let d = move_of_row plan p e.action r h in
-        let m : Row = row_of plan p d.0 in
-        let n : ℕ = read w.words m.place in
-        let Q : Row → Type 0 = λ u. P (apply w e.pass u) (listed plan p e.action (read w.words u.place) l) in
-        let R : Action → Type 0 = λ x. P (apply w e.pass m) (listed plan p x n l) in
-        subst Q (sym d.4) (subst R d.3 (subst (P (apply w e.pass m)) (sym (after_move plan p d.0 d.2 n l))
-        (keeps p d.0 at d.2)))
+    by (Some r) h = moved (move_of_row plan p e.action r h) where
+      moved : HasMove plan p e.action r → P (apply w e.pass r) (listed plan p e.action (read w.words r.place) l)
+      moved (m, _, may, same, is) =
+          let r : Row = row_of plan p m in
+          let n : ℕ = read w.words r.place in
+          let Q : Row → Type 0 = λ u. P (apply w e.pass u) (listed plan p e.action (read w.words u.place) l) in
+          let R : Action → Type 0 = λ x. P (apply w e.pass r) (listed plan p x n l) in
+          subst Q (sym is) (subst R same (subst (P (apply w e.pass r)) (sym (after_move plan p m may n l))
+          (keeps p m at may)))
 
 -- and each run
 pub run_keeps : (plan : Plan) (P : World → PutLists → Type 0) (w : World) (l : PutLists) (es : List Event) → P w l
