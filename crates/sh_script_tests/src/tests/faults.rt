@@ -184,8 +184,8 @@ fn long_line(
     Ok(text)
 }
 
-// The first byte of a line, its length, its last byte, whether a newline follows, and its fault. Comments and blank lines
-// are lines too.
+// The first byte of a line, its length, its last byte, whether a newline follows, and its fault. Comments and blank
+// lines are lines too.
 const LONG_LINES: [(u8, usize, u8, bool, Option<Cause>); 13] = [
     (b';', 512, b' ', true, None),
     (b';', 513, b' ', true, Some(Cause::Size)),
