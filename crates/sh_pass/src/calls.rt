@@ -1,18 +1,17 @@
 // The calls of a pass, whether it owns a shard or not. Each answers also the slot of its shard that came to be its own.
 ghost use Rattle.std.specs.Prelude.{◌≡◌, ◌==◌, None, position};
 ghost use Rattle.sh_slots.specs.declared.hand.Hand.TheVariants.{Idle};
-ghost use Rattle.sh_step.specs.Moves.{place_named};
-ghost use Rattle.sh_step.specs.Plans.{plan_of};
 ghost use Rattle.sh_table.specs.Seats.{IsSeat};
 ghost use Rattle.sh_pass.specs.Passes.{GetDoes, ReadIntoDoes, RemoveDoes, ReleaseDoes, HoldsKept, caller_of};
 ghost use Rattle.sh_pass.specs.Owners.{CallLeaves};
 
 use crate::entering::{get_at, release_at, remove_at};
 use crate::guard::Guard;
+use crate::holding::Holding;
 use crate::reading::read_at;
 use arrayvec::ArrayVec;
 use sh_key::KeyLayout;
-use sh_slots::{GetAnswer, Name, Spot};
+use sh_slots::{GetAnswer, Spot};
 use sh_step::operands::place_of_key;
 use sh_table::{HeapTable, Token};
 use sh_value::{HOLDS_MAX, Hold, Refusal, Value};
@@ -111,61 +110,66 @@ pub(crate) fn remove_key<L: KeyLayout>(
     }
 }
 
-/// Gives one hold on a key back, of which the place is known, if it has one.
+/// Gives one hold on a key back.
 #[inline(always)]
-pub(crate) fn release_key<L: KeyLayout>(
+pub(crate) fn release_key<L: KeyLayout, K: Holding<L>>(
     table: &HeapTable<L>,
     seat: &mut Token,
     held: &mut ArrayVec<u64, HOLDS_MAX>,
-    key: u64,
-    place: Option<Name>,
+    hold: &K,
     owned: Option<u64>,
 ) -> (Result<(), Refusal>, Option<Spot>)
     requires seat { IsSeat L.layout table.now seat.old }
     requires idle { seat.old.me.0.own.body.hand ≡ Idle }
     requires owned { seat.old.me.0.own.body.owned ≡ owned }
     requires kept { HoldsKept held.old.items seat.old.me.0.own.body.holds }
-    requires place { place ≡ place_named (plan_of L.layout table.now.shape) key }
     ensures seat { IsSeat L.layout table.now seat.new }
     ensures kept { HoldsKept held.new.items seat.new.me.0.own.body.holds }
-    ensures does { ReleaseDoes L.layout key (caller_of seat.old) result.0 (caller_of seat.new) }
+    ensures does { ReleaseDoes L.layout (K.key_of hold.now) (caller_of seat.old) result.0 (caller_of seat.new) }
     ensures leaves { CallLeaves L.layout result.1 (caller_of seat.old) (caller_of seat.new) }
 {
+    let key = hold.held_key();
     let Some(at) = find(held.as_slice(), key) else {
         return (Err(Refusal::NotHeld), None);
     };
-    let Some(name) = place else { unreachable!() };
+    // (What is held has a place.)
+    let Some(name) = hold.place_in(table.shape()) else {
+        unreachable!()
+    };
     let slot = release_at(table, seat, key, name, owned);
     // Their order means nothing, so none but the last one moves.
     held.swap_remove(at);
     (Ok(()), slot)
 }
 
-/// Reads the value of a key that the pass holds, and of which the place is known, into a value of the caller's, in
-/// place of what that was: a value that is answered is copied by each call on its way.
+/// Reads the value of a key that the pass holds into a value of the caller's, in place of what that was: a value that
+/// is answered is copied by each call on its way.
 #[inline(always)]
-pub(crate) fn read_key<L: KeyLayout>(
+pub(crate) fn read_key<L: KeyLayout, K: Holding<L>>(
     table: &HeapTable<L>,
     seat: &mut Token,
     held: &ArrayVec<u64, HOLDS_MAX>,
-    key: u64,
-    place: Option<Name>,
+    hold: &K,
     value: &mut Value,
 ) -> Result<(), Refusal>
     requires seat { IsSeat L.layout table.now seat.old }
     requires idle { seat.old.me.0.own.body.hand ≡ Idle }
     requires kept { HoldsKept held.now.items seat.old.me.0.own.body.holds }
-    requires place { place ≡ place_named (plan_of L.layout table.now.shape) key }
     ensures seat { IsSeat L.layout table.now seat.new }
     ensures kept { seat.new.me.0.own.body.holds ≡ seat.old.me.0.own.body.holds }
-    ensures does { ReadIntoDoes key (caller_of seat.old) value.old result value.new (caller_of seat.new) }
+    ensures does { ReadIntoDoes (K.key_of hold.now) (caller_of seat.old) value.old result value.new
+        (caller_of seat.new) }
     ensures leaves { CallLeaves L.layout None (caller_of seat.old) (caller_of seat.new) }
 {
+    let key = hold.held_key();
     let Some(_at) = find(held.as_slice(), key) else {
         return Err(Refusal::NotHeld);
     };
-    let Some(name) = place else { unreachable!() };
-    value.clear();
+    let Some(name) = hold.place_in(table.shape()) else {
+        unreachable!()
+    };
+    // (An empty value is made of sixteen zeros at once; to clear one takes a call and a loop.)
+    *value = Value::empty();
     read_at(table, seat, key, name, value);
     Ok(())
 }

@@ -3,6 +3,7 @@ ghost use Rattle.std.specs.Prelude.{◌≡◌};
 ghost use Rattle.sh_step.specs.Moves.{place_named};
 ghost use Rattle.sh_step.specs.Plans.{plan_of};
 
+use crate::holding::Holding;
 use sh_key::KeyLayout;
 use sh_shape::Shape;
 use sh_slots::Name;
@@ -67,12 +68,19 @@ impl<L: KeyLayout> Guard<L> {
     {
         Hold { key: self.key }
     }
+}
 
-    // The place of the key in this shape. Mostly it is the shape that the guard is for.
+impl<L: KeyLayout> Holding<L> for Guard<L> {
+    ghost key_of = { λ guard. guard.key };
+
     #[inline(always)]
-    pub(crate) fn place(&self, shape: &Shape) -> Option<Name>
-        ensures { result ≡ place_named (plan_of L.layout shape.now) self.now.key }
-    {
+    fn held_key(&self) -> u64 {
+        self.key
+    }
+
+    // Mostly it is the shape that the guard is for.
+    #[inline(always)]
+    fn place_in(&self, shape: &Shape) -> Option<Name> {
         if self.shape == *shape {
             Some(self.name)
         } else {

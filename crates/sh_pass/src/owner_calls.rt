@@ -11,7 +11,6 @@ use crate::keeping::KeepsHeap;
 use crate::owner::Owner;
 use sh_key::KeyLayout;
 use sh_slots::Spot;
-use sh_step::operands::place_of_key;
 use sh_value::{Hold, Refusal, Value};
 
 impl<L: KeyLayout, H: KeepsHeap<L>> Owner<L, H> {
@@ -64,8 +63,7 @@ impl<L: KeyLayout, H: KeepsHeap<L>> Owner<L, H> {
             &heap.table,
             &mut self.seat,
             &mut self.held,
-            hold.key,
-            place_of_key::<L>(heap.table.shape(), hold.key),
+            &hold,
             self.owned,
         )
     }
@@ -83,8 +81,7 @@ impl<L: KeyLayout, H: KeepsHeap<L>> Owner<L, H> {
             &heap.table,
             &mut self.seat,
             &mut self.held,
-            guard.key(),
-            guard.place(heap.table.shape()),
+            &guard,
             self.owned,
         )
     }
@@ -112,15 +109,7 @@ impl<L: KeyLayout, H: KeepsHeap<L>> Owner<L, H> {
         ensures stands { ViewStands L.layout self.new.view }
     {
         let heap = self.heap.kept();
-        let place = place_of_key::<L>(heap.table.shape(), hold.key);
-        read_key(
-            &heap.table,
-            &mut self.seat,
-            &self.held,
-            hold.key,
-            place,
-            value,
-        )
+        read_key(&heap.table, &mut self.seat, &self.held, &hold, value)
     }
 
     /// The same as `read_into`, by a hold that keeps its place.
@@ -132,14 +121,6 @@ impl<L: KeyLayout, H: KeepsHeap<L>> Owner<L, H> {
         ensures stands { ViewStands L.layout self.new.view }
     {
         let heap = self.heap.kept();
-        let place = guard.place(heap.table.shape());
-        read_key(
-            &heap.table,
-            &mut self.seat,
-            &self.held,
-            guard.key(),
-            place,
-            value,
-        )
+        read_key(&heap.table, &mut self.seat, &self.held, guard, value)
     }
 }

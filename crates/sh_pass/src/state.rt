@@ -10,7 +10,6 @@ use crate::heap::Heap;
 use arrayvec::ArrayVec;
 use sh_key::KeyLayout;
 use sh_shape::Shape;
-use sh_step::operands::place_of_key;
 use sh_table::Token;
 use sh_value::{HOLDS_MAX, Hold, Refusal, Value};
 use std::marker::{Model, PhantomData};
@@ -99,16 +98,7 @@ impl<L: KeyLayout> PassState<L> {
         ensures same { self.new.heap ≡ self.old.heap }
         ensures idle { self.new.view.own.body.hand ≡ Idle }
     {
-        let place = place_of_key::<L>(heap.table.shape(), hold.key);
-        release_key(
-            &heap.table,
-            &mut self.seat,
-            &mut self.held,
-            hold.key,
-            place,
-            None,
-        )
-        .0
+        release_key(&heap.table, &mut self.seat, &mut self.held, &hold, None).0
     }
 
     /// The same as `release`, of a hold that keeps its place.
@@ -120,16 +110,7 @@ impl<L: KeyLayout> PassState<L> {
         ensures same { self.new.heap ≡ self.old.heap }
         ensures idle { self.new.view.own.body.hand ≡ Idle }
     {
-        let place = guard.place(heap.table.shape());
-        release_key(
-            &heap.table,
-            &mut self.seat,
-            &mut self.held,
-            guard.key(),
-            place,
-            None,
-        )
-        .0
+        release_key(&heap.table, &mut self.seat, &mut self.held, &guard, None).0
     }
 
     /// The value of a key that the pass holds. Refused as `NotHeld`, exactly where it has no hold on the key.
@@ -160,15 +141,7 @@ impl<L: KeyLayout> PassState<L> {
         ensures same { self.new.heap ≡ self.old.heap }
         ensures idle { self.new.view.own.body.hand ≡ Idle }
     {
-        let place = place_of_key::<L>(heap.table.shape(), hold.key);
-        read_key(
-            &heap.table,
-            &mut self.seat,
-            &self.held,
-            hold.key,
-            place,
-            value,
-        )
+        read_key(&heap.table, &mut self.seat, &self.held, &hold, value)
     }
 
     /// The same as `read_into`, by a hold that keeps its place.
@@ -185,14 +158,6 @@ impl<L: KeyLayout> PassState<L> {
         ensures same { self.new.heap ≡ self.old.heap }
         ensures idle { self.new.view.own.body.hand ≡ Idle }
     {
-        let place = guard.place(heap.table.shape());
-        read_key(
-            &heap.table,
-            &mut self.seat,
-            &self.held,
-            guard.key(),
-            place,
-            value,
-        )
+        read_key(&heap.table, &mut self.seat, &self.held, guard, value)
     }
 }

@@ -1,36 +1,48 @@
-use Rattle.std.proofs.Common.{◌≡◌, None, refl, sym}
-use Rattle.sh_pass.specs.Passes.{caller_of, heap_of}
+use Rattle.std.proofs.Common.{◌≡◌, ◌∙◌, ℕ, Option, None, Ok, Err, ap, refl, subst, sym}
+use Rattle.sh_slots.specs.declared.hand.Name.{Name}
+use Rattle.sh_step.specs.Moves.{place_named}
+use Rattle.sh_step.specs.Plans.{plan_of}
+use Rattle.sh_value.specs.declared.refusal.Refusal.TheVariants as refusal
+use Rattle.sh_pass.specs.Passes.{ReadIntoDoes, caller_of, heap_of}
 use Rattle.sh_pass.proofs.HeldLaws.{hold_found, no_hold, held_named, reads_of, same_home}
 use Rattle.sh_pass.proofs.OwnCalls.{leaves}
 use Rattle.sh_pass.proofs.calls.read_key.Goals as goal
 
 pub returns-in_default-clause-does : goal.returns-in_default-clause-does
-returns-in_default-clause-does g c = (
-  (
-    no_hold c.args.held.now.items _ c.args.seat.now.me.0.own.body.holds c.args.key _
-        c.requires.kept.holds c.as_slice.ensures.value c.find.ensures c.in_default.is,
-    refl,
-  ),
-  refl,
-)
+returns-in_default-clause-does g c =
+    let v = caller_of c.args.seat.now in
+    let P : ℕ → Type 0 = λ k. ReadIntoDoes k v c.args.value.now (Err refusal.NotHeld) c.args.value.now v in
+    subst P c.held_key-key.ensures (
+      (
+        no_hold c.args.held.now.items _ c.args.seat.now.me.0.own.body.holds c.held_key-key.result _
+            c.requires.kept.holds c.as_slice.ensures.value c.find.ensures c.in_default.is,
+        refl,
+      ),
+      refl,
+    )
 
 pub unreachable-requires : goal.unreachable-requires
 unreachable-requires g c =
-    let f = hold_found c.args.held.now.items _ c.args.seat.now.me.0.own.body.holds c.args.key c.in-Some._at _
+    let f = hold_found c.args.held.now.items _ c.args.seat.now.me.0.own.body.holds c.held_key-key.result c.in-Some._at _
     c.requires.kept.holds c.as_slice.ensures.value c.find.ensures c.in-Some.is in
-    held_named c.args.key _ _ c.requires.seat f.1 (sym c.requires.seat.shape) c.requires.place
-    c.in_default-place.is
+    let N : ℕ → Option Name = λ k. place_named (plan_of g.L.KeyLayout.layout c.shape.result.now) k in
+    held_named c.held_key-key.result _ _ c.requires.seat f.1 (c.shape.ensures ∙ sym c.requires.seat.shape)
+    (c.place_in.ensures ∙ ap N (sym c.held_key-key.ensures)) c.in_default-place_in.is
 
 pub read_at-requires-clause-held : goal.read_at-requires-clause-held
-read_at-requires-clause-held g c = (hold_found c.args.held.now.items _ c.args.seat.now.me.0.own.body.holds c.args.key
-    c.in-Some._at _ c.requires.kept.holds c.as_slice.ensures.value c.find.ensures c.in-Some.is).1
+read_at-requires-clause-held g c = (hold_found c.args.held.now.items _ c.args.seat.now.me.0.own.body.holds
+    c.held_key-key.result c.in-Some._at _ c.requires.kept.holds c.as_slice.ensures.value c.find.ensures c.in-Some.is).1
 
 pub returns-clause-does : goal.returns-clause-does
 returns-clause-does g c =
-    let f = hold_found c.args.held.now.items _ c.args.seat.now.me.0.own.body.holds c.args.key c.in-Some._at _
+    let f = hold_found c.args.held.now.items _ c.args.seat.now.me.0.own.body.holds c.held_key-key.result c.in-Some._at _
     c.requires.kept.holds c.as_slice.ensures.value c.find.ensures c.in-Some.is in
     let same : heap_of c.read_at.new.seat ≡ heap_of c.args.seat.now = same_home c.requires.seat c.read_at.ensures.seat
     in
+    let v = caller_of c.args.seat.now in
+    let w = caller_of c.read_at.new.seat in
+    let P : ℕ → Type 0 = λ k. ReadIntoDoes k v c.args.value.now (Ok tt) c.read_at.new.value w in
+    subst P c.held_key-key.ensures
     (f.1, reads_of (heap_of c.args.seat.now) (heap_of c.read_at.new.seat) same c.read_at.ensures.read)
 
 pub returns-clause-leaves : goal.returns-clause-leaves
