@@ -132,10 +132,7 @@ pub(crate) fn release_key<L: KeyLayout, K: Holding<L>>(
     let Some(at) = find(held.as_slice(), key) else {
         return (Err(Refusal::NotHeld), None);
     };
-    // (What is held has a place.)
-    let Some(name) = hold.place_in(table.shape()) else {
-        unreachable!()
-    };
+    let name = hold.place_in(table.shape());
     let slot = release_at(table, seat, key, name, owned);
     // Their order means nothing, so none but the last one moves.
     held.swap_remove(at);
@@ -165,11 +162,7 @@ pub(crate) fn read_key<L: KeyLayout, K: Holding<L>>(
     let Some(_at) = find(held.as_slice(), key) else {
         return Err(Refusal::NotHeld);
     };
-    let Some(name) = hold.place_in(table.shape()) else {
-        unreachable!()
-    };
-    // (An empty value is made of sixteen zeros at once; to clear one takes a call and a loop.)
-    *value = Value::empty();
+    let name = hold.place_in(table.shape());
     read_at(table, seat, key, name, value);
     Ok(())
 }

@@ -1,13 +1,12 @@
 //! Holds that know where their key's slot is.
-ghost use Rattle.std.specs.Prelude.{◌≡◌};
+ghost use Rattle.std.specs.Prelude.{◌≡◌, ◌≢◌, Some, None};
 ghost use Rattle.sh_step.specs.Moves.{place_named};
 ghost use Rattle.sh_step.specs.Plans.{plan_of};
 
-use crate::holding::Holding;
+use crate::holding::{Holding, place_of_held};
 use sh_key::KeyLayout;
 use sh_shape::Shape;
 use sh_slots::Name;
-use sh_step::operands::place_of_key;
 use sh_value::Hold;
 use std::marker::{Model, PhantomData};
 
@@ -80,9 +79,9 @@ impl<L: KeyLayout> Holding<L> for Guard<L> {
 
     // Mostly it is the shape that the guard is for.
     #[inline(always)]
-    fn place_in(&self, shape: &Shape) -> Option<Name> {
+    fn place_in(&self, shape: &Shape) -> Name {
         if self.shape == *shape {
-            Some(self.name)
+            self.name
         } else {
             place_elsewhere::<L>(shape, self.key)
         }
@@ -92,8 +91,9 @@ impl<L: KeyLayout> Holding<L> for Guard<L> {
 // The place of a key in a shape that the guard is not for.
 #[cold]
 #[inline(never)]
-fn place_elsewhere<L: KeyLayout>(shape: &Shape, key: u64) -> Option<Name>
-    ensures { result ≡ place_named (plan_of L.layout shape.now) key }
+fn place_elsewhere<L: KeyLayout>(shape: &Shape, key: u64) -> Name
+    requires { place_named (plan_of L.layout shape.now) key ≢ None }
+    ensures { place_named (plan_of L.layout shape.now) key ≡ Some result }
 {
-    place_of_key::<L>(shape, key)
+    place_of_held::<L>(shape, key)
 }

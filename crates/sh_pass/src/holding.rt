@@ -1,12 +1,11 @@
 //! Holds, by whatever a caller has of them.
-ghost use Rattle.std.specs.Prelude.{◌≡◌, ℕ};
+ghost use Rattle.std.specs.Prelude.{◌≡◌, ◌≢◌, ℕ, Some, None};
 ghost use Rattle.sh_step.specs.Moves.{place_named};
 ghost use Rattle.sh_step.specs.Plans.{plan_of};
 
 use sh_key::KeyLayout;
 use sh_shape::Shape;
 use sh_slots::Name;
-use sh_step::operands::place_of_key;
 use sh_value::Hold;
 
 /// What a caller has of a hold: its key, and a way to the place of the key's slot.
@@ -17,9 +16,10 @@ pub(crate) trait Holding<L: KeyLayout> {
     fn held_key(&self) -> u64
         ensures { result ≡ key_of self.now };
 
-    /// What the key names in this shape.
-    fn place_in(&self, shape: &Shape) -> Option<Name>
-        ensures { result ≡ place_named (plan_of L.layout shape.now) (key_of self.now) };
+    /// What the key names in this shape, which has it.
+    fn place_in(&self, shape: &Shape) -> Name
+        requires { place_named (plan_of L.layout shape.now) (key_of self.now) ≢ None }
+        ensures { place_named (plan_of L.layout shape.now) (key_of self.now) ≡ Some result };
 }
 
 impl<L: KeyLayout> Holding<L> for Hold {
@@ -31,7 +31,23 @@ impl<L: KeyLayout> Holding<L> for Hold {
     }
 
     #[inline(always)]
-    fn place_in(&self, shape: &Shape) -> Option<Name> {
-        place_of_key::<L>(shape, self.key)
+    fn place_in(&self, shape: &Shape) -> Name {
+        place_of_held::<L>(shape, self.key)
+    }
+}
+
+/// What a key names in a shape that has its place: so nothing of that is tested again.
+#[inline(always)]
+pub(crate) fn place_of_held<L: KeyLayout>(shape: &Shape, key: u64) -> Name
+    requires { place_named (plan_of L.layout shape.now) key ≢ None }
+    ensures { place_named (plan_of L.layout shape.now) key ≡ Some result }
+{
+    let Some(parts) = L::unpack(key) else {
+        unreachable!()
+    };
+    Name {
+        page: u64::from(shape.page_number(parts.shard, parts.page)),
+        slot: u64::from(parts.slot),
+        generation: parts.generation,
     }
 }

@@ -21,13 +21,13 @@ returns-in_default-clause-does g c =
       refl,
     )
 
-pub unreachable-requires : goal.unreachable-requires
-unreachable-requires g c =
+pub place_in-name-requires : goal.place_in-name-requires
+place_in-name-requires g c =
     let f = hold_found c.args.held.now.items _ c.args.seat.now.me.0.own.body.holds c.held_key-key.result c.in-Some._at _
     c.requires.kept.holds c.as_slice.ensures.value c.find.ensures c.in-Some.is in
     let N : ℕ → Option Name = λ k. place_named (plan_of g.L.KeyLayout.layout c.shape.result.now) k in
-    held_named c.held_key-key.result _ _ c.requires.seat f.1 (c.shape.ensures ∙ sym c.requires.seat.shape)
-    (c.place_in.ensures ∙ ap N (sym c.held_key-key.ensures)) c.in_default-place_in.is
+    λ none. held_named c.held_key-key.result _ _ c.requires.seat f.1 (c.shape.ensures ∙ sym c.requires.seat.shape) refl
+    (ap N c.held_key-key.ensures ∙ none)
 
 pub read_at-requires-clause-held : goal.read_at-requires-clause-held
 read_at-requires-clause-held g c = (hold_found c.args.held.now.items _ c.args.seat.now.me.0.own.body.holds

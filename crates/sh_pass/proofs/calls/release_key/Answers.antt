@@ -24,13 +24,13 @@ returns-in_default-clause-does g c =
       refl,
     )
 
-pub unreachable-requires : goal.unreachable-requires
-unreachable-requires g c =
+pub place_in-name-requires : goal.place_in-name-requires
+place_in-name-requires g c =
     let f = hold_found c.args.held.now.items _ c.args.seat.now.me.0.own.body.holds c.held_key-key.result c.in-Some.at _
     c.requires.kept.holds c.as_slice.ensures.value c.find.ensures c.in-Some.is in
     let N : ℕ → Option Name = λ k. place_named (plan_of g.L.KeyLayout.layout c.shape.result.now) k in
-    held_named c.held_key-key.result _ _ c.requires.seat f.1 (c.shape.ensures ∙ sym c.requires.seat.shape)
-    (c.place_in.ensures ∙ ap N (sym c.held_key-key.ensures)) c.in_default-place_in.is
+    λ none. held_named c.held_key-key.result _ _ c.requires.seat f.1 (c.shape.ensures ∙ sym c.requires.seat.shape) refl
+    (ap N c.held_key-key.ensures ∙ none)
 
 pub release_at-slot-requires-clause-held : goal.release_at-slot-requires-clause-held
 release_at-slot-requires-clause-held g c = (hold_found c.args.held.now.items _ c.args.seat.now.me.0.own.body.holds
@@ -39,8 +39,8 @@ release_at-slot-requires-clause-held g c = (hold_found c.args.held.now.items _ c
 pub returns-clause-kept : goal.returns-clause-kept
 returns-clause-kept g c =
     let held : List ℕ = c.args.held.now.items in
-    let f = hold_found held _ c.args.seat.now.me.0.own.body.holds c.held_key-key.result c.in-Some.at _ c.requires.kept.holds
-    c.as_slice.ensures.value c.find.ensures c.in-Some.is in
+    let f = hold_found held _ c.args.seat.now.me.0.own.body.holds c.held_key-key.result c.in-Some.at _
+    c.requires.kept.holds c.as_slice.ensures.value c.find.ensures c.in-Some.is in
     let P : List ℕ → Type 0 = λ xs. HoldsKept xs c.release_at-slot.new.seat.me.0.own.body.holds in
     let less : HoldsKept (remove held c.in-Some.at) c.release_at-slot.new.seat.me.0.own.body.holds = subst P f.2
     (kept_less c.held_key-key.result held c.args.seat.now.me.0.own.body.holds _ c.requires.kept f.0
@@ -63,10 +63,10 @@ returns-clause-does g c =
     let v = c.args.seat.now.me.0 in
     let plan = plan_of g.L.KeyLayout.layout v.shape in
     let N : ℕ → Option Name = λ k. place_named (plan_of g.L.KeyLayout.layout c.shape.result.now) k in
-    let named = name_found c.held_key-key.result c.shape.result.now c.place_in.result c.in-Some-place_in.name
-    c.requires.seat c.shape.ensures (c.place_in.ensures ∙ ap N (sym c.held_key-key.ensures)) c.in-Some-place_in.is in
+    let named = name_found c.held_key-key.result c.shape.result.now _ c.place_in-name.result c.requires.seat
+    c.shape.ensures refl (ap N c.held_key-key.ensures ∙ c.place_in-name.ensures) in
     let first = of_key v c.release_at-slot.new.seat.me.0 plan c.held_key-key.result
-    (λ x. Begins (action.DropHold c.held_key-key.result) x) c.in-Some-place_in.name named
+    (λ x. Begins (action.DropHold c.held_key-key.result) x) c.place_in-name.result named
     c.release_at-slot.ensures.first in
     let w = caller_of c.release_at-slot.new.seat in
     let P : ℕ → Type 0 = λ k. ReleaseDoes g.L.KeyLayout.layout k (caller_of c.args.seat.now) (Ok tt) w in

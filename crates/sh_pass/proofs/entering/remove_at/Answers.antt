@@ -8,7 +8,8 @@ returns-then-there-clause-first g c =
     let P : Bool → Type 0 = λ b. Stepped (EntryTells c.args.key c.args.name b) c.args.seat.now.me.0
     c.enter_to_remove-there.new.seat.me.0 in
     removal_marked c.args.seat.now.me.0 c.enter_to_remove-there.new.seat.me.0 c.mark_at-first.new.seat.me.0
-    c.give_back-is_own.new.seat.me.0 c.args.key c.args.name _ (subst P c.if-there.true c.enter_to_remove-there.ensures.first)
+    c.give_back-is_own.new.seat.me.0 c.args.key c.args.name _
+    (subst P c.if-there.true c.enter_to_remove-there.ensures.first)
     c.mark_at-first.ensures.first c.give_back-is_own.ensures.grows
 
 pub returns-else-there-clause-first : goal.returns-else-there-clause-first

@@ -1,0 +1,41 @@
+-- The words of live slots, and what a get finds out by them.
+use Rattle.std.proofs.Common.{◌≡◌, ◌∙◌, ℕ, ◌+◌, ◌-◌, ◌%◌, ◌^◌, ◌<◌, ◌≤◌, ◌==◌, ◌&&◌, Bool, true, false, cond, ap}
+use Rattle.std.proofs.Common.{refl, arith, eq-eqb, lt-ltb}
+use Rattle.std.specs.Prelude.{nat_lt, not}
+use Rattle.sh_word.specs.Fields.{Fields, fields_of, word_of}
+use Rattle.sh_word.proofs.Words.{fields_of-word_of}
+use Rattle.sh_slots.specs.declared.enter.GetAnswer.{GetAnswer}
+use Rattle.sh_slots.specs.declared.enter.GetAnswer.TheVariants.{Got, Crowded, Gone}
+use Rattle.sh_slots.specs.Slots.{answer_to_get}
+use Rattle.sh_key.specs.Layout.{Layout, IsLayout}
+use Rattle.sh_step.specs.Plans.{keys_of}
+
+abbrev pub live : (g n : ℕ) → Fields
+live g n = record { generation = g; marked = false; present = true; count = n }
+
+-- the word found is that of a live slot with n on it
+word_is : (g n most live_word found : ℕ) → g < 2 ^ 32 → found < 2 ^ 64 → most ≤ 2 ^ 30 → live_word ≡ word_of (live g 0)
+    → n ≡ (found + (2 ^ 64 - live_word)) % 2 ^ 64 → n < most → found ≡ word_of (live g n)
+unfolding word_of
+word_is g n most live_word found fits bits few is by less = omega arith
+
+pub got_by_one_test : (g guard_max live_word found : ℕ) → g < 2 ^ 32 → found < 2 ^ 64 → guard_max ≤ 2 ^ 30 → live_word
+    ≡ word_of (live g 0) → (found + (2 ^ 64 - live_word)) % 2 ^ 64 < guard_max → answer_to_get g guard_max found ≡ Got
+got_by_one_test g guard_max live_word found fits bits few is less =
+    let n : ℕ = (found + (2 ^ 64 - live_word)) % 2 ^ 64 in
+    let fields : fields_of found ≡ live g n = ap fields_of
+    (word_is g n guard_max live_word found fits bits few is refl less)
+    ∙ fields_of-word_of (live g n) (let room : n < 2 ^ 30 = omega arith in room) in
+    let A : Fields → GetAnswer = λ f. cond (f.present && not f.marked && (f.generation == g))
+    (cond (nat_lt f.count guard_max) Got Crowded) Gone in
+    ap A fields ∙ (ap (λ (b : Bool). cond b (cond (nat_lt n guard_max) Got Crowded) Gone) (eq-eqb g g refl)
+    ∙ ap (λ (b : Bool). cond b Got Crowded) (lt-ltb n guard_max less))
+
+-- a key has few holds
+pub few_holds : (layout : Layout) (n : ℕ) → IsLayout layout
+    → ((shards pages : ℕ) → n ≡ (keys_of layout shards pages).guard_max) → n ≤ 2 ^ 30
+unfolding keys_of
+few_holds layout n lawful is =
+    let fits = lawful.guards_fit in
+    let same : n ≡ layout.guard_max = is 1 1 in
+    omega arith
