@@ -1,12 +1,15 @@
 -- What the parts of a key are whose place a shape has.
-use Rattle.std.proofs.Common.{◌≡◌, ◌≢◌, ℕ, ◌<◌, Bool, true, false, None, Some, refl, ltb-true}
+use Rattle.std.proofs.Common.{◌≡◌, ◌≢◌, ℕ, ◌+◌, ◌*◌, ◌<◌, ◌∙◌, Bool, true, false, Option, None, Some, refl, ap, sym}
+use Rattle.std.proofs.Common.{ltb-true}
 use Rattle.sh_key.specs.declared.parts.Parts.{Parts}
 use Rattle.sh_key.specs.Layout.{Layout, unpacked}
 use Rattle.sh_shape.specs.Places.{pages_of}
 use Rattle.sh_shape.specs.Shape.{Numbers}
 use Rattle.sh_step.specs.Moves.{has_place, place_named}
 use Rattle.sh_step.specs.Plans.{plan_of}
-use Rattle.sh_step.proofs.NameLaws.{no_place}
+use Rattle.sh_slots.specs.declared.hand.Name.{Name}
+use Rattle.sh_step.proofs.NameLaws.{no_key, no_place, a_place}
+use Rattle.sh_pass.specs.Placing.{IsPlacedBy}
 use Rattle.sh_step.proofs.Truths.{and3}
 
 pub parts_have_place : (layout : Layout) (s : Numbers) (k : ℕ) (p : Parts) → place_named (plan_of layout s) k ≢ None
@@ -21,3 +24,19 @@ pub parts_are_below : (layout : Layout) (s : Numbers) (k : ℕ) (p : Parts) → 
 parts_are_below layout s k p named is =
     let all = and3 _ _ _ (parts_have_place layout s k p named is) in
     (ltb-true p.shard s.shards all.0, ltb-true p.page (pages_of s) all.1)
+
+-- the place of a key goes by how many pages a shard has
+pub placed_by_pages : (layout : Layout) (s : Numbers) (k : ℕ) (x : Name) → place_named (plan_of layout s) k ≡ Some x
+    → IsPlacedBy layout (pages_of s) k x
+placed_by_pages layout s k x at other pages there = go (unpacked layout k) refl where
+  go : (o : Option Parts) → unpacked layout k ≡ o → place_named (plan_of layout other) k ≡ Some x
+  go None e = absurd (there (no_key layout other k e))
+  go (Some p) e =
+      let here = parts_have_place layout s k p (λ none. let no : ⊥ = cc in no) e in
+      let N : ℕ → Option Name = λ n. Some (record {
+        page = p.shard * n + p.page;
+        slot = p.slot;
+        generation = p.generation;
+      }) in
+      a_place layout other k p e (parts_have_place layout other k p there e)
+      ∙ (ap N pages ∙ (sym (a_place layout s k p e here) ∙ at))

@@ -17,26 +17,27 @@ use std::marker::{Model, PhantomData};
 /// contract sees no more of it, `hold` answers it, and the two kinds may be mixed as one likes. A guard releases
 /// nothing where it is dropped: it does not know the pass that holds. (So a name says what it guards: the place.)
 ///
-/// The place goes by the shape of the heap. A guard from a heap of another shape does what its plain hold would do.
+/// The place goes by how many pages a shard of the heap has. A guard from a heap whose shards have another number of
+/// pages does what its plain hold would do.
 #[derive(Drop)]
 pub struct Guard<L: KeyLayout> {
     key: u64,
     name: Name,
-    shape: Shape,
+    // How many pages a shard has where the key has this place.
+    pages: u32,
     layout: PhantomData<L>,
 }
 
 impl<L: KeyLayout> Model for Guard<L> {
-    ghost use Rattle.std.specs.Prelude.{◌≡◌, Some};
+    ghost use Rattle.std.specs.Prelude.{◌≡◌};
     ghost use Rattle.sh_value.specs.declared.hold.Hold.{Hold};
-    ghost use Rattle.sh_step.specs.Moves.{place_named};
-    ghost use Rattle.sh_step.specs.Plans.{plan_of};
+    ghost use Rattle.sh_pass.specs.Placing.{IsPlacedBy};
 
     ghost Value = { Hold };
 
     ghost view = { λ g. record { key = g.key } };
 
-    ghost invariant = { λ g. place_named (plan_of L.layout g.shape) g.key ≡ Some g.name };
+    ghost invariant = { λ g. IsPlacedBy L.layout g.pages g.key g.name };
 }
 
 impl<L: KeyLayout> Guard<L> {
@@ -49,7 +50,7 @@ impl<L: KeyLayout> Guard<L> {
         Guard {
             key,
             name,
-            shape: *shape,
+            pages: shape.pages(),
             layout: PhantomData,
         }
     }
@@ -77,10 +78,10 @@ impl<L: KeyLayout> Holding<L> for Guard<L> {
         self.key
     }
 
-    // Mostly it is the shape that the guard is for.
+    // Mostly it is the heap that the guard is for.
     #[inline(always)]
     fn place_in(&self, shape: &Shape) -> Name {
-        if self.shape == *shape {
+        if self.pages == shape.pages() {
             self.name
         } else {
             place_elsewhere::<L>(shape, self.key)
