@@ -86,7 +86,7 @@
 //!   was removed finds nothing for ever, whatever the slot stores by then.
 //! - A **hold** keeps a key's value readable, also when the key is removed meanwhile. `get` takes one, and `release`
 //!   gives it back. `fetch`, `with` and `take` (of `Reader`) do both, so that no hold is left behind. A `Guard` is a
-//!   hold that is faster.
+//!   hold that keeps the place of its value.
 //! - A **receipt** tells what its pass was answered until then, and what that had heard of others. It has no bytes.
 //! - A **record** is what `Typed` stores: a type of one's own, or a `u64`, a tuple or an array of them as it is.
 //! - A **layout** says how keys are numbered, and so how many shards, pages, generations and holds there may be.
