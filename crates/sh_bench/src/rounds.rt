@@ -1,5 +1,7 @@
 //! What a pass that owns nothing does with each key, over and over: get and release, get, read and release, and
 //! receipts.
+//!
+//! Each loop is compiled by itself: in one function they would have to share its registers.
 ghost use Rattle.std.specs.Prelude.{◌≡◌, IfOk};
 
 use crate::gate::Gate;
@@ -14,6 +16,7 @@ use std::rt::Clock;
 use std::time::Instant;
 
 // Takes a hold on each key and gives it back. Answers the sum of the keys held.
+#[inline(never)]
 fn get_each<L: KeyLayout>(pass: &mut Pass<'_, L>, keys: &[u64]) -> Result<u64, Refusal> {
     let mut sum = 0u64;
     for key in keys {
@@ -34,6 +37,7 @@ fn sum_of(value: &Value) -> u64 {
 }
 
 // Reads the value of each key under a hold. Answers the sum of the words.
+#[inline(never)]
 fn read_each<L: KeyLayout>(pass: &mut Pass<'_, L>, keys: &[u64]) -> Result<u64, Refusal> {
     let mut sum = 0u64;
     for key in keys {
@@ -46,6 +50,7 @@ fn read_each<L: KeyLayout>(pass: &mut Pass<'_, L>, keys: &[u64]) -> Result<u64, 
 }
 
 // The same, into one value.
+#[inline(never)]
 fn read_each_into<L: KeyLayout>(pass: &mut Pass<'_, L>, keys: &[u64]) -> Result<u64, Refusal> {
     let mut value = Value::empty();
     let mut sum = 0u64;
@@ -59,6 +64,7 @@ fn read_each_into<L: KeyLayout>(pass: &mut Pass<'_, L>, keys: &[u64]) -> Result<
 }
 
 // Takes a hold that keeps its place on each key, and gives it back.
+#[inline(never)]
 fn guard_each<L: KeyLayout>(pass: &mut Pass<'_, L>, keys: &[u64]) -> Result<u64, Refusal> {
     let mut sum = 0u64;
     for key in keys {
@@ -70,6 +76,7 @@ fn guard_each<L: KeyLayout>(pass: &mut Pass<'_, L>, keys: &[u64]) -> Result<u64,
 }
 
 // Reads the value of each key into one value, under a hold that keeps its place.
+#[inline(never)]
 fn read_each_guarded<L: KeyLayout>(pass: &mut Pass<'_, L>, keys: &[u64]) -> Result<u64, Refusal> {
     let mut value = Value::empty();
     let mut sum = 0u64;
@@ -83,6 +90,7 @@ fn read_each_guarded<L: KeyLayout>(pass: &mut Pass<'_, L>, keys: &[u64]) -> Resu
 }
 
 // Gives a receipt for each key and heeds it. Answers the sum of the keys.
+#[inline(never)]
 fn heed_each<L: KeyLayout>(pass: &mut Pass<'_, L>, keys: &[u64]) -> u64 {
     let mut sum = 0u64;
     for key in keys {
