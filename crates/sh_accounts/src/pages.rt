@@ -32,7 +32,7 @@ fn class_at<L: KeyLayout>(world: &World<L>, shard: u32, page: u32) -> Option<u32
 {
     refines_map();
     let number = world.shape().class_at(shard, page);
-    class_of(world.words()[number as usize])
+    class_of(world.words()[number])
 }
 
 // The accounts of a page of this class, of which no slot is counted yet.
@@ -73,7 +73,7 @@ fn kind_at<L: KeyLayout>(world: &World<L>, shard: u32, page: u32, slot: u32) -> 
     ensures { result ≡ kind_in world.now (record { page = page_number world.now.shape shard page; slot = slot }) }
 {
     let shape = world.shape();
-    let word = world.words()[shape.state_at(shard, page, slot) as usize];
+    let word = world.words()[shape.state_at(shard, page, slot)];
     let spot = Spot {
         page: u64::from(shape.page_number(shard, page)),
         slot: u64::from(slot),

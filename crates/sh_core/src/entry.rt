@@ -16,7 +16,7 @@ pub fn word_at(shape: &Shape, words: &[u64], place: Place) -> u64
     requires count { length words.now ≡ words_of shape.now }
     ensures { result ≡ word_at shape.now words.now place }
 {
-    words[shape.index(place) as usize]
+    words[shape.index(place)]
 }
 
 // The value that stands in a slot.
@@ -29,7 +29,7 @@ fn value_in(shape: &Shape, words: &[u64], spot: Spot) -> Value
     let class = word_at(shape, words, Place::Class(spot.page)) - 1;
     let length = word_at(shape, words, Place::Length(spot.page, spot.slot));
     let first = spot.slot * u64::from(classes::width(class as u32));
-    let start = shape.index(Place::Payload(spot.page, first)) as usize;
+    let start = shape.index(Place::Payload(spot.page, first));
     match Value::new(&words[start..start + length as usize]) {
         Ok(value) => value,
         Err(_) => unreachable!(),

@@ -87,6 +87,6 @@ pub fn do_move<L: KeyLayout>(
         Some(reply) => Some(entry(shape, words, pass, step.place, reply)),
         None => None,
     };
-    words[shape.index(step.place) as usize] = step.operation.after(found);
+    words[shape.index(step.place)] = step.operation.after(found);
     Ok(join(log, new))
 }

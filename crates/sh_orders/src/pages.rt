@@ -80,7 +80,7 @@ pub fn state_at(world: &World<Tiny>, shard: u32, page: u32, slot: u32) -> Option
     }
     let word = world
         .words()
-        .get(shape.state_at(shard, page, slot) as usize)?;
+        .get(shape.state_at(shard, page, slot))?;
     Some(State::of(*word))
 }
 

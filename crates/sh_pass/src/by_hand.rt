@@ -4,7 +4,7 @@ ghost use Rattle.std.specs.Prelude.{◌≡◌};
 ghost use Rattle.sh_step.specs.declared.action.Action.TheVariants as action;
 ghost use Rattle.sh_pass.specs.Busy.{Acts, IsBusy};
 
-use crate::calls::find;
+use crate::held_keys::find;
 use arrayvec::ArrayVec;
 use sh_bell::{is_armed, top_of};
 use sh_key::KeyLayout;

@@ -1,5 +1,5 @@
 // The calls of a pass, whether it owns a shard or not. Each answers also the slot of its shard that came to be its own.
-ghost use Rattle.std.specs.Prelude.{◌≡◌, ◌==◌, None, position};
+ghost use Rattle.std.specs.Prelude.{◌≡◌, None};
 ghost use Rattle.sh_slots.specs.declared.hand.Hand.TheVariants.{Idle};
 ghost use Rattle.sh_table.specs.Seats.{IsSeat};
 ghost use Rattle.sh_pass.specs.Passes.{GetDoes, ReadIntoDoes, RemoveDoes, ReleaseDoes, HoldsKept, caller_of};
@@ -7,6 +7,7 @@ ghost use Rattle.sh_pass.specs.Owners.{CallLeaves};
 
 use crate::entering::{get_at, release_at, remove_at};
 use crate::guard::Guard;
+use crate::held_keys::{is_held, let_go};
 use crate::holding::Holding;
 use crate::reading::read_at;
 use arrayvec::ArrayVec;
@@ -15,13 +16,6 @@ use sh_slots::{GetAnswer, Spot};
 use sh_step::operands::place_of_key;
 use sh_table::{HeapTable, Token};
 use sh_value::{HOLDS_MAX, Hold, Refusal, Value};
-
-// Where the key stands first among the holds.
-pub(crate) fn find(held: &[u64], key: u64) -> Option<usize>
-    ensures { result ≡ position (λ k. k == key) held.now }
-{
-    held.iter().position(|k| *k == key)
-}
 
 /// Takes a hold on a key, and answers it with the key's place.
 #[inline(always)]
@@ -129,13 +123,12 @@ pub(crate) fn release_key<L: KeyLayout, K: Holding<L>>(
     ensures leaves { CallLeaves L.layout result.1 (caller_of seat.old) (caller_of seat.new) }
 {
     let key = hold.held_key();
-    let Some(at) = find(held.as_slice(), key) else {
+    if !is_held(held.as_slice(), key) {
         return (Err(Refusal::NotHeld), None);
-    };
+    }
     let name = hold.place_in(table.shape());
     let slot = release_at(table, seat, key, name, owned);
-    // Their order means nothing, so none but the last one moves.
-    held.swap_remove(at);
+    let_go(held, key);
     (Ok(()), slot)
 }
 
@@ -159,9 +152,9 @@ pub(crate) fn read_key<L: KeyLayout, K: Holding<L>>(
     ensures leaves { CallLeaves L.layout None (caller_of seat.old) (caller_of seat.new) }
 {
     let key = hold.held_key();
-    let Some(_at) = find(held.as_slice(), key) else {
+    if !is_held(held.as_slice(), key) {
         return Err(Refusal::NotHeld);
-    };
+    }
     let name = hold.place_in(table.shape());
     read_at(table, seat, key, name, value);
     Ok(())

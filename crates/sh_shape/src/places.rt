@@ -93,7 +93,7 @@ impl Shape {
     }
 
     /// The number of the word at a place of the heap.
-    pub fn index(&self, place: Place) -> u32
+    pub fn index(&self, place: Place) -> usize
         requires { IsPlace self.now place }
         ensures is { result ≡ number self.now place }
         ensures below { result < words_of self.now }
@@ -113,7 +113,7 @@ impl Shape {
     }
 
     /// The number of a page's class word.
-    pub fn class_at(&self, shard: u32, page: u32) -> u32
+    pub fn class_at(&self, shard: u32, page: u32) -> usize
         requires shard { shard < self.now.shards }
         requires page { page < pages_of self.now }
         ensures is { result ≡ number self.now (Place.Class (page_number self.now shard page)) }
@@ -123,7 +123,7 @@ impl Shape {
     }
 
     /// The number of a page's head word.
-    pub fn head_at(&self, shard: u32, page: u32) -> u32
+    pub fn head_at(&self, shard: u32, page: u32) -> usize
         requires shard { shard < self.now.shards }
         requires page { page < pages_of self.now }
         ensures is { result ≡ number self.now (Place.Head (page_number self.now shard page)) }
@@ -133,7 +133,7 @@ impl Shape {
     }
 
     /// The number of a page's link.
-    pub fn page_link_at(&self, shard: u32, page: u32) -> u32
+    pub fn page_link_at(&self, shard: u32, page: u32) -> usize
         requires shard { shard < self.now.shards }
         requires page { page < pages_of self.now }
         ensures is { result ≡ number self.now (Place.PageLink (page_number self.now shard page)) }
@@ -143,7 +143,7 @@ impl Shape {
     }
 
     /// The number of the state word of a page's slot, from 0 to 47.
-    pub fn state_at(&self, shard: u32, page: u32, slot: u32) -> u32
+    pub fn state_at(&self, shard: u32, page: u32, slot: u32) -> usize
         requires shard { shard < self.now.shards }
         requires page { page < pages_of self.now }
         requires slot { slot < slot_places }
@@ -154,7 +154,7 @@ impl Shape {
     }
 
     /// The number of the link of a page's slot, from 0 to 47.
-    pub fn link_at(&self, shard: u32, page: u32, slot: u32) -> u32
+    pub fn link_at(&self, shard: u32, page: u32, slot: u32) -> usize
         requires shard { shard < self.now.shards }
         requires page { page < pages_of self.now }
         requires slot { slot < slot_places }
@@ -165,7 +165,7 @@ impl Shape {
     }
 
     /// The number of the length word of a page's slot, from 0 to 47.
-    pub fn length_at(&self, shard: u32, page: u32, slot: u32) -> u32
+    pub fn length_at(&self, shard: u32, page: u32, slot: u32) -> usize
         requires shard { shard < self.now.shards }
         requires page { page < pages_of self.now }
         requires slot { slot < slot_places }
@@ -176,7 +176,7 @@ impl Shape {
     }
 
     /// The number of a page's payload word, from 0 to 47.
-    pub fn payload_at(&self, shard: u32, page: u32, i: u32) -> u32
+    pub fn payload_at(&self, shard: u32, page: u32, i: u32) -> usize
         requires shard { shard < self.now.shards }
         requires page { page < pages_of self.now }
         requires i { i < payload_words }
@@ -187,7 +187,7 @@ impl Shape {
     }
 
     /// The number of a shard's owner word.
-    pub fn owner_at(&self, shard: u32) -> u32
+    pub fn owner_at(&self, shard: u32) -> usize
         requires { shard < self.now.shards }
         ensures is { result ≡ number self.now (Place.Owner shard) }
         ensures below { result < words_of self.now }
@@ -196,7 +196,7 @@ impl Shape {
     }
 
     /// The number of a shard's bell.
-    pub fn bell_at(&self, shard: u32) -> u32
+    pub fn bell_at(&self, shard: u32) -> usize
         requires { shard < self.now.shards }
         ensures is { result ≡ number self.now (Place.Bell shard) }
         ensures below { result < words_of self.now }
@@ -206,20 +206,20 @@ impl Shape {
 }
 
 // The number of a page's word.
-fn in_page(page: u64, offset: u64) -> u32
+fn in_page(page: u64, offset: u64) -> usize
     requires page { page < 2 ^ 24 }
     requires offset { offset < page_words }
     ensures is { result ≡ page_words * page + offset }
 {
-    PAGE_WORDS * page as u32 + offset as u32
+    PAGE_WORDS as usize * page as usize + offset as usize
 }
 
 // The number of the first of a shard's two words, which stand behind those of so many pages.
-fn after_pages(pages: u32, shard: u64) -> u32
+fn after_pages(pages: u32, shard: u64) -> usize
     requires pages { pages ≤ 2 ^ 24 }
     requires shard { shard < 2 ^ 21 }
     ensures is { result ≡ page_words * pages + 2 * shard }
     ensures few { result < page_words * 2 ^ 24 + 2 ^ 22 }
 {
-    PAGE_WORDS * pages + 2 * shard as u32
+    PAGE_WORDS as usize * pages as usize + 2 * shard as usize
 }

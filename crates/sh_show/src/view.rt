@@ -66,7 +66,7 @@ impl<'a> View<'a> {
         if !has_place(&self.shape, place) {
             return 0;
         }
-        match self.words.get(self.shape.index(place) as usize) {
+        match self.words.get(self.shape.index(place)) {
             Some(word) => *word,
             None => 0,
         }

@@ -14,8 +14,8 @@ use sh_shape::{CLASS_COUNT, Place, Shape, classes};
 use sh_stack::top_word;
 use sh_value::Value;
 
-// The class word of the pages whose slots have one word each.
-const ONE_WORD: u64 = 1;
+/// The class word of the pages whose slots have one word each.
+pub const ONE_WORD: u64 = 1;
 
 /// How many words a slot has of a page of this class word; of a number that is no class word 0.
 pub fn width_of_word(class_word: u64) -> u64

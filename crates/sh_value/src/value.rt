@@ -64,6 +64,24 @@ impl Value {
         self.words.clear();
     }
 
+    /// Makes it the value of this word alone. Where it has one word already, no other place of it is written.
+    ///
+    /// ```text
+    /// let mut value = Value::of([7, 8]);
+    /// value.set(9);
+    /// assert_eq!(value.words(), &[9]);
+    /// ```
+    pub fn set(&mut self, word: u64)
+        ensures { self.new ≡ word ∷ [] }
+    {
+        if let [only] = self.words.as_mut_slice() {
+            *only = word;
+        } else {
+            *self = Value::empty();
+            self.push(word);
+        }
+    }
+
     /// Puts a word behind the others, of which there are at most 15.
     pub fn push(&mut self, word: u64)
         requires { length self.old < 16 }

@@ -1,63 +1,61 @@
-use Rattle.std.proofs.Common.{◌≡◌, ◌∙◌, ◌+◌, ◌==◌, ℕ, List, length, Option, Some, Ok, Err, position, remove, refl, ap}
+use Rattle.std.proofs.Common.{◌≡◌, ◌∙◌, ◌==◌, ℕ, List, Option, Ok, Err, true, false, refl, ap}
 use Rattle.std.proofs.Common.{sym, subst}
 use Rattle.sh_slots.specs.declared.hand.Name.{Name}
+use Rattle.sh_step.specs.Collections.{has, without}
 use Rattle.sh_step.specs.Moves.{place_named}
 use Rattle.sh_value.specs.declared.refusal.Refusal.TheVariants as refusal
 use Rattle.sh_step.specs.declared.body.Body.{Body}
 use Rattle.sh_step.specs.declared.action.Action.TheVariants as action
 use Rattle.sh_step.specs.Plans.{plan_of}
 use Rattle.sh_pass.specs.Deciding.{Begins, DropsHold}
-use Rattle.sh_pass.specs.Passes.{HoldsKept, ReleaseDoes, caller_of, heap_of}
+use Rattle.sh_pass.specs.Passes.{ReleaseDoes, caller_of, heap_of}
 use Rattle.sh_pass.proofs.DecidedLaws.{name_found, of_key}
-use Rattle.sh_pass.proofs.HeldLaws.{hold_found, no_hold, held_named, found_has, kept_less, kept_swapped}
-use Rattle.sh_pass.proofs.HeldLaws.{adds_of, same_home}
+use Rattle.sh_pass.proofs.HeldLaws.{held_as, held_named, kept_less, kept_then, adds_of, same_home}
 use Rattle.sh_pass.proofs.OwnCalls.{leaves_grown}
 use Rattle.sh_pass.proofs.calls.release_key.Goals as goal
 
-pub returns-in_default-clause-does : goal.returns-in_default-clause-does
-returns-in_default-clause-does g c =
+pub returns-then-not-is_held-clause-does : goal.returns-then-not-is_held-clause-does
+returns-then-not-is_held-clause-does g c =
     let v = caller_of c.args.seat.now in
     let P : ℕ → Type 0 = λ k. ReleaseDoes g.L.KeyLayout.layout k v (Err refusal.NotHeld) v in
     subst P c.held_key-key.ensures (
-      no_hold c.args.held.now.items _ c.args.seat.now.me.0.own.body.holds c.held_key-key.result _
-          c.requires.kept.holds c.as_slice.ensures.value c.find.ensures c.in_default.is,
+      held_as c.args.held.now.items _ c.args.seat.now.me.0.own.body.holds c.held_key-key.result c.is_held.result
+          false c.requires.kept.holds c.as_slice.ensures.value c.is_held.ensures c.if-not-is_held.true,
       refl,
     )
 
 pub place_in-name-requires : goal.place_in-name-requires
 place_in-name-requires g c =
-    let f = hold_found c.args.held.now.items _ c.args.seat.now.me.0.own.body.holds c.held_key-key.result c.in-Some.at _
-    c.requires.kept.holds c.as_slice.ensures.value c.find.ensures c.in-Some.is in
+    let here = held_as c.args.held.now.items _ c.args.seat.now.me.0.own.body.holds c.held_key-key.result
+    c.is_held.result true c.requires.kept.holds c.as_slice.ensures.value c.is_held.ensures c.if-not-is_held.false in
     let N : ℕ → Option Name = λ k. place_named (plan_of g.L.KeyLayout.layout c.shape.result.now) k in
-    λ none. held_named c.held_key-key.result _ _ c.requires.seat f.1 (c.shape.ensures ∙ sym c.requires.seat.shape) refl
+    λ none. held_named c.held_key-key.result _ _ c.requires.seat here (c.shape.ensures ∙ sym c.requires.seat.shape) refl
     (ap N c.held_key-key.ensures ∙ none)
 
 pub release_at-slot-requires-clause-held : goal.release_at-slot-requires-clause-held
-release_at-slot-requires-clause-held g c = (hold_found c.args.held.now.items _ c.args.seat.now.me.0.own.body.holds
-    c.held_key-key.result c.in-Some.at _ c.requires.kept.holds c.as_slice.ensures.value c.find.ensures c.in-Some.is).1
+release_at-slot-requires-clause-held g c = held_as c.args.held.now.items _ c.args.seat.now.me.0.own.body.holds
+    c.held_key-key.result c.is_held.result true c.requires.kept.holds c.as_slice.ensures.value c.is_held.ensures
+    c.if-not-is_held.false
+
+pub let_go-requires : goal.let_go-requires
+let_go-requires g c =
+    let X : List ℕ → Type 0 = λ xs. has (λ k. k == c.held_key-key.result) xs ≡ true in
+    subst X c.as_slice.ensures.value (sym c.is_held.ensures ∙ c.if-not-is_held.false)
 
 pub returns-clause-kept : goal.returns-clause-kept
 returns-clause-kept g c =
     let held : List ℕ = c.args.held.now.items in
-    let f = hold_found held _ c.args.seat.now.me.0.own.body.holds c.held_key-key.result c.in-Some.at _
-    c.requires.kept.holds c.as_slice.ensures.value c.find.ensures c.in-Some.is in
-    let P : List ℕ → Type 0 = λ xs. HoldsKept xs c.release_at-slot.new.seat.me.0.own.body.holds in
-    let less : HoldsKept (remove held c.in-Some.at) c.release_at-slot.new.seat.me.0.own.body.holds = subst P f.2
-    (kept_less c.held_key-key.result held c.args.seat.now.me.0.own.body.holds _ c.requires.kept f.0
-    (ap (λ (p : Body). p.holds) c.release_at-slot.ensures.grows.body)) in
-    let len = c.swap_remove.ensures.len in
-    let at : position (λ k. k == c.held_key-key.result) held ≡ Some c.in-Some.at = ap
-    (λ (xs : List ℕ). position (λ k. k == c.held_key-key.result) xs) (sym c.as_slice.ensures.value)
-    ∙ (sym c.find.ensures ∙ c.in-Some.is) in
-    let here = (found_has c.held_key-key.result c.in-Some.at held at).1 in
-    let Q : List ℕ → Type 0 = λ xs. length xs + 1 ≡ length held in
-    subst P (sym c.swap_remove.ensures.items) (kept_swapped held _ c.in-Some.at c.swap_remove.result here
-    (subst Q c.swap_remove.ensures.items len) less)
+    let X : List ℕ → Type 0 = λ xs. has (λ k. k == c.held_key-key.result) xs ≡ true in
+    let here = subst X c.as_slice.ensures.value (sym c.is_held.ensures ∙ c.if-not-is_held.false) in
+    kept_then c.let_go.new.held.items (without (λ k. k == c.held_key-key.result) held)
+    c.release_at-slot.new.seat.me.0.own.body.holds c.let_go.ensures
+    (kept_less c.held_key-key.result held c.args.seat.now.me.0.own.body.holds _ c.requires.kept here
+    (ap (λ (p : Body). p.holds) c.release_at-slot.ensures.grows.body))
 
 pub returns-clause-does : goal.returns-clause-does
 returns-clause-does g c =
-    let f = hold_found c.args.held.now.items _ c.args.seat.now.me.0.own.body.holds c.held_key-key.result c.in-Some.at _
-    c.requires.kept.holds c.as_slice.ensures.value c.find.ensures c.in-Some.is in
+    let here = held_as c.args.held.now.items _ c.args.seat.now.me.0.own.body.holds c.held_key-key.result
+    c.is_held.result true c.requires.kept.holds c.as_slice.ensures.value c.is_held.ensures c.if-not-is_held.false in
     let same : heap_of c.release_at-slot.new.seat ≡ heap_of c.args.seat.now = same_home c.requires.seat
     c.release_at-slot.ensures.seat in
     let v = c.args.seat.now.me.0 in
@@ -71,7 +69,7 @@ returns-clause-does g c =
     let w = caller_of c.release_at-slot.new.seat in
     let P : ℕ → Type 0 = λ k. ReleaseDoes g.L.KeyLayout.layout k (caller_of c.args.seat.now) (Ok tt) w in
     subst P c.held_key-key.ensures (
-      f.1,
+      here,
       adds_of (heap_of c.args.seat.now) (heap_of c.release_at-slot.new.seat) _ (DropsHold plan c.held_key-key.result)
           same refl c.release_at-slot.ensures.grows first,
     )
