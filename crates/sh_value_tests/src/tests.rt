@@ -30,6 +30,19 @@ fn holds_up_to_sixteen_words(rt: HostRuntime) -> Result<(), Fail> {
     Ok(())
 }
 
+// Whether it had two words, one or none.
+#[test]
+fn is_set_to_one_word(rt: HostRuntime) {
+    let mut value = Value::of([7, 8]);
+    value.set(9);
+    agree(&rt, value.words(), [9].as_slice());
+    value.set(10);
+    agree(&rt, value.words(), [10].as_slice());
+    value.clear();
+    value.set(11);
+    agree(&rt, value, Value::from(11));
+}
+
 #[test]
 fn refusals_have_numbers_and_names(rt: HostRuntime) -> Result<(), Fail> {
     let table = [
