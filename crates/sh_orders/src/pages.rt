@@ -78,9 +78,7 @@ pub fn state_at(world: &World<Tiny>, shard: u32, page: u32, slot: u32) -> Option
     if shard >= shape.shards() || page >= shape.pages() || slot >= SLOT_PLACES {
         return None;
     }
-    let word = world
-        .words()
-        .get(shape.state_at(shard, page, slot))?;
+    let word = world.words().get(shape.state_at(shard, page, slot))?;
     Some(State::of(*word))
 }
 
