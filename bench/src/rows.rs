@@ -94,12 +94,14 @@ pub fn large() -> Vec<Row> {
     [[100_000, 1_000_000, 10_000_000].map(beside).concat(), filling()].concat()
 }
 
-// Shards that are filled: 1,024 pages and 65,536, of one class and of all eight.
+// Shards that are filled: one of 1,024 pages and one of 65,536, and as large a heap of shards of 1,024 pages, with pages
+// of one class and of all eight.
 fn filling() -> Vec<Row> {
-    let row = |values, lengths| Row::new(Workload::Fill, 1, values).lengths(lengths).deep();
-    let short = [1024, 65_536].map(|pages| row(pages * 48, Lengths::Each(1)).aims(1.5, 1.2));
-    let mixed = [1024, 65_536].map(|pages| row(pages * 128 / 25, Lengths::Mixed));
-    [short, mixed].concat()
+    let row = |values, lengths| Row::new(Workload::Fill, 1, values).lengths(lengths);
+    let short = [1024, 65_536].map(|pages| row(pages * 48, Lengths::Each(1)).deep().aims(1.5, 1.2));
+    let mixed = [1024, 65_536].map(|pages| row(pages * 128 / 25, Lengths::Mixed).deep());
+    let many = [row(3_000_000, Lengths::Each(1)), row(320_000, Lengths::Mixed)];
+    [&short[..], &many[..1], &mixed, &many[1..]].concat()
 }
 
 /// What the library alone has: gets beside more and more passes that are open, and receipts.
@@ -141,7 +143,7 @@ mod tests {
         let beside = |row: &&Row| row.workload != Workload::Fill;
         let live: HashSet<usize> = large().iter().filter(beside).map(|row| row.live).collect();
         assert_eq!(live, HashSet::from([100_000, 1_000_000, 10_000_000]));
-        assert!(large().iter().all(|row| row.is_deep));
+        assert!(large().iter().filter(beside).all(|row| row.is_deep));
     }
 
     // Sixteen values of 1 to 16 words fill 1/48 + 1/24 + 1/16 + 1/12 + 2/8 + 2/6 + 4/4 + 4/3 pages, which is 25/8.
@@ -152,7 +154,7 @@ mod tests {
             Lengths::Mixed => row.operations as f64 / 16.0 * 25.0 / 8.0,
         };
         let pages: Vec<f64> = filling().iter().map(|row| filled(row).ceil()).collect();
-        assert_eq!(pages, [1024.0, 65_536.0, 1024.0, 65_536.0]);
+        assert_eq!(pages, [1024.0, 65_536.0, 62_500.0, 1024.0, 65_536.0, 62_500.0]);
     }
 
     #[test]

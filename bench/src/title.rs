@@ -44,6 +44,14 @@ fn put_back(row: &Row) -> String {
     format!("{}, {} put", count(row.pages(), "page"), count(row.freed, "slot"))
 }
 
+// Which shards are filled, one after the other.
+fn shards(row: &Row) -> &'static str {
+    match row.is_deep {
+        true => "one shard",
+        false => "shards of 1,024 pages",
+    }
+}
+
 impl Row {
     /// What the row is, in words.
     pub fn title(&self) -> String {
@@ -56,7 +64,7 @@ impl Row {
             Workload::ReadInto => format!("get + read into + release, {}", read(self)),
             Workload::ReadGuard => format!("read by a guard, {}", read(self)),
             Workload::Insert => format!("insert, {words}, beside {}", count(self.live, "value")),
-            Workload::Fill => format!("fill with {}, {words}", count(self.operations, "value")),
+            Workload::Fill => format!("fill with {}, {words}, {}", count(self.operations, "value"), shards(self)),
             Workload::Remove => format!("remove by the owner, {words}"),
             Workload::Churn if standing == 1 => format!("remove + insert, one value, {words}"),
             Workload::Churn => format!("churn, {} live, {words}", grouped(standing)),
@@ -97,7 +105,8 @@ mod tests {
             (Row::new(Workload::ReadGuard, 1, 9).live(2000).deep(), "read by a guard, 1 word, 2,000 keys"),
             (Row::new(Workload::Insert, 1, 9), "insert, 1 word, beside 1 value"),
             (Row::new(Workload::Insert, 4, 9).live(100), "insert, 1 word, beside 100 values"),
-            (Row::new(Workload::Fill, 1, 49_152), "fill with 49,152 values, 1 word"),
+            (Row::new(Workload::Fill, 1, 49_152).deep(), "fill with 49,152 values, 1 word, one shard"),
+            (Row::new(Workload::Fill, 1, 100_000), "fill with 100,000 values, 1 word, shards of 1,024 pages"),
             (Row::new(Workload::Churn, 1, 9), "remove + insert, one value, 1 word"),
             (Row::new(Workload::Churn, 4, 9).live(2500), "churn, 10,000 live, 1 word"),
             (Row::new(Workload::Leave, 1, 9).live(47).freed(1), "leave, 1 page, 1 slot put"),

@@ -39,7 +39,8 @@ pub extern "C" fn shardheap_raw_read(
     let Some(mut held) = pass.take(alloc) else {
         return EMPTY;
     };
-    let mut value = Value::empty();
+    // (It has one word, as most values have: to read such a one into it is one store.)
+    let mut value = Value::from(0);
     let answer = held.read_into(Hold { key }, &mut value);
     *pass = PassHandle::of(held);
     match answer {
@@ -63,7 +64,8 @@ pub extern "C" fn shardheap_raw_load(
     let Some(mut held) = pass.take(alloc) else {
         return EMPTY;
     };
-    let mut value = Value::empty();
+    // (It has one word, as most values have: to read such a one into it is one store.)
+    let mut value = Value::from(0);
     let answer = held.fetch_into(key, &mut value);
     *pass = PassHandle::of(held);
     match answer {

@@ -43,14 +43,14 @@ pub record IsPossible (layout : Layout) (shape : Numbers) : Type 0 where
   pub is_shape : IsShape shape
   pub fits : Fits layout shape
 
--- the plan is the one with the fewest shards, from 1 to 16, with which a heap is possible
+-- the plan is the one with the fewest shards, from 1 to 64, with which a heap is possible
 pub record IsPlanFor (layout : Layout) (demand : Demand) (plan : Plan) : Type 0 where
   pub some_shard : 1 ≤ plan.shards
-  pub few_shards : plan.shards ≤ 16
+  pub few_shards : plan.shards ≤ 64
   pub shape_is : plan.shape ≡ shape_for demand plan.shards
   pub possible : IsPossible layout plan.shape
   pub fewest : (n : ℕ) → 1 ≤ n → n < plan.shards → IsPossible layout (shape_for demand n) → ⊥
 
--- with none of the numbers of shards from 1 to 16 a heap is possible
+-- with none of the numbers of shards from 1 to 64 a heap is possible
 abbrev pub HasNoPlan : Layout → Demand → Type 0
-HasNoPlan layout demand = (n : ℕ) → 1 ≤ n → n ≤ 16 → IsPossible layout (shape_for demand n) → ⊥
+HasNoPlan layout demand = (n : ℕ) → 1 ≤ n → n ≤ 64 → IsPossible layout (shape_for demand n) → ⊥

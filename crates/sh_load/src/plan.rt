@@ -21,8 +21,8 @@ pub struct Plan {
 // How many pages a segment has.
 const SEGMENT: usize = SEGMENT_PAGES as usize;
 
-// As many shards as a thread's values are parted among at most.
-const MOST_SHARDS: usize = 16;
+// As many shards as a thread's values are parted among at most: each has a pass, and a heap has 64.
+const MOST_SHARDS: usize = 64;
 
 // The pages that this many values of so many words fill.
 fn pages_of(words: usize, values: usize) -> usize
@@ -62,7 +62,7 @@ fn pages(lengths: Lengths, values: usize) -> usize
 // The plan in which each owner's thread has this many shards, if there is one.
 fn plan_with<L: KeyLayout>(demand: &Demand, shards: usize) -> Option<Plan>
     requires some { 1 ≤ shards }
-    requires few { shards ≤ 16 }
+    requires few { shards ≤ 64 }
     ensures { MatchOption result (IsPossible L.layout (shape_for demand.now shards) → ⊥)
         (λ plan. (plan.shards ≡ shards) × (plan.shape ≡ shape_for demand.now shards)
         × IsPossible L.layout plan.shape) }

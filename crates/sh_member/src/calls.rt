@@ -68,7 +68,8 @@ impl<L: KeyLayout, H: KeepsHeap<L>> Member<L, H> {
     pub fn fetch(&mut self, key: u64) -> Result<Value, Refusal>
         ensures { SideDoes L.layout (FetchDoes L.layout key) self.old result self.new }
     {
-        let mut value = Value::empty();
+        // (It has one word, as most values have: to read such a one into it is one store.)
+        let mut value = Value::from(0);
         self.fetch_into(key, &mut value)?;
         Ok(value)
     }

@@ -93,7 +93,8 @@ impl<L: KeyLayout, H: KeepsHeap<L>> Owner<L, H> {
         ensures leaves { CallLeaves L.layout None self.old self.new }
         ensures stands { ViewStands L.layout self.new.view }
     {
-        let mut value = Value::empty();
+        // (It has one word, as most values have: to read such a one into it is one store.)
+        let mut value = Value::from(0);
         self.read_into(hold, &mut value)?;
         Ok(value)
     }

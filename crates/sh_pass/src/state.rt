@@ -121,7 +121,8 @@ impl<L: KeyLayout> PassState<L> {
         ensures same { self.new.heap ≡ self.old.heap }
         ensures idle { self.new.view.own.body.hand ≡ Idle }
     {
-        let mut value = Value::empty();
+        // (It has one word, as most values have: to read such a one into it is one store.)
+        let mut value = Value::from(0);
         self.read_into(heap, hold, &mut value)?;
         Ok(value)
     }

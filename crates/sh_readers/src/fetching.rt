@@ -27,7 +27,8 @@ pub fn fetch<R: Reader>(reader: &mut R, key: u64) -> Result<Value, Refusal>
     ensures does { FetchDoes R.layout key (R.caller reader.old) result (R.caller reader.new) }
     ensures remains { Remains R.layout (R.caller reader.old) (R.caller reader.new) }
 {
-    let mut value = Value::empty();
+    // (It has one word, as most values have: to read such a one into it is one store.)
+    let mut value = Value::from(0);
     fetch_into(reader, key, &mut value)?;
     Ok(value)
 }

@@ -91,7 +91,8 @@ impl<L: KeyLayout, H: KeepsHeap<L>> Shard<L, H> {
         ensures does { ReadDoes hold.key self.old.pages.owner result self.new.pages.owner }
         ensures stays { StaysOwner L.layout self.old self.new }
     {
-        let mut value = Value::empty();
+        // (It has one word, as most values have: to read such a one into it is one store.)
+        let mut value = Value::from(0);
         self.read_into(hold, &mut value)?;
         Ok(value)
     }
