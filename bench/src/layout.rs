@@ -15,8 +15,8 @@ pub fn in_full_pages(words: usize) -> f64 {
     (PAGE_WORDS * WORD_BYTES) as f64 / slots_for(words) as f64
 }
 
-/// The bytes of a heap with room for so many values of so many words: of the layout `wide`, with as few shards as can
-/// be, all with as many segments; or of `deep` with one shard, where `wide` has not so many pages.
+/// The bytes of a heap with room for this number of values of this number of words. The layout is `wide`, with the
+/// fewest shards that serve, all of one number of segments. If `wide` has too few pages, it is `deep` with one shard.
 pub fn heap_bytes(values: usize, words: usize) -> usize {
     let pages = values.div_ceil(slots_for(words));
     let shards = if pages <= WIDE_PAGES { pages.div_ceil(WIDE_SHARD_PAGES) } else { 1 };

@@ -1,4 +1,4 @@
-//! The rows of the table: what is measured, and how it is told to `sh_bench`.
+//! The rows of the table: what is measured, and the options of `sh_bench` that ask for it.
 use crate::samples::Lengths;
 use crate::sides::Side;
 use crate::workload::Workload;

@@ -1,4 +1,4 @@
-//! What is told of many rounds: the least and the median. And of many runs: from which to which.
+//! What is reported of the rounds of a run: the least and the median. And of several runs: the range.
 
 /// The least and the median of the rounds of one run: nanoseconds, or ratios of them.
 #[derive(Clone, Copy, Debug, PartialEq)]

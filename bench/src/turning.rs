@@ -4,10 +4,10 @@ use crate::sides::Side;
 use std::env;
 use std::process::Command;
 
-/// What stands in front of the time that is told.
+/// What is printed before the time.
 const TOLD: &str = "nanoseconds ";
 
-/// Tells the nanoseconds of one operation, in a turn in this process.
+/// Prints the nanoseconds of one operation, in a turn in this process.
 pub fn tell(side: Side, row: &Row) -> Result<(), String> {
     let spent = side.turn_here(row).ok_or_else(|| format!("{} has no such workload", side.name()))?;
     println!("{TOLD}{spent}");

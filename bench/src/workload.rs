@@ -46,8 +46,8 @@ impl Workload {
         WORKLOADS.into_iter().find(|workload| workload.name() == name)
     }
 
-    /// Its name, the first argument of `sh_bench`. A workload that is added there is added here by the same name; what
-    /// else it is told are the options of `Row::arguments`.
+    /// Its name, the first argument of `sh_bench`. A workload that is added there is added here by the same name. Its
+    /// other arguments are the options of `Row::arguments`.
     pub fn name(self) -> &'static str {
         match self {
             Workload::Get => "get",

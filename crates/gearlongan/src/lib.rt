@@ -135,9 +135,9 @@
 //! let hold = pass.get(key)?;              // Gone only where the key was removed
 //! ```
 //!
-//! All that the receipt tells stands before whatever the pass is answered from then on, in each history, and the
-//! receipts that this pass gives tell of it too. A receipt is of one heap, as a pass is, and `heed` asks that both are
-//! of the same. `copy` makes a second receipt for one more thread.
+//! Everything that the receipt covers happens before whatever the pass is answered from then on, in each history, and
+//! the receipts that this pass gives cover it too. A receipt belongs to one heap, as a pass does, and `heed` requires
+//! that both are of the same. `copy` makes a second receipt for one more thread.
 //!
 //! `insert_told` and `fetch_told` do both ends, for a key and its receipt that go together; `crates/key_channel` sends
 //! such keys over a channel. `heard_comes_first` says what follows of keys, to be cited by proofs; `remove_then_get`

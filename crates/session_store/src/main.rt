@@ -1,5 +1,5 @@
-//! A store of sessions: two owners open sessions, each in a thread and a shard of its own; two readers look all of them
-//! up by their keys at the same time, and end those that are old; at last all passes meet, and the heap is counted.
+//! A store of sessions. Two owners open sessions, each in a thread and a shard of its own. Two readers look all of them
+//! up by their keys at the same time, and end those that are old. At last all passes meet, and the heap is counted.
 //!
 //! Each old session is ended by one reader alone, whichever comes first.
 #![tactic(auto)]

@@ -26,7 +26,7 @@ pub fn taken<'a, L: KeyLayout>(
     Ok(part)
 }
 
-/// What all threads did at the same time, or the first fault. A thread that waited too long is told last: what it
+/// What all threads did at the same time, or the first fault. A thread that waited too long is reported last: what it
 /// waited for has a fault of its own.
 pub fn together(outcomes: &[Result<Outcome, Fault>]) -> Result<Outcome, Fault>
     ensures all { IfOk result (AllTogether outcomes.now) }

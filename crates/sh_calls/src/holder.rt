@@ -53,7 +53,7 @@ pub trait Calls: Drop {
         ensures tells { seen_of_receipt result ≡ receipt_seen (seen self.old) }
         ensures same { seen self.new ≡ seen self.old };
 
-    /// All that the receipt tells stands before what it is answered from now on.
+    /// Everything that the receipt covers happens before what the caller is answered from now on.
     fn heed(&mut self, receipt: Receipt)
         requires { (seen_of_receipt receipt).heap ≡ (seen self.old).heap }
         ensures { Heeds receipt (seen self.old) (seen self.new) };

@@ -15,7 +15,7 @@ use sh_script::{Call, Reference};
 use sh_value::{Hold, Refusal, Value};
 use std::alloc::Global;
 
-/// How a result without a value is told.
+/// How a result without a value is written.
 pub fn done<T: Drop>(res: Result<T, Refusal>) -> Answer
     ensures { result ≡ done_answer res }
 {

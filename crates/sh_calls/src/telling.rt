@@ -1,4 +1,4 @@
-//! A line is told: its reply is added to the output, and the number that its name stands for to those of the names.
+//! How a line is reported: its reply is added to the output, and the number of its name to those of the names.
 ghost use Rattle.std.specs.Prelude.{◌≡◌, ◌++◌, OnOk, OnErr};
 ghost use Rattle.std.specs.Vec.{vec_capacity};
 ghost use Rattle.sh_output.specs.Replies.{reply_line};
@@ -23,8 +23,8 @@ impl From<NoRoom> for Fault {
     }
 }
 
-/// Adds the reply line of a call, and the number that the name stands for which the call binds. Refused only where the
-/// line or the number finds no room: whatever a call is answered, also that it was refused memory, is told.
+/// Adds the reply line of a call, and the number of the name that the call binds. It is refused only if the line or the
+/// number finds no room: every answer of a call is written, also that it was refused memory.
 pub fn tell(
     output: &mut Vec<u8>,
     numbers: &mut Vec<Option<u64>>,

@@ -11,8 +11,8 @@ ghost use Rattle.sh_core.specs.Refines.{Finished, OneOwner, Armed, LeftEmpty, Sh
 ghost use Rattle.sh_core.specs.Refines.{OwnPartsStand, FillsAreKeys, HoldsAreFew, FlaggedAreEmpty, KeysInHandName};
 ghost use Rattle.sh_core.specs.Refines.{GoesOn};
 
-/// The core refines the map: in every heap whose shape fits its layout, after every list of events, whoever did them
-/// and in whatever order, and wherever calls were left unfinished.
+/// The core refines the map: in every heap whose shape fits its layout, after every list of events, by any passes and
+/// in any order, and wherever calls were left unfinished.
 pub fn refines_map()
     // The replies, in the order of their deciding steps, are a legal history of a map whose keys are never used again.
     ensures legal { Always (λ plan w l. Legal plan.passes plan.keys.guard_max w.log) }

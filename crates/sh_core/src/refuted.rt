@@ -12,8 +12,8 @@ ghost use Rattle.sh_core.specs.WrongRows.{ignores_room, never_answers_gone, reme
 ghost use Rattle.sh_core.specs.WrongRows.{keeps_flag, cannot_ring};
 ghost use Rattle.sh_step.specs.Deciding.{DecidingReplies};
 
-/// The theorem is not one that any table of actions has: of each of these tables, which are the right one but for an
-/// action or two, some list of events breaks a clause, or a step the law of deciding steps.
+/// The theorem does not hold of every table of actions. Each of these tables is the right one except for an action or
+/// two, and some list of events breaks a clause of the theorem, or a step breaks the law of deciding steps.
 pub fn refutes_wrong_tables()
     // What is answered of a key, and what is known of it.
     ensures crowds_at_once { ¬ AlwaysBy crowds_at_once (λ plan w l. Legal plan.passes plan.keys.guard_max w.log) }

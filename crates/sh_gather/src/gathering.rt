@@ -11,9 +11,9 @@ use sh_key::KeyLayout;
 use sh_pass::pass::Pass;
 use sh_pass::{Heap, KeepsHeap, are_all, merge};
 
-/// Two passes of one heap meet: the first one, which now carries both tales, so that one legal history has the entries
-/// of all passes that either names, and all that the second carried stands before what the first answers from now on.
-/// The holds of the second stay in their slots for good.
+/// Two passes of one heap meet: returns the first one, which now carries both tales. So one legal history has the
+/// entries of all passes that either names. All that the second carried happens before what the first is answered from
+/// now on. The holds of the second stay in their slots for good.
 pub fn join<L: KeyLayout, H: KeepsHeap<L>>(one: Pass<L, H>, other: Pass<L, H>) -> Pass<L, H>
     requires { other.heap ≡ one.heap }
     ensures heap { result.heap ≡ one.heap }

@@ -54,9 +54,9 @@ impl<L: KeyLayout, H: KeepsHeap<L>> Whole<L, H> {
     /// queued. Words of the page are looked at, 98 at most, and what is queued is found by walking its stack. None
     /// where the heap has no such page.
     ///
-    /// No slot is an owner's or in a hand, since all passes met. By every history of what the passes were answered,
-    /// live are the page's keys that were inserted and not removed, marked those that were removed and are still held,
-    /// and retired those that were removed in the last generation of their slots and are not held.
+    /// No slot is an owner's or in a hand, since all passes met. Take any history of what the passes were answered.
+    /// Live are the page's keys that were inserted and not removed. Marked are those that were removed and are still
+    /// held. Retired are those that were removed in the last generation of their slots and are not held.
     pub fn accounts(&mut self, shard: u32, page: u32) -> Option<Accounts>
         ensures heap { self.new.heap ≡ self.old.heap }
         ensures tale { NotedMore self.old.view self.new.view }

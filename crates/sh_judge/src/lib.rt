@@ -1,6 +1,6 @@
-//! What the threads of a stress run are told, and how it is judged: records of what was answered and when, an order of
-//! the answers that lies within the times of their calls, whether that is a legal history, and what a page holds by it.
-//! And the dice by which the threads choose what they call.
+//! How the answers that the threads of a stress run get are judged. There are records of what was answered and when,
+//! and an order of the answers that keeps to the times of their calls. A check says whether that order is a legal
+//! history, and what a page holds by it. And there are the dice by which the threads choose what they call.
 #![tactic(auto)]
 
 pub mod counts;

@@ -179,8 +179,8 @@ fn assert_leaves(rt: &impl Abort, world: &mut World<Tiny>, pass: u32) -> Result<
     Ok(())
 }
 
-/// Asserts that nothing is lost: each pass ends what it has begun and releases its holds, each page is collected and
-/// each slot of its own filled by the owner; then each slot has one value or is retired, and the owners can leave.
+/// Asserts that nothing is lost. Each pass ends what it has begun and releases its holds; the owner collects each page
+/// and fills each slot of its own. Then each slot has one value or is retired, and the owners can leave.
 pub fn assert_settles(rt: &impl Abort, alloc: Global, mut world: World<Tiny>) -> Result<(), Fail> {
     let keys = keys(alloc, &world)?;
     for pass in 0..world.shape().passes() {

@@ -1,4 +1,4 @@
-//! Receipts: what one pass gives and another heeds, so that all that the first was answered stands before what the
+//! Receipts: what one pass gives and another heeds, so that all that the first was answered happens before what the
 //! other is answered from then on.
 ghost use Rattle.std.specs.Prelude.{◌≡◌};
 ghost use Rattle.sh_table.specs.Tales.{ViewStands};
@@ -64,7 +64,7 @@ impl<L: KeyLayout> PassState<L> {
         }
     }
 
-    /// All that the receipt tells stands before what the pass is answered from now on: two loads.
+    /// Everything that the receipt covers happens before what the pass is answered from now on: two loads.
     pub fn heed(&mut self, heap: &Heap<L>, receipt: Receipt)
         requires own { self.old.heap ≡ heap.now }
         requires receipt { receipt.heap ≡ heap.now }
@@ -85,7 +85,7 @@ impl<L: KeyLayout, H: KeepsHeap<L>> Pass<L, H> {
         self.state.receipt(self.heap.kept())
     }
 
-    /// All that the receipt tells stands before what the pass is answered from now on: two loads.
+    /// Everything that the receipt covers happens before what the pass is answered from now on: two loads.
     pub fn heed(&mut self, receipt: Receipt)
         requires { receipt.heap ≡ self.old.heap }
         ensures heeds { self.new ≡ heeded self.old receipt }
@@ -107,7 +107,7 @@ impl<L: KeyLayout, H: KeepsHeap<L>> Owner<L, H> {
         }
     }
 
-    /// All that the receipt tells stands before what the owner is answered from now on: two loads.
+    /// Everything that the receipt covers happens before what the owner is answered from now on: two loads.
     pub fn heed(&mut self, receipt: Receipt)
         requires { receipt.heap ≡ self.old.heap }
         ensures heeds { self.new ≡ heeded self.old receipt }

@@ -9,7 +9,7 @@ use sh_value::{Hold, Refusal, Value};
 
 /// Who gets, reads, removes and releases values under keys that are never used again.
 ///
-/// Its book is the list of what it has answered so far: each call adds exactly its entry, and at each moment there is a
+/// Its book is the list of what it has answered so far: each call adds exactly its entry. At each moment there is a
 /// legal history in which the entries of the passes for which it answers are the book, in order.
 pub trait Lookup {
     // What it has answered so far.

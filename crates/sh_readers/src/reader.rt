@@ -61,7 +61,7 @@ pub trait Reader {
         ensures tells { result ≡ receipt_by (caller self.old) }
         ensures remains { Remains layout (caller self.old) (caller self.new) };
 
-    /// All that the receipt tells stands before what it is answered from now on: two loads.
+    /// Everything that the receipt covers happens before what the caller is answered from now on: two loads.
     fn heed(&mut self, receipt: Receipt)
         requires { receipt.heap ≡ (caller self.old).heap }
         ensures heeds { caller self.new ≡ heeded (caller self.old) receipt }

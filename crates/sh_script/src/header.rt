@@ -1,4 +1,4 @@
-//! The header, and the version line that may stand before it.
+//! The header, and the version line that may come before it.
 ghost use Rattle.std.specs.Prelude.{◌≡◌, map};
 ghost use Rattle.sh_script.specs.Trouble.{Gives};
 ghost use Rattle.sh_script.specs.HeaderMeaning.{layout_of};

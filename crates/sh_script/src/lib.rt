@@ -3,8 +3,8 @@
 //! A script is lines of at most 512 bytes from 32 to 126, each ended by a newline. Its first line that says something
 //! is the header, as `heap tiny 1 1 2`, or `version 2`, and then the header follows. In a script of calls each later
 //! line is a call of one pass, as `0 insert a 7`; in a script of events it is an action of one pass, as `0 Fill 0.0.0
-//! 5`. What each line means is a relation in `specs/`, in the words of the format, and `parse_calls` and `parse_events`
-//! are proved to answer exactly what that relation says, or the first line that has no meaning and the first cause why.
+//! 5`. What each line means is a relation in `specs/`, in the words of the format. `parse_calls` and `parse_events` are
+//! proved to return exactly what that relation says, or the first line that has no meaning and the first cause why.
 #![tactic(auto)]
 
 mod arguments;

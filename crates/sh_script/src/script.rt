@@ -37,9 +37,9 @@ fn events(alloc: Global, text: &[u8]) -> Result<Events, Fault>
 
 /// The calls of a script: its header, and its call lines in order.
 ///
-/// A text that is no script answers the first fault: of the first line that has one the first in the order of
-/// `Cause`, by the line's number from 1, or `BadShape` where the header is well formed and its shape is refused. A
-/// script of more than 1,048,576 bytes is `Size` at line 0, whatever else it has. `Memory` is answered where a growth
+/// For a text that is no script it returns the first fault: of the first line that has one, the first in the order of
+/// `Cause`, with the line's number from 1. If the header is well formed and its shape is refused, that is `BadShape`. A
+/// script of more than 1,048,576 bytes is `Size` at line 0, whatever it has otherwise. `Memory` is returned if a growth
 /// was refused.
 pub fn parse_calls(alloc: Global, text: &[u8]) -> Result<Calls, Fault>
     // What is answered is so.

@@ -42,8 +42,8 @@ impl<L: KeyLayout, H: KeepsHeap<L>> Pages<L, H> {
 
 impl<L: KeyLayout, H: KeepsHeap<L>> Shard<L, H> {
     /// Collects what others freed on all pages of the shard: the bell and each page's stack are taken and followed. An
-    /// insert looks at pages of its own class alone, so a shard whose values others removed may have no room for a
-    /// value of another length until this is called; then each page all of whose slots came back may change its class.
+    /// insert looks at pages of its own class alone. So a shard whose values others removed may have no room for a
+    /// value of another length until this is called. Then each page all of whose slots came back may change its class.
     ///
     /// It takes no memory, and is never refused. Where another caller has begun a free that is yet to end, what it
     /// frees and what lies below it on the page's stack stays there. It takes at most 52 steps for each page, and 3.

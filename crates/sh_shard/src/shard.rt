@@ -40,9 +40,9 @@ impl<L: KeyLayout, H: KeepsHeap<L>> Model for Shard<L, H> {
 }
 
 impl<L: KeyLayout, H: KeepsHeap<L>> Shard<L, H> {
-    /// Stores a value in the shard under a new key, and answers the key. Refused as `Full` where the shard has no room
-    /// for a value of its class, of which each page and the bell were looked at in this call, and as `Memory` where the
-    /// growth of a segment was refused; the log, the holds and the keys are then as they were.
+    /// Stores a value in the shard under a new key, and returns the key. Refused as `Full` if the shard has no room for
+    /// a value of its class: each page of the class and the bell were looked at in this call. Refused as `Memory` if
+    /// the growth of a segment was refused. The log, the holds and the keys are then as they were.
     ///
     /// Where the front page of the class has a slot, it is done in as many steps as the value has words, and two more.
     /// Whatever others do, it ends within 9 n + w + 53 steps, for n pages of the shard and w words.

@@ -1,4 +1,4 @@
-//! What is told of a pass: what it owns, what it has begun, and what it holds.
+//! The text on a pass: what it owns, what it has begun, and what it holds.
 use crate::lane::push_target;
 use crate::view::View;
 use sh_history::Entry;

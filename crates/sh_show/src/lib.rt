@@ -1,10 +1,11 @@
-//! Interleavings that one can watch: a script of events is done on the core one line at a time, and after each event it
-//! is told what its pages, its bell and the passes have become. An event that is skipped tells which condition failed.
+//! Interleavings that one can watch: a script of events is done on the core one line at a time. After each event the
+//! trace shows what its pages, its bell and the passes have become. For an event that is skipped it shows which
+//! condition failed.
 //!
 //! `Session` is a world between two lines, and `watch` reads a script line by line and writes its trace, so that it
-//! serves at a terminal too. That a line does the event that it says is proved (`does` of `Session::line`), that it is
-//! told by the line that mode steps writes, and that a reason is told exactly of what is skipped; what else a trace
-//! says is tested only.
+//! serves at a terminal too. It is proved that a line does the event that it says (`does` of `Session::line`), that it
+//! is written as mode steps writes it, and that a reason is given exactly for what is skipped. What a trace says
+//! otherwise is tested only.
 #![tactic(auto)]
 
 mod class_named;

@@ -1,4 +1,4 @@
-//! What is told of a page.
+//! The text on a page.
 ghost use Rattle.std.specs.Prelude.{◌<◌, IfSome};
 ghost use Rattle.sh_shape.specs.Classes.{class_count};
 

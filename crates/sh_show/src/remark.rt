@@ -29,8 +29,9 @@ fn met(view: &View<'_>, part: &Part, kind: ActionKind, touched: Touched) -> &'st
     }
 }
 
-/// What is said behind the line of an event of this kind by the pass: why it was skipped; of one that met a link that
-/// is not written, another pass on the slot or an owner, and so left all as it was, that; and nothing of others.
+/// What is written after the line of an event of this kind by the pass. If it was skipped, that is why. If it met a
+/// link that is not written, another pass on the slot or an owner, and so left all as it was, that is said. Otherwise
+/// it is nothing.
 pub fn remark(view: &View<'_>, pass: u32, kind: ActionKind, touched: Touched) -> &'static str {
     if let Touched::Nothing(reason) = touched {
         return reason.text();

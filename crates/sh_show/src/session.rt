@@ -166,9 +166,9 @@ impl<L: KeyLayout> Session<L> {
         })
     }
 
-    /// Does what the line says, which ends with its newline, and tells of it: of the line `0 Adopt 0` that pass 0
-    /// adopted shard 0, and what the shard is then. A line that says nothing does nothing, and `None` is told. An event
-    /// whose condition does not hold is skipped, and changes nothing; why is told.
+    /// Does what the line says, which ends with its newline, and returns the text on it: of the line `0 Adopt 0` that
+    /// pass 0 adopted shard 0, and what the shard is then. A line that says nothing does nothing, and returns `None`.
+    /// An event whose condition does not hold is skipped and changes nothing, and the text says why.
     ///
     /// A line that is none of a script is refused with its fault, whose number counts from the first line of the
     /// opening, and does nothing. Where memory is refused, `Memory`, the event may have been done.

@@ -1,4 +1,4 @@
-//! What is told of a shard.
+//! The text on a shard.
 use crate::lane::{Lane, push_lane};
 use crate::view::View;
 use sh_shape::Place;

@@ -1,4 +1,4 @@
-//! What is told of a slot.
+//! The text on a slot.
 use crate::class_named::class_named;
 use crate::lane::{push_target, slot_owed};
 use crate::view::View;

@@ -1,4 +1,4 @@
-//! What is told of an event.
+//! What a trace says of an event.
 use crate::hand_text::push_passes;
 use crate::page_text::push_page;
 use crate::shard_text::push_shard;
@@ -6,7 +6,7 @@ use crate::touched::Touched;
 use crate::view::View;
 use std::alloc::{AllocError, Global};
 
-/// What is told of an event.
+/// What a trace says of an event.
 #[derive(Drop)]
 pub struct Told {
     /// Its line as mode steps writes it, with its newline: `0 Adopt moved`.

@@ -13,7 +13,7 @@ pub fn is_first_mark(found: u64) -> bool
     !State::of(found).marked
 }
 
-/// What a pass has in hand once it gave its count on the slot back, by the state word that it found: where the slot is
+/// What a pass has in hand once it gave its count on the slot back, by the state word that it found. If the slot is
 /// marked and the count was the last one, the pass has to end the generation.
 pub fn after_drop(spot: Spot, found: u64) -> Hand
     ensures { result ≡ after_drop spot found }

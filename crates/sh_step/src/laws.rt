@@ -19,16 +19,16 @@ pub fn steps_look_at_no_part()
     ensures stores { StoresAreBlind }
 {}
 
-/// A pass that has begun something ends it by so many steps of its own, at most, as its hand says, whatever the others
-/// do: each step leaves fewer, whatever word it finds, and where a key in its hand names a slot there is a next one. A
-/// removal has 7, and a filling one more than words are left.
+/// A pass that has begun something ends it by a bounded number of its own steps, which its hand says, whatever the
+/// others do. Each step leaves fewer, whatever word it finds, and as long as a key in its hand names a slot there is a
+/// next one. A removal has 7, and a filling one more than words are left.
 pub fn hands_end()
     ensures nearer { StepsComeNearer }
     ensures goes_on { StepsGoOn }
 {}
 
-/// The step that finds the word by which a call is decided replies, and no other does: an entry to get always; an entry
-/// to remove exactly where the word is not live; a mark, the drop of a hold and a publish always.
+/// The step that finds the word by which a call is decided replies, and no other does. An entry to get always replies,
+/// and an entry to remove exactly if the word is not live. A mark, the drop of a hold and a publish always reply.
 pub fn deciding_steps_reply()
     ensures { DecidingStepsReply }
 {}

@@ -17,7 +17,7 @@ pub enum Operation {
     Store(u64),
     /// Where the first word is found stores the second, and answers the word found.
     CompareExchange(u64, u64),
-    /// Answers the word found, which stays.
+    /// Returns the word found, which stays.
     Load,
 }
 

@@ -46,7 +46,7 @@ impl<H: Home> HomeReceipt<H> {
     }
 }
 
-/// A key, with a receipt of whoever inserted it, or of one who heeded such a receipt.
+/// A key, with a receipt of the thread that inserted it, or of one that heeded such a receipt.
 #[derive(Drop)]
 pub struct Letter<H: Home> {
     pub key: u64,

@@ -64,7 +64,7 @@ impl<'a, L: KeyLayout, H: Home> Lone<'a, L, H> {
         HomeReceipt::new(self.pass.receipt())
     }
 
-    /// All that the receipt tells stands before what it is answered from now on.
+    /// Everything that the receipt covers happens before what the caller is answered from now on.
     pub fn heed(&mut self, told: HomeReceipt<H>) {
         self.pass.heed(told.into_receipt());
     }

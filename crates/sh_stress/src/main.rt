@@ -2,10 +2,10 @@
 //! answered is judged. It is also the longer example of how the library is used, on its public calls alone.
 //!
 //! A run is rounds. In a round a heap is opened (`round`), and each thread takes turns with a few passes (`crew`,
-//! `worker`): they get, read, remove and release keys that others left on a board (`using`), adopt and leave shards and
-//! insert (`owning`), and stop in the middle of removals (`by_hand`). Then all is ended, the passes meet, and the heap
-//! is whole (`ending`): the answers are put in an order that is a legal history (`order`, `judge`), and the accounts of
-//! each page are those of that history (`tally`).
+//! `worker`). They get, read, remove and release keys that others left on a board (`using`). They adopt and leave
+//! shards and insert (`owning`), and stop in the middle of removals (`by_hand`). Then all is ended, the passes meet,
+//! and the heap is whole (`ending`). The answers are put in an order that is a legal history (`order`, `judge`), and
+//! the accounts of each page are those of that history (`tally`).
 #![tactic(auto)]
 
 mod actor;

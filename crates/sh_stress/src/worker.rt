@@ -162,7 +162,7 @@ impl<'a, L: KeyLayout, H: Home> Worker<'a, L, H> {
         }
     }
 
-    /// Gives back its holds, but for a few.
+    /// Gives back all its holds except a few.
     pub fn release_most(&mut self, moments: &Moments, dice: &mut Dice) {
         for number in (0..self.record.holds()).rev() {
             if !dice.once_in(3) {

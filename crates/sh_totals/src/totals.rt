@@ -23,7 +23,7 @@ pub struct Totals {
     pub marked: u32,
     /// Slots with no generation left, which are never used again.
     pub retired: u32,
-    /// Empty slots, for whoever adopts their shard next.
+    /// Empty slots, for the pass that adopts their shard next.
     pub queued: u32,
     /// Pages that have a class.
     pub used_pages: u32,

@@ -14,9 +14,9 @@ use std::marker::{Model, PhantomData};
 
 /// The records of one type in a store: each is stored as its kind and then its words.
 ///
-/// Whoever looks keys up may get, remove and release them, as a pass does: `Typed::<_, (u64, u64)>::new(pass)`. Only
-/// over a store can they be inserted. A contract sees the store itself. Another kind of record may lie under other keys
-/// of it.
+/// Any caller that looks keys up may get, remove and release them, as a pass does: `Typed::<_, (u64, u64)>::new(pass)`.
+/// Only over a store can they be inserted. A contract sees the store itself. Another kind of record may be under other
+/// keys of it.
 #[derive(Drop)]
 pub struct Typed<S: Lookup, R: Record> {
     store: S,

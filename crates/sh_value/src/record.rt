@@ -5,7 +5,7 @@ use crate::Value;
 
 /// A type whose values are stored as words, so that what was encoded is decoded again.
 pub trait Record {
-    /// The number that stands before the words of each stored record of this type.
+    /// The number that precedes the words of each stored record of this type.
     const KIND: u64;
 
     ghost KIND: { ℕ };

@@ -7,9 +7,9 @@ use thiserror::Error;
 
 /// Why a call is refused. A refused call leaves the map, the holds and the issued keys as they were.
 ///
-/// It is an error like any other: it is shown with its name and its usual reason, and `?` makes one of memory that was
-/// refused, or of a refusal that comes with what was to be used (as `Shard::adopt` gives its pass back; `?` lets that
-/// go, so match where it is still wanted).
+/// It is an error like any other: it is shown with its name and its usual reason, and `?` makes one of refused memory.
+/// `?` also makes one of a refusal that comes with what was to be used, which is then dropped: `Shard::adopt` gives its
+/// pass back so, so match if it is still needed.
 #[derive(Clone, Copy, Debug, PartialEq, Eq, Error)]
 pub enum Refusal {
     /// The number is no key of the layout, or its place is outside the heap's shape.
@@ -18,8 +18,8 @@ pub enum Refusal {
     /// The key names no present value: it was never issued, or it was removed.
     #[error("Gone: the key was removed, or never issued")]
     Gone,
-    /// The key has as many holds as a key may have. The running heap goes by the count in the slot's word, in which
-    /// each pass that is on the slot for a moment counts too: where a key may have four holds, three and one pass that
+    /// The key has as many holds as a key may have. The running heap compares the count in the slot's word, in which
+    /// each pass that is on the slot for a moment counts too. So if a key may have four holds, three and one pass that
     /// is about to remove it are enough.
     #[error("Crowded: the key has as many holds as it may have")]
     Crowded,

@@ -1,10 +1,9 @@
 #![tactic(auto)]
 //! State words.
 //!
-//! Each slot of the heap has one word of 64 bits that says how it stands: its generation in the
-//! upper half, below it two flags, marked and present, and in the low 30 bits how many passes are
-//! on the slot. Passes change the word by single operations; a [`State`] is what a word says, and
-//! states and words are one to one.
+//! Each slot of the heap has one word of 64 bits that says what its state is. Its generation is in the upper half;
+//! below it are two flags, marked and present, and in the low 30 bits the number of passes on the slot. Passes change
+//! the word by single operations. A [`State`] is what a word says, and states and words are one to one.
 
 pub mod laws;
 mod slot_state;

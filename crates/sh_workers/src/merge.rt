@@ -1,4 +1,4 @@
-//! Answers of all passes, put in the order of the script's lines.
+//! What all passes were answered, in the order of the script's lines.
 ghost use Rattle.std.specs.Prelude.{◌≡◌, ◌<◌, map, IfOk, IfErr};
 ghost use Rattle.std.specs.List.{All};
 ghost use Rattle.sh_script.specs.declared.calls.CallLine.{CallLine};

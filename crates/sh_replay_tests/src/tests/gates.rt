@@ -1,10 +1,10 @@
-//! What a gate is told: each call of each pass by its number, before it and after it.
+//! What a gate observes: each call of each pass by its number, before it and after it.
 use super::{agree, holds};
 use sh_replay::{Gate, Mode, replay_gated};
 use std::sync::atomic::{AtomicU64, Ordering};
 use std::thread::yield_now;
 
-/// The passes, the calls of each, and how often each call is told of.
+/// The passes, the calls of each, and how often the gate observes each call.
 const PASSES: usize = 2;
 
 const CALLS: usize = 3;
