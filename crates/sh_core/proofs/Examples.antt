@@ -2,3 +2,4 @@
 pub mod Worked
 pub mod WrongRows
 pub mod NoRing
+pub mod MoreWrongRows

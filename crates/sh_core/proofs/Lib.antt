@@ -6,3 +6,7 @@ pub mod Kept
 pub mod Clauses
 pub mod Words
 pub mod Examples
+pub mod Quiet
+pub mod Collects
+pub mod WaitFree
+pub mod AtomicMap

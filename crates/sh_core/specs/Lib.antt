@@ -17,3 +17,7 @@ pub mod Reads
 pub mod InHeap
 pub mod Variants
 pub mod WrongRows
+pub mod MoreWrongRows
+pub mod Quiet
+pub mod WaitFree
+pub mod AtomicMap

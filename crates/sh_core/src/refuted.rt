@@ -10,6 +10,14 @@ ghost use Rattle.sh_core.specs.WrongRows.{never_retires, ties_first, ends_at_unw
 ghost use Rattle.sh_core.specs.WrongRows.{never_rings, leaves_slots, leaves_bell, forgets_last_slot, gives_any_class};
 ghost use Rattle.sh_core.specs.WrongRows.{ignores_room, never_answers_gone, remembers_generation, tries_again};
 ghost use Rattle.sh_core.specs.WrongRows.{keeps_flag, cannot_ring};
+ghost use Rattle.sh_core.specs.LinkWords.{EachLinked};
+ghost use Rattle.sh_core.specs.InHeap.{StepsWithin, CountsFit, BellsAreSmall, ValuesFit};
+ghost use Rattle.sh_core.specs.Refines.{KindsAddUp, Filled, HoldsAreTold, CountIsFew, PastIsRemoved, KeysAreTold};
+ghost use Rattle.sh_core.specs.Refines.{RetiredIsLast, OneOwner, ShardlessHaveNothing, FillsAreKeys};
+ghost use Rattle.sh_core.specs.MoreWrongRows.{retires_early, skips_generation, adopts_taken, leaves_cursors};
+ghost use Rattle.sh_core.specs.MoreWrongRows.{publishes_next, keeps_hold, fills_any_slot, reads_wrong_class};
+ghost use Rattle.sh_core.specs.MoreWrongRows.{reads_wrong_length, enters_uncounted, fits_any_length, rings_far};
+ghost use Rattle.sh_core.specs.MoreWrongRows.{leaves_elsewhere, ties_ring_as_end};
 ghost use Rattle.sh_step.specs.Deciding.{DecidingReplies};
 
 /// The theorem does not hold of every table of actions. Each of these tables is the right one except for an action or
@@ -46,4 +54,29 @@ pub fn refutes_wrong_tables()
     ensures leaves_bell { ¬ AlwaysBy leaves_bell (λ plan w l. OwnPartsStand plan w) }
     ensures forgets_last_slot { ¬ AlwaysBy forgets_last_slot (λ plan w l. OneKind w l) }
     ensures gives_any_class { ¬ AlwaysBy gives_any_class (λ plan w l. ClassesAreKnown plan w) }
+{}
+
+/// More clauses of the theorem, each broken by such a table.
+pub fn refutes_more_wrong_tables()
+    ensures retires_early { ¬ AlwaysBy retires_early (λ plan w l. RetiredIsLast plan w) }
+    ensures skips_generation { ¬ AlwaysBy skips_generation (λ plan w l. PastIsRemoved plan w) }
+    ensures adopts_taken { ¬ AlwaysBy adopts_taken (λ plan w l. OneOwner w) }
+    ensures leaves_slots_shardless { ¬ AlwaysBy leaves_slots (λ plan w l. ShardlessHaveNothing w) }
+    ensures leaves_bell_armed { ¬ AlwaysBy leaves_bell (λ plan w l. LeftEmpty plan w) }
+    ensures leaves_cursors { ¬ AlwaysBy leaves_cursors (λ plan w l. LeftEmpty plan w) }
+    ensures publishes_next { ¬ AlwaysBy publishes_next (λ plan w l. KeysAreTold plan w) }
+    ensures keeps_hold { ¬ AlwaysBy keeps_hold (λ plan w l. HoldsAreTold w) }
+    ensures fills_any_slot { ¬ AlwaysBy fills_any_slot (λ plan w l. HeldStands plan w) }
+    ensures reads_wrong_class { ¬ AlwaysBy reads_wrong_class (λ plan w l. NotesAreTrue plan w) }
+    ensures reads_wrong_length { ¬ AlwaysBy reads_wrong_length (λ plan w l. NotesAreTrue plan w) }
+    ensures enters_uncounted { ¬ AlwaysBy enters_uncounted (λ plan w l. CountsFit plan w) }
+    ensures fits_any_length { ¬ AlwaysBy fits_any_length (λ plan w l. ValuesFit plan w) }
+    ensures rings_far { ¬ AlwaysBy rings_far (λ plan w l. BellsAreSmall plan w) }
+    ensures leaves_elsewhere { ¬ AlwaysBy leaves_elsewhere (λ plan w l. StepsWithin plan w) }
+    ensures ties_ring_as_end { ¬ AlwaysBy ties_ring_as_end (λ plan w l. Linked plan w l) }
+    ensures ignores_room_count { ¬ AlwaysBy ignores_room (λ plan w l. CountIsFew plan w) }
+    ensures forgets_last_slot_kinds { ¬ AlwaysBy forgets_last_slot (λ plan w l. KindsAddUp w l) }
+    ensures forgets_last_slot_filled { ¬ AlwaysBy forgets_last_slot (λ plan w l. Filled w l) }
+    ensures never_retires_fills { ¬ AlwaysBy never_retires (λ plan w l. FillsAreKeys plan w) }
+    ensures ties_first_links { ¬ AlwaysBy ties_first (λ plan w l. EachLinked plan w l) }
 {}

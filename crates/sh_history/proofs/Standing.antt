@@ -1,17 +1,17 @@
 -- What a history says of a key, by the entries that stand in it.
 use Rattle.std.proofs.Common.{◌≡◌, ℕ, Bool, true, false, cond, List, [], ◌∷◌, ◌++◌, Some, suc, refl, sym, ◌∙◌, ap, take}
-use Rattle.std.proofs.Common.{drop, drop-cons, arith, rules, inl, inr}
-use Rattle.std.specs.Prelude.{◌==◌, ◌||◌}
+use Rattle.std.proofs.Common.{drop, drop-cons, arith, rules, ◌+◌, ◌≤◌, append_assoc, zero-add}
+use Rattle.std.specs.Prelude.{◌==◌, ◌||◌, count_by}
 use Rattle.std.specs.List.{Contains}
 use Rattle.std.proofs.lemmas.List.Elements.{Contains-append_left, Contains-append_right, Contains-push}
-use Rattle.std.proofs.lemmas.List.{take-append-drop}
+use Rattle.std.proofs.lemmas.List.{take-append-drop, append-nil}
 use Rattle.std.proofs.lemmas.List.Folds.{list_any_at}
 use Rattle.sh_history.specs.declared.entry.Entry.{Entry}
 use Rattle.sh_history.specs.declared.entry.Entry.TheVariants.{Insert, Got, Removed}
-use Rattle.sh_history.specs.History.{value_of, is_removed, is_removal_of}
+use Rattle.sh_history.specs.History.{value_of, is_removed, is_removal_of, Allowed, LegalAfter}
 use Rattle.sh_history.specs.Laws.{IsIssuedWith, HasRemoval, ValueIsInserted, GetsGiveInserted, RemovedHasRemoval}
-use Rattle.sh_history.specs.Laws.{ReleasesAreGot}
-use Rattle.sh_history.proofs.LogLaws.{value_of_insert, value_of_got, releases_le}
+use Rattle.sh_history.specs.Laws.{RemovedOnce, ReleasesAreGot}
+use Rattle.sh_history.proofs.LogLaws.{value_of_insert, value_of_got, releases_le, count_by-cons, count_by-push}
 
 first_stands : (x : Entry) (xs : List Entry) → Contains (x ∷ xs) x
 first_stands x xs = Contains-append_left (x ∷ []) xs x (Contains-push [] x)
@@ -88,3 +88,36 @@ removed_has_removal history key = (
 
 pub releases_are_got : ReleasesAreGot
 releases_are_got passes guard_max history legal pass key = releases_le passes guard_max pass key history legal
+
+-- a key that was not removed has no removal
+no_removal : (xs : List Entry) (key : ℕ) → is_removed xs key ≡ false → count_by (is_removal_of key) xs ≡ 0
+no_removal [] key e = refl
+no_removal (x ∷ xs) key e = go (is_removal_of key x) refl (no_removal xs key) e where
+  go : (b : Bool) → is_removal_of key x ≡ b → (is_removed xs key ≡ false → count_by (is_removal_of key) xs ≡ 0)
+      → (b || is_removed xs key) ≡ false → count_by (is_removal_of key) (x ∷ xs) ≡ 0
+  go true is later e = absurd (let z : ⊥ = cc in z)
+  go false is later e =
+      rw (count_by-cons (is_removal_of key) x xs, is) (zero-add (count_by (is_removal_of key) xs) ∙ later e)
+
+removed_after : (passes guard_max : ℕ) (key : ℕ) (before xs : List Entry) → LegalAfter passes guard_max before xs
+    → count_by (is_removal_of key) before ≤ 1 → count_by (is_removal_of key) (before ++ xs) ≤ 1
+removed_after passes guard_max key before [] legal h = rw append-nil h
+removed_after passes guard_max key before (x ∷ xs) legal h =
+    rw append_assoc at (removed_after passes guard_max key (before ++ x ∷ []) xs legal.1 step)
+  where
+    more : (y : Entry) → Allowed passes guard_max before y
+        → count_by (is_removal_of key) before + cond (is_removal_of key y) 1 0 ≤ 1
+    more (Removed p k) allowed = go (k == key) refl where
+      go : (b : Bool) → (k == key) ≡ b → count_by (is_removal_of key) before + cond b 1 0 ≤ 1
+      go true is =
+          let same : k ≡ key = search rules in
+          let none : count_by (is_removal_of key) before ≡ 0 = no_removal before key (rw same at allowed.1) in
+          omega arith
+      go false is = omega arith
+    more _ allowed = omega arith
+
+    step : count_by (is_removal_of key) (before ++ x ∷ []) ≤ 1
+    step = rw (count_by-push (is_removal_of key) before x) (more x legal.0)
+
+pub removed_once : RemovedOnce
+removed_once passes guard_max history legal key = removed_after passes guard_max key [] history legal (omega arith)

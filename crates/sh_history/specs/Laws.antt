@@ -1,9 +1,9 @@
 -- What each legal history keeps.
-use Rattle.std.specs.Prelude.{◌≡◌, ℕ, ◌≤◌, ◌↔◌, true, List, Some}
+use Rattle.std.specs.Prelude.{◌≡◌, ℕ, ◌≤◌, ◌↔◌, true, List, Some, count_by}
 use Rattle.std.specs.List.{Contains}
 use Rattle.sh_history.specs.declared.entry.Entry.{Entry}
 use Rattle.sh_history.specs.declared.entry.Entry.TheVariants.{Insert, Got, Removed}
-use Rattle.sh_history.specs.History.{value_of, is_removed, got_count_by, released_count_by, Legal}
+use Rattle.sh_history.specs.History.{value_of, is_removed, is_removal_of, got_count_by, released_count_by, Legal}
 
 -- some pass inserted the value, which has this key
 abbrev pub IsIssuedWith : List Entry → ℕ → List ℕ → Type 0
@@ -29,7 +29,13 @@ GetsGiveInserted =
 abbrev pub RemovedHasRemoval : Type 0
 RemovedHasRemoval = (history : List Entry) (key : ℕ) → (is_removed history key ≡ true) ↔ HasRemoval history key
 
--- nobody released a key more often than it got it
+-- a key is removed once at most, so of all callers that remove it exactly one is answered Removed
+abbrev pub RemovedOnce : Type 0
+RemovedOnce =
+    (passes guard_max : ℕ) (history : List Entry) → Legal passes guard_max history
+    → (key : ℕ) → count_by (is_removal_of key) history ≤ 1
+
+-- no pass released a key more often than it got it
 abbrev pub ReleasesAreGot : Type 0
 ReleasesAreGot =
     (passes guard_max : ℕ) (history : List Entry) → Legal passes guard_max history

@@ -1,5 +1,6 @@
 //! Laws of histories.
-ghost use Rattle.sh_history.specs.Laws.{ValueIsInserted, GetsGiveInserted, RemovedHasRemoval, ReleasesAreGot};
+ghost use Rattle.sh_history.specs.Laws.{ValueIsInserted, GetsGiveInserted, RemovedHasRemoval, RemovedOnce};
+ghost use Rattle.sh_history.specs.Laws.{ReleasesAreGot};
 
 /// In a legal history a key has one value: the one that it was inserted with, which is what each get of it gave.
 pub fn one_value_a_key()
@@ -7,12 +8,18 @@ pub fn one_value_a_key()
     ensures got { GetsGiveInserted }
 {}
 
-/// A key was removed exactly where a removal of it stands in the history.
+/// A key was removed exactly if a removal of it is in the history.
 pub fn removals_stand()
     ensures { RemovedHasRemoval }
 {}
 
-/// In a legal history nobody released a key more often than it got it.
+/// A legal history has at most one removal of a key. So of callers that race to remove it, at most one is told that it
+/// removed.
+pub fn removed_once()
+    ensures { RemovedOnce }
+{}
+
+/// In a legal history no pass released a key more often than it got it.
 pub fn releases_are_got()
     ensures { ReleasesAreGot }
 {}

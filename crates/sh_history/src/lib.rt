@@ -11,5 +11,5 @@ pub mod look;
 
 pub use checker::{Why, check};
 pub use entry::Entry;
-pub use law::{one_value_a_key, releases_are_got, removals_stand};
+pub use law::{one_value_a_key, releases_are_got, removals_stand, removed_once};
 pub use log::LogEntry;

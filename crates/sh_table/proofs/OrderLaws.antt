@@ -52,19 +52,32 @@ past (z ∷ zs) ys (f ∷ fs) x rest e l = let t : zs ++ ys ≡ fs ++ x ∷ rest
 
 -- an entry of one pass stands in the whole
 by_cut : (a : ℕ) (es front : List Entry) (x : Entry) (rest : List Entry) → by a es ≡ front ++ x ∷ rest
-    → (fore : List Entry) × (aft : List Entry) × (es ≡ fore ++ x ∷ aft)
+    → (fore : List Entry) × (aft : List Entry) × (es ≡ fore ++ x ∷ aft) × (by a fore ≡ front)
 by_cut a [] [] x rest e = absurd (let z : [] ≡ x ∷ rest = e in cc)
 by_cut a [] (f ∷ fs) x rest e = absurd (let z : [] ≡ f ∷ (fs ++ x ∷ rest) = e in cc)
-by_cut a (y ∷ ys) front x rest e = go (pass_of y == a) front (by_cut a ys) e where
-  go : (b : Bool) (front : List Entry)
+by_cut a (y ∷ ys) front x rest e = go (pass_of y == a) refl front (by_cut a ys) e where
+  go : (b : Bool) → (pass_of y == a) ≡ b → (front : List Entry)
       → ((front : List Entry) (x : Entry) (rest : List Entry) → by a ys ≡ front ++ x ∷ rest
-      → (fore : List Entry) × (aft : List Entry) × (ys ≡ fore ++ x ∷ aft))
+      → (fore : List Entry) × (aft : List Entry) × (ys ≡ fore ++ x ∷ aft) × (by a fore ≡ front))
       → cond b (y ∷ by a ys) (by a ys) ≡ front ++ x ∷ rest
-      → (fore : List Entry) × (aft : List Entry) × (y ∷ ys ≡ fore ++ x ∷ aft)
-  go true [] later e = let same : y ≡ x = cc in ([], ys, ap (λ z. z ∷ ys) same)
-  go true (f ∷ fs) later e = let t : by a ys ≡ fs ++ x ∷ rest = cc in let r = later fs x rest t in
-      (y ∷ r.0, r.1, ap (λ (l : List Entry). y ∷ l) r.2)
-  go false front later e = let r = later front x rest e in (y ∷ r.0, r.1, ap (λ (l : List Entry). y ∷ l) r.2)
+      → (fore : List Entry) × (aft : List Entry) × (y ∷ ys ≡ fore ++ x ∷ aft) × (by a fore ≡ front)
+  go true is [] later e = let same : y ≡ x = cc in ([], ys, ap (λ z. z ∷ ys) same, refl)
+  go true is (f ∷ fs) later e =
+      let t : by a ys ≡ fs ++ x ∷ rest = cc in
+      let first : y ≡ f = cc in
+      let r = later fs x rest t in (
+        y ∷ r.0,
+        r.1,
+        ap (λ (l : List Entry). y ∷ l) r.2,
+        ap (λ b. cond b (y ∷ by a r.0) (by a r.0)) is
+            ∙ (ap (λ (l : List Entry). y ∷ l) r.3 ∙ ap (λ (z : Entry). z ∷ fs) first),
+      )
+  go false is front later e = let r = later front x rest e in (
+    y ∷ r.0,
+    r.1,
+    ap (λ (l : List Entry). y ∷ l) r.2,
+    ap (λ b. cond b (y ∷ by a r.0) (by a r.0)) is ∙ r.3,
+  )
 
 -- an entry that was heard of stands among the first
 heard_stands_early : (early : List Entry) (h : Heard) (e : Entry) → HasFirst early h → Contains h.log (Known e)
@@ -75,7 +88,7 @@ heard_stands_early early h e f c =
     let is : z.1 ≡ e = z.4 in
     let cut : by h.pass early ≡ z.0 ++ e ∷ (z.2 ++ f.1) = f.2 ∙ (ap (λ (l : List Entry). l ++ f.1) z.3
     ∙ (append_assoc z.0 (z.1 ∷ z.2) f.1 ∙ ap (λ (y : Entry). z.0 ++ y ∷ (z.2 ++ f.1)) is)) in
-    by_cut h.pass early z.0 e (z.2 ++ f.1) cut
+    let c = by_cut h.pass early z.0 e (z.2 ++ f.1) cut in (c.0, c.1, c.2)
 
 -- ---- the laws
 
@@ -91,7 +104,15 @@ heard_first layout v history tale h x a =
     let long = a.later in
     let same = z.5 in
     let p = past (by v.pass b.0) (by v.pass b.1) z.0 z.1 z.2 parts (omega (arith, few, long, same)) in
-    let c = by_cut v.pass b.1 p.0 z.1 z.2 p.1 in (
+    let c = by_cut v.pass b.1 p.0 z.1 z.2 p.1 in
+    let before : length (by v.pass b.0) + length (by v.pass b.1) ≡ length (z.0 ++ z.1 ∷ z.2) = sym
+    (length-append (by v.pass b.0) (by v.pass b.1)) ∙ ap (length) parts in
+    let all : length (z.0 ++ z.1 ∷ z.2) ≡ length z.0 + length (z.1 ∷ z.2) = length-append z.0 (z.1 ∷ z.2) in
+    let behind : length (by v.pass b.1) ≡ length p.0 + length (z.1 ∷ z.2) = ap (length) p.1
+    ∙ length-append p.0 (z.1 ∷ z.2) in
+    let joined : length (by v.pass (b.0 ++ c.0)) ≡ length (by v.pass b.0) + length (by v.pass c.0) = ap (length)
+    (by_append v.pass b.0 c.0) ∙ length-append (by v.pass b.0) (by v.pass c.0) in
+    let those : length (by v.pass c.0) ≡ length p.0 = ap (length) c.3 in (
       b.0 ++ c.0,
       record {
         entry = z.1;
@@ -100,6 +121,7 @@ heard_first layout v history tale h x a =
         agrees = z.4;
       },
       subst (HasFirst (b.0 ++ c.0)) a.heard (first_stays b.0 c.0 a.order.heard b.4),
+      omega (arith, before, all, behind, joined, those, same),
     )
 
 -- the entry was allowed after what stands before it, which is legal too
@@ -124,6 +146,7 @@ gone_is_removed layout v history tale h a p k value inserted after =
       f.1,
       ⊎_elim (λ (n : value_of f.0 k ≡ None). absurd (let z : None ≡ Some value = sym n ∙ issued in cc))
           (has_removal f.0 k) may,
+      f.3,
     )
 
 there_not_removed : (passes guard_max : ℕ) (early : List Entry) (k : ℕ) (x : LogEntry) (e : Entry) → Agrees x e

@@ -32,18 +32,21 @@ pub record StandsAfter (history early : List Entry) (x : LogEntry) : Type 0 wher
   pub is : history ≡ early ++ entry ∷ late
   pub agrees : Agrees x entry
 
--- in each history of the tale it has all that was heard before it
+-- In each history of the tale all that was heard comes before it, and before no other entry that is only like it: the
+-- history has as many entries of the pass before it as the log has
 abbrev pub HeardComesFirst : Type 0
 HeardComesFirst = (layout : Layout) (v : View) (history : List Entry) → IsTale layout v history
-    → (h : Heard) (x : LogEntry) → AnsweredAfter v h x
+    → (h : Heard) (x : LogEntry) (answered : AnsweredAfter v h x)
     → (early : List Entry) × StandsAfter history early x × HasFirst early h
+    × (length (by v.pass early) ≡ length answered.before)
 
 -- who is told Gone of a key whose insert it heard of is told so after a removal
 abbrev pub GoneIsRemoved : Type 0
 GoneIsRemoved = (layout : Layout) (v : View) (history : List Entry) → IsTale layout v history
     → (h : Heard) (a p k : ℕ) (value : List ℕ) → Contains h.log (Known (Insert p k value))
-    → AnsweredAfter v h (Known (Gone a k))
+    → (answered : AnsweredAfter v h (Known (Gone a k)))
     → (early : List Entry) × StandsAfter history early (Known (Gone a k)) × HasRemoval early k
+    × (length (by v.pass early) ≡ length answered.before)
 
 -- the entry says that the key was still there
 abbrev pub SaysThere : ℕ → LogEntry → Type 0

@@ -69,13 +69,13 @@ refuted rows P n some few es fails always = fails (always tiny (record { shards 
 
 -- on a page of three slots: a value in one of them; a key that pass a removes, up to the end of its generation, and up
 -- to its slot's place on the stack
-abbrev inserted : ℕ → List Event
+abbrev pub inserted : ℕ → List Event
 inserted s = ev 0 (FillSlot (slot 0 0 s) []) ∷ ev 0 Publish ∷ []
 
-abbrev removed : ℕ → ℕ → List Event
+abbrev pub removed : ℕ → ℕ → List Event
 removed a k = ev a (EnterRemove k) ∷ ev a Mark ∷ ev a Drop ∷ ev a Finish ∷ []
 
-abbrev put_back : ℕ → ℕ → List Event
+abbrev pub put_back : ℕ → ℕ → List Event
 put_back a k = removed a k ++ ev a Put ∷ ev a Tie ∷ []
 
 wrongly : ℕ
@@ -147,7 +147,7 @@ ignored_count_loses_held = refuted ignores_count (λ plan w l. HeldStands plan w
     (record { page = 0; slot = 0; generation = 2 }) h refl some refl in no_bool z)
 
 -- a link that is stored before its slot is put names nothing under it
-abbrev putting : List Event
+abbrev pub putting : List Event
 putting = three_slots ++ inserted 0 ++ inserted 1 ++ put_back 1 4096 ++ put_back 1 4097
 
 pub early_link_is_wrong : ¬ AlwaysBy ties_first Linked
@@ -278,7 +278,7 @@ followed_twice_is_mine_twice = refuted follows_twice (λ plan w l. OneKind w l) 
     let z : 2 ≡ 1 = (h (spot 0 0) 7 refl).0 small in absurd (omega arith))
 
 -- what was rung for is followed by nobody where its owner left
-abbrev ringing : List Event
+abbrev pub ringing : List Event
 ringing = three_slots ++ inserted 0 ++ inserted 1 ++ inserted 2 ++ ev 0 (Arm (page 0 0)) ∷ put_back 1 4096
     ++ ev 1 Ring ∷ ev 1 RingTie ∷ ev 0 TakeBell ∷ ev 0 Leave ∷ []
 
