@@ -1,20 +1,16 @@
 -- The words of a heap are an atomic map.
-use Rattle.std.proofs.Common.{◌≡◌, ◌≢◌, ℕ, zero, suc, ◌+◌, ◌<◌, ◌≤◌, ◌==◌, ◌&&◌, ◌||◌, ◌⊎◌, inl, inr, Bool, true, false, cond, List}
-use Rattle.std.proofs.Common.{[], ◌∷◌, ◌++◌, refl, ap, sym, ◌∙◌, subst, arith, Option, Some, None, slice_get, ⊎_elim}
+use Rattle.std.proofs.Common.{◌≡◌, ◌≢◌, ℕ, ◌<◌, ◌==◌, ◌&&◌, ◌||◌, inl, inr, Bool, true, false, cond, List}
+use Rattle.std.proofs.Common.{[], ◌∷◌, ◌++◌, refl, ap, sym, ◌∙◌, subst, arith, Option, Some, None, slice_get}
 use Rattle.std.proofs.Common.{eqb-true, eq-eqb, ne_eqb}
 use Rattle.std.specs.Prelude.{not, nat_lt, IsSome, if◌then◌else◌}
-use Rattle.std.specs.List.{list_any}
 use Rattle.std.proofs.lemmas.Bool.Decides.{nat_tests}
-use Rattle.std.proofs.lemmas.Bool.{cases_eq}
 use Rattle.sh_history.specs.declared.entry.Entry.{Entry}
 use Rattle.sh_history.specs.declared.entry.Entry.TheVariants.{Insert, Got, Gone, Crowded, Removed, Released}
 use Rattle.sh_history.specs.History.{value_of, is_removed, is_removal_of, present_value, Allowed, Legal}
 use Rattle.sh_history.proofs.Laws.{legal_after_parts}
 use Rattle.sh_history.proofs.LogLaws.{value_of-append_some, value_of-append_none}
-use Rattle.sh_key.specs.Layout.{Layout, IsLayout}
-use Rattle.sh_shape.specs.Shape.{Numbers, IsShape, Fits}
 use Rattle.sh_slots.specs.declared.hand.Name.{Name}
-use Rattle.sh_slots.specs.Slots.{live_at, spot_of, has_room, published_name}
+use Rattle.sh_slots.specs.Slots.{live_at, has_room, published_name}
 use Rattle.sh_slots.specs.declared.reply.Reply.{Reply}
 use Rattle.sh_slots.specs.declared.reply.Reply.TheVariants as reply
 use Rattle.sh_step.specs.declared.body.Body.{Body}
@@ -27,14 +23,12 @@ use Rattle.sh_step.specs.declared.action.Event.{Event}
 use Rattle.sh_step.specs.Plans.{Plan, plan_of}
 use Rattle.sh_step.specs.Rows.{Row}
 use Rattle.sh_word.specs.Fields.{Fields, fields_of}
-use Rattle.sh_core.specs.declared.outcome.Outcome.{Outcome}
-use Rattle.sh_core.specs.declared.outcome.Outcome.TheVariants.{Moved, Replied, Skipped}
 use Rattle.sh_core.specs.AtomicMap.{map_of, Finds, made_by, IsOneOperation, EventsAreOperations, OpensEmpty}
-use Rattle.sh_core.specs.Lists.{PutLists, lists_of, state_of}
+use Rattle.sh_core.specs.Lists.{PutLists, lists_of}
 use Rattle.sh_core.specs.Outcomes.{row_of_event, outcome_of, done}
 use Rattle.sh_core.specs.Refines.{Refines, KeyTold}
 use Rattle.sh_core.specs.Words.{read}
-use Rattle.sh_core.specs.Worlds.{World, apply, run, run_from, open_world, step, entry, entry_of, joined, value_at, value_at_place}
+use Rattle.sh_core.specs.Worlds.{World, apply, run, run_from, open_world, entry, entry_of, joined, value_at, value_at_place}
 use Rattle.sh_core.proofs.Clauses.RunTheorem.{theorem}
 use Rattle.sh_core.proofs.WaitFree.{skipped, moved}
 use Rattle.sh_core.proofs.Words.Stepping.{outcome_done, outcome_skipped}

@@ -1,5 +1,5 @@
 -- Collecting in a quiet heap finds all.
-use Rattle.std.proofs.Common.{◌≡◌, ◌≢◌, ℕ, zero, suc, ◌+◌, ◌-◌, ◌/◌, ◌<◌, ◌≤◌, ◌==◌, ◌||◌, ◌⊎◌, inl, inr, Bool, true, false}
+use Rattle.std.proofs.Common.{◌≡◌, ℕ, ◌+◌, ◌-◌, ◌<◌, ◌==◌, Bool, false}
 use Rattle.std.proofs.Common.{cond, List, [], ◌∷◌, ◌++◌, refl, ap, sym, ◌∙◌, subst, arith, length, Option, Some, None}
 use Rattle.std.proofs.Common.{slice_get, ⊎_elim, append_assoc, append-nil, eq-eqb, drop}
 use Rattle.std.specs.Prelude.{option_map, replicate, nat_lt, slice_set}
@@ -10,7 +10,6 @@ use Rattle.sh_shape.specs.Shape.{Numbers, IsShape, Fits}
 use Rattle.sh_slots.specs.declared.hand.Hand.TheVariants.{Idle}
 use Rattle.sh_slots.specs.declared.hand.Spot.{Spot}
 use Rattle.sh_slots.specs.Slots.{spots}
-use Rattle.sh_step.specs.declared.action.Action.{Action}
 use Rattle.sh_step.specs.declared.action.Action.TheVariants.{Take, Follow}
 use Rattle.sh_step.specs.declared.action.Event.{Event}
 use Rattle.sh_step.specs.declared.body.Body.{Body}
@@ -18,18 +17,18 @@ use Rattle.sh_step.specs.declared.moves.Move.{Move}
 use Rattle.sh_step.specs.declared.moves.Move.TheVariants as move
 use Rattle.sh_step.specs.Collections.{total, noted}
 use Rattle.sh_step.specs.Conditions.{May, Owns, page_name, action_of}
-use Rattle.sh_step.specs.Moves.{row, row_of, move_of}
-use Rattle.sh_step.specs.Plans.{Plan, plan_of, page_of, heap_pages}
-use Rattle.sh_step.specs.Rows.{Row, point, unpoint, take_page, follow}
+use Rattle.sh_step.specs.Moves.{row, row_of}
+use Rattle.sh_step.specs.Plans.{Plan, plan_of, heap_pages}
+use Rattle.sh_step.specs.Rows.{Row, point, unpoint, take_page}
 use Rattle.sh_step.proofs.PageLaws.{page_of_name}
 use Rattle.sh_step.proofs.RowLaws.{gives_all_that_may_be}
 use Rattle.sh_core.specs.LinkWords.{LinksOn}
 use Rattle.sh_core.specs.Lists.{PutLists, times, lists_of, lists_from, list_step, listed, taken, chain_followed, no_lists}
 use Rattle.sh_core.specs.Lists.{accounts, slots_under}
-use Rattle.sh_core.specs.Quiet.{Quiet, collecting, NothingQueued, CollectingFindsAll, IsEmptySlot}
+use Rattle.sh_core.specs.Quiet.{Quiet, NothingQueued, CollectingFindsAll}
 use Rattle.sh_core.specs.Refines.{Refines}
 use Rattle.sh_core.specs.Stacks.{top, link_to, spot, ties_of}
-use Rattle.sh_core.specs.Words.{put, read}
+use Rattle.sh_core.specs.Words.{read}
 use Rattle.sh_core.specs.Worlds.{World, apply, run, run_from, step, open_world}
 use Rattle.sh_core.proofs.Clauses.RunTheorem.{theorem}
 use Rattle.sh_core.proofs.Quiet.{none_of, loses_nothing}

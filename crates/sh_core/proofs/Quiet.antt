@@ -1,20 +1,18 @@
 -- A quiet heap loses nothing: what follows from the clauses of the theorem.
-use Rattle.std.proofs.Common.{◌≡◌, ℕ, zero, suc, ◌+◌, ◌-◌, ◌/◌, ◌<◌, ◌≤◌, ◌==◌, ◌||◌, ◌⊎◌, inl, inr, false, cond, List, []}
-use Rattle.std.proofs.Common.{◌∷◌, refl, ap, sym, ◌∙◌, subst, arith, length, Some, None, slice_get, ⊎_elim}
+use Rattle.std.proofs.Common.{◌≡◌, ℕ, zero, suc, ◌+◌, ◌-◌, ◌≤◌, ◌==◌, ◌⊎◌, inl, inr, false, cond, List, []}
+use Rattle.std.proofs.Common.{◌∷◌, refl, ap, sym, ◌∙◌, subst, arith, length, Some, None, slice_get}
 use Rattle.std.specs.Prelude.{option_map}
 use Rattle.std.proofs.lemmas.Bool.Decides.{nat_tests}
-use Rattle.sh_slots.specs.declared.hand.Hand.TheVariants.{Idle}
 use Rattle.sh_slots.specs.declared.hand.Spot.{Spot}
-use Rattle.sh_shape.specs.Classes.{slots}
 use Rattle.sh_step.specs.declared.body.Body.{Body}
-use Rattle.sh_step.specs.Collections.{total, if1}
+use Rattle.sh_step.specs.Collections.{total}
 use Rattle.sh_step.specs.Plans.{Plan, plan_of, home}
 use Rattle.sh_core.specs.Worlds.{World, run}
-use Rattle.sh_core.specs.Lists.{PutLists, times, state_of, lists_of, in_hand}
-use Rattle.sh_core.specs.Stacks.{top, link_to, first_is, cursor_at, spot, ties_of}
-use Rattle.sh_core.specs.LinkWords.{LinksOn, EachLinked}
-use Rattle.sh_core.specs.Refines.{mine, in_hands, Refines, Always, kind_count, live, marked, retired}
-use Rattle.sh_core.specs.Quiet.{Quiet, walked, WordsLead, IsEmptySlot, NoneLost, LeftIsOnStacks, LosesNothing}
+use Rattle.sh_core.specs.Lists.{PutLists, times, lists_of, in_hand}
+use Rattle.sh_core.specs.Stacks.{top, link_to, first_is, spot, ties_of}
+use Rattle.sh_core.specs.LinkWords.{LinksOn}
+use Rattle.sh_core.specs.Refines.{in_hands, Refines}
+use Rattle.sh_core.specs.Quiet.{Quiet, walked, WordsLead, NoneLost, LeftIsOnStacks, LosesNothing}
 use Rattle.sh_core.specs.Quiet.{QuietLosesNothing}
 use Rattle.sh_core.proofs.Clauses.RunTheorem.{theorem}
 

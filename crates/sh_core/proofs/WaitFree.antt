@@ -1,9 +1,8 @@
 -- A pass ends what it has begun within so many steps of its own.
-use Rattle.std.proofs.Common.{◌≡◌, ◌≢◌, ℕ, zero, suc, ◌+◌, ◌<◌, ◌≤◌, ◌==◌, Bool, true, false, List, [], ◌∷◌, ◌++◌, refl}
+use Rattle.std.proofs.Common.{◌≡◌, ◌≢◌, ℕ, zero, suc, ◌+◌, ◌≤◌, ◌==◌, Bool, true, false, List, [], ◌∷◌, ◌++◌, refl}
 use Rattle.std.proofs.Common.{ap, sym, ◌∙◌, subst, arith, length, Option, Some, None, slice_get, set, append_assoc}
 use Rattle.std.proofs.Common.{append-nil, eqb-true, eq-eqb}
 use Rattle.std.proofs.lemmas.List.{length-append}
-use Rattle.std.proofs.lemmas.Bool.{cases_eq}
 use Rattle.sh_slots.specs.declared.hand.Hand.TheVariants.{Idle}
 use Rattle.sh_step.specs.declared.action.Event.{Event}
 use Rattle.sh_step.specs.declared.body.Body.{Body}
@@ -15,11 +14,11 @@ use Rattle.sh_step.specs.Rows.{Row}
 use Rattle.sh_step.proofs.EndLaws.{steps_come_nearer}
 use Rattle.sh_core.specs.Outcomes.{row_of_event}
 use Rattle.sh_core.specs.Trails.{trail_of}
-use Rattle.sh_core.specs.WaitFree.{IsBusyAfter, BusyUntil, WaitFree}
+use Rattle.sh_core.specs.WaitFree.{WaitFree}
 use Rattle.sh_core.specs.Words.{read}
 use Rattle.sh_core.specs.Worlds.{World, apply, run, step, open_world}
 use Rattle.sh_core.proofs.Sums.Totals.{get_set_here}
-use Rattle.sh_core.proofs.Words.Steps.{step_moves, run_snoc, row_of_at, trail_grows, others_trails_stay, skips_leave_trails}
+use Rattle.sh_core.proofs.Words.Steps.{run_snoc, row_of_at, trail_grows, others_trails_stay, skips_leave_trails}
 
 get_set_other : {A : Type 0} (xs : List A) (i j : ℕ) (w : A) → i ≢ j → slice_get (set xs i w) j ≡ slice_get xs j
 get_set_other [] i j w other = refl

@@ -1,9 +1,8 @@
 -- More tables that are the right one except for one action: each breaks a clause that the tables of WrongRows keep.
-use Rattle.std.specs.Prelude.{ℕ, ◌+◌, ◌-◌, ◌==◌, nat_lt, Bool, true, false, cond, not, ◌&&◌, ◌∷◌, [], Some, None, length}
+use Rattle.std.specs.Prelude.{◌+◌, ◌==◌, nat_lt, false, ◌&&◌, Some, None, length}
 use Rattle.std.specs.Bool.{then_some}
-use Rattle.sh_shape.specs.declared.places.Place.TheVariants.{Head, Link, Bell}
-use Rattle.sh_slots.specs.declared.hand.Hand.TheVariants.{Idle, Leaving, Finishing, RingTying, Ringing, Filling}
-use Rattle.sh_slots.specs.declared.hand.Spot.{Spot}
+use Rattle.sh_shape.specs.declared.places.Place.TheVariants.{Head, Link}
+use Rattle.sh_slots.specs.declared.hand.Hand.TheVariants.{Leaving, Finishing, RingTying, Ringing, Filling}
 use Rattle.sh_slots.specs.declared.reply.Reply.TheVariants as reply
 use Rattle.sh_slots.specs.Slots.{spot_of, name_at, after_drop, marked_word, reusable_word, retired_word}
 use Rattle.sh_step.specs.declared.action.Action.TheVariants.{EnterGet, EnterRemove, DropHold, Finish, FillSlot, Publish}
@@ -11,7 +10,7 @@ use Rattle.sh_step.specs.declared.action.Action.TheVariants.{ReadClass, ReadLeng
 use Rattle.sh_step.specs.declared.operation.Operation.TheVariants.{Swap, Store, CompareExchange, Load}
 use Rattle.sh_step.specs.Collections.{has}
 use Rattle.sh_step.specs.Moves.{row, named, slotted}
-use Rattle.sh_step.specs.Plans.{Plan, local}
+use Rattle.sh_step.specs.Plans.{local}
 use Rattle.sh_step.specs.Rows.{hand, idle, own, enter_get, enter_remove, drop_key, fill_slot, publish, read_class}
 use Rattle.sh_step.specs.Rows.{read_length, adopt, leave, ring, ring_tie, class_word_noted}
 use Rattle.sh_stack.specs.Stack.{top_word}

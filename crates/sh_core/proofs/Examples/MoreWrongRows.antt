@@ -1,18 +1,17 @@
 -- More wrong tables, and which clause each breaks.
-use Rattle.std.proofs.Common.{◌≡◌, ℕ, ◌+◌, ◌<◌, ◌≤◌, ◌⊎◌, true, false, List, [], ◌∷◌, ◌++◌, refl, sym, ◌∙◌, subst, arith}
-use Rattle.std.proofs.Common.{Option, Some, None, slice_get, ⊎_elim, ap}
+use Rattle.std.proofs.Common.{◌≡◌, ℕ, ◌+◌, ◌<◌, ◌≤◌, ◌⊎◌, List, [], ◌∷◌, ◌++◌, refl, sym, ◌∙◌, subst, arith}
+use Rattle.std.proofs.Common.{Option, Some, None, slice_get, ⊎_elim}
 use Rattle.std.specs.Prelude.{IsSome}
 use Rattle.sh_history.specs.History.{value_of}
 use Rattle.sh_slots.specs.declared.hand.Name.{Name}
 use Rattle.sh_slots.specs.declared.hand.Hand.TheVariants.{Leaving, Filling}
 use Rattle.sh_step.specs.declared.action.Action.TheVariants.{EnterGet, EnterRemove, DropHold, FillSlot, Fill, Publish}
-use Rattle.sh_step.specs.declared.action.Action.TheVariants.{Drop, ReadClass, ReadLength, ReadPage, SetClass, Take, Put}
-use Rattle.sh_step.specs.declared.action.Action.TheVariants.{Tie, Adopt, Leave, Arm, Ring, RingTie, TakeBell}
+use Rattle.sh_step.specs.declared.action.Action.TheVariants.{Drop, ReadClass, ReadLength, ReadPage, SetClass, Take}
+use Rattle.sh_step.specs.declared.action.Action.TheVariants.{Adopt, Leave, Arm, Ring, RingTie}
 use Rattle.sh_step.specs.declared.action.Event.{Event}
 use Rattle.sh_step.specs.declared.body.Body.{Body}
-use Rattle.sh_step.specs.Moves.{row}
 use Rattle.sh_step.specs.Parts.{newcomer}
-use Rattle.sh_step.specs.Plans.{Plan, keys_of}
+use Rattle.sh_step.specs.Plans.{Plan}
 use Rattle.sh_step.specs.Rows.{drop_hand}
 use Rattle.sh_core.specs.LinkWords.{EachLinked}
 use Rattle.sh_core.specs.InHeap.{StepsWithin, CountsFit, BellsAreSmall, ValuesFit}
@@ -21,7 +20,7 @@ use Rattle.sh_core.specs.Refines.{KindsAddUp, Filled, HeldStands, NotesAreTrue, 
 use Rattle.sh_core.specs.Refines.{KeysAreTold, RetiredIsLast, OneOwner, LeftEmpty, ShardlessHaveNothing, Linked}
 use Rattle.sh_core.specs.Refines.{FillsAreKeys}
 use Rattle.sh_core.specs.Stacks.{spot}
-use Rattle.sh_core.specs.Variants.{step_by, run_from_by, run_by, list_step_by, lists_from_by, lists_by, AlwaysBy}
+use Rattle.sh_core.specs.Variants.{step_by, run_from_by, run_by, list_step_by, lists_from_by, AlwaysBy}
 use Rattle.sh_core.specs.Worlds.{World, value_at}
 use Rattle.sh_core.specs.WrongRows.{ignores_room, forgets_last_slot, never_retires, leaves_slots, leaves_bell, ties_first}
 use Rattle.sh_core.specs.MoreWrongRows.{retires_early, skips_generation, adopts_taken, leaves_cursors, publishes_next}
