@@ -33,6 +33,8 @@ pub enum Request {
     },
     /// The table of bytes a value.
     Bytes,
+    /// Whether a key is used again, and whether two callers remove one value.
+    Reuse,
     /// One turn of a rival, as this program asks it of itself.
     Turn {
         side: Side,
@@ -47,9 +49,11 @@ usage: bench [--rows WORD] [--plots FOLDER] [ROUNDS]
        bench library [ROUNDS]
        bench opening [ROUNDS]
        bench bytes
+       bench reuse
 
 The tables of times, that of times in heaps of 100,000 to 10,000,000 values, that of the library's calls from Rust and
-from C beside those inside, that of what such heaps take to open, or that of bytes a value.
+from C beside those inside, that of what such heaps take to open, or that of bytes a value. `reuse`
+shows whether sharded_slab and the heap use a key again, and whether two callers of `remove` both remove one value.
 
   ROUNDS          so many rounds, at least 1; 15 if it is not said
   --rows WORD     only the rows with this in their title, such as 'churn' or 'read into'
@@ -140,6 +144,8 @@ pub fn request(words: &[&str]) -> Result<Request, String> {
         ["opening", _, word, ..] => Err(format!("opening takes no {word}")),
         ["bytes"] => Ok(Request::Bytes),
         ["bytes", word, ..] => Err(format!("bytes takes no {word}")),
+        ["reuse"] => Ok(Request::Reuse),
+        ["reuse", word, ..] => Err(format!("reuse takes no {word}")),
         words => times(words),
     }
 }
@@ -173,6 +179,7 @@ mod tests {
         assert_eq!(request(&["library", "3"]), Ok(Request::Library { rounds: 3 }));
         assert_eq!(request(&["opening", "3"]), Ok(Request::Opening { rounds: 3 }));
         assert_eq!(request(&["bytes"]), Ok(Request::Bytes));
+        assert_eq!(request(&["reuse"]), Ok(Request::Reuse));
         let row = Row::new(Workload::Get, 2, 1);
         let turn = ["turn", "bare atomics", "get", "--threads", "2"];
         assert_eq!(request(&turn), Ok(Request::Turn { side: Side::Model, row }));
@@ -202,6 +209,7 @@ mod tests {
             (&["library", "3", "4"], "library takes no 4"),
             (&["opening", "3", "4"], "opening takes no 4"),
             (&["bytes", "3"], "bytes takes no 3"),
+            (&["reuse", "3"], "reuse takes no 3"),
             (&["turn", "ours", "get"], "turn wants a side and the words of a row"),
             (&["turn", "bare atomics", "jump"], "turn wants a side and the words of a row"),
             (&["3", "bytes"], "bytes is no number of rounds"),

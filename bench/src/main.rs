@@ -20,6 +20,7 @@ mod ours;
 mod payload;
 mod plots;
 mod program;
+mod reuse;
 mod ring;
 mod rival;
 mod rivals;
@@ -127,6 +128,10 @@ fn do_as_asked(request: Request) -> Result<(), String> {
         Request::Opening { rounds } => measure_opening(rounds),
         Request::Bytes => {
             println!("{}\n\n{}", bytes::ABOUT, bytes::table());
+            Ok(())
+        }
+        Request::Reuse => {
+            println!("{}", reuse::text()?);
             Ok(())
         }
         Request::Turn { side, row } => turning::tell(side, &row),

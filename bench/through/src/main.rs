@@ -1,17 +1,20 @@
-//! The program `through SIDE WORKLOAD`: it measures what the calls of the library cost from Rust or from C. And
-//! `through opening VALUES`: it tells what a heap with room for so many values takes to open, and to fill.
+//! The program `through SIDE WORKLOAD`: it measures what the calls of the library cost from Rust or from C.
+//! `through opening VALUES` prints what a heap with room for this many values takes to open and to fill, and `through
+//! reuse` whether a key is used again, and whether two callers remove one value.
 //!
 //! It takes some of the options of `sh_bench`, and writes what that writes: counts to the standard output, and the time
 //! to the standard error. The exit status is 2 where the words are wrong, and 3 where a call is refused.
 mod c;
 mod opening;
 mod options;
+mod reuse;
 mod rust;
 mod side;
 mod workloads;
 
 use opening::Opening;
 use options::Options;
+use reuse::Reuse;
 use std::process::ExitCode;
 use std::time::Duration;
 
@@ -31,6 +34,10 @@ fn tell(words: &[&str]) -> Result<(), String> {
     if let ["opening", values] = words {
         let values = values.parse().map_err(|_| format!("{values} is no number of values"))?;
         println!("{}", Opening::of(values)?);
+        return Ok(());
+    }
+    if words == ["reuse"] {
+        println!("{}", Reuse::tried()?);
         return Ok(());
     }
     let (options, time, sum) = measured(words)?;
