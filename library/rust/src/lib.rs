@@ -74,6 +74,11 @@ pub mod slab;
 mod value;
 mod words;
 
+// The examples of README.md in Rust are run with those of the documentation.
+#[cfg(doctest)]
+#[doc = include_str!("../../../README.md")]
+mod readme {}
+
 pub use accounts::{PageAccounts, Totals};
 pub use error::{AdoptError, Error, LeaveError};
 pub use guard::Guard;
