@@ -8,7 +8,7 @@
 RESULTS are files with what `cargo run --release --offline -- ..` printed, named by date and commit:
 `results/2026-11-24-7af2314.txt`. If several have a row, the last one counts.
 
-A block stands between two lines of its own:
+A block is between two lines of its own:
 
     <!-- bench rows: NAME -->
     <!-- end of bench rows -->
@@ -120,8 +120,8 @@ def filled(wanted, outputs, name, every):
             rows = found_rows(table, wanted)
             if rows and all(rows):
                 form = list(zip(forms(wanted), wanted.head))
-                told = [[cell_text(cell, *how) for cell, how in zip(row, form)] for row in rows]
-                return Table(wanted.head, told), output
+                lines = [[cell_text(cell, *how) for cell, how in zip(row, form)] for row in rows]
+                return Table(wanted.head, lines), output
             if rows and any(rows):
                 missing = [" | ".join(key(old, wanted.head)) for old, row in zip(wanted.rows, rows) if row is None]
                 fault = fault or f"{name}: {output.path.name} lacks the rows {'; '.join(missing)}"
@@ -134,14 +134,14 @@ def caption(table, output, document):
     about, name = output.about, output.path.stem
     date = re.match(r"\d{4}-\d\d-\d\d", name)
     commit = about.get("its tree, as it is now") or (re.findall(r"-([0-9a-f]{7,})", name) or ["unknown"])[0]
-    said = [f"One run: {date[0] if date else 'undated'}, commit {commit}"]
+    facts = [f"One run: {date[0] if date else 'undated'}, commit {commit}"]
     if "machine" in about:
         machine, _, processors = about["machine"].replace("(R)", "").partition(", processors: ")
-        said += [machine, f"{processors} processors"]
+        facts += [machine, f"{processors} processors"]
     if "rounds" in about:
-        said.append(f"{about['rounds']} rounds")
+        facts.append(f"{about['rounds']} rounds")
     raw = os.path.relpath(output.path.resolve(), document.resolve().parent)
-    text = ", ".join(said) + f" ([raw output]({raw}))."
+    text = ", ".join(facts) + f" ([raw output]({raw}))."
     if "warning" in about:
         text += f" The load at the start was {about['load at the start'].split()[0]}."
     body = [cell for row in table.rows for cell in row]
