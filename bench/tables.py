@@ -6,7 +6,7 @@
     bench/tables.py --self-test                       fills a block of a small document, and plants faults
 
 RESULTS are files with what `cargo run --release --offline -- ..` printed, named by date and commit:
-`results/2026-11-24-7af2314.txt`. If several have a row, the last one counts.
+`results/2026-11-24-7af2314.txt`. If several have all rows of a block, the last one counts.
 
 A block is between two lines of its own:
 
