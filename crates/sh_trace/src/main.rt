@@ -15,7 +15,7 @@ const HELP: &str = "Shows a script of mode steps event by event, from the standa
 Usage: sh_trace < FILE
 
 After each event it shows the pages and bells that the event touched and what the passes have begun, own and hold; of a
-skipped event it says why. The lines of a script are in docs/FORMATS.md, \"Lines of events\". Without a file it goes on
+skipped event it says why. The lines of a script are in docs/SCRIPTS.md, \"Lines of events\". Without a file it goes on
 line by line at a terminal.
 ";
 

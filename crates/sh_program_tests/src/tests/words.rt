@@ -100,7 +100,7 @@ const HELP_END: &str = "Modes:
   steps    single atomic steps, in the order of the script, on the model of the heap
 
 A script is text: a line that says how large the heap is, and then a line for each call or step.
-docs/FORMATS.md says how to write one, and gives the usual reason of each fault and refusal.
+docs/SCRIPTS.md says how to write one, and gives the usual reason of each fault and refusal.
 
 Example, of files in the folder examples/:
   shardheap heap --accounts < freed.script
