@@ -1,12 +1,11 @@
-"""Pictures that are drawn from a trace: a removal while someone reads, a stack in four frames, and the duty to ring."""
+"""Pictures of parts of a trace: a removal while another pass reads, the stack of a page, and the duty to ring."""
 
-from drawing.frames import drawn
-from drawing.svg import Picture
+from drawing.svg import LETTER, Picture
 
 LANES = {"0": 40, "1": 560}
 LANE, ROW, WORD = 260, 40, 330
 
-# ---- a removal while someone reads
+# ---- a removal while another pass reads
 
 
 def slot_of(frame):
@@ -38,10 +37,12 @@ def lane_text(frame, times):
 
 def removal(frames):
     rows = lane_rows(frames)
-    picture = Picture(860, 50 + ROW * len(rows))
+    picture = Picture(860, 50 + ROW * len(rows), "A removal while another pass reads",
+                      "A lane for each of two passes and a row for each event, with the slot's word after it. The word "
+                      "is marked while pass 1 holds the key, and empty in the next generation after its last drop.")
     picture.text(LANES["0"] + LANE / 2, 24, "pass 0, the owner", "bold", 12, "middle")
     picture.text(WORD + 100, 24, "slot 0.0.0 after it", "bold", 12, "middle")
-    picture.text(LANES["1"] + LANE / 2, 24, "pass 1, who reads", "bold", 12, "middle")
+    picture.text(LANES["1"] + LANE / 2, 24, "pass 1, a reader", "bold", 12, "middle")
     held = [y for y, (frame, _) in enumerate(rows) if any("pass 1" in p and "holds" in p for p in frame.passes)]
     picture.line(840, 40 + held[0] * ROW, 840, 40 + held[-1] * ROW + ROW + 20, "owed")
     picture.text(836, 40 + held[0] * ROW - 4, "it holds the key", "red", 11, "end")
@@ -58,20 +59,57 @@ def removal(frames):
     return picture
 
 
-# ---- the stack in four frames
+# ---- the stack of a page
+
+STEPS = [("1 Put", "pass 1 swaps the head for slot 0"), ("2 Put", "pass 2 swaps the head for slot 1"),
+         ("2 Tie", "pass 2 stores the link of slot 1"), ("0 Take 0.0", "the owner swaps the head for 0"),
+         ("0 Follow 0.0", "the owner gets slot 1"), ("0 Follow 0.0", "the link is not written: it stops")]
+ITEM, GAP, CHAIN = 60, 104, 446
+
+
+def stack_frames(frames):
+    """The frames of these steps, in their order."""
+    rest = iter(frames)
+    return [next(frame for frame in rest if frame.event == event) for event, _ in STEPS]
+
+
+def draw_chain(picture, y, page):
+    """The head or the owner's cursor, and the slots that it leads to."""
+    name = "stack" if page.lanes["stack"] else "chain"
+    start = "head" if name == "stack" else "cursor"
+    owing = {str(slot.number): slot.owing() for slot in page.slots}
+    picture.text(CHAIN - 36, y + 18, start, "bold", 12, "end")
+    picture.arrow(CHAIN - 30, y + 14, CHAIN - 1, y + 14)
+    x = CHAIN
+    for item, is_owed in page.lanes[name]:
+        picture.cell(x, y, ITEM, 28, [f"slot {item}"], "queued", 11)
+        picture.arrow(x + ITEM, y + 14, x + ITEM + GAP - 1, y + 14, "owed" if is_owed else "line")
+        if is_owed:
+            picture.text(x + ITEM + (GAP - 10) / 2, y + 9, f"0: pass {owing[item]}", "red", 11, "middle")
+        x += ITEM + GAP
+    picture.text(x + 4, y + 18, "end", "grey", 12)
 
 
 def stack(frames):
-    wanted = ["1 Put", "2 Put", "2 Tie", "0 Follow 0.0"]
-    chosen = [next(frame for frame in frames if frame.event == event) for event in wanted]
-    return drawn(chosen)
+    rows = stack_frames(frames)
+    width = CHAIN + 2 * (ITEM + GAP) + 4 + 3 * LETTER[12] + 10
+    picture = Picture(int(width), 30 + 42 * len(rows), "The stack of a page while two passes free a slot each",
+                      "Six rows, each with an event and the slots that the page's head or the owner's cursor leads to. "
+                      "A dashed arrow is a link that is not written yet, with the pass that owes it.")
+    for number, (frame, (event, words)) in enumerate(zip(rows, STEPS)):
+        y = 16 + 42 * number
+        picture.text(10, y + 18, event, "bold", 12)
+        picture.text(112, y + 18, words, "", 11)
+        draw_chain(picture, y, frame.pages[0])
+    picture.text(10, 22 + 42 * len(rows), "dashed: the link is 0, not written yet, and the named pass owes it", "grey", 11)
+    return picture
 
 
 # ---- the duty to ring
 
 PLACES = [("the flag of the page", "a Put finds it"), ("a freer that must ring", "Ring"),
           ("the bell", "TakeBell"), ("the owner's bell chain", "FollowBell"), ("nowhere: not armed", "")]
-COLUMN, LEFT = 186, 150
+COLUMN, LEFT, WIDE = 160, 120, 152
 
 
 def place_of(frame):
@@ -104,18 +142,20 @@ def duty_rows(frames):
 
 def duty(frames):
     rows = duty_rows(frames)
-    picture = Picture(LEFT + COLUMN * len(PLACES) + 10, 100 + 34 * len(rows))
-    for number, (place, step) in enumerate(PLACES):
+    picture = Picture(LEFT + COLUMN * len(PLACES), 90 + 30 * len(rows), "The duty to ring",
+                      "Five columns for where the duty to ring for a page can be, and a row for each event with a dot "
+                      "where it is then: flag, freer, bell, the owner's bell chain, and nowhere.")
+    for number, (where, step) in enumerate(PLACES):
         x = LEFT + number * COLUMN
-        picture.cell(x, 30, 176, 34, [place], "own" if number == 4 else "hand", 11)
+        picture.cell(x, 30, WIDE, 34, [where], "own" if number == 4 else "hand", 11)
         if step:
-            picture.arrow(x + 88, 22, x + COLUMN + 84, 22)
-            picture.text(x + COLUMN - 5, 15, step, "", 11, "middle")
+            picture.arrow(x + WIDE / 2, 22, x + COLUMN + WIDE / 2 - 4, 22)
+            picture.text(x + COLUMN / 2 + WIDE / 2, 15, step, "", 11, "middle")
     last = 1
-    for number, (event, place) in enumerate(rows):
-        y = 92 + number * 34
+    for number, (event, where) in enumerate(rows):
+        y = 86 + number * 30
         picture.text(10, y + 4, event, "bold", 12)
-        picture.line(LEFT, y + 17, LEFT + COLUMN * len(PLACES) - 10, y + 17)
-        last = place if place is not None else last
-        picture.dot(LEFT + last * COLUMN + 88, y, 7)
+        picture.line(LEFT, y + 15, LEFT + COLUMN * len(PLACES) - 8, y + 15)
+        last = where if where is not None else last
+        picture.dot(LEFT + last * COLUMN + WIDE / 2, y, 7)
     return picture

@@ -1,8 +1,8 @@
-"""Pictures of how things stand, which no trace changes: the house, a page, the keys, and the life of a slot."""
+"""Pictures that show no run: the parts of a heap, a page, the keys, and the life of a slot."""
 
 from drawing.svg import Picture
 
-# ---- the house
+# ---- the parts of a heap
 
 
 def shard_box(picture, x, number, owner):
@@ -10,7 +10,7 @@ def shard_box(picture, x, number, owner):
     picture.text(x + 12, 60, f"shard {number}", "bold", 14)
     picture.cell(x + 110, 46, 130, 24, [f"owner word: {owner}"], "zero", 11)
     picture.cell(x + 250, 46, 60, 24, ["bell"], "zero", 11)
-    picture.text(x + 12, 92, "a segment is 8 pages; further ones stand behind it", "grey", 11)
+    picture.text(x + 12, 92, "a segment is 8 pages; more segments follow", "grey", 11)
     for page in range(8):
         picture.cell(x + 12 + page * 50, 100, 46, 26, [f"{number}.{page}"], "own" if page else "hand", 11)
 
@@ -32,9 +32,11 @@ def pass_box(picture, x, name, lines):
 
 
 def house():
-    picture = Picture(900, 480)
+    picture = Picture(900, 480, "The parts of a heap",
+                      "Two shards with their pages, of each the first page opened with its slots, and below them three "
+                      "passes. Pass 0 owns shard 0 and inserts there; every pass may get, read, remove and release.")
     picture.box(10, 10, 880, 296, "frame")
-    picture.text(20, 28, "a heap: words of 64 bits that all passes share, each stepped on by one atomic operation",
+    picture.text(20, 28, "a heap: words of 64 bits that all passes share; one step is one atomic operation on one word",
                  "bold", 12)
     shard_box(picture, 20, 0, "taken")
     shard_box(picture, 460, 1, "left")
@@ -51,7 +53,7 @@ def house():
     picture.text(556, 332, "any pass: get, read, remove,", "", 11)
     picture.text(556, 347, "release; the free of a slot", "", 11)
     picture.arrow(800, 380, 800, 308)
-    picture.text(20, 472, "What a pass has is its own: nobody else looks at it, so that it takes no atomic operation.",
+    picture.text(20, 472, "The state of a pass is private: no other pass looks at it, so using it takes no atomic operation.",
                  "grey", 11)
     return picture
 
@@ -83,7 +85,7 @@ def word_parts(picture, y, name, parts):
 
 
 def class_rows(picture, y):
-    picture.text(10, y, "the 48 payload words in each class: slots side by side, each as wide as the class says",
+    picture.text(10, y, "the 48 payload words in each class, cut into slots",
                  "bold", 12)
     for number, width in enumerate(WIDTHS):
         top = y + 14 + number * 26
@@ -93,7 +95,9 @@ def class_rows(picture, y):
 
 
 def page():
-    picture = Picture(900, 560)
+    picture = Picture(900, 560, "A page and its 195 words",
+                      "A bar with the words of a page by their offsets, then how a head, a state, a link and a class "
+                      "are encoded, then the 48 payload words cut into slots in each of the eight classes.")
     picture.text(10, 24, "a page: 195 words, by their offsets", "bold")
     words_of_page(picture)
     x = word_parts(picture, 124, "a head", [("top: 0 none, n + 1 slot n", 360, "own"), ("armed", 60, "hand")])
@@ -132,8 +136,10 @@ def key_bar(picture, y, name, size, parts):
 
 
 def keys():
-    picture = Picture(940, 400)
-    title = "a key is a number: its parts, with how many bits each has, the lowest on the right"
+    picture = Picture(940, 400, "The keys of the four layouts",
+                      "A bar of bits for each layout: generation, shard, page and slot, and in tagged a tag of 8 bits. "
+                      "Below are two keys with their parts.")
+    title = "a key is a number: its parts and their bits, the lowest on the right"
     picture.text(10, 22, title, "bold")
     for number, (name, size, parts) in enumerate(KEYS):
         key_bar(picture, 44 + number * 70, name, size, parts)
@@ -144,7 +150,7 @@ def keys():
     picture.arrow(90 + 53 * BIT + 10, tiny + 22, 90 + 53 * BIT, tiny + 3)
     picture.text(10, 354, "16777216 = 2^24, in wide:  generation 1, shard 0, page 0, slot 0", "", 12)
     picture.text(10, 374, "4097 = 4096 + 1, in tiny:  generation 1, shard 0, page 0, slot 1", "", 12)
-    picture.text(10, 394, "the slot's next value has the key with the next generation, and no other ever has this key",
+    picture.text(10, 394, "the slot's next value gets the next generation; no other value ever has this key",
                  "grey", 11)
     return picture
 
@@ -153,7 +159,9 @@ def keys():
 
 
 def life():
-    picture = Picture(980, 420)
+    picture = Picture(980, 420, "The life of a slot",
+                      "A cycle of states. An empty slot is filled, published and live, then marked. When the last "
+                      "count is given back it is empty in the next generation, or retired after the last one.")
     picture.cell(20, 60, 150, 60, ["Empty g", "the owner's own"], "own")
     picture.cell(240, 60, 150, 60, ["Empty g", "in its hand"], "hand")
     picture.cell(470, 60, 150, 60, ["Live g", "count: holds"], "live")
@@ -170,7 +178,7 @@ def life():
     picture.text(659, 82, "Mark", "", 11, "middle")
     picture.text(545, 24, "get: +1, Got", "", 11, "middle")
     picture.text(545, 40, "release: -1", "", 11, "middle")
-    picture.text(775, 24, "get: Gone; who holds reads on", "", 11, "middle")
+    picture.text(775, 24, "get: Gone; holders read on", "", 11, "middle")
     picture.text(775, 40, "release: -1", "", 11, "middle")
     picture.arrow(775, 120, 775, 218)
     picture.text(785, 165, "the last count", "", 11)
@@ -187,8 +195,8 @@ def life():
     picture.text(103, 190, "the owner: Take, Follow", "", 11)
     picture.bend([(730, 220), (730, 160), (140, 160), (140, 122)])
     picture.bend([(50, 120), (50, 268), (188, 268)])
-    picture.text(20, 300, "the owner, as it leaves: Put, Tie (its generation stays)", "", 11)
+    picture.text(20, 300, "the owner, when it leaves: Put, Tie (the generation stays)", "", 11)
     picture.text(420, 153, "Finish, by the owner itself: generation g+1", "", 11, "middle")
-    note = "g is the generation that the slot has. Each value has another one, and its key has that"
+    note = "g is the generation of the slot. Each value has its own generation, and its key contains it"
     picture.text(20, 412, note, "grey", 11)
     return picture

@@ -13,12 +13,15 @@ STYLE = """text{font-family:'DejaVu Sans Mono',Menlo,Consolas,monospace;fill:#22
 .zero{fill:#f2f2f2;stroke:#aaa}.tag{fill:#f6cfd4;stroke:#a03a48}
 .line{stroke:#333;fill:none;stroke-width:1.3}.owed{stroke:#b02020;fill:none;stroke-width:1.3;stroke-dasharray:5 3}
 .thin{stroke:#999;fill:none}.red{fill:#b02020}.grey{fill:#666}.white{fill:#fff}.bold{font-weight:bold}
-.story{fill:#444;font-style:italic}"""
+.story{fill:#444;font-style:italic}.changed{fill:none;stroke:#111;stroke-width:2.4}.call{fill:#9a9a9a}.hold{fill:#3f9f3f}"""
 
 
 class Picture:
-    def __init__(self, width, height):
+    """A picture of this size. Its title and what is seen on it are for readers who cannot see it."""
+
+    def __init__(self, width, height, title, about):
         self.width, self.height = width, height
+        self.title, self.about = title, about
         self.items, self.spans = [], []
 
     def add(self, item):
@@ -75,8 +78,9 @@ class Picture:
             f'<path d="M0,0 L8,4 L0,8 z" fill="{colour}"/></marker>'
             for name, colour in (("head", "#333"), ("owed-head", "#b02020")))
         size = f'width="{self.width}" height="{self.height}" viewBox="0 0 {self.width} {self.height}"'
-        return "\n".join([f'<svg xmlns="http://www.w3.org/2000/svg" {size}>', f"<style>{STYLE}</style>",
-                          f"<defs>{heads}</defs>", f'<rect class="page" width="{self.width}" height="{self.height}"/>',
+        return "\n".join([f'<svg xmlns="http://www.w3.org/2000/svg" role="img" {size}>',
+                          f"<title>{escape(self.title)}</title>", f"<desc>{escape(self.about)}</desc>",
+                          f"<style>{STYLE}</style>", f"<defs>{heads}</defs>", f'<rect class="page" width="{self.width}" height="{self.height}"/>',
                           *self.items, "</svg>", ""])
 
 
