@@ -8,8 +8,8 @@ from drawing.svg import LETTER, Picture, wrapped
 LEFT, SLOT, LONGEST = 44, 96, 20
 TOP, CELL, STEP, LINE, SECOND = 44, 20, 24, 16, 13
 BAR, LETTERS = 6, LETTER[11]
-# So many slots of the page are shown, and so many letters of a comment are a line.
-SLOTS, STORY = 3, 112
+# So many slots of the page are shown.
+SLOTS = 3
 
 NAMES = {"live": "Live", "marked": "Marked", "retired": "Retired", "own": "own", "hand": "in hand", "queued": "queued"}
 ALIKE = ("Fill", "Read")
@@ -22,9 +22,11 @@ class Row:
     first: int
     page: object
     shard: object
-    story: list
+    story: str
     is_setup: bool
+    # Where it is drawn, and the lines of the story above it.
     y: float = 0
+    lines: list = ()
 
     def number(self):
         last = self.first + len(self.frames) - 1
@@ -103,17 +105,16 @@ def setup_length(frames):
     return next(number for number, frame in enumerate(frames) if number and frame.story)
 
 
-def begun(frames, title, letters):
+def begun(frames, title):
     """The row of the setup."""
-    story = wrapped(frames[0].story.removeprefix(title).strip(), letters)
     last = {kind: next((found[0] for frame in reversed(frames) if (found := getattr(frame, kind))), None)
             for kind in ("pages", "shards")}
-    return Row(frames, 1, last["pages"], last["shards"], [line for line in story if line], True)
+    return Row(frames, 1, last["pages"], last["shards"], frames[0].story.removeprefix(title).strip(), True)
 
 
-def rows_of(frames, title, letters):
+def rows_of(frames, title):
     length = setup_length(frames)
-    rows = [begun(frames[:length], title, letters)]
+    rows = [begun(frames[:length], title)]
     for number, frame in enumerate(frames[length:], length + 1):
         before = rows[-1]
         page = frame.pages[0] if frame.pages else before.page
@@ -122,15 +123,16 @@ def rows_of(frames, title, letters):
             before.frames.append(frame)
             before.page = page
         else:
-            rows.append(Row([frame], number, page, shard, wrapped(frame.story, letters) if frame.story else [], False))
+            rows.append(Row([frame], number, page, shard, frame.story, False))
     return rows
 
 
-def place(rows):
-    """Says where each row is. Returns where the last one ends."""
+def place(rows, width):
+    """Says where each row of a picture of this width is. Returns where the last one ends."""
     y = TOP
     for row in rows:
-        y += LINE * len(row.story) + (3 if row.story else 0)
+        row.lines = wrapped(row.story, int((width - 16) / LETTERS)) if row.story else []
+        y += LINE * len(row.lines) + (3 if row.lines else 0)
         row.y = y
         y += row.high() + (LINE if row.reason() else 0)
     return y
@@ -201,11 +203,12 @@ def links_width(name, links):
 
 
 def shared_width(rows, changing):
-    """How wide the column of links and words has to be."""
+    """How wide the column of links and words has to be: nothing if there are none."""
     words = [sum(len(words) * LETTERS + 12 for words, _ in words_of(row, before, changing))
              for row, before in zip(rows, [rows[0], *rows])]
     links = [sum(links_width(name, links) for name, links in links_of(row).items()) for row in rows]
-    return max(180, *(one + other for one, other in zip(words, links)))
+    widest = max(one + other for one, other in zip(words, links))
+    return max(180, 8 + widest) if widest else 0
 
 
 def draw_links(picture, x, y, name, links, is_new):
@@ -267,8 +270,8 @@ def draw_line(picture, x, y, line, kind):
 
 def draw_story(picture, row):
     """The comment above a row."""
-    for number, line in enumerate(row.story):
-        draw_line(picture, 8, row.y - 8 - LINE * (len(row.story) - 1 - number), line, "story")
+    for number, line in enumerate(row.lines):
+        draw_line(picture, 8, row.y - 8 - LINE * (len(row.lines) - 1 - number), line, "story")
 
 
 def draw_row(picture, row, before, names, lane, changing):
@@ -281,12 +284,13 @@ def draw_row(picture, row, before, names, lane, changing):
         draw_line(picture, LEFT + BAR + 3, row.y + row.high() + 8, row.reason(), "red")
 
 
-def draw_heads(picture, names, lane):
+def draw_heads(picture, names, lane, shared):
     for number, name in enumerate(names):
         picture.text(LEFT + (number + 0.5) * lane, 24, f"pass {name}", "bold", 12, "middle")
     x = LEFT + len(names) * lane
     picture.text(x + SLOTS * SLOT / 2, 24, "slots 0, 1, 2 after it", "bold", 12, "middle")
-    picture.text(x + SLOTS * SLOT + 8, 24, "page, shard after it", "bold", 12)
+    if shared:
+        picture.text(x + SLOTS * SLOT + 8, 24, "page, shard after it", "bold", 12)
 
 
 def draw_legend(picture, y):
@@ -303,14 +307,15 @@ def draw_legend(picture, y):
 
 def lanes(frames, title):
     """The picture of a story with this title, which is the first comment of its script."""
-    names = sorted({frame.event.split()[0] for frame in frames})
-    rows = rows_of(frames, title, STORY)
-    lane, bottom, changing = lane_width(rows), place(rows), changing_words(rows)
-    width = LEFT + len(names) * lane + SLOTS * SLOT + 8 + shared_width(rows, changing)
+    names, rows = sorted({frame.event.split()[0] for frame in frames}), rows_of(frames, title)
+    lane, changing = lane_width(rows), changing_words(rows)
+    shared = shared_width(rows, changing)
+    width = int(LEFT + len(names) * lane + SLOTS * SLOT + shared) + 4
+    bottom = place(rows, width)
     about = (f"A lane for each of {len(names)} passes and a row for each event. Next to each event are the slots of "
              f"the page after it, those that changed framed, and the links of the page and of the shard.")
-    picture = Picture(int(width), bottom + 56, title, about)
-    draw_heads(picture, names, lane)
+    picture = Picture(width, bottom + 56, title, about)
+    draw_heads(picture, names, lane, shared)
     for number, name in enumerate(names):
         draw_bars(picture, rows, bottom, name, LEFT + number * lane)
     for row, before in zip(rows, [rows[0], *rows]):
