@@ -31,6 +31,11 @@ pub enum Request {
     Opening {
         rounds: usize,
     },
+    /// The pictures of a run whose output was kept in a file, into a folder.
+    Plots {
+        results: PathBuf,
+        folder: PathBuf,
+    },
     /// The table of bytes a value.
     Bytes,
     /// Whether a key is used again, and whether two callers remove one value.
@@ -48,11 +53,13 @@ usage: bench [--rows WORD] [--plots FOLDER] [ROUNDS]
        bench large [--rows WORD] [ROUNDS]
        bench library [ROUNDS]
        bench opening [ROUNDS]
+       bench plots RESULTS FOLDER
        bench bytes
        bench reuse
 
 The tables of times, that of times in heaps of 100,000 to 10,000,000 values, that of the library's calls from Rust and
-from C beside those inside, that of what such heaps take to open, or that of bytes a value. `reuse`
+from C beside those inside, that of what such heaps take to open, or that of bytes a value. `bench plots` measures
+nothing: it draws the pictures of the table of calls in the file RESULTS, a kept output of a run, into FOLDER. `reuse`
 shows whether sharded_slab and the heap use a key again, and whether two callers of `remove` both remove one value.
 
   ROUNDS          so many rounds, at least 1; 15 if it is not said
@@ -85,9 +92,18 @@ fn word(rest: &mut Iter<'_, &str>, is_in_titles: impl Fn(&str) -> bool) -> Resul
 // What stands behind --plots, if it is a folder.
 fn folder(rest: &mut Iter<'_, &str>) -> Result<PathBuf, String> {
     match rest.next().map(PathBuf::from) {
-        None => Err("--plots wants a folder".to_string()),
+        None => Err("the plots want a folder".to_string()),
         Some(path) if !path.is_dir() => Err(format!("{} is no folder", path.display())),
         Some(path) => Ok(path),
+    }
+}
+
+// What stands behind `plots`: a file, and a folder.
+fn plots(words: &[&str]) -> Result<Request, String> {
+    let [results, rest @ ..] = words else { return Err("plots wants the output of a run, and a folder".to_string()) };
+    match rest {
+        [] | [_] => Ok(Request::Plots { results: PathBuf::from(results), folder: folder(&mut rest.iter())? }),
+        [_, word, ..] => Err(format!("plots takes no {word}")),
     }
 }
 
@@ -142,6 +158,7 @@ pub fn request(words: &[&str]) -> Result<Request, String> {
         ["opening"] => Ok(Request::Opening { rounds: ROUNDS }),
         ["opening", word] => rounds(word).map(|rounds| Request::Opening { rounds }),
         ["opening", _, word, ..] => Err(format!("opening takes no {word}")),
+        ["plots", words @ ..] => plots(words),
         ["bytes"] => Ok(Request::Bytes),
         ["bytes", word, ..] => Err(format!("bytes takes no {word}")),
         ["reuse"] => Ok(Request::Reuse),
@@ -178,6 +195,8 @@ mod tests {
         assert_eq!(request(&["library"]), Ok(Request::Library { rounds: 15 }));
         assert_eq!(request(&["library", "3"]), Ok(Request::Library { rounds: 3 }));
         assert_eq!(request(&["opening", "3"]), Ok(Request::Opening { rounds: 3 }));
+        let (results, folder) = (PathBuf::from("some.txt"), PathBuf::from("/tmp"));
+        assert_eq!(request(&["plots", "some.txt", "/tmp"]), Ok(Request::Plots { results, folder }));
         assert_eq!(request(&["bytes"]), Ok(Request::Bytes));
         assert_eq!(request(&["reuse"]), Ok(Request::Reuse));
         let row = Row::new(Workload::Get, 2, 1);
@@ -197,7 +216,7 @@ mod tests {
             (&["--rows"], "--rows wants a word"),
             (&["--rows", "nothing like it"], "no row has nothing like it in its title"),
             (&["--rows", "get", "--rows", "read"], "the rows are said twice"),
-            (&["--plots"], "--plots wants a folder"),
+            (&["--plots"], "the plots want a folder"),
             (&["--plots", "/nowhere"], "/nowhere is no folder"),
             (&["--fast"], "no option --fast"),
             (&["-3"], "no option -3"),
@@ -208,6 +227,10 @@ mod tests {
             (&["library", "0"], "0 rounds measure nothing"),
             (&["library", "3", "4"], "library takes no 4"),
             (&["opening", "3", "4"], "opening takes no 4"),
+            (&["plots"], "plots wants the output of a run, and a folder"),
+            (&["plots", "some.txt"], "the plots want a folder"),
+            (&["plots", "some.txt", "/nowhere"], "/nowhere is no folder"),
+            (&["plots", "some.txt", "/tmp", "3"], "plots takes no 3"),
             (&["bytes", "3"], "bytes takes no 3"),
             (&["reuse", "3"], "reuse takes no 3"),
             (&["turn", "ours", "get"], "turn wants a side and the words of a row"),

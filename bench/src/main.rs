@@ -20,6 +20,7 @@ mod ours;
 mod payload;
 mod plots;
 mod program;
+mod results;
 mod reuse;
 mod ring;
 mod rival;
@@ -41,7 +42,7 @@ mod workload;
 mod workloads;
 
 use arguments::Request;
-use measuring::{Measured, Plan};
+use measuring::Plan;
 use program::Program;
 use row::Row;
 use selection::{selected, selected_large};
@@ -53,9 +54,10 @@ use table::Table;
 #[global_allocator]
 static ALLOCATOR: counting::Counting = counting::Counting;
 
-// Writes the pictures of the table of calls.
-fn write_plots(folder: &Path, measured: &[Measured]) -> Result<(), String> {
-    for (name, picture) in [("ratios.svg", plots::ratios(measured)), ("growth.svg", plots::growth(measured))] {
+// Writes the pictures of the table of calls in what a run printed.
+fn write_plots(folder: &Path, printed: &str) -> Result<(), String> {
+    let figures = results::figures(printed)?;
+    for (name, picture) in [("ratios.svg", plots::ratios(&figures)), ("growth.svg", plots::growth(&figures))] {
         let path = folder.join(name);
         fs::write(&path, picture).map_err(|why| format!("{}: {why}", path.display()))?;
     }
@@ -68,12 +70,14 @@ fn print_tables(plan: &Plan, tables: Vec<(Table, Vec<Row>)>, plots: Option<&Path
     for (table, rows) in tables {
         let asked = rows.len();
         let measured = plan.measure(rows);
-        if !measured.is_empty() {
-            println!("{}\n", table.text(&measured));
-        }
         left_out += asked - measured.len();
+        if measured.is_empty() {
+            continue;
+        }
+        let text = table.text(&measured);
+        println!("{text}\n");
         if let (Table::Calls, Some(folder)) = (table, plots) {
-            write_plots(folder, &measured)?;
+            write_plots(folder, &text)?;
         }
     }
     Ok(left_out)
@@ -120,12 +124,20 @@ fn measure_opening(rounds: usize) -> Result<(), String> {
     }
 }
 
+// Writes the pictures of a run whose output was kept.
+fn plot(results: &Path, folder: &Path) -> Result<(), String> {
+    let said = |why: String| format!("{}: {why}", results.display());
+    let printed = fs::read_to_string(results).map_err(|why| said(why.to_string()))?;
+    write_plots(folder, &printed).map_err(said)
+}
+
 fn do_as_asked(request: Request) -> Result<(), String> {
     match request {
         Request::Times { rounds, word, plots } => measure(rounds, selected(&word), plots.as_deref()),
         Request::Large { rounds, word } => measure(rounds, selected_large(&word), None),
         Request::Library { rounds } => measure_boundary(rounds),
         Request::Opening { rounds } => measure_opening(rounds),
+        Request::Plots { results, folder } => plot(&results, &folder),
         Request::Bytes => {
             println!("{}\n\n{}", bytes::ABOUT, bytes::table());
             Ok(())
