@@ -54,17 +54,7 @@ use table::Table;
 #[global_allocator]
 static ALLOCATOR: counting::Counting = counting::Counting;
 
-// Writes the pictures of the table of calls in what a run printed.
-fn write_plots(folder: &Path, printed: &str) -> Result<(), String> {
-    let figures = results::figures(printed)?;
-    for (name, picture) in [("ratios.svg", plots::ratios(&figures)), ("growth.svg", plots::growth(&figures))] {
-        let path = folder.join(name);
-        fs::write(&path, picture).map_err(|why| format!("{}: {why}", path.display()))?;
-    }
-    Ok(())
-}
-
-// Prints each table that has a line, once its rows are measured. Answers how many rows were left out.
+// Prints each table that has a line, once its rows are measured. Returns how many rows were left out.
 fn print_tables(plan: &Plan, tables: Vec<(Table, Vec<Row>)>, plots: Option<&Path>) -> Result<usize, String> {
     let mut left_out = 0;
     for (table, rows) in tables {
@@ -77,7 +67,7 @@ fn print_tables(plan: &Plan, tables: Vec<(Table, Vec<Row>)>, plots: Option<&Path
         let text = table.text(&measured);
         println!("{text}\n");
         if let (Table::Calls, Some(folder)) = (table, plots) {
-            write_plots(folder, &text)?;
+            plots::write(folder, &text)?;
         }
     }
     Ok(left_out)
@@ -128,7 +118,7 @@ fn measure_opening(rounds: usize) -> Result<(), String> {
 fn plot(results: &Path, folder: &Path) -> Result<(), String> {
     let said = |why: String| format!("{}: {why}", results.display());
     let printed = fs::read_to_string(results).map_err(|why| said(why.to_string()))?;
-    write_plots(folder, &printed).map_err(said)
+    plots::write(folder, &printed).map_err(said)
 }
 
 fn do_as_asked(request: Request) -> Result<(), String> {

@@ -17,11 +17,11 @@ pub struct Figure {
     ratios: [Option<Span>; RIVALS.len()],
 }
 
-// Where the columns of a table begin that are the same in each run.
+// The columns that are the same in each run.
 const HEAD: &str = "| Workload | Threads | ns |";
 
 impl Span {
-    // What stands before the stroke of `0.42-0.51 / 0.44-0.60 (0.9)`.
+    // The numbers before the stroke, as in `0.42-0.51 / 0.44-0.60 (0.9)`.
     fn of(place: &str) -> Option<Self> {
         let (least, _) = place.split_once(" / ")?;
         let (from, to) = least.split_once('-').unwrap_or((least, least));
@@ -41,7 +41,7 @@ impl Figure {
         self.ratios[place]
     }
 
-    /// The nanoseconds of a side. Those of a rival are ours by the ratio, so they are as exact as its two digits.
+    /// The nanoseconds of a side. Those of a rival are ours divided by the ratio, so as exact as its two digits.
     pub fn nanoseconds(&self, side: Side) -> Option<f64> {
         match side {
             Side::Ours => Some(self.ours.middle()),
@@ -71,7 +71,7 @@ fn figure(line: &str, rivals: &[Option<Side>]) -> Option<Figure> {
     Some(Figure { title: title.to_string(), threads, ours: Span::of(ours)?, ratios: RIVALS.map(of) })
 }
 
-/// The rows of the first table of calls in the text; in one line, why there are none.
+/// The rows of the first table of calls in the text. The error says in one line why there are none.
 pub fn figures(text: &str) -> Result<Vec<Figure>, String> {
     let mut lines = text.lines().skip_while(|line| !line.starts_with(HEAD));
     let head = lines.next().ok_or("the text has no table of calls")?;
@@ -114,7 +114,7 @@ rounds: 15
     }
 
     #[test]
-    fn the_time_of_a_rival_is_ours_by_the_ratio() {
+    fn the_time_of_a_rival_is_ours_divided_by_the_ratio() {
         let rows = figures(TEXT).expect("it has a table");
         assert_eq!(rows[1].nanoseconds(Side::Ours), Some(60.0));
         assert_eq!(rows[1].nanoseconds(Side::Sharded), Some(80.0));

@@ -92,8 +92,8 @@ def summary(frames):
     """The events of the setup by their names, and an insert as one."""
     names = [frame.event.split()[1] for frame in frames]
     inserts = names.count("Publish")
-    told = f"{inserts} inserts" if inserts > 1 else "an insert"
-    parts = [told if name == "Publish" else name for name in names if name != "Fill"]
+    all_inserts = f"{inserts} inserts" if inserts > 1 else "an insert"
+    parts = [all_inserts if name == "Publish" else name for name in names if name != "Fill"]
     return ", ".join(dict.fromkeys(parts))
 
 

@@ -101,7 +101,8 @@ def stack(frames):
         picture.text(10, y + 18, event, "bold", 12)
         picture.text(112, y + 18, words, "", 11)
         draw_chain(picture, y, frame.pages[0])
-    picture.text(10, 22 + 42 * len(rows), "dashed: the link is 0, not written yet, and the named pass owes it", "grey", 11)
+    note = "dashed: the link is 0, not written yet, and the named pass owes it"
+    picture.text(10, 22 + 42 * len(rows), note, "grey", 11)
     return picture
 
 
@@ -113,7 +114,7 @@ COLUMN, LEFT, WIDE = 160, 120, 152
 
 
 def place_of(frame):
-    """Where the duty to ring for the page is after the event, if the frame tells it."""
+    """Where the duty to ring for the page is after the event, if the frame shows it."""
     if any("Ring" in line.rsplit("next", 1)[-1] and "RingTie" not in line for line in frame.passes):
         return 1
     for shard in frame.shards:

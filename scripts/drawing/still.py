@@ -53,7 +53,7 @@ def house():
     picture.text(556, 332, "any pass: get, read, remove,", "", 11)
     picture.text(556, 347, "release; the free of a slot", "", 11)
     picture.arrow(800, 380, 800, 308)
-    picture.text(20, 472, "The state of a pass is private: no other pass looks at it, so using it takes no atomic operation.",
+    picture.text(20, 472, "The state of a pass is private: no other pass looks at it, so it takes no atomic operation.",
                  "grey", 11)
     return picture
 

@@ -1,5 +1,5 @@
-"""A picture of boxes, texts and arrows, written as SVG. A text that leaves the picture or lies on another one is
-refused as it is drawn, since all texts are of one width a letter."""
+"""A picture of boxes, texts and arrows, written as SVG. A text that leaves the picture or overlaps another one is
+refused when it is drawn: all letters of a size have one width."""
 
 from html import escape
 
@@ -13,7 +13,8 @@ STYLE = """text{font-family:'DejaVu Sans Mono',Menlo,Consolas,monospace;fill:#22
 .zero{fill:#f2f2f2;stroke:#aaa}.tag{fill:#f6cfd4;stroke:#a03a48}
 .line{stroke:#333;fill:none;stroke-width:1.3}.owed{stroke:#b02020;fill:none;stroke-width:1.3;stroke-dasharray:5 3}
 .thin{stroke:#999;fill:none}.red{fill:#b02020}.grey{fill:#666}.white{fill:#fff}.bold{font-weight:bold}
-.story{fill:#444;font-style:italic}.changed{fill:none;stroke:#111;stroke-width:2.4}.call{fill:#9a9a9a}.hold{fill:#3f9f3f}"""
+.story{fill:#444;font-style:italic}.changed{fill:none;stroke:#111;stroke-width:2.4}
+.call{fill:#9a9a9a}.hold{fill:#3f9f3f}"""
 
 
 class Picture:
@@ -43,7 +44,7 @@ class Picture:
             raise ValueError(f"a text leaves the picture: {text}")
         for other, x, y, w, h in self.spans:
             if left < x + w and x < left + wide and top < y + h and y < top + high:
-                raise ValueError(f"a text lies on another: {text} / {other}")
+                raise ValueError(f"a text overlaps another: {text} / {other}")
         self.spans.append((text, left, top, wide, high))
 
     def cell(self, x, y, width, height, lines, kind="plain", size=12):
@@ -80,7 +81,8 @@ class Picture:
         size = f'width="{self.width}" height="{self.height}" viewBox="0 0 {self.width} {self.height}"'
         return "\n".join([f'<svg xmlns="http://www.w3.org/2000/svg" role="img" {size}>',
                           f"<title>{escape(self.title)}</title>", f"<desc>{escape(self.about)}</desc>",
-                          f"<style>{STYLE}</style>", f"<defs>{heads}</defs>", f'<rect class="page" width="{self.width}" height="{self.height}"/>',
+                          f"<style>{STYLE}</style>", f"<defs>{heads}</defs>",
+                          f'<rect class="page" width="{self.width}" height="{self.height}"/>',
                           *self.items, "</svg>", ""])
 
 
@@ -90,7 +92,7 @@ def num(value):
 
 
 def wrapped(text, letters):
-    """The text in lines of at most so many letters."""
+    """The text in lines of at most this many letters."""
     lines = [""]
     for word in text.split():
         if lines[-1] and len(lines[-1]) + 1 + len(word) > letters:
