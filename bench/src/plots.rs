@@ -31,16 +31,17 @@ pub fn write(folder: &Path, printed: &str) -> Result<(), String> {
 mod tests {
     use super::*;
 
-    fn is_date(name: &str) -> bool {
-        name.len() == "2026-11-24.txt".len() && name.starts_with(|letter: char| letter.is_ascii_digit())
+    // The kept output of a whole run is named for its date and its commit, and no other has three strokes.
+    fn is_whole(name: &str) -> bool {
+        name.ends_with(".txt") && name.matches('-').count() == 3
     }
 
-    // The kept outputs of whole runs are named for their dates, so the last name is the newest.
+    // Names begin with the date, so the last name is the newest.
     fn newest() -> String {
         let results = Path::new(env!("CARGO_MANIFEST_DIR")).join("results");
         let entries = fs::read_dir(&results).expect("there are results");
         let names = entries.map(|entry| entry.expect("it is there").file_name().to_string_lossy().into_owned());
-        let newest = names.filter(|name| is_date(name)).max().expect("there is a run");
+        let newest = names.filter(|name| is_whole(name)).max().expect("there is a run");
         fs::read_to_string(results.join(newest)).expect("it can be read")
     }
 
