@@ -1,10 +1,12 @@
 //! What a reader of the library's front page would try, call by call.
 ghost use Rattle.std.specs.Prelude.{◌≡◌};
 
+mod filling;
 mod gathering;
 mod hearing;
 mod owning;
 mod reading;
+mod shaping;
 mod storing;
 
 use gearlongan::{Heap, Pass, Refusal, Seats, Shape, Shard, Wide};
