@@ -68,6 +68,6 @@ pub gone_if_removed : GoneIsRemoved → (layout : Layout) (key : ℕ) (r v w : C
     → FetchDoes layout key (heeded v r) result w → TellsOfInsert key r → GoneIfRemoved layout key result w
 gone_if_removed law layout key r v w (Ok value) does tells = tt
 gone_if_removed law layout key r v w (Err refusal.Gone) does tells = λ history tale.
-    law layout w.view history tale tells.heard w.view.pass tells.pass key tells.value tells.insert
-    (answered_after key r v w tells.heard tells.among does.2.same does.2.log)
+    let z = law layout w.view history tale tells.heard w.view.pass tells.pass key tells.value tells.insert
+    (answered_after key r v w tells.heard tells.among does.2.same does.2.log) in (z.0, z.1, z.2)
 gone_if_removed law layout key r v w (Err _) does tells = tt
