@@ -77,12 +77,15 @@ static void owns_another(shardheap_pass *one) {
     IS(shardheap_leave(one), SHARDHEAP_OK);
 }
 
-/* A heap that is opened for so many values. */
+/* A heap that is opened for so many values, and whose pass is closed away from home: its block is freed too. */
 static void opens_for(uint32_t layout) {
     shardheap heap = SHARDHEAP_INIT;
+    shardheap_pass pass = SHARDHEAP_INIT;
     TRY(shardheap_open_for(&heap, layout, 2, 100, 2, 2), !heap.full);
     TRUE(shardheap_passes(&heap) == 2);
+    TRY(shardheap_take(&heap, &pass), !pass.full && heap.full);
     shardheap_close(&heap);
+    shardheap_pass_close(&pass);
     TRUE(blocks == 0);
 }
 

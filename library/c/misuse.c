@@ -192,6 +192,8 @@ static void hands(shardheap *heap, shardheap_pass *one, shardheap_pass *two) {
     IS(shardheap_get(one, last), SHARDHEAP_EMPTY);
     IS(shardheap_remove(two, last), SHARDHEAP_OK);
     shardheap_pass_close(two);
+    TRUE(!two->full && !two->at);
+    IS(shardheap_get(two, last), SHARDHEAP_EMPTY);
     shardheap_pass_close(two);
 }
 
