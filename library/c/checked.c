@@ -1,5 +1,5 @@
-/* What SHARDHEAP_CHECKED finds: handles that were copied, moved or not initialised, two calls on one handle at once, and
-   keys of another heap. Each is reported once to SHARDHEAP_ON_MISUSE. */
+/* What SHARDHEAP_CHECKED finds: handles that were copied, moved or not initialised, two calls on one handle at once,
+   and keys of another heap. Each is reported once to SHARDHEAP_ON_MISUSE. */
 #ifndef SHARDHEAP_CHECKED
 #define SHARDHEAP_CHECKED
 #endif
@@ -91,7 +91,7 @@ static shardheap_pass shared = SHARDHEAP_INIT;
 static uint64_t shared_key;
 static _Atomic int found;
 
-/* Gets and releases the key until some thread was refused, and gives up after a while. */
+/* Loads the key until some thread was refused, and gives up after a while. */
 static void *uses(void *unused) {
     time_t end = time(NULL) + SECONDS;
     (void)unused;

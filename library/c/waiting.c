@@ -1,6 +1,6 @@
 /* A leave is refused as WAITING while another pass is in the middle of a free in the shard, which serves on meanwhile.
 
-   waiting TIMES SECONDS: a second thread removes values of the owner's shard, and is stopped by a signal wherever it is.
+   waiting TIMES SECONDS: a second thread removes values of the owner's shard, and a signal stops it wherever it is.
    Then the owner tries to leave. If it may, it adopts the shard again, until it was refused so many times. The test
    fails if that takes longer than so many seconds.
 
