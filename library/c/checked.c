@@ -68,12 +68,17 @@ static void copied_and_moved(void) {
     closes(&heap_elsewhere, &pass_elsewhere, opens(&heap_elsewhere, &pass_elsewhere, SHARDHEAP_WIDE));
 }
 
+/* The heap of a take that is refused for its pass serves on. */
 static void not_initialised(void) {
-    shardheap heap;
+    shardheap heap, ready = SHARDHEAP_INIT;
     shardheap_pass pass;
     memset(&heap, 0xa5, sizeof heap);
     memset(&pass, 0xa5, sizeof pass);
     refused(&heap, &pass, 4096, SHARDHEAP_NO_HANDLE);
+    IS(shardheap_open(&ready, SHARDHEAP_TINY, 1, 1, 1), SHARDHEAP_OK);
+    IS(shardheap_take(&ready, &pass), SHARDHEAP_NO_HANDLE);
+    TRUE(shardheap_passes(&ready) == 1);
+    shardheap_close(&ready);
 }
 
 /* As another thread would find the handles in the middle of a call. */
