@@ -75,7 +75,9 @@ head_example() {
   } > "$out/head.c"
   # shellcheck disable=SC2086
   gcc -std=c11 $warnings -g -Ilibrary/include "$out/head.c" "$archive" "$memory" -lpthread -o "$out/head"
-  run head
+  run head && return
+  echo "the example in the head of shardheap.h does not do what its comments say" >&2
+  return 1
 }
 
 # The examples in the header's comments, which begin in column eight. That of the head is run.
