@@ -3,7 +3,7 @@
    A heap has shards of pages. Each thread uses the heap by a pass. Any pass may hold, read and remove any key; a pass
    that owns a shard also inserts there. A value is at most 16 words of 64 bits; its key is a number that no other value
    of the heap ever has. What the calls do is proved, up to the calls named `shardheap_raw_..`; this header, the C
-   compiler and whoever calls are not.
+   compiler and the caller are not.
 
        #include "shardheap.h"
 
@@ -98,7 +98,7 @@ static inline uint32_t shardheap_version(void) {
     return SHARDHEAP_VERSION_MAJOR * UINT32_C(1000) + SHARDHEAP_VERSION_MINOR;
 }
 
-/* The answers of calls. 1 to 12 are the heap's refusals: after one, map, holds and keys are as they were. */
+/* What calls return. 1 to 12 are the heap's refusals: after one, map, holds and keys are as they were. */
 typedef enum shardheap_code {
     SHARDHEAP_OK = 0,
     SHARDHEAP_BAD_KEY = 1,     /* the number is no key of the layout, or its place is outside the heap's shape */
@@ -120,7 +120,7 @@ typedef enum shardheap_code {
     SHARDHEAP_NULL = 18,       /* a pointer was null: nothing was done */
     SHARDHEAP_BAD_LAYOUT = 19, /* there is no layout of this number */
     SHARDHEAP_OWNS = 20,       /* the pass owns a shard, which it has to leave first */
-    SHARDHEAP_AWAY = 21,       /* a pass is away, so that the heap tells nothing of itself as a whole */
+    SHARDHEAP_AWAY = 21,       /* a pass is away, so that the heap cannot be looked at as a whole */
     SHARDHEAP_NO_PAGE = 22,    /* the heap has no such page */
     SHARDHEAP_OVERLAP = 23,    /* two pointers lead to the same bytes: nothing was done */
     SHARDHEAP_NO_HANDLE = 24,  /* the bytes are no handle, as of one that was not initialised: nothing was done */
@@ -129,7 +129,7 @@ typedef enum shardheap_code {
     SHARDHEAP_OTHER_HEAP = 27  /* SHARDHEAP_CHECKED: the key is not of this heap */
 } shardheap_code;
 
-/* The name of an answer, and "unknown" of other numbers. */
+/* The name of a code, and "unknown" for other numbers. */
 static inline const char *shardheap_name(uint32_t code) {
     static const char *const names[] = {
         "Ok",     "BadKey", "Gone",    "Crowded", "HoldsFull", "NotHeld", "TooLong",
@@ -170,9 +170,9 @@ typedef struct shardheap_pass {
 } shardheap_pass;
 #define SHARDHEAP_INIT { 0, 0, { SHARDHEAP_SEAL, 0, 0 } }
 
-/* What the slots of a page are. They are as many as a page of its class has, and none where it has no class. */
+/* How many slots of a page are in each state: in all as many as a page of its class has, and none without a class. */
 typedef struct shardheap_page {
-    uint32_t used;       /* 1 where the page has a class, and else 0 */
+    uint32_t used;       /* 1 if the page has a class, and 0 otherwise */
     uint32_t size_class; /* its class, 0 to 7, whose values have at most 1, 2, 3, 4, 6, 8, 12 and 16 words; 0 without */
     uint32_t live;       /* with a value that can be got */
     uint32_t marked;     /* with a value that was removed and is held */
@@ -196,7 +196,7 @@ SHARDHEAP_ASSERT(offsetof(shardheap, seal) == 16 && offsetof(shardheap_pass, sea
 SHARDHEAP_ASSERT(sizeof(shardheap) == 32 && sizeof(shardheap_pass) == 32, "a handle");
 SHARDHEAP_ASSERT(sizeof(shardheap_page) == 24 && sizeof(shardheap_sums) == 24, "six numbers of 32 bits");
 
-/* The calls of the library, which take no null pointer. Use the functions below, which look. */
+/* The calls of the library. They check no pointer and no handle: use the functions below, which do. */
 uint32_t shardheap_raw_open(shardheap *heap, uint32_t layout, uint32_t shards, uint32_t segments, uint32_t passes);
 uint32_t shardheap_raw_open_for(shardheap *heap, uint32_t layout, uint32_t owners, uint64_t values, uint32_t words,
                                 uint32_t passes);
@@ -325,8 +325,8 @@ static inline uint32_t shardheap_settle_opened(shardheap *heap, uint32_t layout,
 
 /* ---- A heap ---- */
 
-/* Opens a heap of so many shards, each of so many segments of 8 pages, with 1 to 64 passes, into an empty handle. At
-   least one of each, and no more than the layout has. OCCUPIED, BAD_LAYOUT, BAD_SHAPE, MEMORY.
+/* Opens a heap into an empty handle: `shards` shards, each of `segments` segments of 8 pages, and 1 to 64 passes. There
+   is at least one of each, and no more than the layout has. OCCUPIED, BAD_LAYOUT, BAD_SHAPE, MEMORY.
 
        code = shardheap_open(&heap, SHARDHEAP_WIDE, 4, 2, 8);    4 shards of 16 pages, and 8 passes */
 static inline uint32_t shardheap_open(shardheap *heap, uint32_t layout, uint32_t shards, uint32_t segments,
@@ -336,8 +336,8 @@ static inline uint32_t shardheap_open(shardheap *heap, uint32_t layout, uint32_t
     return shardheap_settle_opened(heap, layout, shardheap_raw_open(heap, layout, shards, segments, passes));
 }
 
-/* Opens the least heap in which each of so many owners has a shard with room for so many values of 0 to 16 words, with
-   1 to 64 passes, into an empty handle. OCCUPIED, BAD_LAYOUT, MEMORY; BAD_SHAPE where no heap of the layout has the
+/* Opens a heap into an empty handle: the least one in which each of `owners` owners has a shard with room for `values`
+   values of 0 to 16 words, and 1 to 64 passes. OCCUPIED, BAD_LAYOUT, MEMORY; BAD_SHAPE if no heap of the layout has the
    room.
 
        code = shardheap_open_for(&heap, SHARDHEAP_WIDE, 4, 20000, 2, 8);    20,000 values of 2 words for each of 4 */
@@ -395,8 +395,8 @@ static inline uint32_t shardheap_gather(shardheap *heap) {
     return code == SHARDHEAP_OK ? shardheap_end(&heap->seal, shardheap_raw_gather(heap)) : code;
 }
 
-/* Tells what the slots of a page are: by the number of the shard and that of its page, both from 0. AWAY where the pass
-   that gather left is not at home (a heap of one pass needs no gather), NO_PAGE, EMPTY, OVERLAP. */
+/* Counts the slots of a page, which is given by the number of its shard and its number there, both from 0. AWAY if the
+   pass that gather left is not at home (a heap of one pass needs no gather), NO_PAGE, EMPTY, OVERLAP. */
 static inline uint32_t shardheap_accounts(shardheap *heap, uint32_t shard, uint32_t page, shardheap_page *told) {
     if (!heap || !told) return SHARDHEAP_NULL;
     if (shardheap_overlap(told, sizeof *told, heap, sizeof *heap)) return SHARDHEAP_OVERLAP;
@@ -404,7 +404,7 @@ static inline uint32_t shardheap_accounts(shardheap *heap, uint32_t shard, uint3
     return code == SHARDHEAP_OK ? shardheap_end(&heap->seal, shardheap_raw_accounts(heap, shard, page, told)) : code;
 }
 
-/* Tells the sums over all pages. AWAY, as above; EMPTY, OVERLAP. */
+/* Counts the slots of all pages. AWAY, as above; EMPTY, OVERLAP. */
 static inline uint32_t shardheap_totals(shardheap *heap, shardheap_sums *told) {
     if (!heap || !told) return SHARDHEAP_NULL;
     if (shardheap_overlap(told, sizeof *told, heap, sizeof *heap)) return SHARDHEAP_OVERLAP;
@@ -412,15 +412,15 @@ static inline uint32_t shardheap_totals(shardheap *heap, shardheap_sums *told) {
     return code == SHARDHEAP_OK ? shardheap_end(&heap->seal, shardheap_raw_totals(heap, told)) : code;
 }
 
-/* ---- Tags: 8 bits of one's own on a key of layout tagged ---- */
+/* ---- Tags: 8 bits of the caller's on a key of layout tagged ---- */
 
 /* Puts a tag, 0 to 255, at bits 56 to 63 of a key below 2^52. A tagged number is no key: untag it for the calls below.
-   BAD_KEY where either is out of its range. */
+   BAD_KEY if either is out of its range. */
 static inline uint32_t shardheap_tag(uint64_t key, uint32_t tag, uint64_t *number) {
     return number ? shardheap_raw_tag(shardheap_bare(key), tag, number) : (uint32_t)SHARDHEAP_NULL;
 }
 
-/* Tells the key and the tag of a number. BAD_KEY where its bits 52 to 55 are not all zero; OVERLAP. */
+/* Takes the key and the tag out of a number. BAD_KEY if its bits 52 to 55 are not all zero; OVERLAP. */
 static inline uint32_t shardheap_untag(uint64_t number, uint64_t *key, uint32_t *tag) {
     if (!key || !tag) return SHARDHEAP_NULL;
     if (shardheap_overlap(key, sizeof *key, tag, sizeof *tag)) return SHARDHEAP_OVERLAP;
@@ -429,8 +429,8 @@ static inline uint32_t shardheap_untag(uint64_t number, uint64_t *key, uint32_t 
 
 /* ---- A pass ---- */
 
-/* Brings the pass home, and empties the handle: whoever takes it next has its holds. OWNS, with nothing done, where it
-   owns a shard. EMPTY. (OCCUPIED and MEMORY only where another handle's bytes were forged.)
+/* Brings the pass home and empties the handle. The next caller that takes the pass has its holds. OWNS, with nothing
+   done, if it owns a shard. EMPTY. (OCCUPIED and MEMORY only if another handle's bytes were forged.)
 
        code = shardheap_give(&pass);
        if (code == SHARDHEAP_OWNS) code = shardheap_leave(&pass);    then it may be given */
@@ -458,7 +458,7 @@ static inline uint32_t shardheap_get(shardheap_pass *pass, uint64_t key) {
     return code == SHARDHEAP_OK ? shardheap_end(&pass->seal, shardheap_raw_get(pass, key)) : code;
 }
 
-/* What a read and a load have in common: one of the two, into the caller's own room. A room of none may be null. */
+/* What a read and a load have in common: one of the two, into the caller's own room. A room of 0 words may be null. */
 static inline uint32_t shardheap_fill(
     uint32_t (*raw)(shardheap_pass *pass, uint64_t key, uint64_t *words, size_t room, uint64_t *length),
     shardheap_pass *pass, uint64_t key, uint64_t *words, size_t room, uint64_t *length) {
@@ -473,8 +473,8 @@ static inline uint32_t shardheap_fill(
     return shardheap_end(&pass->seal, raw(pass, key, words ? words : &none, room, length));
 }
 
-/* Reads the value of a key that the pass holds into `words`, which has room for so many, and tells its length.
-   NOT_HELD, EMPTY, OVERLAP; SHORT, with nothing read but the length. A room of 16 is always enough.
+/* Reads the value of a key that the pass holds into `words`, which has room for `room` words, and its length into
+   `length`. NOT_HELD, EMPTY, OVERLAP; SHORT, with only the length read. A room of 16 is always enough.
 
        code = shardheap_read(&pass, key, room, 16, &length);    room[0] to room[length - 1] are the value */
 static inline uint32_t shardheap_read(shardheap_pass *pass, uint64_t key, uint64_t *words, size_t room,
@@ -491,7 +491,7 @@ static inline uint32_t shardheap_release(shardheap_pass *pass, uint64_t key) {
 }
 
 /* A get, a read and a release in one: the holds are as before. BAD_KEY, HOLDS_FULL, GONE, CROWDED, EMPTY, OVERLAP;
-   SHORT, with nothing read but the length.
+   SHORT, with only the length read.
 
        code = shardheap_load(&pass, key, room, 16, &length);
        if (code == SHARDHEAP_GONE) length = 0;    another pass removed it */
@@ -518,8 +518,8 @@ static inline uint32_t shardheap_adopt(shardheap_pass *pass, uint64_t shard) {
     return code == SHARDHEAP_OK ? shardheap_end(&pass->seal, shardheap_raw_adopt(pass, shard)) : code;
 }
 
-/* Leaves the shard that the pass owns to whoever adopts it next. NO_SHARD, EMPTY; WAITING, where another pass is in the
-   middle of a free there: the shard is still owned, and serves as before.
+/* Leaves the shard that the pass owns, so that another pass may adopt it. NO_SHARD, EMPTY; WAITING, if another pass is
+   in the middle of a free there: the shard is still owned, and serves as before.
 
        do code = shardheap_leave(&pass);
        while (code == SHARDHEAP_WAITING);    with a pause between, such as sched_yield() */
@@ -537,8 +537,8 @@ static inline uint32_t shardheap_collect(shardheap_pass *pass) {
     return code == SHARDHEAP_OK ? shardheap_end(&pass->seal, shardheap_raw_collect(pass)) : code;
 }
 
-/* Gives a page of the shard to values of 0 to 16 words, and tells its number. NO_SHARD, TOO_LONG, FULL, MEMORY,
-   EMPTY, OVERLAP.
+/* Gives a page of the shard to values of `words` words, 0 to 16, and writes its number to `page`. NO_SHARD, TOO_LONG,
+   FULL, MEMORY, EMPTY, OVERLAP.
 
        code = shardheap_prepare(&pass, 2, &page);    the next inserts of 2 words need not look for a page */
 static inline uint32_t shardheap_prepare(shardheap_pass *pass, uint32_t words, uint32_t *page) {
@@ -548,9 +548,9 @@ static inline uint32_t shardheap_prepare(shardheap_pass *pass, uint32_t words, u
     return code == SHARDHEAP_OK ? shardheap_end(&pass->seal, shardheap_raw_prepare(pass, words, page)) : code;
 }
 
-/* Stores a value of so many words, 0 to 16, in the shard that the pass owns, and tells its key. NO_SHARD, TOO_LONG,
-   MEMORY, EMPTY, OVERLAP; FULL, where no page that the owner knows of has room: what others freed on pages of other
-   lengths it does not look at.
+/* Stores a value of `count` words, 0 to 16, in the shard that the pass owns, and writes its key to `key`. NO_SHARD,
+   TOO_LONG, MEMORY, EMPTY, OVERLAP; FULL, if no page that the owner knows of has room. It does not look at what others
+   freed on pages of other lengths.
 
        code = shardheap_insert_once(&pass, words, 2, &key);
        if (code == SHARDHEAP_FULL) code = shardheap_collect(&pass);    then try again, or not */
@@ -568,7 +568,7 @@ static inline uint32_t shardheap_insert_once(shardheap_pass *pass, const uint64_
     return shardheap_end(&pass->seal, code);
 }
 
-/* The same, but where the shard is FULL it collects, once, and tries again. FULL, NO_SHARD, TOO_LONG, MEMORY, EMPTY,
+/* The same, but if the shard is FULL it collects once and tries again. FULL, NO_SHARD, TOO_LONG, MEMORY, EMPTY,
    OVERLAP.
 
        code = shardheap_insert(&pass, words, 2, &key);    the value is words[0] and words[1] */
