@@ -63,7 +63,7 @@
      - BUSY: another call uses the handle at this moment;
      - OTHER_HEAP: the key is not of the heap of this pass. Bits 56 to 63 of a key have the number of its heap, from 1
        to 255 and then anew. A tag takes that number away, and keys of layout deep have none: these are not recognised.
-   With SHARDHEAP_ON_MISUSE(code) defined as a macro, as abort(), it is called too, also for NO_HANDLE.
+   If the macro SHARDHEAP_ON_MISUSE(code) is defined, for example as abort(), it is called too, also for NO_HANDLE.
 
    MEMORY is taken by open, take, adopt, gather, and by an insert or a prepare that opens a segment. Nothing else
    returns SHARDHEAP_MEMORY. The greatest heap, of layout deep with 2,097,152 segments, takes 26 GB, and twice that
@@ -145,7 +145,7 @@ static inline const char *shardheap_name(uint32_t code) {
 typedef enum shardheap_layout {
     SHARDHEAP_WIDE = 0,   /* 256 shards of 1,024 pages each */
     SHARDHEAP_TAGGED = 1, /* 64 shards of 256 pages; keys are below 2^52 */
-    SHARDHEAP_DEEP = 2,   /* 64 shards of 1,048,576 pages; keys use all 64 bits */
+    SHARDHEAP_DEEP = 2,   /* 64 shards of 1,048,576 pages, 16,777,216 in all; keys use all 64 bits */
     SHARDHEAP_TINY = 3    /* 4 shards of 16 pages, whose slots serve 3 values each and no more: for tests */
 } shardheap_layout;
 
