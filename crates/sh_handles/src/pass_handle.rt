@@ -49,12 +49,21 @@ impl PassSlot {
 }
 
 /// A pass or nothing, as C holds it: zeroed bytes are a handle of nothing.
+///
+/// Only an empty handle is dropped or overwritten: a pass is first taken out, and then given back or lost.
 #[repr(C)]
-#[derive(Drop)]
 pub struct PassHandle {
     pub(crate) slot: PassSlot,
     pub(crate) full: bool,
     ghost told: { has_value slot.value ≡ full },
+}
+
+impl Drop for PassHandle {
+    fn drop(self)
+        requires { self.slot.value ≡ None }
+    {
+        let PassHandle { slot: _, full: _ } = self;
+    }
 }
 
 impl PassHandle {
@@ -90,7 +99,14 @@ impl PassHandle {
         ensures gone { self.new.slot.value ≡ None }
         ensures value { MatchOption result (self.old.slot.value ≡ None) (λ b. self.old.slot.value ≡ Some b.value) }
     {
-        let PassHandle { slot, full } = replace(self, PassHandle::empty(alloc));
+        replace(self, PassHandle::empty(alloc)).into_box()
+    }
+
+    // The box, where there is one.
+    fn into_box(self) -> Option<Box<AnyMember, Global>>
+        ensures { MatchOption result (self.slot.value ≡ None) (λ b. self.slot.value ≡ Some b.value) }
+    {
+        let PassHandle { slot, full } = self;
         if full {
             Some(slot.into_slot().into_box())
         } else {
