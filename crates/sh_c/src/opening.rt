@@ -75,8 +75,10 @@ pub extern "C" fn shardheap_raw_open_for(
     put_opened(alloc, heap, opened)
 }
 
-/// Frees what the handle holds, and leaves it empty. The heap itself goes with the last of its passes.
+/// Leaves the handle empty, and lets its share of the heap go. The heap goes with the last of its handles and passes.
 #[unsafe(no_mangle)]
-pub extern "C" fn shardheap_raw_close(alloc: Global, heap: &mut HeapHandle) {
+pub extern "C" fn shardheap_raw_close(alloc: Global, heap: &mut HeapHandle)
+    ensures { heap.new.slot.value ≡ None }
+{
     drop(heap.take(alloc));
 }
