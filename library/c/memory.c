@@ -86,6 +86,21 @@ static void opens_for(uint32_t layout) {
     TRUE(blocks == 0);
 }
 
+/* A second handle of the heap keeps it, and a pass that is closed or lost frees its block. */
+static void shares(uint32_t layout) {
+    shardheap heap = SHARDHEAP_INIT, other = SHARDHEAP_INIT;
+    shardheap_pass one = SHARDHEAP_INIT, two = SHARDHEAP_INIT;
+    TRY(shardheap_open(&heap, layout, 1, 1, 2), !heap.full);
+    TRY(shardheap_share(&heap, &other), !other.full && heap.full);
+    shardheap_close(&heap);
+    TRY(shardheap_take(&other, &one), !one.full && other.full);
+    TRY(shardheap_take(&other, &two), !two.full && other.full);
+    IS(shardheap_pass_close(&one), SHARDHEAP_OK);
+    IS(shardheap_pass_lose(&two), SHARDHEAP_OK);
+    shardheap_close(&other);
+    TRUE(blocks == 0);
+}
+
 /* A heap's whole life. */
 static void lives(uint32_t layout) {
     shardheap heap = SHARDHEAP_INIT;
@@ -104,6 +119,7 @@ static void lives(uint32_t layout) {
     shardheap_close(&heap);
     TRUE(blocks == 0);
     opens_for(layout);
+    shares(layout);
 }
 
 /* How many allocations a life in this layout takes, each of which is refused in turn. */
