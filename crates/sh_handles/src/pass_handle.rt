@@ -46,6 +46,19 @@ impl PassSlot {
             alloc,
         }
     }
+
+    ghost use Rattle.std.specs.Borrow.{sem};
+    ghost use Rattle.sh_handles.specs.PassLending.{LendsPass};
+
+    // What it owns, in place. (It has a proof by hand.)
+    #[inline(always)]
+    fn in_place(&mut self) -> &mut AnyMember
+        requires { has_value self.old.value ≡ true }
+        ensures* writes_back { sem 𝓛 (LendsPass self.entry result) }
+        ensures value { self.old.value ≡ Some result.now }
+    {
+        unsafe { &mut *(self.at as *mut AnyMember) }
+    }
 }
 
 /// A pass or nothing, as C holds it: zeroed bytes are a handle of nothing.
@@ -67,6 +80,9 @@ impl Drop for PassHandle {
 }
 
 impl PassHandle {
+    ghost use Rattle.std.specs.Borrow.{sem};
+    ghost use Rattle.sh_handles.specs.PassLending.{LendsHeld};
+
     /// A handle of nothing.
     pub fn empty(alloc: Global) -> PassHandle
         ensures { result.slot.value ≡ None }
@@ -92,6 +108,16 @@ impl PassHandle {
         ensures { result ≡ has_value self.now.slot.value }
     {
         self.full
+    }
+
+    /// The pass of a full handle, in place.
+    #[inline(always)]
+    pub fn held(&mut self) -> &mut AnyMember
+        requires { has_value self.old.slot.value ≡ true }
+        ensures* writes_back { sem 𝓛 (LendsHeld self.entry result) }
+        ensures value { self.old.slot.value ≡ Some result.now }
+    {
+        self.slot.in_place()
     }
 
     /// Takes the box out, where there is one.
