@@ -43,9 +43,9 @@ static void closes(shardheap *heap, shardheap_pass *pass, uint64_t key) {
 static void refused(shardheap *heap, shardheap_pass *pass, uint64_t key, uint32_t code) {
     uint32_t before = misuses;
     each_call_of_a_heap(heap, code);
-    TRUE(misuses - before == 8 && last_misuse == code);
+    TRUE(misuses - before == 9 && last_misuse == code);
     each_call_of_a_pass(pass, key, code);
-    TRUE(misuses - before == 8 + 13 && last_misuse == code);
+    TRUE(misuses - before == 9 + 14 && last_misuse == code);
 }
 
 static void copied_and_moved(void) {
@@ -141,6 +141,20 @@ static void another_heap(uint32_t layout) {
     for (int n = 0; n < 2; n++) closes(&heaps[n], &passes[n], keys[n]);
 }
 
+/* A second handle of a heap gives passes with the heap's number. */
+static void shared_heap(void) {
+    shardheap heap = SHARDHEAP_INIT, other = SHARDHEAP_INIT;
+    shardheap_pass pass = SHARDHEAP_INIT, second = SHARDHEAP_INIT;
+    uint64_t key = opens(&heap, &pass, SHARDHEAP_WIDE);
+    IS(shardheap_share(&heap, &other), SHARDHEAP_OK);
+    IS(shardheap_take(&other, &second), SHARDHEAP_OK);
+    IS(shardheap_get(&second, key), SHARDHEAP_OK);
+    IS(shardheap_release(&second, key), SHARDHEAP_OK);
+    IS(shardheap_give(&second), SHARDHEAP_OK);
+    shardheap_close(&other);
+    closes(&heap, &pass, key);
+}
+
 /* A key without a number is none of these layouts: but of layout tagged, a tag may have taken it away. */
 static void tagged(void) {
     shardheap heap = SHARDHEAP_INIT;
@@ -187,6 +201,7 @@ int main(void) {
     another_heap(SHARDHEAP_WIDE);
     another_heap(SHARDHEAP_TAGGED);
     another_heap(SHARDHEAP_TINY);
+    shared_heap();
     tagged();
     deep();
     many_heaps();

@@ -6,12 +6,13 @@
 #include <string.h>
 
 static void each_call_of_a_heap(shardheap *heap, uint32_t refused) {
-    shardheap was = *heap;
+    shardheap was = *heap, other = SHARDHEAP_INIT;
     shardheap_pass pass = SHARDHEAP_INIT;
     shardheap_page page;
     shardheap_sums sums;
     IS(shardheap_open(heap, SHARDHEAP_TINY, 1, 1, 1), refused);
     IS(shardheap_open_for(heap, SHARDHEAP_TINY, 1, 1, 1, 1), refused);
+    IS(shardheap_share(heap, &other), refused);
     IS(shardheap_take(heap, &pass), refused);
     IS(shardheap_gather(heap), refused);
     IS(shardheap_accounts(heap, 0, 0, &page), refused);
@@ -37,7 +38,8 @@ static void each_call_of_a_pass(shardheap_pass *pass, uint64_t key, uint32_t ref
     IS(shardheap_prepare(pass, 1, &page), refused);
     IS(shardheap_insert(pass, words, 1, &other), refused);
     IS(shardheap_insert_once(pass, words, 1, &other), refused);
-    shardheap_pass_close(pass);
+    IS(shardheap_pass_close(pass), refused);
+    IS(shardheap_pass_lose(pass), refused);
     TRUE(memcmp(pass, &was, sizeof was) == 0);
     TRUE(length == 99 && other == 77 && page == 55 && words[0] == 0);
 }

@@ -65,7 +65,7 @@
        to 255 and then anew. A tag takes that number away, and keys of layout deep have none: these are not recognised.
    If the macro SHARDHEAP_ON_MISUSE(code) is defined, for example as abort(), it is called too, also for NO_HANDLE.
 
-   MEMORY is taken by open, take, adopt, gather, and by an insert or a prepare that opens a segment. Nothing else
+   MEMORY is taken by open, share, take, adopt, gather, and by an insert or a prepare that opens a segment. Nothing else
    returns SHARDHEAP_MEMORY. The greatest heap, of layout deep with 2,097,152 segments, takes 26 GB, and twice that
    while it opens. */
 #ifndef SHARDHEAP_H
@@ -203,8 +203,10 @@ uint32_t shardheap_raw_open_for(shardheap *heap, uint32_t layout, uint32_t owner
 uint64_t shardheap_raw_passes(shardheap *heap);
 uint32_t shardheap_raw_take(shardheap *heap, shardheap_pass *pass);
 uint32_t shardheap_raw_give(shardheap_pass *pass);
+uint32_t shardheap_raw_share(shardheap *heap, shardheap *other);
 void shardheap_raw_close(shardheap *heap);
-void shardheap_raw_pass_close(shardheap_pass *pass);
+uint32_t shardheap_raw_pass_close(shardheap_pass *pass);
+uint32_t shardheap_raw_pass_lose(shardheap_pass *pass);
 uint32_t shardheap_raw_gather(shardheap *heap);
 uint32_t shardheap_raw_accounts(shardheap *heap, uint32_t shard, uint32_t page, shardheap_page *told);
 uint32_t shardheap_raw_totals(shardheap *heap, shardheap_sums *told);
@@ -374,6 +376,24 @@ static inline uint32_t shardheap_take(shardheap *heap, shardheap_pass *pass) {
     return shardheap_end(&heap->seal, code);
 }
 
+/* Makes a second handle of the heap, in an empty one: each of two threads then takes and gives passes by its own. The
+   heap goes with the last of its handles. OCCUPIED, EMPTY, MEMORY, OVERLAP.
+
+       shardheap other = SHARDHEAP_INIT;
+       code = shardheap_share(&heap, &other);    from now on another thread uses it, and closes it */
+static inline uint32_t shardheap_share(shardheap *heap, shardheap *other) {
+    if (!heap || !other) return SHARDHEAP_NULL;
+    if (shardheap_overlap(heap, sizeof *heap, other, sizeof *other)) return SHARDHEAP_OVERLAP;
+    uint32_t code = shardheap_begin_heap(heap);
+    if (code != SHARDHEAP_OK) return code;
+    code = shardheap_begin_heap(other);
+    if (code != SHARDHEAP_OK) return shardheap_end(&heap->seal, code);
+    code = shardheap_raw_share(heap, other);
+    if (code == SHARDHEAP_OK) other->seal.mark = heap->seal.mark;
+    shardheap_settle_heap(other, code);
+    return shardheap_end(&heap->seal, code);
+}
+
 /* Empties the handle. The heap goes with the last of its handles.
 
        shardheap_close(&heap);    its passes serve on */
@@ -388,7 +408,7 @@ static inline void shardheap_close(shardheap *heap) {
 /* Joins all passes of the heap in one, where all are at home: it is at home afterwards, and may be taken and used, but
    it is the only pass that the heap has from then on. The holds of the others stay in their slots for good. What was
    joined stays joined: a second call is OK where that pass is at home.
-   AWAY, with each pass at home that was, where one is not, or was closed away from home: nothing is joined then.
+   AWAY, with each pass at home that was, where one is not, or was lost: nothing is joined then.
    EMPTY, MEMORY. */
 static inline uint32_t shardheap_gather(shardheap *heap) {
     uint32_t code = shardheap_begin_heap(heap);
@@ -439,14 +459,22 @@ static inline uint32_t shardheap_give(shardheap_pass *pass) {
     return code == SHARDHEAP_OK ? shardheap_settle_pass(pass, shardheap_raw_give(pass)) : code;
 }
 
-/* Empties the handle, and the pass is lost: its holds stay for good, and so does a shard that it owns. Give it home
-   where you can.
+/* Closes the handle of a pass: it does and returns what a give does. So the pass comes home, and after OWNS nothing was
+   done. EMPTY, OWNS.
 
-       shardheap_pass_close(&pass); */
-static inline void shardheap_pass_close(shardheap_pass *pass) {
-    if (shardheap_begin_pass(pass) != SHARDHEAP_OK) return;
-    shardheap_raw_pass_close(pass);
-    shardheap_settle_pass(pass, SHARDHEAP_OK);
+       code = shardheap_pass_close(&pass); */
+static inline uint32_t shardheap_pass_close(shardheap_pass *pass) {
+    uint32_t code = shardheap_begin_pass(pass);
+    return code == SHARDHEAP_OK ? shardheap_settle_pass(pass, shardheap_raw_pass_close(pass)) : code;
+}
+
+/* Loses the pass, and empties the handle: the heap has one pass less for good, its holds stay, and a shard that it owns
+   has no other owner again. No other call loses a pass. EMPTY.
+
+       code = shardheap_pass_lose(&pass);    only where it cannot leave its shard */
+static inline uint32_t shardheap_pass_lose(shardheap_pass *pass) {
+    uint32_t code = shardheap_begin_pass(pass);
+    return code == SHARDHEAP_OK ? shardheap_settle_pass(pass, shardheap_raw_pass_lose(pass)) : code;
 }
 
 /* Takes a hold on a key, so that its value stays readable. A pass has at most 16 holds, also several on one key.
