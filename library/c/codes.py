@@ -1,11 +1,12 @@
 #!/usr/bin/env python3
-"""Whether each code that shardheap.h tells of a call is what some test wants of that call.
+"""Whether some test wants each code that shardheap.h says a call may return.
 
 usage: library/c/codes.py
 
-In the header a call has a comment above it, whose codes are words in capitals; NULL is one of each call. In the tests
-beside this file a check is `IS(shardheap_CALL(..), SHARDHEAP_CODE)`, where `beyond` in place of the code is CROWDED or
-HOLDS_FULL, and `TRY(shardheap_CALL(..), ..)` wants MEMORY.
+In the header a call has a comment above it, whose codes are words in capitals. Each call may also return NULL, each
+call on a handle NO_HANDLE, MOVED and BUSY, and each call that takes a pass and a key OTHER_HEAP. In the tests beside
+this file a check is `IS(shardheap_CALL(..), SHARDHEAP_CODE)`. In place of the code `beyond` is CROWDED or HOLDS_FULL,
+and `refused` is NO_HANDLE, MOVED or BUSY. `TRY(shardheap_CALL(..), ..)` wants MEMORY.
 """
 import glob
 import os
@@ -13,6 +14,9 @@ import re
 import sys
 
 HERE = os.path.dirname(os.path.abspath(__file__))
+
+# What every call on a handle may return, and what a test wants that refuses each of them with one code.
+OF_HANDLES = ('NO_HANDLE', 'MOVED', 'BUSY')
 
 # What no program can have that keeps to what the head of the header asks of it.
 NOT_TO_BE_HAD = {('give', 'OCCUPIED'), ('give', 'MEMORY')}
@@ -29,13 +33,18 @@ def codes(header):
 
 
 def told(header, names):
-    """The codes that the header tells of each call that answers one."""
-    calls = re.findall(r'/\* ((?:(?!\*/).)*?) ?\*/\nstatic inline uint32_t shardheap_(\w+)\(', header, re.S)
+    """The codes that the header says each call may return."""
+    calls = re.findall(r'/\* ((?:(?!\*/).)*?) ?\*/\nstatic inline uint32_t shardheap_(\w+)\(([^)]*)\)', header, re.S)
     wanted = set()
-    for comment, call in calls:
+    for comment, call, parameters in calls:
+        if call == 'fill':
+            continue
         prose = re.sub(r'(?m)^ {7}.*$', '', comment)
-        if call != 'fill':
-            wanted |= {(call, name) for name in names if re.search(rf'\b{name}\b', prose)} | {(call, 'NULL')}
+        wanted |= {(call, name) for name in names if re.search(rf'\b{name}\b', prose)} | {(call, 'NULL')}
+        if parameters.startswith(('shardheap *', 'shardheap_pass *')):
+            wanted |= {(call, name) for name in OF_HANDLES}
+        if parameters.startswith('shardheap_pass *pass, uint64_t key'):
+            wanted.add((call, 'OTHER_HEAP'))
     return wanted
 
 
@@ -44,14 +53,17 @@ def tested(text):
     checks = re.findall(r'IS\(shardheap_(\w+)\(.*, SHARDHEAP_(\w+)\);', text)
     either = re.findall(r'IS\(shardheap_(\w+)\(.*, beyond\);', text)
     tries = re.findall(r'TRY\(shardheap_(\w+)\(', text)
+    each = re.findall(r'IS\(shardheap_(\w+)\(.*, refused\);', text)
     return set(checks) | {(call, 'MEMORY') for call in tries} | {
-        (call, name) for call in either for name in ('CROWDED', 'HOLDS_FULL')}
+        (call, name) for call in either for name in ('CROWDED', 'HOLDS_FULL')} | {
+        (call, name) for call in each for name in OF_HANDLES}
 
 
 def main():
     header = read('../include/shardheap.h')
-    wanted = told(header, codes(header)) - NOT_TO_BE_HAD
-    missing = wanted - tested(''.join(read(name) for name in sorted(glob.glob('*.c', root_dir=HERE))))
+    calls = header[header.index('/* ---- A heap ----'):]
+    wanted = told(calls, codes(header)) - NOT_TO_BE_HAD
+    missing = wanted - tested(''.join(read(name) for name in sorted(glob.glob('*.[ch]', root_dir=HERE))))
     for call, name in sorted(missing):
         print(f'codes: no test wants {name} of shardheap_{call}')
     print(f'codes: {len(wanted - missing)} of {len(wanted)} codes of calls are wanted by a test')

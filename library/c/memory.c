@@ -77,12 +77,30 @@ static void owns_another(shardheap_pass *one) {
     IS(shardheap_leave(one), SHARDHEAP_OK);
 }
 
-/* A heap that is opened for so many values. */
+/* A heap that is opened for so many values, and whose pass is lost: its block is freed too. */
 static void opens_for(uint32_t layout) {
     shardheap heap = SHARDHEAP_INIT;
+    shardheap_pass pass = SHARDHEAP_INIT;
     TRY(shardheap_open_for(&heap, layout, 2, 100, 2, 2), !heap.full);
     TRUE(shardheap_passes(&heap) == 2);
+    TRY(shardheap_take(&heap, &pass), !pass.full && heap.full);
     shardheap_close(&heap);
+    IS(shardheap_pass_lose(&pass), SHARDHEAP_OK);
+    TRUE(blocks == 0);
+}
+
+/* A second handle of the heap keeps it, and a pass that is closed or lost frees its block. */
+static void shares(uint32_t layout) {
+    shardheap heap = SHARDHEAP_INIT, other = SHARDHEAP_INIT;
+    shardheap_pass one = SHARDHEAP_INIT, two = SHARDHEAP_INIT;
+    TRY(shardheap_open(&heap, layout, 1, 1, 2), !heap.full);
+    TRY(shardheap_share(&heap, &other), !other.full && heap.full);
+    shardheap_close(&heap);
+    TRY(shardheap_take(&other, &one), !one.full && other.full);
+    TRY(shardheap_take(&other, &two), !two.full && other.full);
+    IS(shardheap_pass_close(&one), SHARDHEAP_OK);
+    IS(shardheap_pass_lose(&two), SHARDHEAP_OK);
+    shardheap_close(&other);
     TRUE(blocks == 0);
 }
 
@@ -104,6 +122,7 @@ static void lives(uint32_t layout) {
     shardheap_close(&heap);
     TRUE(blocks == 0);
     opens_for(layout);
+    shares(layout);
 }
 
 /* How many allocations a life in this layout takes, each of which is refused in turn. */

@@ -36,7 +36,10 @@ static void null_pointers(void) {
     IS(shardheap_insert_once(&pass, words, 1, 0), SHARDHEAP_NULL);
     TRUE(shardheap_passes(0) == 0);
     shardheap_close(0);
-    shardheap_pass_close(0);
+    IS(shardheap_share(0, &heap), SHARDHEAP_NULL);
+    IS(shardheap_share(&heap, 0), SHARDHEAP_NULL);
+    IS(shardheap_pass_close(0), SHARDHEAP_NULL);
+    IS(shardheap_pass_lose(0), SHARDHEAP_NULL);
 }
 
 static void empty_handles(void) {
@@ -59,8 +62,12 @@ static void empty_handles(void) {
     IS(shardheap_insert_once(&pass, words, 1, &key), SHARDHEAP_EMPTY);
     TRUE(key == 77 && length == 99 && page == 55 && room[0] == 0);
     TRUE(shardheap_passes(&heap) == 0);
+    shardheap other = SHARDHEAP_INIT;
+    IS(shardheap_share(&heap, &other), SHARDHEAP_EMPTY);
+    IS(shardheap_share(&heap, &heap), SHARDHEAP_OVERLAP);
     shardheap_close(&heap);
-    shardheap_pass_close(&pass);
+    IS(shardheap_pass_close(&pass), SHARDHEAP_EMPTY);
+    IS(shardheap_pass_lose(&pass), SHARDHEAP_EMPTY);
 }
 
 static void shapes(void) {
@@ -191,8 +198,38 @@ static void hands(shardheap *heap, shardheap_pass *one, shardheap_pass *two) {
     IS(shardheap_give(one), SHARDHEAP_EMPTY);
     IS(shardheap_get(one, last), SHARDHEAP_EMPTY);
     IS(shardheap_remove(two, last), SHARDHEAP_OK);
-    shardheap_pass_close(two);
-    shardheap_pass_close(two);
+    IS(shardheap_pass_close(two), SHARDHEAP_OK);
+    TRUE(!two->full && two->at == 0);
+    IS(shardheap_get(two, last), SHARDHEAP_EMPTY);
+    IS(shardheap_pass_close(two), SHARDHEAP_EMPTY);
+}
+
+/* A second handle of the heap serves as the first does, and keeps the heap. A pass that owns a shard is not closed, and
+   one that is lost never comes home. */
+static void shared_and_lost(uint32_t layout) {
+    shardheap heap = SHARDHEAP_INIT, other = SHARDHEAP_INIT;
+    shardheap_pass one = SHARDHEAP_INIT, two = SHARDHEAP_INIT;
+    IS(shardheap_open(&heap, layout, 2, 1, 2), SHARDHEAP_OK);
+    IS(shardheap_share(&heap, &heap), SHARDHEAP_OVERLAP);
+    IS(shardheap_share(&heap, &other), SHARDHEAP_OK);
+    IS(shardheap_share(&heap, &other), SHARDHEAP_OCCUPIED);
+    TRUE(shardheap_passes(&other) == 2);
+    shardheap_close(&heap);
+    IS(shardheap_take(&other, &one), SHARDHEAP_OK);
+    IS(shardheap_take(&other, &two), SHARDHEAP_OK);
+    IS(shardheap_adopt(&one, 0), SHARDHEAP_OK);
+    IS(shardheap_pass_close(&one), SHARDHEAP_OWNS);
+    TRUE(one.full);
+    IS(shardheap_pass_lose(&one), SHARDHEAP_OK);
+    TRUE(!one.full && one.at == 0);
+    IS(shardheap_adopt(&two, 0), SHARDHEAP_TAKEN);
+    IS(shardheap_take(&other, &one), SHARDHEAP_NO_PASS);
+    IS(shardheap_pass_close(&two), SHARDHEAP_OK);
+    IS(shardheap_gather(&other), SHARDHEAP_AWAY);
+    IS(shardheap_take(&other, &two), SHARDHEAP_OK);
+    IS(shardheap_take(&other, &one), SHARDHEAP_NO_PASS);
+    IS(shardheap_give(&two), SHARDHEAP_OK);
+    shardheap_close(&other);
 }
 
 static void calls_of(uint32_t layout) {
@@ -241,7 +278,10 @@ int main(void) {
     null_pointers();
     empty_handles();
     shapes();
-    for (uint32_t layout = 0; layout < 4; layout++) calls_of(layout);
+    for (uint32_t layout = 0; layout < 4; layout++) {
+        calls_of(layout);
+        shared_and_lost(layout);
+    }
     two_heaps();
     TRUE(strcmp(shardheap_name(SHARDHEAP_GONE), "Gone") == 0);
     TRUE(strcmp(shardheap_name(SHARDHEAP_OWNS), "Owns") == 0);

@@ -1,17 +1,25 @@
 /* A leave is refused as WAITING while another pass is in the middle of a free in the shard, which serves on meanwhile.
 
-   waiting TIMES: a second thread removes values of the owner's shard, and is stopped by a signal wherever it is. Then
-   the owner tries to leave. Where it may, it adopts the shard again, until it was refused so many times. */
+   waiting TIMES SECONDS: a second thread removes values of the owner's shard, and a signal stops it wherever it is.
+   Then the owner tries to leave. If it may, it adopts the shard again, until it was refused so many times. The test
+   fails if that takes longer than so many seconds.
+
+   Only the first free on a full page makes an owner wait. So the values have 16 words, of which a page holds three. The
+   owner sleeps while the other removes them. When it wakes, the other is often in the middle of that, also on a loaded
+   machine. */
 #include "check.h"
 #include <pthread.h>
+#include <sched.h>
 #include <signal.h>
 #include <stdatomic.h>
 #include <string.h>
+#include <time.h>
 #include <unistd.h>
 
-#define BATCH 300
-#define MOST_ROUNDS 2000000
+#define SEGMENTS 512u
+#define BATCH (SEGMENTS * 8 * 3)
 
+static const uint64_t words[16] = {7};
 static uint64_t keys[BATCH];
 static _Atomic uint64_t handed, removed; /* how many keys in all; each batch lies where the one before did */
 static _Atomic int ends;
@@ -25,7 +33,10 @@ static void stop(int number) {
 
 static void *removes(void *pass) {
     for (uint64_t done = 0; !atomic_load(&ends);) {
-        if (done == atomic_load(&handed)) continue;
+        if (done == atomic_load(&handed)) {
+            sched_yield();
+            continue;
+        }
         uint32_t code = shardheap_remove(pass, keys[done % BATCH]);
         if (code != SHARDHEAP_OK) {
             fprintf(stderr, "waiting: a remove is %s\n", shardheap_name(code));
@@ -34,6 +45,11 @@ static void *removes(void *pass) {
         atomic_store(&removed, ++done);
     }
     return NULL;
+}
+
+static void pause_a_little(void) {
+    struct timespec pause = {0, 20000}; /* 20 microseconds */
+    nanosleep(&pause, NULL);
 }
 
 static void stop_the_other(pthread_t other) {
@@ -48,7 +64,7 @@ static void resume_the_other(void) {
 
 /* The other thread is stopped: whether it is in the middle of a free. The pass owns the shard as before. */
 static int waits(shardheap_pass *owner) {
-    uint64_t word = 7, key;
+    uint64_t key;
     uint32_t code = shardheap_leave(owner);
     if (code == SHARDHEAP_OK) {
         IS(shardheap_adopt(owner, 0), SHARDHEAP_OK);
@@ -57,7 +73,7 @@ static int waits(shardheap_pass *owner) {
     IS(code, SHARDHEAP_WAITING);
     IS(shardheap_leave(owner), SHARDHEAP_WAITING);
     IS(shardheap_give(owner), SHARDHEAP_OWNS);
-    IS(shardheap_insert(owner, &word, 1, &key), SHARDHEAP_OK);
+    IS(shardheap_insert(owner, words, 16, &key), SHARDHEAP_OK);
     IS(shardheap_remove(owner, key), SHARDHEAP_OK);
     return 1;
 }
@@ -65,26 +81,29 @@ static int waits(shardheap_pass *owner) {
 /* Hands a batch over, and stops the other after a while: whether the owner was refused. */
 static int one_round(shardheap_pass *owner, pthread_t other, uint64_t round) {
     uint64_t before = round * BATCH;
-    for (uint64_t n = 0; n < BATCH; n++) IS(shardheap_insert(owner, &n, 1, &keys[n]), SHARDHEAP_OK);
+    for (uint64_t n = 0; n < BATCH; n++) IS(shardheap_insert(owner, words, 16, &keys[n]), SHARDHEAP_OK);
     atomic_store(&handed, before + BATCH);
-    while (atomic_load(&removed) < before + 1 + round % (BATCH - 1)) {}
+    while (atomic_load(&removed) < before + 1 + round * 7919 % (BATCH - 1)) pause_a_little();
     stop_the_other(other);
     int refused = waits(owner);
     resume_the_other();
-    while (atomic_load(&removed) < before + BATCH) {}
+    while (atomic_load(&removed) < before + BATCH) pause_a_little();
     return refused;
 }
 
-/* The rounds until the owner was refused so many times. */
-static uint64_t rounds_until(shardheap_pass *owner, pthread_t other, int times) {
+/* The rounds until the owner was refused so many times, or until the time is up. */
+static uint64_t rounds_until(shardheap_pass *owner, pthread_t other, int times, int seconds) {
     uint64_t rounds = 0;
-    while (times > 0 && rounds < MOST_ROUNDS) times -= one_round(owner, other, rounds++);
+    time_t end = time(NULL) + seconds;
+    while (times > 0 && time(NULL) < end) times -= one_round(owner, other, rounds++);
+    if (times > 0) fprintf(stderr, "waiting: in %d s and %llu rounds", seconds, (unsigned long long)rounds);
+    if (times > 0) fprintf(stderr, " the owner was refused %d times too few\n", times);
     TRUE(times == 0);
     return rounds;
 }
 
 static void taken(shardheap *heap, shardheap_pass *owner, shardheap_pass *other) {
-    IS(shardheap_open(heap, SHARDHEAP_WIDE, 1, 1, 2), SHARDHEAP_OK);
+    IS(shardheap_open(heap, SHARDHEAP_DEEP, 1, SEGMENTS + 1, 2), SHARDHEAP_OK);
     IS(shardheap_take(heap, owner), SHARDHEAP_OK);
     IS(shardheap_take(heap, other), SHARDHEAP_OK);
     IS(shardheap_adopt(owner, 0), SHARDHEAP_OK);
@@ -95,13 +114,13 @@ int main(int argc, char **argv) {
     shardheap_pass owner = SHARDHEAP_INIT, other = SHARDHEAP_INIT;
     struct sigaction action;
     pthread_t thread;
-    int times = argc > 1 ? atoi(argv[1]) : 10;
+    int times = argc > 1 ? atoi(argv[1]) : 10, seconds = argc > 2 ? atoi(argv[2]) : 60;
     memset(&action, 0, sizeof action);
     action.sa_handler = stop;
     TRUE(pipe(stopped) == 0 && pipe(resumed) == 0 && sigaction(SIGUSR1, &action, NULL) == 0);
     taken(&heap, &owner, &other);
     TRUE(pthread_create(&thread, NULL, removes, &other) == 0);
-    uint64_t rounds = rounds_until(&owner, thread, times);
+    uint64_t rounds = rounds_until(&owner, thread, times, seconds);
     atomic_store(&ends, 1);
     TRUE(pthread_join(thread, NULL) == 0);
     IS(shardheap_leave(&owner), SHARDHEAP_OK);

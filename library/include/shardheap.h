@@ -3,7 +3,7 @@
    A heap has shards of pages. Each thread uses the heap by a pass. Any pass may hold, read and remove any key; a pass
    that owns a shard also inserts there. A value is at most 16 words of 64 bits; its key is a number that no other value
    of the heap ever has. What the calls do is proved, up to the calls named `shardheap_raw_..`; this header, the C
-   compiler and whoever calls are not.
+   compiler and the caller are not.
 
        #include "shardheap.h"
 
@@ -21,39 +21,84 @@
        shardheap_give(&pass);                                        the pass is at home again
        shardheap_close(&heap);
 
-   HANDLES. A handle is 16 bytes in the caller's memory. All its bytes zero: it is empty, and every call on it answers
-   SHARDHEAP_EMPTY. Only the calls below write it. The handle of a heap and that of each pass owns a share of the heap:
-   its memory goes with the last of them, in whatever order they are closed. Closing an empty handle does nothing, so a
-   handle may be closed twice.
+   HANDLES. A handle is 32 bytes in the caller's memory. It begins as SHARDHEAP_INIT or as zeroed bytes. Then it is
+   empty, and every call on it returns SHARDHEAP_EMPTY. Only the calls below write it. The handle of a heap and that of
+   each pass owns a share of the heap: its memory goes with the last of them, in whatever order they are closed. Closing
+   an empty handle does nothing, so a handle may be closed twice.
+
+   A handle that was not initialised is refused: a call on it returns SHARDHEAP_NO_HANDLE and does nothing. The test is
+   whether 64 bits of it are a constant. Zeroed bytes are an empty handle, however they came about. Bytes that another
+   handle left at the same place, as in a function that is called again, are taken for that handle.
+
+   KEYS. A key belongs to one heap and ends with it. The first keys of two heaps are the same number. So a pass that
+   removes a key of another heap may remove a value of its own heap that nobody meant.
+
+   POINTERS. The pointers of a call do not overlap, nor do they lead into its handles. A call that finds otherwise
+   returns SHARDHEAP_OVERLAP and does nothing.
 
    THREADS. A handle is used by one call at a time. It may go from a thread to another by whatever orders the two: the
    start or join of a thread, a lock, a sequentially consistent atomic. Two handles of one heap may be used by two
    threads at the same time: that is what they are for. No call waits. Calls from a signal handler, or in a child forked
    from a process with threads, are not allowed.
 
+   ORDER. The calls of all passes are one history of the map, in which those of each pass are in the order in which it
+   made them. Between two passes the contracts order nothing. When a thread inserts a key and hands it to another, they
+   allow that the other finds it Gone. Only receipts rule that out, and C has none. Each step of the library is a
+   sequentially consistent atomic operation, and the tests rely on it: they find each key that was handed over.
+
+   CANCELLED THREADS. No call is a cancellation point. A thread that is cancelled between two calls leaves its pass in
+   the handle, with its holds and its shard. Any thread that is ordered after it may go on with that handle. A thread
+   that is cancelled asynchronously inside a call may leave the handle empty. The pass is lost then, with its holds and
+   its shard, and malloc may stay locked.
+
    What the library cannot see, and the caller owes:
      - two threads do not use one handle at once;
      - a handle's bytes are not copied and used twice, and are written by nothing but these calls;
-     - a pointer that is not null points to what its type says, and a room or a list of words to as many as are told;
+     - a pointer that is not null points to what its type says, and a room or a list of words to as many as are named;
      - malloc, realloc and free come from one allocator, and align to 16.
 
-   MEMORY is taken by open, take, adopt, gather, and by an insert or a prepare that opens a segment. Nothing else
-   answers SHARDHEAP_MEMORY. */
+   CHECKED MODE. A program that defines SHARDHEAP_CHECKED in all its files finds more of that, at a price in each call.
+   It needs gcc or clang. A call that finds one of these does nothing, and returns the code that is named:
+     - MOVED: the handle is full, and its bytes were copied from where it was filled;
+     - BUSY: another call uses the handle at this moment;
+     - OTHER_HEAP: the key is not of the heap of this pass. Bits 56 to 63 of a key have the number of its heap, from 1
+       to 255 and then anew. A tag takes that number away, and keys of layout deep have none: these are not recognised.
+   If the macro SHARDHEAP_ON_MISUSE(code) is defined, for example as abort(), it is called too, also for NO_HANDLE.
+
+   MEMORY is taken by open, share, take, adopt, gather, and by an insert or a prepare that opens a segment. Nothing else
+   returns SHARDHEAP_MEMORY. The greatest heap, of layout deep with 2,097,152 segments, takes 26 GB, and twice that
+   while it opens. */
 #ifndef SHARDHEAP_H
 #define SHARDHEAP_H
 
 #include <stdbool.h>
 #include <stddef.h>
 #include <stdint.h>
+#include <string.h>
 
 #define SHARDHEAP_VERSION_MAJOR 0
 #define SHARDHEAP_VERSION_MINOR 1
 
-#ifdef __cplusplus
-extern "C" {
+#if defined(SHARDHEAP_CHECKED) && !defined(__GNUC__)
+#error "SHARDHEAP_CHECKED needs gcc or clang"
+#endif
+#ifndef SHARDHEAP_ON_MISUSE
+#define SHARDHEAP_ON_MISUSE(code) ((void)(code))
 #endif
 
-/* The answers of calls. 1 to 12 are the heap's refusals: after one, map, holds and keys are as they were. */
+#ifdef __cplusplus
+#define SHARDHEAP_ASSERT(what, why) static_assert(what, why)
+extern "C" {
+#else
+#define SHARDHEAP_ASSERT(what, why) _Static_assert(what, why)
+#endif
+
+/* The version of this header: 1000 for each major version, and 1 for each minor one. */
+static inline uint32_t shardheap_version(void) {
+    return SHARDHEAP_VERSION_MAJOR * UINT32_C(1000) + SHARDHEAP_VERSION_MINOR;
+}
+
+/* What calls return. 1 to 12 are the heap's refusals: after one, map, holds and keys are as they were. */
 typedef enum shardheap_code {
     SHARDHEAP_OK = 0,
     SHARDHEAP_BAD_KEY = 1,     /* the number is no key of the layout, or its place is outside the heap's shape */
@@ -75,17 +120,22 @@ typedef enum shardheap_code {
     SHARDHEAP_NULL = 18,       /* a pointer was null: nothing was done */
     SHARDHEAP_BAD_LAYOUT = 19, /* there is no layout of this number */
     SHARDHEAP_OWNS = 20,       /* the pass owns a shard, which it has to leave first */
-    SHARDHEAP_AWAY = 21,       /* a pass is away, so that the heap tells nothing of itself as a whole */
-    SHARDHEAP_NO_PAGE = 22     /* the heap has no such page */
+    SHARDHEAP_AWAY = 21,       /* a pass is away, so that the heap cannot be looked at as a whole */
+    SHARDHEAP_NO_PAGE = 22,    /* the heap has no such page */
+    SHARDHEAP_OVERLAP = 23,    /* two pointers lead to the same bytes: nothing was done */
+    SHARDHEAP_NO_HANDLE = 24,  /* the bytes are no handle, as of one that was not initialised: nothing was done */
+    SHARDHEAP_MOVED = 25,      /* SHARDHEAP_CHECKED: the handle was filled at another place */
+    SHARDHEAP_BUSY = 26,       /* SHARDHEAP_CHECKED: another call uses the handle */
+    SHARDHEAP_OTHER_HEAP = 27  /* SHARDHEAP_CHECKED: the key is not of this heap */
 } shardheap_code;
 
-/* The name of an answer, and "unknown" of other numbers. */
+/* The name of a code, and "unknown" for other numbers. */
 static inline const char *shardheap_name(uint32_t code) {
     static const char *const names[] = {
         "Ok",     "BadKey", "Gone",    "Crowded", "HoldsFull", "NotHeld", "TooLong",
         "Full",   "Memory", "Taken",   "NoShard", "Waiting",   "BadShape", "unknown",
         "Empty",  "Occupied", "NoPass", "Short",  "Null",      "BadLayout", "Owns",   "Away",
-        "NoPage",
+        "NoPage", "Overlap", "NoHandle", "Moved", "Busy",    "OtherHeap",
     };
     return code < sizeof names / sizeof names[0] ? names[code] : "unknown";
 }
@@ -95,24 +145,34 @@ static inline const char *shardheap_name(uint32_t code) {
 typedef enum shardheap_layout {
     SHARDHEAP_WIDE = 0,   /* 256 shards of 1,024 pages each */
     SHARDHEAP_TAGGED = 1, /* 64 shards of 256 pages; keys are below 2^52 */
-    SHARDHEAP_DEEP = 2,   /* 64 shards of 1,048,576 pages; keys use all 64 bits */
+    SHARDHEAP_DEEP = 2,   /* 64 shards of 1,048,576 pages, 16,777,216 in all; keys use all 64 bits */
     SHARDHEAP_TINY = 3    /* 4 shards of 16 pages, whose slots serve 3 values each and no more: for tests */
 } shardheap_layout;
 
-/* Handles, which begin as zeroed bytes: shardheap heap = SHARDHEAP_INIT; */
+/* What the functions of this header keep in a handle. */
+typedef struct shardheap_seal {
+    uint64_t word; /* SHARDHEAP_SEAL, or 0 in zeroed bytes; in checked mode a full handle's place is mixed in */
+    uint32_t busy; /* checked mode: 1 while a call uses the handle */
+    uint32_t mark; /* checked mode: the number of the heap, and 0 if its keys have none */
+} shardheap_seal;
+#define SHARDHEAP_SEAL UINT64_C(0xb5d31e70c96af482)
+
+/* Handles: shardheap heap = SHARDHEAP_INIT; */
 typedef struct shardheap {
-    void *at;
+    void *at; /* the library's, as is the next */
     bool full;
+    shardheap_seal seal;
 } shardheap;
 typedef struct shardheap_pass {
-    void *at;
+    void *at; /* the library's, as is the next */
     bool full;
+    shardheap_seal seal;
 } shardheap_pass;
-#define SHARDHEAP_INIT { 0, 0 }
+#define SHARDHEAP_INIT { 0, 0, { SHARDHEAP_SEAL, 0, 0 } }
 
-/* What the slots of a page are. They are as many as a page of its class has, and none where it has no class. */
+/* How many slots of a page are in each state: in all as many as a page of its class has, and none without a class. */
 typedef struct shardheap_page {
-    uint32_t used;       /* 1 where the page has a class, and else 0 */
+    uint32_t used;       /* 1 if the page has a class, and 0 otherwise */
     uint32_t size_class; /* its class, 0 to 7, whose values have at most 1, 2, 3, 4, 6, 8, 12 and 16 words; 0 without */
     uint32_t live;       /* with a value that can be got */
     uint32_t marked;     /* with a value that was removed and is held */
@@ -130,15 +190,23 @@ typedef struct shardheap_sums {
     uint32_t blank_pages; /* pages that have none */
 } shardheap_sums;
 
-/* The calls of the library, which take no null pointer. Use the functions below, which look. */
+SHARDHEAP_ASSERT(sizeof(void *) == 8 && sizeof(size_t) == 8 && sizeof(bool) == 1, "the library is for 64 bits");
+SHARDHEAP_ASSERT(offsetof(shardheap, full) == 8 && offsetof(shardheap_pass, full) == 8, "the library's part");
+SHARDHEAP_ASSERT(offsetof(shardheap, seal) == 16 && offsetof(shardheap_pass, seal) == 16, "the header's part");
+SHARDHEAP_ASSERT(sizeof(shardheap) == 32 && sizeof(shardheap_pass) == 32, "a handle");
+SHARDHEAP_ASSERT(sizeof(shardheap_page) == 24 && sizeof(shardheap_sums) == 24, "six numbers of 32 bits");
+
+/* The calls of the library. They check no pointer and no handle: use the functions below, which do. */
 uint32_t shardheap_raw_open(shardheap *heap, uint32_t layout, uint32_t shards, uint32_t segments, uint32_t passes);
 uint32_t shardheap_raw_open_for(shardheap *heap, uint32_t layout, uint32_t owners, uint64_t values, uint32_t words,
                                 uint32_t passes);
 uint64_t shardheap_raw_passes(shardheap *heap);
 uint32_t shardheap_raw_take(shardheap *heap, shardheap_pass *pass);
 uint32_t shardheap_raw_give(shardheap_pass *pass);
+uint32_t shardheap_raw_share(shardheap *heap, shardheap *other);
 void shardheap_raw_close(shardheap *heap);
-void shardheap_raw_pass_close(shardheap_pass *pass);
+uint32_t shardheap_raw_pass_close(shardheap_pass *pass);
+uint32_t shardheap_raw_pass_lose(shardheap_pass *pass);
 uint32_t shardheap_raw_gather(shardheap *heap);
 uint32_t shardheap_raw_accounts(shardheap *heap, uint32_t shard, uint32_t page, shardheap_page *told);
 uint32_t shardheap_raw_totals(shardheap *heap, shardheap_sums *told);
@@ -155,44 +223,184 @@ uint32_t shardheap_raw_remove(shardheap_pass *pass, uint64_t key);
 uint32_t shardheap_raw_read(shardheap_pass *pass, uint64_t key, uint64_t *words, size_t room, uint64_t *length);
 uint32_t shardheap_raw_load(shardheap_pass *pass, uint64_t key, uint64_t *words, size_t room, uint64_t *length);
 
+/* ---- What the functions below look at ---- */
+
+/* Whether so many bytes at one place and so many at another have a byte in common. */
+static inline bool shardheap_overlap(const void *one, size_t size, const void *other, size_t length) {
+    uintptr_t a = (uintptr_t)one, b = (uintptr_t)other;
+    return size != 0 && (b - a < size || a - b < length);
+}
+
+/* Whether a handle with this word is an empty one that began as zeroed bytes: the library's part is 9 of them. */
+static inline bool shardheap_zeroed(const void *handle, uint64_t word) {
+    static const unsigned char zeroed[9] = {0};
+    return word == 0 && memcmp(handle, zeroed, sizeof zeroed) == 0;
+}
+
+#ifdef SHARDHEAP_CHECKED
+/* How many heaps were opened: one number for all files of the program. */
+__attribute__((weak)) uint32_t shardheap_opened;
+
+static inline uint32_t shardheap_misused(uint32_t code) {
+    SHARDHEAP_ON_MISUSE(code);
+    return code;
+}
+
+/* Begins a call on a handle. The word of a full one has its place: MOVED means that it has another's, which is a
+   multiple of 8 below 2^56. */
+static inline uint32_t shardheap_begin(const void *handle, shardheap_seal *seal) {
+    uint64_t word = __atomic_load_n(&seal->word, __ATOMIC_RELAXED), place = word ^ SHARDHEAP_SEAL;
+    if (place != 0 && place != (uintptr_t)handle && !shardheap_zeroed(handle, word))
+        return shardheap_misused(place % 8 == 0 && place >> 56 == 0 ? SHARDHEAP_MOVED : SHARDHEAP_NO_HANDLE);
+    bool used = __atomic_exchange_n(&seal->busy, 1, __ATOMIC_ACQUIRE) != 0;
+    return used ? shardheap_misused(SHARDHEAP_BUSY) : (uint32_t)SHARDHEAP_OK;
+}
+
+/* Ends a call that leaves the handle full or empty, as it was. */
+static inline uint32_t shardheap_end(shardheap_seal *seal, uint32_t code) {
+    __atomic_store_n(&seal->busy, 0, __ATOMIC_RELEASE);
+    return code;
+}
+
+/* Ends a call that may have filled or emptied the handle. */
+static inline uint32_t shardheap_settle(const void *handle, bool full, shardheap_seal *seal, uint32_t code) {
+    if (!full) seal->mark = 0;
+    __atomic_store_n(&seal->word, SHARDHEAP_SEAL ^ (full ? (uintptr_t)handle : 0), __ATOMIC_RELAXED);
+    return shardheap_end(seal, code);
+}
+
+/* The mark of a heap that was opened: its number, and 256 more if keys may come without it, as a tag takes it away. */
+static inline uint32_t shardheap_next_mark(uint32_t layout) {
+    uint32_t number = 1 + __atomic_fetch_add(&shardheap_opened, 1, __ATOMIC_RELAXED) % 255;
+    return layout == SHARDHEAP_DEEP ? 0 : layout == SHARDHEAP_TAGGED ? 256 + number : number;
+}
+
+/* A key of the heap with this mark, as the caller knows it; and a key as the library knows it. */
+static inline uint64_t shardheap_marked(uint32_t mark, uint64_t key) { return key | (uint64_t)(mark % 256) << 56; }
+static inline uint64_t shardheap_bare(uint64_t key) { return key & UINT64_MAX >> 8; }
+
+/* Turns a key into what the library knows. OTHER_HEAP if it is not of the heap with this mark. */
+static inline uint32_t shardheap_unmark(uint32_t mark, uint64_t *key) {
+    uint64_t found = *key >> 56;
+    if (mark == 0) return SHARDHEAP_OK;
+    if (found != mark % 256 && (found != 0 || mark < 256)) return shardheap_misused(SHARDHEAP_OTHER_HEAP);
+    *key = shardheap_bare(*key);
+    return SHARDHEAP_OK;
+}
+#else
+static inline uint32_t shardheap_begin(const void *handle, shardheap_seal *seal) {
+    return seal->word == SHARDHEAP_SEAL || shardheap_zeroed(handle, seal->word) ? SHARDHEAP_OK : SHARDHEAP_NO_HANDLE;
+}
+static inline uint32_t shardheap_end(shardheap_seal *seal, uint32_t code) { return (void)seal, code; }
+static inline uint32_t shardheap_settle(const void *handle, bool full, shardheap_seal *seal, uint32_t code) {
+    seal->word = SHARDHEAP_SEAL;
+    return (void)handle, (void)full, code;
+}
+static inline uint32_t shardheap_next_mark(uint32_t layout) { return (void)layout, 0; }
+static inline uint64_t shardheap_marked(uint32_t mark, uint64_t key) { return (void)mark, key; }
+static inline uint64_t shardheap_bare(uint64_t key) { return key; }
+static inline uint32_t shardheap_unmark(uint32_t mark, uint64_t *key) { return (void)mark, (void)key, SHARDHEAP_OK; }
+#endif
+
+static inline uint32_t shardheap_begin_heap(shardheap *heap) {
+    return heap ? shardheap_begin(heap, &heap->seal) : (uint32_t)SHARDHEAP_NULL;
+}
+static inline uint32_t shardheap_begin_pass(shardheap_pass *pass) {
+    return pass ? shardheap_begin(pass, &pass->seal) : (uint32_t)SHARDHEAP_NULL;
+}
+static inline uint32_t shardheap_begin_key(shardheap_pass *pass, uint64_t *key) {
+    uint32_t code = shardheap_begin_pass(pass);
+    if (code != SHARDHEAP_OK) return code;
+    code = shardheap_unmark(pass->seal.mark, key);
+    return code == SHARDHEAP_OK ? code : shardheap_end(&pass->seal, code);
+}
+static inline uint32_t shardheap_settle_heap(shardheap *heap, uint32_t code) {
+    return shardheap_settle(heap, heap->full, &heap->seal, code);
+}
+static inline uint32_t shardheap_settle_pass(shardheap_pass *pass, uint32_t code) {
+    return shardheap_settle(pass, pass->full, &pass->seal, code);
+}
+static inline uint32_t shardheap_settle_opened(shardheap *heap, uint32_t layout, uint32_t code) {
+    if (code == SHARDHEAP_OK) heap->seal.mark = shardheap_next_mark(layout);
+    return shardheap_settle_heap(heap, code);
+}
+
 /* ---- A heap ---- */
 
-/* Opens a heap of so many shards, each of so many segments of 8 pages, with 1 to 64 passes, into an empty handle. At
-   least one of each, and no more than the layout has. OCCUPIED, BAD_LAYOUT, BAD_SHAPE, MEMORY.
+/* Opens a heap into an empty handle: `shards` shards, each of `segments` segments of 8 pages, and 1 to 64 passes. There
+   is at least one of each, and no more than the layout has. OCCUPIED, BAD_LAYOUT, BAD_SHAPE, MEMORY.
 
        code = shardheap_open(&heap, SHARDHEAP_WIDE, 4, 2, 8);    4 shards of 16 pages, and 8 passes */
 static inline uint32_t shardheap_open(shardheap *heap, uint32_t layout, uint32_t shards, uint32_t segments,
                                       uint32_t passes) {
-    return heap ? shardheap_raw_open(heap, layout, shards, segments, passes) : (uint32_t)SHARDHEAP_NULL;
+    uint32_t code = shardheap_begin_heap(heap);
+    if (code != SHARDHEAP_OK) return code;
+    return shardheap_settle_opened(heap, layout, shardheap_raw_open(heap, layout, shards, segments, passes));
 }
 
-/* Opens the least heap in which each of so many owners has a shard with room for so many values of 0 to 16 words, with
-   1 to 64 passes, into an empty handle. OCCUPIED, BAD_LAYOUT, MEMORY; BAD_SHAPE where no heap of the layout has the
+/* Opens a heap into an empty handle: the least one in which each of `owners` owners has a shard with room for `values`
+   values of 0 to 16 words, and 1 to 64 passes. OCCUPIED, BAD_LAYOUT, MEMORY; BAD_SHAPE if no heap of the layout has the
    room.
 
        code = shardheap_open_for(&heap, SHARDHEAP_WIDE, 4, 20000, 2, 8);    20,000 values of 2 words for each of 4 */
 static inline uint32_t shardheap_open_for(shardheap *heap, uint32_t layout, uint32_t owners, uint64_t values,
                                           uint32_t words, uint32_t passes) {
-    return heap ? shardheap_raw_open_for(heap, layout, owners, values, words, passes) : (uint32_t)SHARDHEAP_NULL;
+    uint32_t code = shardheap_begin_heap(heap);
+    if (code != SHARDHEAP_OK) return code;
+    return shardheap_settle_opened(heap, layout, shardheap_raw_open_for(heap, layout, owners, values, words, passes));
 }
 
-/* How many passes the heap has, at home or away: 0 of an empty handle.
+/* How many passes the heap has, at home or away: 0 of an empty handle, and of what is no handle.
 
        count = shardheap_passes(&heap);    8, of the heaps above */
-static inline uint64_t shardheap_passes(shardheap *heap) { return heap ? shardheap_raw_passes(heap) : 0; }
+static inline uint64_t shardheap_passes(shardheap *heap) {
+    if (shardheap_begin_heap(heap) != SHARDHEAP_OK) return 0;
+    uint64_t passes = shardheap_raw_passes(heap);
+    shardheap_end(&heap->seal, SHARDHEAP_OK);
+    return passes;
+}
 
-/* Takes a pass that is at home into an empty handle. OCCUPIED, EMPTY, NO_PASS, MEMORY.
+/* Takes a pass that is at home into an empty handle. OCCUPIED, EMPTY, NO_PASS, MEMORY, OVERLAP.
 
        code = shardheap_take(&heap, &pass); */
 static inline uint32_t shardheap_take(shardheap *heap, shardheap_pass *pass) {
-    return heap && pass ? shardheap_raw_take(heap, pass) : (uint32_t)SHARDHEAP_NULL;
+    if (!heap || !pass) return SHARDHEAP_NULL;
+    if (shardheap_overlap(heap, sizeof *heap, pass, sizeof *pass)) return SHARDHEAP_OVERLAP;
+    uint32_t code = shardheap_begin_heap(heap);
+    if (code != SHARDHEAP_OK) return code;
+    code = shardheap_begin_pass(pass);
+    if (code != SHARDHEAP_OK) return shardheap_end(&heap->seal, code);
+    code = shardheap_raw_take(heap, pass);
+    if (code == SHARDHEAP_OK) pass->seal.mark = heap->seal.mark;
+    shardheap_settle_pass(pass, code);
+    return shardheap_end(&heap->seal, code);
+}
+
+/* Makes a second handle of the heap, in an empty one: each of two threads then takes and gives passes by its own. The
+   heap goes with the last of its handles. OCCUPIED, EMPTY, MEMORY, OVERLAP.
+
+       shardheap other = SHARDHEAP_INIT;
+       code = shardheap_share(&heap, &other);    from now on another thread uses it, and closes it */
+static inline uint32_t shardheap_share(shardheap *heap, shardheap *other) {
+    if (!heap || !other) return SHARDHEAP_NULL;
+    if (shardheap_overlap(heap, sizeof *heap, other, sizeof *other)) return SHARDHEAP_OVERLAP;
+    uint32_t code = shardheap_begin_heap(heap);
+    if (code != SHARDHEAP_OK) return code;
+    code = shardheap_begin_heap(other);
+    if (code != SHARDHEAP_OK) return shardheap_end(&heap->seal, code);
+    code = shardheap_raw_share(heap, other);
+    if (code == SHARDHEAP_OK) other->seal.mark = heap->seal.mark;
+    shardheap_settle_heap(other, code);
+    return shardheap_end(&heap->seal, code);
 }
 
 /* Empties the handle. The heap goes with the last of its handles.
 
        shardheap_close(&heap);    its passes serve on */
 static inline void shardheap_close(shardheap *heap) {
-    if (heap) shardheap_raw_close(heap);
+    if (shardheap_begin_heap(heap) != SHARDHEAP_OK) return;
+    shardheap_raw_close(heap);
+    shardheap_settle_heap(heap, SHARDHEAP_OK);
 }
 
 /* ---- A heap as a whole ---- */
@@ -200,53 +408,73 @@ static inline void shardheap_close(shardheap *heap) {
 /* Joins all passes of the heap in one, where all are at home: it is at home afterwards, and may be taken and used, but
    it is the only pass that the heap has from then on. The holds of the others stay in their slots for good. What was
    joined stays joined: a second call is OK where that pass is at home.
-   AWAY, with each pass at home that was, where one is not, or was closed away from home: nothing is joined then.
+   AWAY, with each pass at home that was, where one is not, or was lost: nothing is joined then.
    EMPTY, MEMORY. */
 static inline uint32_t shardheap_gather(shardheap *heap) {
-    return heap ? shardheap_raw_gather(heap) : (uint32_t)SHARDHEAP_NULL;
+    uint32_t code = shardheap_begin_heap(heap);
+    return code == SHARDHEAP_OK ? shardheap_end(&heap->seal, shardheap_raw_gather(heap)) : code;
 }
 
-/* Tells what the slots of a page are: by the number of the shard and that of its page, both from 0. AWAY where the pass
-   that gather left is not at home (a heap of one pass needs no gather), NO_PAGE, EMPTY. */
+/* Counts the slots of a page, which is given by the number of its shard and its number there, both from 0. AWAY if the
+   pass that gather left is not at home (a heap of one pass needs no gather), NO_PAGE, EMPTY, OVERLAP. */
 static inline uint32_t shardheap_accounts(shardheap *heap, uint32_t shard, uint32_t page, shardheap_page *told) {
-    return heap && told ? shardheap_raw_accounts(heap, shard, page, told) : (uint32_t)SHARDHEAP_NULL;
+    if (!heap || !told) return SHARDHEAP_NULL;
+    if (shardheap_overlap(told, sizeof *told, heap, sizeof *heap)) return SHARDHEAP_OVERLAP;
+    uint32_t code = shardheap_begin_heap(heap);
+    return code == SHARDHEAP_OK ? shardheap_end(&heap->seal, shardheap_raw_accounts(heap, shard, page, told)) : code;
 }
 
-/* Tells the sums over all pages. AWAY, as above; EMPTY. */
+/* Counts the slots of all pages. AWAY, as above; EMPTY, OVERLAP. */
 static inline uint32_t shardheap_totals(shardheap *heap, shardheap_sums *told) {
-    return heap && told ? shardheap_raw_totals(heap, told) : (uint32_t)SHARDHEAP_NULL;
+    if (!heap || !told) return SHARDHEAP_NULL;
+    if (shardheap_overlap(told, sizeof *told, heap, sizeof *heap)) return SHARDHEAP_OVERLAP;
+    uint32_t code = shardheap_begin_heap(heap);
+    return code == SHARDHEAP_OK ? shardheap_end(&heap->seal, shardheap_raw_totals(heap, told)) : code;
 }
 
-/* ---- Tags: 8 bits of one's own on a key of layout tagged ---- */
+/* ---- Tags: 8 bits of the caller's on a key of layout tagged ---- */
 
 /* Puts a tag, 0 to 255, at bits 56 to 63 of a key below 2^52. A tagged number is no key: untag it for the calls below.
-   BAD_KEY where either is out of its range. */
+   BAD_KEY if either is out of its range. */
 static inline uint32_t shardheap_tag(uint64_t key, uint32_t tag, uint64_t *number) {
-    return number ? shardheap_raw_tag(key, tag, number) : (uint32_t)SHARDHEAP_NULL;
+    return number ? shardheap_raw_tag(shardheap_bare(key), tag, number) : (uint32_t)SHARDHEAP_NULL;
 }
 
-/* Tells the key and the tag of a number. BAD_KEY where its bits 52 to 55 are not all zero. */
+/* Takes the key and the tag out of a number. BAD_KEY if its bits 52 to 55 are not all zero; OVERLAP. */
 static inline uint32_t shardheap_untag(uint64_t number, uint64_t *key, uint32_t *tag) {
-    return key && tag ? shardheap_raw_untag(number, key, tag) : (uint32_t)SHARDHEAP_NULL;
+    if (!key || !tag) return SHARDHEAP_NULL;
+    if (shardheap_overlap(key, sizeof *key, tag, sizeof *tag)) return SHARDHEAP_OVERLAP;
+    return shardheap_raw_untag(number, key, tag);
 }
 
 /* ---- A pass ---- */
 
-/* Brings the pass home, and empties the handle: whoever takes it next has its holds. OWNS, with nothing done, where it
-   owns a shard. EMPTY. (OCCUPIED and MEMORY only where another handle's bytes were forged.)
+/* Brings the pass home and empties the handle. The next caller that takes the pass has its holds. OWNS, with nothing
+   done, if it owns a shard. EMPTY. (OCCUPIED and MEMORY only if another handle's bytes were forged.)
 
        code = shardheap_give(&pass);
        if (code == SHARDHEAP_OWNS) code = shardheap_leave(&pass);    then it may be given */
 static inline uint32_t shardheap_give(shardheap_pass *pass) {
-    return pass ? shardheap_raw_give(pass) : (uint32_t)SHARDHEAP_NULL;
+    uint32_t code = shardheap_begin_pass(pass);
+    return code == SHARDHEAP_OK ? shardheap_settle_pass(pass, shardheap_raw_give(pass)) : code;
 }
 
-/* Empties the handle, and the pass is lost: its holds stay for good, and so does a shard that it owns. Give it home
-   where you can.
+/* Closes the handle of a pass: it does and returns what a give does. So the pass comes home, and after OWNS nothing was
+   done. EMPTY, OWNS.
 
-       shardheap_pass_close(&pass); */
-static inline void shardheap_pass_close(shardheap_pass *pass) {
-    if (pass) shardheap_raw_pass_close(pass);
+       code = shardheap_pass_close(&pass); */
+static inline uint32_t shardheap_pass_close(shardheap_pass *pass) {
+    uint32_t code = shardheap_begin_pass(pass);
+    return code == SHARDHEAP_OK ? shardheap_settle_pass(pass, shardheap_raw_pass_close(pass)) : code;
+}
+
+/* Loses the pass, and empties the handle: the heap has one pass less for good, its holds stay, and a shard that it owns
+   has no other owner again. No other call loses a pass. EMPTY.
+
+       code = shardheap_pass_lose(&pass);    only where it cannot leave its shard */
+static inline uint32_t shardheap_pass_lose(shardheap_pass *pass) {
+    uint32_t code = shardheap_begin_pass(pass);
+    return code == SHARDHEAP_OK ? shardheap_settle_pass(pass, shardheap_raw_pass_lose(pass)) : code;
 }
 
 /* Takes a hold on a key, so that its value stays readable. A pass has at most 16 holds, also several on one key.
@@ -254,20 +482,27 @@ static inline void shardheap_pass_close(shardheap_pass *pass) {
 
        if (shardheap_get(&pass, key) == SHARDHEAP_OK) code = shardheap_release(&pass, key); */
 static inline uint32_t shardheap_get(shardheap_pass *pass, uint64_t key) {
-    return pass ? shardheap_raw_get(pass, key) : (uint32_t)SHARDHEAP_NULL;
+    uint32_t code = shardheap_begin_key(pass, &key);
+    return code == SHARDHEAP_OK ? shardheap_end(&pass->seal, shardheap_raw_get(pass, key)) : code;
 }
 
-/* What a read and a load have in common: one of the two, into the caller's own room. A room of none may be null. */
+/* What a read and a load have in common: one of the two, into the caller's own room. A room of 0 words may be null. */
 static inline uint32_t shardheap_fill(
     uint32_t (*raw)(shardheap_pass *pass, uint64_t key, uint64_t *words, size_t room, uint64_t *length),
     shardheap_pass *pass, uint64_t key, uint64_t *words, size_t room, uint64_t *length) {
     uint64_t none;
     if (!pass || !length || (!words && room)) return SHARDHEAP_NULL;
-    return raw(pass, key, words ? words : &none, room, length);
+    if (shardheap_overlap(words, room * sizeof *words, length, sizeof *length) ||
+        shardheap_overlap(words, room * sizeof *words, pass, sizeof *pass) ||
+        shardheap_overlap(length, sizeof *length, pass, sizeof *pass))
+        return SHARDHEAP_OVERLAP;
+    uint32_t code = shardheap_begin_key(pass, &key);
+    if (code != SHARDHEAP_OK) return code;
+    return shardheap_end(&pass->seal, raw(pass, key, words ? words : &none, room, length));
 }
 
-/* Reads the value of a key that the pass holds into `words`, which has room for so many, and tells its length.
-   NOT_HELD, EMPTY; SHORT, with nothing read but the length. A room of 16 is always enough.
+/* Reads the value of a key that the pass holds into `words`, which has room for `room` words, and its length into
+   `length`. NOT_HELD, EMPTY, OVERLAP; SHORT, with only the length read. A room of 16 is always enough.
 
        code = shardheap_read(&pass, key, room, 16, &length);    room[0] to room[length - 1] are the value */
 static inline uint32_t shardheap_read(shardheap_pass *pass, uint64_t key, uint64_t *words, size_t room,
@@ -279,11 +514,12 @@ static inline uint32_t shardheap_read(shardheap_pass *pass, uint64_t key, uint64
 
        code = shardheap_release(&pass, key); */
 static inline uint32_t shardheap_release(shardheap_pass *pass, uint64_t key) {
-    return pass ? shardheap_raw_release(pass, key) : (uint32_t)SHARDHEAP_NULL;
+    uint32_t code = shardheap_begin_key(pass, &key);
+    return code == SHARDHEAP_OK ? shardheap_end(&pass->seal, shardheap_raw_release(pass, key)) : code;
 }
 
-/* A get, a read and a release in one: the holds are as before. BAD_KEY, HOLDS_FULL, GONE, CROWDED, EMPTY; SHORT, with
-   nothing read but the length.
+/* A get, a read and a release in one: the holds are as before. BAD_KEY, HOLDS_FULL, GONE, CROWDED, EMPTY, OVERLAP;
+   SHORT, with only the length read.
 
        code = shardheap_load(&pass, key, room, 16, &length);
        if (code == SHARDHEAP_GONE) length = 0;    another pass removed it */
@@ -296,7 +532,8 @@ static inline uint32_t shardheap_load(shardheap_pass *pass, uint64_t key, uint64
 
        code = shardheap_remove(&pass, key); */
 static inline uint32_t shardheap_remove(shardheap_pass *pass, uint64_t key) {
-    return pass ? shardheap_raw_remove(pass, key) : (uint32_t)SHARDHEAP_NULL;
+    uint32_t code = shardheap_begin_key(pass, &key);
+    return code == SHARDHEAP_OK ? shardheap_end(&pass->seal, shardheap_raw_remove(pass, key)) : code;
 }
 
 /* ---- The owner of a shard ---- */
@@ -305,16 +542,18 @@ static inline uint32_t shardheap_remove(shardheap_pass *pass, uint64_t key) {
 
        code = shardheap_adopt(&pass, 3);    TAKEN, until its owner leaves */
 static inline uint32_t shardheap_adopt(shardheap_pass *pass, uint64_t shard) {
-    return pass ? shardheap_raw_adopt(pass, shard) : (uint32_t)SHARDHEAP_NULL;
+    uint32_t code = shardheap_begin_pass(pass);
+    return code == SHARDHEAP_OK ? shardheap_end(&pass->seal, shardheap_raw_adopt(pass, shard)) : code;
 }
 
-/* Leaves the shard that the pass owns to whoever adopts it next. NO_SHARD, EMPTY; WAITING, where another pass is in the
-   middle of a free there: the shard is still owned, and serves as before.
+/* Leaves the shard that the pass owns, so that another pass may adopt it. NO_SHARD, EMPTY; WAITING, if another pass is
+   in the middle of a free there: the shard is still owned, and serves as before.
 
        do code = shardheap_leave(&pass);
        while (code == SHARDHEAP_WAITING);    with a pause between, such as sched_yield() */
 static inline uint32_t shardheap_leave(shardheap_pass *pass) {
-    return pass ? shardheap_raw_leave(pass) : (uint32_t)SHARDHEAP_NULL;
+    uint32_t code = shardheap_begin_pass(pass);
+    return code == SHARDHEAP_OK ? shardheap_end(&pass->seal, shardheap_raw_leave(pass)) : code;
 }
 
 /* Collects what others freed on all pages of the shard, so that pages of which nothing is used may take values of
@@ -322,30 +561,43 @@ static inline uint32_t shardheap_leave(shardheap_pass *pass) {
 
        code = shardheap_collect(&pass); */
 static inline uint32_t shardheap_collect(shardheap_pass *pass) {
-    return pass ? shardheap_raw_collect(pass) : (uint32_t)SHARDHEAP_NULL;
+    uint32_t code = shardheap_begin_pass(pass);
+    return code == SHARDHEAP_OK ? shardheap_end(&pass->seal, shardheap_raw_collect(pass)) : code;
 }
 
-/* Gives a page of the shard to values of 0 to 16 words, and tells its number. NO_SHARD, TOO_LONG, FULL, MEMORY,
-   EMPTY.
+/* Gives a page of the shard to values of `words` words, 0 to 16, and writes its number to `page`. NO_SHARD, TOO_LONG,
+   FULL, MEMORY, EMPTY, OVERLAP.
 
        code = shardheap_prepare(&pass, 2, &page);    the next inserts of 2 words need not look for a page */
 static inline uint32_t shardheap_prepare(shardheap_pass *pass, uint32_t words, uint32_t *page) {
-    return pass && page ? shardheap_raw_prepare(pass, words, page) : (uint32_t)SHARDHEAP_NULL;
+    if (!pass || !page) return SHARDHEAP_NULL;
+    if (shardheap_overlap(page, sizeof *page, pass, sizeof *pass)) return SHARDHEAP_OVERLAP;
+    uint32_t code = shardheap_begin_pass(pass);
+    return code == SHARDHEAP_OK ? shardheap_end(&pass->seal, shardheap_raw_prepare(pass, words, page)) : code;
 }
 
-/* Stores a value of so many words, 0 to 16, in the shard that the pass owns, and tells its key. NO_SHARD, TOO_LONG,
-   MEMORY, EMPTY; FULL, where no page that the owner knows of has room: what others freed on pages of other lengths it
-   does not look at.
+/* Stores a value of `count` words, 0 to 16, in the shard that the pass owns, and writes its key to `key`. NO_SHARD,
+   TOO_LONG, MEMORY, EMPTY, OVERLAP; FULL, if no page that the owner knows of has room. It does not look at what others
+   freed on pages of other lengths.
 
        code = shardheap_insert_once(&pass, words, 2, &key);
        if (code == SHARDHEAP_FULL) code = shardheap_collect(&pass);    then try again, or not */
 static inline uint32_t shardheap_insert_once(shardheap_pass *pass, const uint64_t *words, size_t count, uint64_t *key) {
     uint64_t none = 0;
     if (!pass || !key || (!words && count)) return SHARDHEAP_NULL;
-    return shardheap_raw_insert(pass, words ? words : &none, count, key);
+    if (shardheap_overlap(words, count * sizeof *words, key, sizeof *key) ||
+        shardheap_overlap(words, count * sizeof *words, pass, sizeof *pass) ||
+        shardheap_overlap(key, sizeof *key, pass, sizeof *pass))
+        return SHARDHEAP_OVERLAP;
+    uint32_t code = shardheap_begin_pass(pass);
+    if (code != SHARDHEAP_OK) return code;
+    code = shardheap_raw_insert(pass, words ? words : &none, count, key);
+    if (code == SHARDHEAP_OK) *key = shardheap_marked(pass->seal.mark, *key);
+    return shardheap_end(&pass->seal, code);
 }
 
-/* The same, but where the shard is FULL it collects, once, and tries again. FULL, NO_SHARD, TOO_LONG, MEMORY, EMPTY.
+/* The same, but if the shard is FULL it collects once and tries again. FULL, NO_SHARD, TOO_LONG, MEMORY, EMPTY,
+   OVERLAP.
 
        code = shardheap_insert(&pass, words, 2, &key);    the value is words[0] and words[1] */
 static inline uint32_t shardheap_insert(shardheap_pass *pass, const uint64_t *words, size_t count, uint64_t *key) {

@@ -1,5 +1,6 @@
 -- Calls on a handle that holds something.
-use Rattle.std.proofs.Common.{◌≡◌, ℕ, List, sym, subst, Result}
+use Rattle.std.proofs.Common.{◌≡◌, ℕ, List, false, refl, sym, subst, Result}
+use Rattle.std.proofs.lemmas.Bool.{false≢true}
 use Rattle.std.specs.declared.option.Option.{Option}
 use Rattle.std.specs.declared.option.Option.TheVariants.{None, Some}
 use Rattle.sh_key.specs.Layout.{Layout}
@@ -8,8 +9,29 @@ use Rattle.sh_pass.specs.Passes.{Caller}
 use Rattle.sh_member.specs.Sides.{SideDoes}
 use Rattle.sh_handles.specs.declared.member.AnyMember.{AnyMember}
 use Rattle.sh_handles.specs.Members.{AnyDoes}
-use Rattle.sh_c.specs.Told.{Asked, AskedNumber, ReadBy, ReadTold, code_of, number_told}
+use Rattle.sh_nullable.specs.Owning.{has_value}
+use Rattle.sh_c.specs.Told.{Asked, AskedNumber, ReadBy, ReadTold, code_of, empty_code, number_told}
 
+-- an empty handle is asked nothing
+no_value : {V : Type 0} (o : Option V) → has_value o ≡ false → o ≡ None
+no_value None e = refl
+no_value (Some v) e = absurd (false≢true (sym e))
+
+pub unasked : {V A : Type 0} (does : V → Result A Refusal → V → Type 0) (a : Option V) → has_value a ≡ false
+    → Asked does empty_code a a
+unasked does a e = subst (λ o. Asked does empty_code o o) (sym (no_value a e)) (refl, refl)
+
+pub unasked_number : {V : Type 0} (does : V → Result ℕ Refusal → V → Type 0) (old : ℕ) (a : Option V)
+    → has_value a ≡ false → AskedNumber does empty_code old old a a
+unasked_number does old a e = subst (λ o. AskedNumber does empty_code old old o o) (sym (no_value a e))
+    (refl, refl, refl)
+
+pub unread : (reads : Layout → Caller → Result (List ℕ) Refusal → Caller → Type 0) (old : List ℕ) (was : ℕ)
+    (a : Option AnyMember) → has_value a ≡ false → ReadTold reads empty_code old old was was a a
+unread reads old was a e = subst (λ o. ReadTold reads empty_code old old was was o o) (sym (no_value a e))
+    (refl, refl, refl, refl)
+
+-- and a full one is asked
 pub asked : {V A : Type 0} (does : V → Result A Refusal → V → Type 0) (code : ℕ) (a b : Option V) (v w : V)
     (answer : Result A Refusal) → a ≡ Some v → b ≡ Some w → code ≡ code_of answer → does v answer w
     → Asked does code a b

@@ -28,6 +28,14 @@ OpenTold opens number code (Some heap) after = (code ≡ 15) × (after ≡ Some 
 OpenTold opens number code None after = ((3 < number) × (code ≡ 19) × (after ≡ None))
     ⊎ ((name : LayoutName) × (layout_number name ≡ number) × PutOpened (opens (layout_named name)) code after)
 
+-- a second handle of a heap by code: a full one stays as it was, and so do both where there is no heap; the heap stays
+-- in its own handle, and is in the other too, unless memory was refused
+abbrev pub ShareTold : ℕ → Option AnyHeap → Option AnyHeap → Option AnyHeap → Option AnyHeap → Type 0
+ShareTold code heap left (Some h) after = (code ≡ 15) × (left ≡ heap) × (after ≡ Some h)
+ShareTold code None left None after = (code ≡ 14) × (left ≡ None) × (after ≡ None)
+ShareTold code (Some heap) left None after = (left ≡ Some heap)
+    × (((code ≡ 0) × (after ≡ Some heap)) ⊎ ((code ≡ 8) × (after ≡ None)))
+
 -- how many passes the heap has, and 0 where there is no heap
 abbrev pub PassesTold : ℕ → Option AnyHeap → Option AnyHeap → Type 0
 PassesTold told None after = (told ≡ 0) × (after ≡ None)
@@ -58,3 +66,8 @@ abbrev pub GiveTold : ℕ → Option AnyMember → Option AnyMember → Type 0
 GiveTold code None after = (code ≡ 14) × (after ≡ None)
 GiveTold code (Some m) after = ((¬ IsPass (side_of m)) × (code ≡ 20) × (after ≡ Some m))
     ⊎ (IsPass (side_of m) × (((code ≡ 0) × (after ≡ None)) ⊎ IsPutBack m code after))
+
+-- a pass is lost by code: the handle is empty afterwards
+abbrev pub LoseTold : ℕ → Option AnyMember → Option AnyMember → Type 0
+LoseTold code None after = (code ≡ 14) × (after ≡ None)
+LoseTold code (Some m) after = (code ≡ 0) × (after ≡ None)

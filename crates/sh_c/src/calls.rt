@@ -12,40 +12,37 @@ use std::alloc::Global;
 
 /// Takes a hold on a key.
 #[unsafe(no_mangle)]
-pub extern "C" fn shardheap_raw_get(alloc: Global, pass: &mut PassHandle, key: u64) -> u32
+pub extern "C" fn shardheap_raw_get(_alloc: Global, pass: &mut PassHandle, key: u64) -> u32
     ensures { Asked (AnyDoes (λ l. SideDoes l (GetDoes l key))) result pass.old.slot.value pass.new.slot.value }
 {
-    let Some(mut held) = pass.take(alloc) else {
+    if !pass.is_full() {
         return EMPTY;
-    };
-    let answer = held.get(key);
-    *pass = PassHandle::of(held);
+    }
+    let answer = pass.held().get(key);
     code(&answer)
 }
 
 /// Gives one hold on a key back.
 #[unsafe(no_mangle)]
-pub extern "C" fn shardheap_raw_release(alloc: Global, pass: &mut PassHandle, key: u64) -> u32
+pub extern "C" fn shardheap_raw_release(_alloc: Global, pass: &mut PassHandle, key: u64) -> u32
     ensures { Asked (AnyDoes (λ l. SideDoes l (ReleaseDoes l key))) result pass.old.slot.value pass.new.slot.value }
 {
-    let Some(mut held) = pass.take(alloc) else {
+    if !pass.is_full() {
         return EMPTY;
-    };
-    let answer = held.release(Hold { key });
-    *pass = PassHandle::of(held);
+    }
+    let answer = pass.held().release(Hold { key });
     code(&answer)
 }
 
 /// Removes a key.
 #[unsafe(no_mangle)]
-pub extern "C" fn shardheap_raw_remove(alloc: Global, pass: &mut PassHandle, key: u64) -> u32
+pub extern "C" fn shardheap_raw_remove(_alloc: Global, pass: &mut PassHandle, key: u64) -> u32
     ensures { Asked (AnyDoes (λ l. SideDoes l (RemoveDoes l key))) result pass.old.slot.value pass.new.slot.value }
 {
-    let Some(mut held) = pass.take(alloc) else {
+    if !pass.is_full() {
         return EMPTY;
-    };
-    let answer = held.remove(key);
-    *pass = PassHandle::of(held);
+    }
+    let answer = pass.held().remove(key);
     code(&answer)
 }
 
@@ -54,36 +51,33 @@ pub extern "C" fn shardheap_raw_remove(alloc: Global, pass: &mut PassHandle, key
 pub extern "C" fn shardheap_raw_adopt(alloc: Global, pass: &mut PassHandle, shard: u64) -> u32
     ensures { Asked (AnyDoes (λ l. SideAdopts shard)) result pass.old.slot.value pass.new.slot.value }
 {
-    let Some(mut held) = pass.take(alloc) else {
+    if !pass.is_full() {
         return EMPTY;
-    };
-    let answer = held.adopt(alloc, shard);
-    *pass = PassHandle::of(held);
+    }
+    let answer = pass.held().adopt(alloc, shard);
     code(&answer)
 }
 
 /// Leaves the shard that the pass owns.
 #[unsafe(no_mangle)]
-pub extern "C" fn shardheap_raw_leave(alloc: Global, pass: &mut PassHandle) -> u32
+pub extern "C" fn shardheap_raw_leave(_alloc: Global, pass: &mut PassHandle) -> u32
     ensures { Asked (AnyDoes (λ l. SideLeaves)) result pass.old.slot.value pass.new.slot.value }
 {
-    let Some(mut held) = pass.take(alloc) else {
+    if !pass.is_full() {
         return EMPTY;
-    };
-    let answer = held.leave();
-    *pass = PassHandle::of(held);
+    }
+    let answer = pass.held().leave();
     code(&answer)
 }
 
 /// Collects what others freed in the shard that the pass owns.
 #[unsafe(no_mangle)]
-pub extern "C" fn shardheap_raw_collect(alloc: Global, pass: &mut PassHandle) -> u32
+pub extern "C" fn shardheap_raw_collect(_alloc: Global, pass: &mut PassHandle) -> u32
     ensures { Asked (AnyDoes SideCollects) result pass.old.slot.value pass.new.slot.value }
 {
-    let Some(mut held) = pass.take(alloc) else {
+    if !pass.is_full() {
         return EMPTY;
-    };
-    let answer = held.collect();
-    *pass = PassHandle::of(held);
+    }
+    let answer = pass.held().collect();
     code(&answer)
 }

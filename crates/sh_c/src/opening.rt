@@ -1,9 +1,9 @@
-//! Opening and closing a heap.
+//! Opening, sharing and closing a heap.
 ghost use Rattle.std.specs.Prelude.{◌≡◌, None};
 ghost use Rattle.sh_handles.specs.Heaps.{OpensShaped, OpensFor};
-ghost use Rattle.sh_c.specs.Opened.{OpenTold, HeapPut};
+ghost use Rattle.sh_c.specs.Opened.{OpenTold, HeapPut, ShareTold};
 
-use crate::codes::{BAD_LAYOUT, OCCUPIED, OK};
+use crate::codes::{BAD_LAYOUT, EMPTY, OCCUPIED, OK};
 use sh_handles::heap::LayoutName;
 use sh_handles::{AnyHeap, HeapHandle};
 use sh_value::Refusal;
@@ -75,8 +75,30 @@ pub extern "C" fn shardheap_raw_open_for(
     put_opened(alloc, heap, opened)
 }
 
-/// Frees what the handle holds, and leaves it empty. The heap itself goes with the last of its passes.
+/// A second handle of the heap, into an empty handle.
 #[unsafe(no_mangle)]
-pub extern "C" fn shardheap_raw_close(alloc: Global, heap: &mut HeapHandle) {
+pub extern "C" fn shardheap_raw_share(
+    alloc: Global,
+    heap: &mut HeapHandle,
+    other: &mut HeapHandle,
+) -> u32
+    ensures { ShareTold result heap.old.slot.value heap.new.slot.value other.old.slot.value other.new.slot.value }
+{
+    if other.is_full() {
+        return OCCUPIED;
+    }
+    let Some(held) = heap.take(alloc) else {
+        return EMPTY;
+    };
+    let shared = held.share();
+    *heap = HeapHandle::of(held);
+    put_opened(alloc, other, shared)
+}
+
+/// Leaves the handle empty, and lets its share of the heap go. The heap goes with the last of its handles and passes.
+#[unsafe(no_mangle)]
+pub extern "C" fn shardheap_raw_close(alloc: Global, heap: &mut HeapHandle)
+    ensures { heap.new.slot.value ≡ None }
+{
     drop(heap.take(alloc));
 }

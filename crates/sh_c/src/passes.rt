@@ -1,7 +1,7 @@
-//! Passes: how they are taken and come home.
+//! Passes: how they are taken, come home or are lost.
 ghost use Rattle.std.specs.Prelude.{◌≡◌, None, IfSome, MatchResult};
 ghost use Rattle.sh_value.specs.declared.refusal.Refusal.TheVariants.{Memory};
-ghost use Rattle.sh_c.specs.Opened.{PassesTold, TakeTold, GiveTold, IsPutBack, HasBegun};
+ghost use Rattle.sh_c.specs.Opened.{PassesTold, TakeTold, GiveTold, LoseTold, IsPutBack, HasBegun};
 
 use crate::codes::{EMPTY, NO_PASS, OCCUPIED, OK, OWNS};
 use sh_handles::{AnyHeap, AnyMember, HeapHandle, PassHandle};
@@ -66,9 +66,8 @@ pub extern "C" fn shardheap_raw_take(
     }
 }
 
-/// Brings the pass home, and leaves the handle empty; a pass that owns a shard stays as it is.
-#[unsafe(no_mangle)]
-pub extern "C" fn shardheap_raw_give(alloc: Global, pass: &mut PassHandle) -> u32
+// Brings the pass home, and leaves the handle empty; a pass that owns a shard stays as it is.
+fn bring_home(alloc: Global, pass: &mut PassHandle) -> u32
     ensures { GiveTold result pass.old.slot.value pass.new.slot.value }
 {
     let Some(held) = pass.take(alloc) else {
@@ -84,7 +83,15 @@ pub extern "C" fn shardheap_raw_give(alloc: Global, pass: &mut PassHandle) -> u3
     }
 }
 
-// Puts a pass back whose berth is not free.
+/// Brings the pass home, and leaves the handle empty; a pass that owns a shard stays as it is.
+#[unsafe(no_mangle)]
+pub extern "C" fn shardheap_raw_give(alloc: Global, pass: &mut PassHandle) -> u32
+    ensures { GiveTold result pass.old.slot.value pass.new.slot.value }
+{
+    bring_home(alloc, pass)
+}
+
+// Puts a pass back whose berth is not free. Where memory for its box is refused, it is lost.
 fn put_back(alloc: Global, pass: &mut PassHandle, member: AnyMember) -> u32
     requires { pass.old.slot.value ≡ None }
     ensures { IsPutBack member result pass.new.slot.value }
@@ -94,12 +101,31 @@ fn put_back(alloc: Global, pass: &mut PassHandle, member: AnyMember) -> u32
             *pass = PassHandle::of(held);
             OCCUPIED
         }
-        Err(_) => Refusal::Memory.number(),
+        Err(failed) => {
+            failed.value.lose();
+            Refusal::Memory.number()
+        }
     }
 }
 
-/// Frees the pass, and leaves the handle empty. A shard that it owns stays owned for good, and its holds stay.
+/// Closes the handle of a pass as a give does: the pass comes home, and one that owns a shard stays as it is.
 #[unsafe(no_mangle)]
-pub extern "C" fn shardheap_raw_pass_close(alloc: Global, pass: &mut PassHandle) {
-    drop(pass.take(alloc));
+pub extern "C" fn shardheap_raw_pass_close(alloc: Global, pass: &mut PassHandle) -> u32
+    ensures { GiveTold result pass.old.slot.value pass.new.slot.value }
+{
+    bring_home(alloc, pass)
+}
+
+/// Loses the pass, and leaves the handle empty. A shard that it owns stays owned for good, and its holds stay.
+#[unsafe(no_mangle)]
+pub extern "C" fn shardheap_raw_pass_lose(alloc: Global, pass: &mut PassHandle) -> u32
+    ensures { LoseTold result pass.old.slot.value pass.new.slot.value }
+{
+    match pass.take(alloc) {
+        Some(held) => {
+            Box::into_inner(held).lose();
+            OK
+        }
+        None => EMPTY,
+    }
 }

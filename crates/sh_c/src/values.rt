@@ -27,7 +27,7 @@ fn tell_words(value: &Value, words: &mut [u64], count: &mut u64) -> u32
 /// Reads the value of a key that the pass holds.
 #[unsafe(no_mangle)]
 pub extern "C" fn shardheap_raw_read(
-    alloc: Global,
+    _alloc: Global,
     pass: &mut PassHandle,
     key: u64,
     words: &mut [u64],
@@ -36,13 +36,12 @@ pub extern "C" fn shardheap_raw_read(
     ensures { ReadTold (λ l. ReadDoes key) result words.old words.new count.old count.new pass.old.slot.value
         pass.new.slot.value }
 {
-    let Some(mut held) = pass.take(alloc) else {
+    if !pass.is_full() {
         return EMPTY;
-    };
+    }
     // (It has one word, as most values have: to read such a one into it is one store.)
     let mut value = Value::from(0);
-    let answer = held.read_into(Hold { key }, &mut value);
-    *pass = PassHandle::of(held);
+    let answer = pass.held().read_into(Hold { key }, &mut value);
     match answer {
         Ok(()) => tell_words(&value, words, count),
         Err(refusal) => refusal.number(),
@@ -52,7 +51,7 @@ pub extern "C" fn shardheap_raw_read(
 /// Gets, reads and releases a key in one. The holds stay as they were.
 #[unsafe(no_mangle)]
 pub extern "C" fn shardheap_raw_load(
-    alloc: Global,
+    _alloc: Global,
     pass: &mut PassHandle,
     key: u64,
     words: &mut [u64],
@@ -61,13 +60,12 @@ pub extern "C" fn shardheap_raw_load(
     ensures { ReadTold (λ l. FetchDoes l key) result words.old words.new count.old count.new pass.old.slot.value
         pass.new.slot.value }
 {
-    let Some(mut held) = pass.take(alloc) else {
+    if !pass.is_full() {
         return EMPTY;
-    };
+    }
     // (It has one word, as most values have: to read such a one into it is one store.)
     let mut value = Value::from(0);
-    let answer = held.fetch_into(key, &mut value);
-    *pass = PassHandle::of(held);
+    let answer = pass.held().fetch_into(key, &mut value);
     match answer {
         Ok(()) => tell_words(&value, words, count),
         Err(refusal) => refusal.number(),
@@ -108,18 +106,17 @@ fn tell_key(answer: &Result<u64, Refusal>, key: &mut u64)
 /// Stores a value under a new key in the shard that the pass owns, and tells the key.
 #[unsafe(no_mangle)]
 pub extern "C" fn shardheap_raw_insert(
-    alloc: Global,
+    _alloc: Global,
     pass: &mut PassHandle,
     words: &[u64],
     key: &mut u64,
 ) -> u32
     ensures { InsertTold words.now result key.old key.new pass.old.slot.value pass.new.slot.value }
 {
-    let Some(mut held) = pass.take(alloc) else {
+    if !pass.is_full() {
         return EMPTY;
-    };
-    let answer = insert_words(&mut held, words);
-    *pass = PassHandle::of(held);
+    }
+    let answer = insert_words(pass.held(), words);
     tell_key(&answer, key);
     code(&answer)
 }
@@ -146,18 +143,17 @@ fn tell_page(answer: &Result<u32, Refusal>, page: &mut u32)
 /// Gives a page of the shard that the pass owns to values of so many words, and tells the page.
 #[unsafe(no_mangle)]
 pub extern "C" fn shardheap_raw_prepare(
-    alloc: Global,
+    _alloc: Global,
     pass: &mut PassHandle,
     words: u32,
     page: &mut u32,
 ) -> u32
     ensures { PrepareTold words result page.old page.new pass.old.slot.value pass.new.slot.value }
 {
-    let Some(mut held) = pass.take(alloc) else {
+    if !pass.is_full() {
         return EMPTY;
-    };
-    let answer = prepare_for(&mut held, words);
-    *pass = PassHandle::of(held);
+    }
+    let answer = prepare_for(pass.held(), words);
     tell_page(&answer, page);
     code(&answer)
 }

@@ -2,3 +2,4 @@ pub mod Members
 pub mod Heaps
 pub mod HeapOwning
 pub mod PassOwning
+pub mod PassLending

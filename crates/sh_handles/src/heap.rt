@@ -1,7 +1,7 @@
 //! Heaps of any layout.
 ghost use Rattle.std.specs.Prelude.{◌≡◌, ◌<◌, IfSome, MatchOption, MatchResult};
 ghost use Rattle.sh_shape.specs.Rooms.{IsLeastRoomy, NoneRoomy};
-ghost use Rattle.sh_value.specs.declared.refusal.Refusal.TheVariants.{BadShape};
+ghost use Rattle.sh_value.specs.declared.refusal.Refusal.TheVariants.{BadShape, Memory};
 ghost use Rattle.sh_pool.specs.Berths.{OpensPool};
 ghost use Rattle.sh_handles.specs.Heaps.{AnyOpens, OpensShaped, OpensFor, AnyBegins};
 ghost use Rattle.sh_handles.specs.Heaps.{heap_of, layout_named, layout_number};
@@ -135,6 +135,18 @@ impl AnyHeap {
     {
         let shape = roomy(layout, owners, values, words, passes)?;
         AnyHeap::open(alloc, layout, shape)
+    }
+
+    /// One share more of the same heap. Refused as `Memory` where no more can be counted, which is after 2^63.
+    pub fn share(&self) -> Result<AnyHeap, Refusal>
+        ensures { MatchResult result (λ other. other ≡ self.now) (λ why. why ≡ Memory) }
+    {
+        match self {
+            AnyHeap::Wide(share) => Ok(AnyHeap::Wide(share.share()?)),
+            AnyHeap::Tagged(share) => Ok(AnyHeap::Tagged(share.share()?)),
+            AnyHeap::Deep(share) => Ok(AnyHeap::Deep(share.share()?)),
+            AnyHeap::Tiny(share) => Ok(AnyHeap::Tiny(share.share()?)),
+        }
     }
 
     /// How many passes the heap has, at home or away.

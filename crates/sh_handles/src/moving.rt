@@ -1,13 +1,10 @@
-// How a member adopts a shard and leaves it, and how its pass comes home.
+// How a member adopts a shard and leaves it.
 ghost use Rattle.sh_member.specs.Sides.{SideAdopts, SideLeaves};
 ghost use Rattle.std.specs.Prelude.{MatchBool};
 ghost use Rattle.sh_member.specs.Sides.{IsPass};
-ghost use Rattle.sh_handles.specs.Members.{AnyDoes, AnyGives, Gives, side_of};
+ghost use Rattle.sh_handles.specs.Members.{AnyDoes, side_of};
 
 use crate::member::AnyMember;
-use sh_key::KeyLayout;
-use sh_member::Member;
-use sh_pool::{Berth, Share, give_pass};
 use sh_value::Refusal;
 use std::alloc::Global;
 
@@ -48,45 +45,5 @@ impl AnyMember {
             AnyMember::Deep(member, _) => member.owns_shard(),
             AnyMember::Tiny(member, _) => member.owns_shard(),
         }
-    }
-
-    /// Brings its pass home, where it owns no shard; else it comes back as it was.
-    pub fn go_home(self) -> Result<(), AnyMember>
-        ensures { AnyGives self result }
-    {
-        match self {
-            AnyMember::Wide(member, berth) => match given(member, berth) {
-                Ok(()) => Ok(()),
-                Err((member, berth)) => Err(AnyMember::Wide(member, berth)),
-            },
-            AnyMember::Tagged(member, berth) => match given(member, berth) {
-                Ok(()) => Ok(()),
-                Err((member, berth)) => Err(AnyMember::Tagged(member, berth)),
-            },
-            AnyMember::Deep(member, berth) => match given(member, berth) {
-                Ok(()) => Ok(()),
-                Err((member, berth)) => Err(AnyMember::Deep(member, berth)),
-            },
-            AnyMember::Tiny(member, berth) => match given(member, berth) {
-                Ok(()) => Ok(()),
-                Err((member, berth)) => Err(AnyMember::Tiny(member, berth)),
-            },
-        }
-    }
-}
-
-// Brings the pass home, where it owns no shard.
-fn given<L: KeyLayout>(
-    member: Member<L, Share<L>>,
-    berth: Berth<L>,
-) -> Result<(), (Member<L, Share<L>>, Berth<L>)>
-    ensures { Gives member berth result }
-{
-    match member.into_pass() {
-        Ok(pass) => match give_pass(pass, berth) {
-            Ok(()) => Ok(()),
-            Err((pass, berth)) => Err((Member::of(pass), berth)),
-        },
-        Err(member) => Err((member, berth)),
     }
 }

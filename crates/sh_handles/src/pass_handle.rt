@@ -46,18 +46,43 @@ impl PassSlot {
             alloc,
         }
     }
+
+    ghost use Rattle.std.specs.Borrow.{sem};
+    ghost use Rattle.sh_handles.specs.PassLending.{LendsPass};
+
+    // What it owns, in place. (It has a proof by hand.)
+    #[inline(always)]
+    fn in_place(&mut self) -> &mut AnyMember
+        requires { has_value self.old.value ≡ true }
+        ensures* writes_back { sem 𝓛 (LendsPass self.entry result) }
+        ensures value { self.old.value ≡ Some result.now }
+    {
+        unsafe { &mut *(self.at as *mut AnyMember) }
+    }
 }
 
 /// A pass or nothing, as C holds it: zeroed bytes are a handle of nothing.
+///
+/// Only an empty handle is dropped or overwritten: a pass is first taken out, and then given back or lost.
 #[repr(C)]
-#[derive(Drop)]
 pub struct PassHandle {
     pub(crate) slot: PassSlot,
     pub(crate) full: bool,
     ghost told: { has_value slot.value ≡ full },
 }
 
+impl Drop for PassHandle {
+    fn drop(self)
+        requires { self.slot.value ≡ None }
+    {
+        let PassHandle { slot: _, full: _ } = self;
+    }
+}
+
 impl PassHandle {
+    ghost use Rattle.std.specs.Borrow.{sem};
+    ghost use Rattle.sh_handles.specs.PassLending.{LendsHeld};
+
     /// A handle of nothing.
     pub fn empty(alloc: Global) -> PassHandle
         ensures { result.slot.value ≡ None }
@@ -85,12 +110,29 @@ impl PassHandle {
         self.full
     }
 
+    /// The pass of a full handle, in place.
+    #[inline(always)]
+    pub fn held(&mut self) -> &mut AnyMember
+        requires { has_value self.old.slot.value ≡ true }
+        ensures* writes_back { sem 𝓛 (LendsHeld self.entry result) }
+        ensures value { self.old.slot.value ≡ Some result.now }
+    {
+        self.slot.in_place()
+    }
+
     /// Takes the box out, where there is one.
     pub fn take(&mut self, alloc: Global) -> Option<Box<AnyMember, Global>>
         ensures gone { self.new.slot.value ≡ None }
         ensures value { MatchOption result (self.old.slot.value ≡ None) (λ b. self.old.slot.value ≡ Some b.value) }
     {
-        let PassHandle { slot, full } = replace(self, PassHandle::empty(alloc));
+        replace(self, PassHandle::empty(alloc)).into_box()
+    }
+
+    // The box, where there is one.
+    fn into_box(self) -> Option<Box<AnyMember, Global>>
+        ensures { MatchOption result (self.slot.value ≡ None) (λ b. self.slot.value ≡ Some b.value) }
+    {
+        let PassHandle { slot, full } = self;
         if full {
             Some(slot.into_slot().into_box())
         } else {

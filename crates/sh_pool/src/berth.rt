@@ -67,11 +67,12 @@ impl<L: KeyLayout> Drop for Resting<L> {
 // Where a pass is at home, or its berth while it is away. A contract sees the heap whose passes it is for.
 pub(crate) type BerthCell<L> = Counted<Option<Resting<L>>>;
 
-/// The berth of a pass that is away: its number, with the box that the pass lay in. Whoever has it gives the pass back
-/// by it.
+/// The berth of a pass that is away: its number, with the box that the pass was in. The pass is given back by it.
+///
+/// It is not `Drop`. Outside this module it ends in two ways only: `Pool::give` takes it with the pass, or `lose` ends
+/// it. So a pass that was taken is given back, or it is lost by name.
 ///
 /// A contract sees the number.
-#[derive(Drop)]
 pub struct Berth<L: KeyLayout> {
     number: usize,
     emptied: Box<Option<PassState<L>>, Global>,
@@ -94,15 +95,33 @@ impl<L: KeyLayout> Berth<L> {
     {
         self.number
     }
+
+    /// Loses the pass of this berth: the berth stays empty for good, and no call finds a pass there again. It frees the
+    /// box that the pass was in.
+    ///
+    /// What the pass itself has is lost with its state: its holds stay in their slots.
+    pub fn lose(self) {
+        let Berth {
+            number: _,
+            emptied: _,
+        } = self;
+    }
 }
 
-/// A pass that was taken, and the berth that waits for it.
-#[derive(Drop)]
+/// A pass that was taken, and the berth that waits for it. It is not `Drop`, since its berth is not.
 pub struct Taken<L: KeyLayout> {
     /// What the pass knows and holds.
     pub state: PassState<L>,
     /// Its berth, to give it back by.
     pub berth: Berth<L>,
+}
+
+impl<L: KeyLayout> Taken<L> {
+    /// Loses the pass, with its holds, and its berth.
+    pub fn lose(self) {
+        let Taken { state: _, berth } = self;
+        berth.lose();
+    }
 }
 
 // A berth with this pass at home.

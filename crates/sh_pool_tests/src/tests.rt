@@ -1,7 +1,9 @@
 //! What no clause says: that each pass is at home at first, that one which is away is taken by nobody, and that it can
 //! be taken again once it is back.
 use sh_key::Tiny;
-use sh_pool::{Pool, Share, Taken, give_pass, take_pass};
+use sh_pass::PassState;
+use sh_pass::pass::Pass;
+use sh_pool::{Berth, Pool, Share, Taken, give_pass, take_pass};
 use sh_shape::Shape;
 use sh_value::Refusal;
 use std::alloc::Global;
@@ -24,24 +26,102 @@ fn opened(rt: &impl Abort, alloc: Global, passes: u32) -> Pool<Tiny> {
     Pool::<Tiny>::open(alloc, shape).expect(rt, "a pool")
 }
 
+// The pass that is taken from the first berth where one is.
+pub(crate) fn taken(rt: &impl Abort, pool: &Pool<Tiny>) -> Taken<Tiny> {
+    match pool.take() {
+        Some(taken) => taken,
+        None => panic!(rt; "no pass is at home"),
+    }
+}
+
+// The pass of the berth of this number.
+pub(crate) fn taken_at(rt: &impl Abort, pool: &Pool<Tiny>, number: usize) -> Taken<Tiny> {
+    match pool.take_at(number) {
+        Some(taken) => taken,
+        None => panic!(rt; "the pass is away"),
+    }
+}
+
+// Whether no pass is at home: one that is there is lost.
+pub(crate) fn all_are_away(pool: &Pool<Tiny>) -> bool {
+    match pool.take() {
+        Some(taken) => {
+            taken.lose();
+            false
+        }
+        None => true,
+    }
+}
+
+// Whether the pass of the berth of this number is away, or there is no such berth: one that is there is lost.
+pub(crate) fn is_away(pool: &Pool<Tiny>, number: usize) -> bool {
+    match pool.take_at(number) {
+        Some(taken) => {
+            taken.lose();
+            false
+        }
+        None => true,
+    }
+}
+
+// Gives a pass back, and tells whether it came home: one that did not is lost.
+pub(crate) fn comes_home(pool: &Pool<Tiny>, taken: Taken<Tiny>) -> bool {
+    let Taken { state, berth } = taken;
+    match pool.give(state, berth) {
+        Ok(()) => true,
+        Err((_state, berth)) => {
+            berth.lose();
+            false
+        }
+    }
+}
+
 #[test]
 fn each_pass_is_taken_once_and_comes_home(rt: HostRuntime) {
     let pool = opened(&rt, rt.alloc(), 2);
     agree(&rt, pool.berths(), 2);
-    let (Some(one), Some(other)) = (pool.take(), pool.take()) else {
-        panic!(rt; "not two passes")
-    };
+    let one = taken(&rt, &pool);
+    let other = taken(&rt, &pool);
     agree(&rt, (one.berth.number(), other.berth.number()), (0, 1));
-    holds(&rt, pool.take().is_none());
-    holds(&rt, pool.give(other.state, other.berth).is_ok());
-    holds(&rt, pool.take_at(0).is_none());
-    holds(&rt, pool.take_at(2).is_none());
-    let Some(again) = pool.take() else {
-        panic!(rt; "no pass has come home")
-    };
+    holds(&rt, all_are_away(&pool));
+    holds(&rt, comes_home(&pool, other));
+    holds(&rt, is_away(&pool, 0));
+    holds(&rt, is_away(&pool, 2));
+    let again = taken(&rt, &pool);
     agree(&rt, again.berth.number(), 1);
-    holds(&rt, pool.give(one.state, one.berth).is_ok());
-    holds(&rt, pool.give(again.state, again.berth).is_ok());
+    holds(&rt, comes_home(&pool, one));
+    holds(&rt, comes_home(&pool, again));
+    holds(&rt, !all_are_away(&pool));
+}
+
+// A pass that is lost never comes home, and the other stays where it is.
+#[test]
+fn a_pass_that_is_lost_stays_away(rt: HostRuntime) {
+    let pool = opened(&rt, rt.alloc(), 2);
+    taken_at(&rt, &pool, 0).lose();
+    holds(&rt, is_away(&pool, 0));
+    let other = taken(&rt, &pool);
+    agree(&rt, other.berth.number(), 1);
+    holds(&rt, all_are_away(&pool));
+    holds(&rt, comes_home(&pool, other));
+    holds(&rt, is_away(&pool, 0));
+}
+
+// Gives a pass back by a berth of another pool, which is refused: its number, with the pass, and the berth is lost.
+fn refused(
+    rt: &impl Abort,
+    pool: &Pool<Tiny>,
+    state: PassState<Tiny>,
+    berth: Berth<Tiny>,
+) -> (PassState<Tiny>, usize) {
+    match pool.give(state, berth) {
+        Ok(()) => panic!(rt; "a berth of another pool serves"),
+        Err((state, berth)) => {
+            let number = berth.number();
+            berth.lose();
+            (state, number)
+        }
+    }
 }
 
 // The berths of another pool: the first one's pass is at home here, and the third one's number is too large.
@@ -49,35 +129,54 @@ fn each_pass_is_taken_once_and_comes_home(rt: HostRuntime) {
 fn a_berth_of_another_pool_is_refused(rt: HostRuntime) {
     let pool = opened(&rt, rt.alloc(), 2);
     let larger = opened(&rt, rt.alloc(), 3);
-    let (Some(first), Some(third)) = (larger.take_at(0), larger.take_at(2)) else {
-        panic!(rt; "no passes in the larger pool")
-    };
-    let Some(Taken { state, berth }) = pool.take_at(1) else {
-        panic!(rt; "no pass")
-    };
-    let Err((state, first)) = pool.give(state, first.berth) else {
-        panic!(rt; "it is given to a berth with a pass")
-    };
-    let Err((state, third)) = pool.give(state, third.berth) else {
-        panic!(rt; "it is given to a berth that is not there")
-    };
-    agree(&rt, (first.number(), third.number()), (0, 2));
-    holds(&rt, pool.give(state, berth).is_ok());
-    holds(&rt, pool.take_at(1).is_some());
+    let Taken {
+        state: _,
+        berth: first,
+    } = taken_at(&rt, &larger, 0);
+    let Taken {
+        state: _,
+        berth: third,
+    } = taken_at(&rt, &larger, 2);
+    let Taken { state, berth } = taken_at(&rt, &pool, 1);
+    let (state, first) = refused(&rt, &pool, state, first);
+    let (state, third) = refused(&rt, &pool, state, third);
+    agree(&rt, (first, third), (0, 2));
+    holds(&rt, comes_home(&pool, Taken { state, berth }));
+    holds(&rt, !is_away(&pool, 1));
+}
+
+// Takes a pass with a share of its pool.
+pub(crate) fn shared_pass(
+    rt: &impl Abort,
+    share: &Share<Tiny>,
+) -> (Pass<Tiny, Share<Tiny>>, Berth<Tiny>) {
+    match take_pass(share) {
+        Some(taken) => taken,
+        None => panic!(rt; "no pass"),
+    }
+}
+
+// Gives a pass back, and tells whether it came home: one that did not is lost.
+pub(crate) fn is_given(pass: Pass<Tiny, Share<Tiny>>, berth: Berth<Tiny>) -> bool {
+    match give_pass(pass, berth) {
+        Ok(()) => true,
+        Err((_pass, berth)) => {
+            berth.lose();
+            false
+        }
+    }
 }
 
 #[test]
 fn a_pass_outlives_the_share_that_it_was_taken_by(rt: HostRuntime) {
     let pool = opened(&rt, rt.alloc(), 1);
     let share = Share::new(rt.alloc(), pool).expect(&rt, "a share");
-    let Some((mut pass, berth)) = take_pass(&share) else {
-        panic!(rt; "no pass")
-    };
-    holds(&rt, take_pass(&share).is_none());
+    let (mut pass, berth) = shared_pass(&rt, &share);
+    holds(&rt, all_are_away(share.pool()));
     drop(share);
     agree(&rt, pass.get(0), Err(Refusal::BadKey));
     agree(&rt, pass.get(4_096), Err(Refusal::Gone));
-    holds(&rt, give_pass(pass, berth).is_ok());
+    holds(&rt, is_given(pass, berth));
 }
 
 // Takes a pass, looks a key up and gives the pass back, over and over: how often there was a pass, and how often one
@@ -89,7 +188,7 @@ fn taken_and_given(share: Share<Tiny>) -> (u32, u32) {
         if let Some((mut pass, berth)) = take_pass(&share) {
             taken = taken.saturating_add(1);
             let _gone = pass.get(4_096);
-            if give_pass(pass, berth).is_err() {
+            if !is_given(pass, berth) {
                 refused = refused.saturating_add(1);
             }
         }
@@ -110,7 +209,7 @@ fn two_threads_share_a_pool(rt: HostRuntime) {
     );
     agree(&rt, (seen.1, seen_too.1), (0, 0));
     holds(&rt, seen.0 > 0 && seen_too.0 > 0);
-    holds(&rt, share.pool().take().is_some());
+    holds(&rt, !all_are_away(share.pool()));
 }
 
 // A pool of two passes, opened once more where memory was refused.
@@ -138,5 +237,5 @@ fn refused_memory_is_told(rt: HostRuntime) {
         }
     };
     agree(&rt, share.pool().berths(), 2);
-    holds(&rt, take_pass(&share).is_some());
+    holds(&rt, !all_are_away(share.pool()));
 }

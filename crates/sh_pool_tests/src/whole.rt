@@ -1,9 +1,11 @@
 //! What no clause says: that a pass that is away is found to be, that those that were called are home again after it,
 //! and that what was joined once stays joined.
-use crate::tests::{agree, holds};
+use crate::tests::{
+    agree, all_are_away, comes_home, holds, is_away, is_given, shared_pass, taken, taken_at,
+};
 use sh_gather::Accounts;
 use sh_key::Tiny;
-use sh_pool::{Pool, Share, give_pass, take_pass};
+use sh_pool::{Pool, Share};
 use sh_shape::Shape;
 use sh_shard::shard::Shard;
 use sh_totals::Totals;
@@ -30,20 +32,17 @@ const NOTHING: Totals = Totals {
 #[test]
 fn a_pass_that_is_away_is_missed(rt: HostRuntime) {
     let pool = opened(&rt, rt.alloc(), 3);
-    let Some(away) = pool.take_at(1) else {
-        panic!(rt; "no pass")
-    };
+    let away = taken_at(&rt, &pool, 1);
     assert_eq!(rt; gather_pool(rt.alloc(), &pool), Err(NotTold::Away));
     assert_eq!(rt; pool_totals(&pool), Err(NotTold::Away));
     assert_eq!(rt; pool_accounts(&pool, 0, 0), Err(NotTold::Away));
     // Both of the others are at home again, and still two.
-    let (Some(one), Some(other)) = (pool.take_at(0), pool.take_at(2)) else {
-        panic!(rt; "a pass was lost")
-    };
+    let one = taken_at(&rt, &pool, 0);
+    let other = taken_at(&rt, &pool, 2);
     assert_eq!(rt; gather_pool(rt.alloc(), &pool), Err(NotTold::Away));
-    for taken in [one, away, other] {
-        assert!(rt; pool.give(taken.state, taken.berth).is_ok());
-    }
+    holds(&rt, comes_home(&pool, one));
+    holds(&rt, comes_home(&pool, away));
+    holds(&rt, comes_home(&pool, other));
     assert_eq!(rt; gather_pool(rt.alloc(), &pool), Ok(()));
     assert_eq!(rt; pool_totals(&pool), Ok(NOTHING));
 }
@@ -53,12 +52,10 @@ fn passes_that_met_are_one(rt: HostRuntime) {
     let pool = opened(&rt, rt.alloc(), 4);
     agree(&rt, pool_totals(&pool), Err(NotTold::Away));
     agree(&rt, gather_pool(rt.alloc(), &pool), Ok(()));
-    let Some(carrier) = pool.take() else {
-        panic!(rt; "the pass that carries the tales is not at home")
-    };
-    holds(&rt, pool.take().is_none());
+    let carrier = taken(&rt, &pool);
+    holds(&rt, all_are_away(&pool));
     agree(&rt, pool_totals(&pool), Err(NotTold::Away));
-    holds(&rt, pool.give(carrier.state, carrier.berth).is_ok());
+    holds(&rt, comes_home(&pool, carrier));
     agree(&rt, gather_pool(rt.alloc(), &pool), Ok(()));
     agree(&rt, pool_totals(&pool), Ok(NOTHING));
     agree(&rt, pool_accounts(&pool, 1, 0), Err(NotTold::NoPage));
@@ -67,9 +64,7 @@ fn passes_that_met_are_one(rt: HostRuntime) {
 
 // Inserts two values by a pass that is at home, and removes the first.
 fn one_value(rt: &impl Abort, alloc: Global, share: &Share<Tiny>) {
-    let Some((pass, berth)) = take_pass(share) else {
-        panic!(rt; "no pass")
-    };
+    let (pass, berth) = shared_pass(rt, share);
     let Ok(mut shard) = Shard::adopt(alloc, pass, 0) else {
         panic!(rt; "the shard is not adopted")
     };
@@ -79,7 +74,7 @@ fn one_value(rt: &impl Abort, alloc: Global, share: &Share<Tiny>) {
     let Ok(pass) = shard.leave() else {
         panic!(rt; "the shard is not left")
     };
-    holds(rt, give_pass(pass, berth).is_ok());
+    holds(rt, is_given(pass, berth));
 }
 
 #[test]
@@ -122,7 +117,7 @@ fn refused_memory_calls_nobody(rt: HostRuntime) {
         return;
     };
     if gather_pool(rt.alloc(), &pool) == Err(NotTold::Memory) {
-        holds(&rt, pool.take_at(0).is_some());
-        holds(&rt, pool.take_at(1).is_some());
+        holds(&rt, !is_away(&pool, 0));
+        holds(&rt, !is_away(&pool, 1));
     }
 }

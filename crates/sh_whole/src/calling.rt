@@ -9,12 +9,11 @@ ghost use Rattle.sh_whole.specs.Homes.{AreCalled, IsBerth};
 use sh_gather::Whole;
 use sh_gather::gathering::gather;
 use sh_key::KeyLayout;
-use sh_pass::Pass;
+use sh_pass::{Pass, PassState};
 use sh_pool::{Berth, Pool, Taken};
 use std::alloc::Global;
 
-// Passes that were at home, and a berth for each of them.
-#[derive(Drop)]
+// Passes that were at home, and a berth for each of them. It is not `Drop`, since a berth is not.
 pub(crate) struct Called<'p, L: KeyLayout> {
     passes: Vec<Pass<'p, L>>,
     berths: Vec<Berth<L>>,
@@ -60,7 +59,7 @@ fn call_one<'p, L: KeyLayout>(
     }
 }
 
-// Gives each pass a berth, which is free for it.
+// Gives each pass a berth. A pass whose berth is not free is lost.
 pub(crate) fn send_home<L: KeyLayout>(pool: &Pool<L>, called: Called<'_, L>)
     requires { AreCalled pool.now called.passes.items called.berths.items }
 {
@@ -70,8 +69,26 @@ pub(crate) fn send_home<L: KeyLayout>(pool: &Pool<L>, called: Called<'_, L>)
             unreachable!()
         };
         let (_heap, state) = pass.into_parts();
-        let _home = pool.give(state, berth);
+        give_or_lose(pool, state, berth);
     }
+    berths.destroy_empty();
+}
+
+// Gives the pass back, or loses it where its berth is not free: none of this pool's own passes is lost so.
+pub(crate) fn give_or_lose<L: KeyLayout>(pool: &Pool<L>, state: PassState<L>, berth: Berth<L>)
+    requires { state.heap ≡ pool.now }
+{
+    if let Err((_state, berth)) = pool.give(state, berth) {
+        berth.lose();
+    }
+}
+
+// Loses these berths, whose passes another has taken in.
+fn lose_all<L: KeyLayout>(mut berths: Vec<Berth<L>>) {
+    while let Some(berth) = berths.pop() {
+        berth.lose();
+    }
+    berths.destroy_empty();
 }
 
 // The whole, exactly where the tales of these passes together name all passes of the heap; with a berth for the one
@@ -92,6 +109,7 @@ pub(crate) fn meet<'p, L: KeyLayout>(
             let Some(berth) = berths.pop() else {
                 unreachable!()
             };
+            lose_all(berths);
             Ok((whole, berth))
         }
         Err(passes) => Err(Called { passes, berths }),

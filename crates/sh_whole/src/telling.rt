@@ -22,7 +22,7 @@ pub fn pool_accounts<L: KeyLayout>(
         return Err(NotTold::Away);
     };
     let told = whole.accounts(shard, page);
-    let _home = go_home(pool, whole, berth);
+    go_home(pool, whole, berth);
     match told {
         Some(accounts) => Ok(accounts),
         None => Err(NotTold::NoPage),
@@ -38,6 +38,6 @@ pub fn pool_totals<L: KeyLayout>(pool: &Pool<L>) -> Result<Totals, NotTold>
         return Err(NotTold::Away);
     };
     let told = total(&mut whole);
-    let _home = go_home(pool, whole, berth);
+    go_home(pool, whole, berth);
     Ok(told)
 }

@@ -1,12 +1,12 @@
 //! How the passes of a pool meet, and how the one that carries their tales comes home.
-ghost use Rattle.std.specs.Prelude.{◌≡◌, IfErr, IfSome};
+ghost use Rattle.std.specs.Prelude.{◌≡◌, IfSome};
 ghost use Rattle.sh_whole.specs.Homes.{GathersAll, GathersPool, IsBerth, IsWholeOf};
 
-use crate::calling::{call_all, meet, send_home};
+use crate::calling::{call_all, give_or_lose, meet, send_home};
 use crate::refusal::NotTold;
 use sh_gather::{Whole, whole};
 use sh_key::KeyLayout;
-use sh_pass::{Pass, PassState};
+use sh_pass::Pass;
 use sh_pool::{Berth, Pool, Taken};
 use std::alloc::Global;
 
@@ -41,7 +41,7 @@ pub fn gather_pool<L: KeyLayout>(alloc: Global, pool: &Pool<L>) -> Result<(), No
     ensures { GathersPool pool.now result }
 {
     let (whole, berth) = whole_of(alloc, pool)?;
-    let _home = go_home(pool, whole, berth);
+    go_home(pool, whole, berth);
     Ok(())
 }
 
@@ -56,22 +56,17 @@ pub fn pool_whole<L: KeyLayout>(pool: &Pool<L>) -> Option<(Whole<'_, L>, Berth<L
         Ok(whole) => Some((whole, berth)),
         Err(pass) => {
             let (_heap, state) = pass.into_parts();
-            let _home = pool.give(state, berth);
+            give_or_lose(pool, state, berth);
             None
         }
     }
 }
 
-/// Brings the pass home that carries the tales. Refused, with both back, where a pass is at home in that berth, or
-/// where there is no such berth: none of this is so of what this pool gave.
-pub fn go_home<L: KeyLayout>(
-    pool: &Pool<L>,
-    whole: Whole<'_, L>,
-    berth: Berth<L>,
-) -> Result<(), (PassState<L>, Berth<L>)>
+/// Brings the pass home that carries the tales. It is lost where a pass is at home in that berth, or where there is no
+/// such berth: neither is so of what this pool gave.
+pub fn go_home<L: KeyLayout>(pool: &Pool<L>, whole: Whole<'_, L>, berth: Berth<L>)
     requires { whole.heap ≡ pool.now }
-    ensures { IfErr result (λ back. (back.0 ≡ whole.entry) × (back.1 ≡ berth)) }
 {
     let (_heap, state) = whole.into_pass().into_parts();
-    pool.give(state, berth)
+    give_or_lose(pool, state, berth);
 }

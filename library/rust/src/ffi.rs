@@ -44,7 +44,7 @@ extern "C" {
     fn shardheap_raw_accounts(heap: *mut Raw, shard: u32, page: u32, told: *mut PageWords) -> u32;
     fn shardheap_raw_totals(heap: *mut Raw, told: *mut SumWords) -> u32;
     fn shardheap_raw_give(pass: *mut Raw) -> u32;
-    fn shardheap_raw_pass_close(pass: *mut Raw);
+    fn shardheap_raw_pass_lose(pass: *mut Raw) -> u32;
     fn shardheap_raw_adopt(pass: *mut Raw, shard: u64) -> u32;
     fn shardheap_raw_leave(pass: *mut Raw) -> u32;
     fn shardheap_raw_prepare(pass: *mut Raw, words: u32, page: *mut u32) -> u32;
@@ -231,6 +231,6 @@ impl Drop for PassHandle {
             }
         }
         // SAFETY: `&mut` gives the handle to this call alone. It is empty afterwards.
-        unsafe { shardheap_raw_pass_close(self.raw.get_mut()) }
+        unsafe { shardheap_raw_pass_lose(self.raw.get_mut()) };
     }
 }

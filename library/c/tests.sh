@@ -1,0 +1,117 @@
+# Functions that compile and run the C tests of this folder, for scripts/link-checks and scripts/library-checks, which
+# read this file at the top of the repository. They set `archive`: the library that the tests are linked with.
+# shellcheck shell=bash
+memory=${RATTLE_C_DIR:-/opt/rattle/c}/liblibc_c.a
+out=$(mktemp -d)
+trap 'rm -rf "$out"' EXIT
+warnings="-Wall -Wextra -Wpedantic -Wconversion -Werror"
+# (what a program is run under, and the seconds after which it is ended)
+under=()
+limit=600
+
+has() {
+  command -v "$1" > /dev/null && return
+  echo "skipped: there is no $1, so $2 is not run"
+  return 1
+}
+
+# compiled COMPILER NAME FLAG..: a test's program.
+compiled() {
+  local compiler=$1 name=$2 wrap=
+  shift 2
+  [ "$name" != memory ] || wrap=-Wl,--wrap=malloc,--wrap=realloc,--wrap=free
+  # shellcheck disable=SC2086,SC2154
+  "$compiler" -std=c11 $warnings -D_DEFAULT_SOURCE -g "$@" -Ilibrary/include "library/c/$name.c" "$archive" "$memory" \
+    $wrap -lpthread -o "$out/$name"
+}
+
+# run NAME WORD..: the program with these words, which was compiled before.
+run() {
+  local name=$1 status=0
+  shift
+  timeout "$limit" "${under[@]}" "$out/$name" "$@" || status=$?
+  [ "$status" != 124 ] || echo "$name did not end within $limit s" >&2
+  return "$status"
+}
+
+# all COMPILER ROUNDS FLAG..: compiles each test but that of Waiting and runs it, the threads for so many rounds.
+all() {
+  local compiler=$1 rounds=$2 name
+  shift 2
+  for name in session misuse pointers whole reuse memory checked; do
+    compiled "$compiler" "$name" "$@"
+    run "$name"
+  done
+  compiled "$compiler" threads "$@"
+  run threads 1 "$rounds"
+  run threads 2 "$rounds"
+}
+
+# in_checked_mode COMPILER ROUNDS FLAG..: the tests whose use is right, in checked mode: it reports nothing.
+in_checked_mode() {
+  local compiler=$1 rounds=$2 name
+  shift 2
+  for name in session pointers whole reuse memory; do
+    compiled "$compiler" "$name" -DSHARDHEAP_CHECKED "$@"
+    run "$name"
+  done
+  compiled "$compiler" threads -DSHARDHEAP_CHECKED "$@"
+  run threads 2 "$rounds"
+}
+
+# waits COMPILER TIMES FLAG..: compiles the test of Waiting, and runs it until a leave was refused so many times.
+waits() {
+  compiled "$1" waiting "${@:3}"
+  run waiting "$2" "$((limit - 10))"
+}
+
+# The example in the head of the header, as a program: each call returns OK.
+head_example() {
+  {
+    printf '#include "shardheap.h"\nint main(void) {\n    uint32_t code = 0;\n'
+    sed -n '/^ \{7\}#include/,/^ \{7\}shardheap_close/s/^ \{7\}\([^#].*;\)\(    .*\)\{0,1\}$/    \1/p' \
+      library/include/shardheap.h | sed '/shardheap_close/!s/^    shardheap_\w\+(/    code |= &/'
+    printf '    return code != 0 || length != 2 || room[0] != 7 || room[1] != 8;\n}\n'
+  } > "$out/head.c"
+  # shellcheck disable=SC2086
+  gcc -std=c11 $warnings -g -Ilibrary/include "$out/head.c" "$archive" "$memory" -lpthread -o "$out/head"
+  run head && return
+  echo "the example in the head of shardheap.h does not do what its comments say" >&2
+  return 1
+}
+
+# The examples in the header's comments, which begin in column eight. That of the head is run.
+examples() {
+  echo "== the header's examples"
+  {
+    printf '#include "shardheap.h"\nuint64_t examples(void);\nuint64_t examples(void) {\n'
+    printf '    shardheap heap = SHARDHEAP_INIT;\n    shardheap_pass pass = SHARDHEAP_INIT;\n'
+    printf '    uint32_t code, page = 0;\n    uint64_t words[2] = {7, 8}, room[16], key = 0, length = 0, count;\n'
+    sed -n '/---- A heap/,$s/^ \{7\}\(.*;\)\(    .*\)\{0,1\}\( \*\/\)\{0,1\}$/    \1/p' library/include/shardheap.h
+    printf '    return code + page + key + length + count;\n}\n'
+  } > "$out/examples.c"
+  # shellcheck disable=SC2086
+  gcc -std=c11 $warnings -fsyntax-only -Ilibrary/include "$out/examples.c"
+  head_example
+}
+
+# The example of README.md in C, which is a whole program. Its comment says what it prints.
+readme() {
+  echo "== the example of README.md in C"
+  sed -n '/^```c$/,/^```$/{/^```/!p}' README.md > "$out/readme.c"
+  # shellcheck disable=SC2086
+  gcc -std=c11 $warnings -g -O2 -Ilibrary/include "$out/readme.c" "$archive" "$memory" -lpthread -o "$out/readme"
+  local wanted printed
+  wanted=$(sed -n 's|.*/\* prints \(.*\) \*/.*|\1|p' "$out/readme.c")
+  printed=$(run readme)
+  [ -n "$wanted" ] && [ "$printed" = "$wanted" ] && return
+  echo "the example of README.md prints '$printed', and says that it prints '$wanted'" >&2
+  return 1
+}
+
+# Whether some test wants each code of each call, and whether the header agrees with the library.
+texts() {
+  echo "== the header's codes, and whether it agrees with the library"
+  python3 library/c/codes.py
+  python3 library/c/agrees.py "$archive"
+}
