@@ -13,9 +13,9 @@ use std::ptr::null_mut;
 
 /// A pointer that owns its value, or null. A contract sees the value, if there is one.
 ///
-/// It has no test for null: whoever has it knows by another value, as a word beside it, whether it is full. For the
-/// same reason it does not free its value when it is dropped: one that owns a value is opened by `into_box` first, and
-/// else its memory is lost.
+/// It has no test for null: its owner knows by another value, as a word beside it, whether it is full. For the same
+/// reason it does not free its value when it is dropped: one that owns a value is opened by `into_box` first, or its
+/// memory is lost.
 #[repr(C)]
 #[derive(Drop)]
 pub struct NullableBox<T, A: Allocator> {
