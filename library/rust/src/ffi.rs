@@ -7,7 +7,7 @@ use crate::accounts::{PageAccounts, Totals};
 use crate::error::{told, Error};
 use crate::key::Key;
 use crate::value::{Value, MAX_WORDS};
-use std::cell::UnsafeCell;
+use std::cell::{Cell, UnsafeCell};
 use std::ffi::c_void;
 use std::sync::{Mutex, MutexGuard, PoisonError};
 use std::thread;
@@ -98,7 +98,7 @@ impl HeapHandle {
         let mut pass = Raw::EMPTY;
         // SAFETY: the lock gives the heap's handle to this call alone, and the pass's is an empty one of this function.
         told(unsafe { shardheap_raw_take(&mut *self.lock(), &mut pass) })?;
-        Ok(PassHandle { raw: UnsafeCell::new(pass) })
+        Ok(PassHandle { raw: UnsafeCell::new(pass), holds: Cell::new(0) })
     }
 
     pub(crate) fn gather(&self) -> Result<(), Error> {
@@ -136,6 +136,8 @@ impl Drop for HeapHandle {
 #[derive(Debug)]
 pub(crate) struct PassHandle {
     raw: UnsafeCell<Raw>,
+    // How many holds it has: those of its guards.
+    holds: Cell<usize>,
 }
 
 /// How often the end of a pass tries to leave its shard, while others are in the middle of a free there.
@@ -150,13 +152,17 @@ impl PassHandle {
     #[inline]
     pub(crate) fn get(&self, key: Key) -> Result<(), Error> {
         // SAFETY: the handle is this thread's, and no other call uses it.
-        told(unsafe { shardheap_raw_get(self.at(), key.into()) })
+        told(unsafe { shardheap_raw_get(self.at(), key.into()) })?;
+        self.holds.set(self.holds.get() + 1);
+        Ok(())
     }
 
     #[inline]
     pub(crate) fn release(&self, key: Key) -> Result<(), Error> {
         // SAFETY: as in `get`.
-        told(unsafe { shardheap_raw_release(self.at(), key.into()) })
+        told(unsafe { shardheap_raw_release(self.at(), key.into()) })?;
+        self.holds.set(self.holds.get() - 1);
+        Ok(())
     }
 
     #[inline]
@@ -220,14 +226,17 @@ impl PassHandle {
 }
 
 impl Drop for PassHandle {
-    /// Brings the pass home, once it has left the shard that it may own.
+    /// Brings the pass home, once it has left the shard that it may own. A pass whose guards were forgotten is closed
+    /// instead: its next user would have fewer holds, or none.
     fn drop(&mut self) {
         for _ in 0..LEAVE_TRIES {
-            if self.give().is_ok() {
+            if self.holds.get() == 0 && self.give().is_ok() {
                 return;
             }
-            if self.leave().is_err() {
-                thread::yield_now();
+            match self.leave() {
+                Err(Error::Waiting) => thread::yield_now(),
+                _ if self.holds.get() > 0 => break,
+                _ => {}
             }
         }
         // SAFETY: `&mut` gives the handle to this call alone. It is empty afterwards.

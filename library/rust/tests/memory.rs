@@ -1,5 +1,6 @@
 //! Memory that is refused: the process may have no more. (`library/c/memory.c` refuses each allocation in turn.)
 #![cfg(all(target_os = "linux", target_pointer_width = "64"))]
+use gearlongan::slab::Slab;
 use gearlongan::{Error, Heap, Layout, Room};
 
 #[repr(C)]
@@ -30,7 +31,6 @@ fn without_memory<T>(act: impl FnOnce() -> T) -> T {
     result
 }
 
-#[test]
 fn refused_memory_is_an_answer() {
     let room = Room { owners: 1, values: 1, words: 1, passes: 64 };
     let heap = Heap::open_for(Layout::Wide, room).expect("it opens");
@@ -42,4 +42,26 @@ fn refused_memory_is_an_answer() {
     drop(passes);
     let all: Vec<_> = std::iter::from_fn(|| heap.take().ok()).collect();
     assert_eq!(all.len(), 64);
+}
+
+fn a_slab_that_cannot_grow_returns_none_and_stays_as_it_is() {
+    let slab = Slab::new();
+    // A heap of so many values is larger than what the process has.
+    const MOST: usize = 1_000_000;
+    let mut keys: Vec<usize> = Vec::with_capacity(MOST);
+    let vacant = without_memory(|| {
+        keys.extend((0..MOST).map_while(|n| slab.insert(n)));
+        slab.vacant_entry().is_some()
+    });
+    assert!(keys.len() < MOST && !vacant);
+    assert!(keys.iter().enumerate().all(|(n, key)| slab.get(*key).is_some_and(|value| value == n)));
+    assert_eq!(without_memory(|| slab.take(keys[7])), Some(7));
+    assert!(slab.insert(7).is_some_and(|key| slab.contains(key)));
+}
+
+/// One test, since the limit is of the process: no other thread may allocate.
+#[test]
+fn refused_memory() {
+    refused_memory_is_an_answer();
+    a_slab_that_cannot_grow_returns_none_and_stays_as_it_is();
 }

@@ -123,15 +123,20 @@ fn a_guard_keeps_its_value_though_it_is_removed() {
 }
 
 #[test]
-fn a_forgotten_guard_leaves_its_hold_with_the_pass() {
-    let heap = open(ONE);
+fn a_pass_whose_guards_were_forgotten_is_closed_as_it_is_dropped() {
+    let heap = open(TWO);
     let shard = owner(&heap);
     let key = shard.insert(&[7]).expect("there is room");
-    mem::forget(shard.get(key).expect("it is there"));
-    shard.remove(key).expect("it is there");
+    (0..16).for_each(|_| mem::forget(shard.get(key).expect("it is there")));
+    assert_eq!(shard.get(key).err(), Some(Error::HoldsFull));
     drop(shard);
-    let pass = heap.take().expect("it came home");
-    assert_eq!(pass.read(key).expect("it is held"), [7]);
+    // Its shard was left, and the next user has a pass with all its holds.
+    let shard = owner(&heap);
+    let guards: Vec<_> = (0..16).map(|_| shard.get(key).expect("it is there")).collect();
+    assert_eq!((guards.len(), heap.take().err()), (16, Some(Error::NoPass)));
+    drop(guards);
+    drop(shard);
+    assert!(heap.take().is_ok(), "a pass whose guards were dropped comes home");
 }
 
 #[test]

@@ -1,125 +1,275 @@
-//! The passes of a slab's threads.
+//! What all threads have of a slab's heaps, in a table by the numbers of threads.
 //!
-//! A thread's first call takes a pass, and its first insert adopts a shard. Both come back when the thread ends. A
-//! thread for which there is none uses a shard that is behind a lock, together with others.
-use crate::{Error, Heap, Key, Pass, Shard};
-use std::cell::RefCell;
-use std::sync::atomic::{AtomicU64, Ordering::Relaxed};
-use std::sync::{Arc, Mutex, MutexGuard, PoisonError, Weak};
+//! The slab owns the table. A thread only remembers which slabs have something of it, by weak references, and gives that
+//! back as it ends. So a slab that is dropped frees its heaps at once.
+use super::chunk::Chunk;
+use super::config::Limits;
+use super::heaps::{Heaps, Need};
+use super::member::{remove, Member, Own};
+use super::{number, thread};
+use crate::{Error, Key};
+use std::cell::{Ref, RefCell};
+use std::panic::RefUnwindSafe;
+use std::sync::{Arc, OnceLock, Weak};
 
-/// What a thread has of one slab.
-enum Member {
-    Pass(Pass),
-    Shard(Shard),
-}
+/// How often the end of a thread tries to leave its shard, while others are in the middle of a free there.
+const LEAVE_TRIES: u32 = 1000;
 
-impl Member {
-    fn pass(&self) -> &Pass {
-        match self {
-            Member::Pass(pass) => pass,
-            Member::Shard(shard) => shard,
-        }
-    }
+/// The place of one thread in the table. The next begins on other cache lines.
+#[derive(Default)]
+#[repr(align(128))]
+struct Slot(RefCell<Member>);
 
-    /// Adopts the first shard that has no owner, where it has none.
-    fn adopt(self, shards: u32) -> Member {
-        let Member::Pass(mut pass) = self else { return self };
-        for number in 1..shards {
-            match pass.adopt(number) {
-                Ok(shard) => return Member::Shard(shard),
-                Err(refused) => pass = refused.pass,
-            }
-        }
-        Member::Pass(pass)
-    }
-}
+// SAFETY: the cell is borrowed only by the thread that has the number of the slot, and no two threads have one at the
+// same time: a number goes from one thread to the next through a lock. What is in it may go to another thread.
+unsafe impl Sync for Slot {}
 
-/// A thread's member, and of which slab.
-struct Local {
-    slab: u64,
-    stands: Weak<()>,
-    member: Option<Member>,
-}
+// No code of the user runs while the cell is borrowed, so that no panic leaves it half changed.
+impl RefUnwindSafe for Slot {}
 
-impl Local {
-    /// Its shard, which it adopts where it has none.
-    fn shard(&mut self, shards: u32) -> Option<&Shard> {
-        self.member = self.member.take().map(|member| member.adopt(shards));
-        match &self.member {
-            Some(Member::Shard(shard)) => Some(shard),
-            _ => None,
-        }
-    }
-}
+/// The table has buckets of 8, 16, 32 slots and so on, which are allocated as threads have the numbers for them.
+const BUCKETS: usize = 40;
 
-thread_local! {
-    static LOCALS: RefCell<Vec<Local>> = const { RefCell::new(Vec::new()) };
-}
+const FIRST_BUCKET: usize = 8;
 
-static NUMBERS: AtomicU64 = AtomicU64::new(0);
-
-/// The heap of a slab, and what its threads have of it.
+/// The heaps of a slab and what threads have of them.
 pub(super) struct Members {
-    heap: Heap,
-    shards: u32,
-    shared: Mutex<Shard>,
-    number: u64,
-    stands: Arc<()>,
+    heaps: Heaps,
+    buckets: [OnceLock<Box<[Slot]>>; BUCKETS],
+    // Itself, as threads remember it.
+    own: Weak<Members>,
+}
+
+// The bucket of a number, and its place there.
+#[inline]
+fn place(number: usize) -> (usize, usize) {
+    let from_first = number + FIRST_BUCKET;
+    let power = from_first.ilog2();
+    ((power - FIRST_BUCKET.ilog2()) as usize, from_first - (1 << power))
+}
+
+// The slots of a bucket. None where memory is refused.
+fn slots(bucket: usize) -> Option<Box<[Slot]>> {
+    let count = FIRST_BUCKET << bucket;
+    let mut slots = Vec::new();
+    slots.try_reserve_exact(count).ok()?;
+    slots.resize_with(count, Slot::default);
+    Some(slots.into_boxed_slice())
 }
 
 impl Members {
-    /// The heap has so many shards, and nothing was taken of it.
-    pub(super) fn of(heap: Heap, shards: u32) -> Result<Members, Error> {
-        let shared = Mutex::new(heap.take()?.adopt(0)?);
-        let number = NUMBERS.fetch_add(1, Relaxed);
-        Ok(Members { heap, shards, shared, number, stands: Arc::new(()) })
+    /// Opens the first heap. Nothing of it is taken.
+    pub(super) fn open(limits: Limits) -> Result<Arc<Members>, Error> {
+        let heaps = Heaps::open(limits)?;
+        let buckets = [const { OnceLock::new() }; BUCKETS];
+        Ok(Arc::new_cyclic(|own| Members { heaps, buckets, own: own.clone() }))
     }
 
-    fn lock(&self) -> MutexGuard<'_, Shard> {
-        self.shared.lock().unwrap_or_else(PoisonError::into_inner)
+    #[inline]
+    fn slot(&self, number: usize) -> Option<&Slot> {
+        let (bucket, at) = place(number);
+        let bucket = self.buckets.get(bucket)?;
+        match bucket.get() {
+            Some(slots) => slots.get(at),
+            None => self.new_slot(number),
+        }
     }
 
-    /// Runs it with what this thread has of the heap: None where it has nothing.
-    fn with_local<R>(&self, act: impl FnOnce(&mut Local) -> R) -> Option<R> {
-        let with = |locals: &RefCell<Vec<Local>>| {
-            let mut locals = locals.borrow_mut();
-            let at = match locals.iter().position(|local| local.slab == self.number) {
-                Some(at) => at,
-                None => {
-                    locals.retain(|local| local.stands.strong_count() > 0);
-                    locals.push(self.come()?);
-                    locals.len() - 1
-                }
-            };
-            locals.get_mut(at).map(act)
-        };
-        LOCALS.try_with(with).ok().flatten()
+    #[cold]
+    fn new_slot(&self, number: usize) -> Option<&Slot> {
+        let (bucket, at) = place(number);
+        // Another thread may have been first.
+        _ = self.buckets.get(bucket)?.set(slots(bucket)?);
+        self.buckets.get(bucket)?.get()?.get(at)
     }
 
-    fn come(&self) -> Option<Local> {
-        let member = Some(Member::Pass(self.heap.take().ok()?));
-        Some(Local { slab: self.number, stands: Arc::downgrade(&self.stands), member })
+    /// Runs it with what this thread has. None if the thread cannot have anything: it ends, memory is refused, or the
+    /// call comes from an allocator below another.
+    fn with_member<R>(&self, act: impl FnOnce(&mut Member) -> R) -> Option<R> {
+        let mut member = self.slot(thread::number()?)?.0.try_borrow_mut().ok()?;
+        if !member.is_remembered {
+            member.is_remembered = thread::remember(self.own.clone());
+        }
+        member.is_remembered.then(|| act(&mut member))
     }
 
-    /// Stores a word: None where there is no room.
-    pub(super) fn insert(&self, word: u64) -> Option<Key> {
-        let own = self.with_local(|local| local.shard(self.shards)?.insert(&[word]).ok());
-        own.flatten().or_else(|| self.lock().insert(&[word]).ok())
+    // What this thread has, where it has a shard that no other thread asked for.
+    #[inline]
+    fn owner(&self) -> Option<Ref<'_, Own>> {
+        let member = self.slot(thread::number()?)?.0.try_borrow().ok()?;
+        Ref::filter_map(member, |member| member.own.as_ref()).ok().filter(|_| !self.heaps.is_asked())
     }
 
-    /// Runs it with a pass.
-    fn with<R>(&self, act: impl Fn(&Pass) -> R) -> R {
-        let own = self.with_local(|local| local.member.as_ref().map(|member| act(member.pass())));
-        own.flatten().unwrap_or_else(|| act(&self.lock()))
+    /// Gives back what the thread of this number has. The caller is that thread.
+    pub(super) fn leave(&self, number: usize) {
+        let Some(mut member) = self.slot(number).and_then(|slot| slot.0.try_borrow_mut().ok()) else { return };
+        let mut member = std::mem::take(&mut *member);
+        for _ in 0..LEAVE_TRIES {
+            if member.leave(&self.heaps) {
+                return;
+            }
+            std::thread::yield_now();
+        }
     }
 
-    /// The word of a key.
-    pub(super) fn load(&self, key: Key) -> Option<u64> {
-        self.with(|pass| pass.load_record(key)).ok()
+    /// The number of a key for a value that is stored elsewhere. None if there is no room.
+    #[inline]
+    pub(super) fn insert(&self) -> Option<u64> {
+        if let Some(own) = self.owner() {
+            if let Ok(key) = own.shard.insert_once(&[]) {
+                return Some(number::number(own.heap, key));
+            }
+        }
+        self.insert_elsewhere()
     }
 
-    /// Removes a key: whether this call did.
-    pub(super) fn remove(&self, key: Key) -> bool {
-        self.with(|pass| pass.remove(key)).is_ok()
+    // The same, where the thread has no shard, or its own is full.
+    #[cold]
+    fn insert_elsewhere(&self) -> Option<u64> {
+        let inserted = self.with_member(|member| member.insert(&self.heaps)).flatten();
+        inserted.or_else(|| self.insert_shared())
+    }
+
+    // The same, in a shard that threads share, or after the slab has grown.
+    fn insert_shared(&self) -> Option<u64> {
+        loop {
+            let seen = self.heaps.opened();
+            if let Some(number) = self.heaps.insert_shared() {
+                return Some(number);
+            }
+            if !self.heaps.grow(seen, Need::Room) {
+                break;
+            }
+        }
+        if !self.heaps.forgive() {
+            return None;
+        }
+        let searched = self.with_member(|member| member.insert_after_search(&self.heaps)).flatten();
+        searched.or_else(|| self.heaps.insert_shared())
+    }
+
+    /// Removes the key of this number, which was issued and not removed.
+    #[inline]
+    pub(super) fn remove(&self, number: u64) {
+        let (heap, key) = (number::heap(number), number::key(number));
+        let Some(chunk) = self.heaps.chunk(heap) else { return };
+        match self.owner() {
+            Some(own) if own.heap == heap => remove(&own.shard, key),
+            own => {
+                drop(own);
+                self.remove_elsewhere(heap, chunk, key);
+            }
+        }
+        chunk.note_removal(number::shard(number));
+    }
+
+    // The same, where the thread owns no shard of the key's heap.
+    fn remove_elsewhere(&self, heap: usize, chunk: &Chunk, key: Key) {
+        if self.with_member(|member| member.remove(&self.heaps, heap, chunk, key)) != Some(true) {
+            chunk.remove_shared(key);
+        }
+    }
+
+    /// The logarithm of the number of pages of each shard of this number's heap.
+    pub(super) fn page_bits(&self, number: u64) -> u32 {
+        self.heaps.chunk(number::heap(number)).map_or(0, Chunk::page_bits)
+    }
+}
+
+#[cfg(test)]
+mod tests {
+    use super::*;
+    use crate::slab::chunk::Search;
+    use crate::slab::config::DefaultConfig;
+    use crate::Pass;
+    use number::shard;
+
+    fn members() -> Arc<Members> {
+        Members::open(Limits::of::<DefaultConfig>()).expect("it opens")
+    }
+
+    // The first heap, all of whose shards but this thread's are taken.
+    fn with_others(members: &Members) -> &Chunk {
+        let first = members.heaps.chunk(0).expect("it is open");
+        while let Search::Found(_) = first.claim() {}
+        first
+    }
+
+    #[test]
+    fn numbers_have_places_of_their_own() {
+        let places: Vec<_> = (0..1000).map(place).collect();
+        assert_eq!(
+            (places[0], places[7], places[8], places[23], places[24]),
+            ((0, 0), (0, 7), (1, 0), (1, 15), (2, 0))
+        );
+        assert!(places.iter().all(|(bucket, at)| *at < FIRST_BUCKET << bucket));
+        assert_eq!(places.iter().collect::<std::collections::HashSet<_>>().len(), 1000);
+    }
+
+    #[test]
+    fn a_thread_that_finds_no_shard_does_not_search_for_64_inserts() {
+        let members = members();
+        let first = with_others(&members);
+        let insert = || members.insert().map(shard);
+        // It asks for a shard, and uses the shared one.
+        assert_eq!((insert(), members.heaps.is_asked()), (Some(0), true));
+        first.release(2);
+        (0..64).for_each(|_| assert_eq!(insert(), Some(0)));
+        assert_eq!((insert(), members.heaps.opened()), (Some(2), 1));
+    }
+
+    #[test]
+    fn a_slab_gets_more_shards_if_none_is_given_back() {
+        let members = members();
+        with_others(&members);
+        (0..65).for_each(|_| assert_eq!(members.insert().map(shard), Some(0)));
+        let number = members.insert().expect("there is room");
+        assert_eq!((number::heap(number), shard(number)), (1, 1));
+    }
+
+    #[test]
+    fn a_thread_gives_its_shard_back_at_its_first_call_after_another_asked() {
+        let members = members();
+        let number = members.insert().expect("there is room");
+        let first = with_others(&members);
+        let remove = || members.remove(number);
+        let insert = || assert_eq!(members.insert().map(shard), Some(0));
+        for (act, others) in [(&remove as &dyn Fn(), 64), (&insert, 63)] {
+            assert!(!members.heaps.is_asked());
+            let before = first.claim();
+            members.heaps.ask();
+            act();
+            assert_eq!((before, first.claim()), (Search::Taken, Search::Found(1)));
+            first.release(1);
+            // It does not take the shard back at once.
+            assert_eq!((0..).take_while(|_| members.insert().map(shard) == Some(0)).count(), others);
+        }
+    }
+
+    #[test]
+    fn a_thread_gives_back_what_it_has_as_it_ends() {
+        let members = members();
+        let insert = || members.insert().expect("there is room");
+        let number = std::thread::scope(|scope| scope.spawn(insert).join().expect("it ends well"));
+        assert_eq!(shard(number), 1);
+        let first = members.heaps.chunk(0).expect("it is open");
+        assert_eq!(first.claim(), Search::Found(1));
+        first.release(1);
+        // All passes but that of the shared shard are at home.
+        let passes: Vec<Pass> = std::iter::from_fn(|| first.take_pass()).collect();
+        assert_eq!(passes.len(), 63);
+        // Without a pass the thread uses the shared shard.
+        members.remove(number);
+        assert_eq!(shard(insert()), 0);
+        drop(passes);
+    }
+
+    #[test]
+    fn a_slab_that_is_dropped_frees_its_heaps_though_threads_remember_it() {
+        let members = members();
+        assert!(members.insert().is_some());
+        let weak = Arc::downgrade(&members);
+        drop(members);
+        assert!(weak.upgrade().is_none());
     }
 }

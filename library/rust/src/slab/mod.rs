@@ -1,8 +1,9 @@
-//! A slab of values of any type over a heap, with the interface of the crate `sharded-slab`.
+//! A slab and a pool for values of any type, with the interface of the crate `sharded-slab`.
 //!
-//! A value lies in a node of its own, and the heap has the node's address as a value of one word. So what is proved of
-//! the heap's keys is true of the slab's: none is used again, and none finds what was stored under another. That a
-//! value is dropped once, and by the last that uses it, is **not proved**: it stands in this module, in Rust.
+//! A [`Slab`] stores values and returns keys. A [`Pool`] clears a value in place when its key is removed, and uses it
+//! for a later key. The keys are those of the library's heaps: what is proved of them holds here too, so that no key is
+//! used again, and none finds what was stored under another. That a value is dropped once, and by its last user, is
+//! **not proved**: it follows from this module, in Rust.
 //!
 //! ```
 //! use gearlongan::slab::Slab;
@@ -18,37 +19,71 @@
 //! assert!(!slab.contains(key));
 //! ```
 //!
-//! Whoever removes a value that others use leaves it to the last of them. Inserts and removals lock a list of nodes for
-//! a moment; to get a value does not, where the thread has a pass: 63 threads have one at the same time, and 15 of them
-//! a shard. The others use one together, behind a lock. A node's memory goes with the slab, and that of the heap once
-//! no thread has a pass of it any more: when it ends, or comes to use another slab.
+//! # Threads
+//!
+//! Any number of threads may use a slab. To get a value asks nothing of a heap and locks nothing: it counts the caller
+//! as a user of the value and compares the key. If a key is removed while others use its value, the last of them drops
+//! it.
+//!
+//! A thread that inserts has a shard of a heap, which it keeps until it ends, or until another thread needs one. A
+//! thread that finds none shares one with others, behind a lock, and the slab opens another heap if that lasts.
+//!
+//! # Memory
+//!
+//! A new slab takes less than 128 KiB, and it grows without a fixed capacity. Its heaps and nodes stay until it is
+//! dropped. Then they are freed, also if threads that used the slab go on.
+mod chunk;
+mod clear;
+mod config;
+mod entry;
+mod heaps;
+mod member;
 mod members;
-mod nodes;
+mod node;
+mod number;
+mod places;
+pub mod pool;
+mod store;
+mod thread;
 
-use crate::{Error, Heap, Key, Layout, Room};
-use members::Members;
-use nodes::{Node, Nodes, User, Vacant};
+pub use clear::Clear;
+pub use config::{Config, DefaultConfig};
+pub use entry::{Entry, OwnedEntry, VacantEntry};
+#[doc(inline)]
+pub use pool::Pool;
+
+use crate::Error;
+use config::{mask, Limits};
 use std::fmt;
-use std::ops::Deref;
-use std::ptr::NonNull;
+use std::marker::PhantomData;
+use std::ptr::{self, NonNull};
 use std::sync::Arc;
-use std::thread;
+use store::{Ending, Store};
 
 /// Values of one type under keys, which threads share.
-pub struct Slab<T> {
-    members: Members,
-    nodes: Nodes<T>,
+pub struct Slab<T, C: Config = DefaultConfig> {
+    store: Store<T, Drops>,
+    config: PhantomData<fn() -> C>,
 }
 
-const SHARDS: u32 = 16;
-const PASSES: u32 = 64;
+/// A value of a slab is dropped.
+enum Drops {}
+
+impl<T> Ending<T> for Drops {
+    const KEEPS: bool = false;
+
+    unsafe fn end(value: *mut T) {
+        // SAFETY: the caller says that the value is its alone.
+        unsafe { ptr::drop_in_place(value) };
+    }
+}
 
 impl<T> Slab<T> {
-    /// A slab with room for 4,096 values of each of 16 threads.
+    /// Makes a slab with the default configuration.
     ///
     /// # Panics
     ///
-    /// Where memory is refused.
+    /// If memory is refused. [`with_room`](Slab::with_room) returns an error instead.
     ///
     /// ```
     /// # use gearlongan::slab::Slab;
@@ -57,44 +92,76 @@ impl<T> Slab<T> {
     /// assert_eq!(slab.get(key).expect("it is there"), "hello");
     /// ```
     pub fn new() -> Slab<T> {
-        match Slab::with_room(4096) {
-            Ok(slab) => slab,
+        Slab::new_with_config()
+    }
+
+    /// Makes a slab with a configuration.
+    ///
+    /// # Panics
+    ///
+    /// If memory is refused, or the configuration reserves more than 11 bits.
+    ///
+    /// ```
+    /// use gearlongan::slab::{Config, Slab};
+    ///
+    /// struct Small;
+    ///
+    /// impl Config for Small {
+    ///     const INITIAL_PAGE_SIZE: usize = 100;
+    ///     const MAX_PAGES: usize = 1;
+    ///     const MAX_THREADS: usize = 1;
+    /// }
+    ///
+    /// // The first heap has more room than the limit, and the slab opens no other.
+    /// let slab = Slab::new_with_config::<Small>();
+    /// let keys = std::iter::from_fn(|| slab.insert(7)).count();
+    /// assert_eq!(keys, 4 * 384);
+    /// ```
+    pub fn new_with_config<C: Config>() -> Slab<T, C> {
+        match Store::open(Limits::of::<C>()) {
+            Ok(store) => Slab { store, config: PhantomData },
             Err(error) => panic!("no slab was opened: {error}"),
         }
     }
 
-    /// A slab with room for so many values of each of 16 threads.
+    /// Makes a slab with room for so many values of each of three threads before it grows: at most 12,288.
     ///
     /// # Errors
     ///
-    /// [`Error::BadShape`] where no heap has the room, and [`Error::Memory`].
+    /// [`Error::BadShape`] if no first heap has that room, and [`Error::Memory`].
     ///
     /// ```
     /// # use gearlongan::{slab::Slab, Error};
-    /// let slab: Slab<String> = Slab::with_room(100_000)?;
-    /// assert_eq!(Slab::<String>::with_room(u64::MAX).err(), Some(Error::BadShape));
+    /// let slab: Slab<String> = Slab::with_room(10_000)?;
+    /// assert_eq!(Slab::<String>::with_room(12_289).err(), Some(Error::BadShape));
     /// # Ok::<(), Error>(())
     /// ```
     pub fn with_room(values: u64) -> Result<Slab<T>, Error> {
-        let heap = Heap::open_for(Layout::Deep, Room { owners: SHARDS, values, words: 1, passes: PASSES })?;
-        Ok(Slab { members: Members::of(heap, SHARDS)?, nodes: Nodes::new() })
+        if values > heaps::FIRST_ROOM {
+            return Err(Error::BadShape);
+        }
+        let limits = Limits { first: values, ..Limits::of::<DefaultConfig>() };
+        Ok(Slab { store: Store::open(limits)?, config: PhantomData })
     }
+}
 
-    /// Stores a value, and tells its key. None where there is no room.
+impl<T, C: Config> Slab<T, C> {
+    /// How many low bits of a key the slab uses. The others are left to the user, and calls ignore them.
+    pub const USED_BITS: usize = usize::BITS as usize - C::RESERVED_BITS;
+
+    /// Stores a value, and returns its key. None if there is no room, or memory is refused.
     ///
     /// ```
     /// # use gearlongan::slab::Slab;
     /// let slab = Slab::new();
     /// assert_ne!(slab.insert(1), slab.insert(1));
     /// ```
+    #[inline]
     pub fn insert(&self, value: T) -> Option<usize> {
-        let vacant = self.nodes.take();
-        let key = self.members.insert(vacant.word())?;
-        vacant.fill(key, value);
-        Some(number(key))
+        Some(self.store.vacant()?.fill(value) as usize)
     }
 
-    /// A key whose value is yet to come. None where there is no room.
+    /// Returns a key whose value is not stored yet. None if there is no room, or memory is refused.
     ///
     /// ```
     /// # use gearlongan::slab::Slab;
@@ -105,19 +172,11 @@ impl<T> Slab<T> {
     /// entry.insert((key, "hello"));
     /// assert_eq!(slab.get(key).expect("it is there").0, key);
     /// ```
-    pub fn vacant_entry(&self) -> Option<VacantEntry<'_, T>> {
-        let vacant = self.nodes.take();
-        let key = self.members.insert(vacant.word())?;
-        Some(VacantEntry { slab: self, key, vacant: Some(vacant) })
+    pub fn vacant_entry(&self) -> Option<VacantEntry<'_, T, C>> {
+        Some(VacantEntry::of(self.store.vacant()?))
     }
 
-    fn user(&self, key: Key) -> Option<User<'_, T>> {
-        let word = self.members.load(key)?;
-        // SAFETY: only this slab inserts into its heap, and nothing but words of its own vacant nodes.
-        unsafe { self.nodes.user(word, key) }
-    }
-
-    /// The value of a key, which stays until the entry is dropped.
+    /// Returns a guard of the value of a key. None if the key has no value, or has not yet.
     ///
     /// ```
     /// # use gearlongan::slab::Slab;
@@ -128,12 +187,13 @@ impl<T> Slab<T> {
     /// assert!(slab.get(key).is_none());
     /// assert_eq!(entry, "hello");
     /// ```
-    pub fn get(&self, key: usize) -> Option<Entry<'_, T>> {
-        let user = self.user(Key::from(key as u64))?;
-        Some(Entry { key, user })
+    #[inline]
+    pub fn get(&self, key: usize) -> Option<Entry<'_, T, C>> {
+        let node = self.store.begin(key as u64 & mask::<C>())?;
+        Some(Entry::of(self, node, key))
     }
 
-    /// The same, where the entry keeps the slab too.
+    /// Returns a guard that also keeps the slab. None as in [`get`](Slab::get).
     ///
     /// ```
     /// # use gearlongan::slab::Slab;
@@ -144,24 +204,13 @@ impl<T> Slab<T> {
     /// drop(slab);
     /// assert_eq!(entry, "hello");
     /// ```
-    pub fn get_owned(self: Arc<Self>, key: usize) -> Option<OwnedEntry<T>> {
-        let node = self.user(Key::from(key as u64))?.into_node();
-        Some(OwnedEntry { key, node, slab: self })
+    pub fn get_owned(self: Arc<Self>, key: usize) -> Option<OwnedEntry<T, C>> {
+        let node = NonNull::from(self.store.begin(key as u64 & mask::<C>())?);
+        Some(OwnedEntry::of(self, node, key))
     }
 
-    // Removes a key: the user is of what it was stored as, where this call removed it.
-    fn detach(&self, key: usize) -> Option<User<'_, T>> {
-        let key = Key::from(key as u64);
-        let user = self.user(key)?;
-        if !self.members.remove(key) {
-            return None;
-        }
-        // SAFETY: the key is a user, and of all that remove it one is told so.
-        drop(unsafe { User::of(&self.nodes, user.node()) });
-        Some(user)
-    }
-
-    /// Removes a key: whether this call did. The value is dropped with the last entry.
+    /// Removes a key, and returns whether this call did: of all calls that remove a key, one returns true. The value is
+    /// dropped with its last guard.
     ///
     /// ```
     /// # use gearlongan::slab::Slab;
@@ -170,11 +219,13 @@ impl<T> Slab<T> {
     /// assert!(slab.remove(key));
     /// assert!(!slab.remove(key));
     /// ```
+    #[inline]
     pub fn remove(&self, key: usize) -> bool {
-        self.detach(key).is_some()
+        self.store.remove(key as u64 & mask::<C>())
     }
 
-    /// Removes a key and takes its value, for which it waits until no entry has it.
+    /// Removes a key and returns its value, for which it waits until no guard has it. A thread that has a guard of the
+    /// value waits for itself.
     ///
     /// ```
     /// # use gearlongan::slab::Slab;
@@ -183,18 +234,12 @@ impl<T> Slab<T> {
     /// assert_eq!(slab.take(key), Some(vec![1]));
     /// assert_eq!(slab.take(key), None);
     /// ```
+    #[inline]
     pub fn take(&self, key: usize) -> Option<T> {
-        let mut user = self.detach(key)?;
-        loop {
-            match user.into_value() {
-                Ok(value) => return Some(value),
-                Err(same) => user = same,
-            }
-            thread::yield_now();
-        }
+        self.store.take(key as u64 & mask::<C>())
     }
 
-    /// Whether the key has a value.
+    /// Returns whether the key has a value.
     ///
     /// ```
     /// # use gearlongan::slab::Slab;
@@ -206,7 +251,7 @@ impl<T> Slab<T> {
         self.get(key).is_some()
     }
 
-    /// All values, in no order.
+    /// Returns all values, in no order.
     ///
     /// ```
     /// # use gearlongan::slab::Slab;
@@ -217,14 +262,8 @@ impl<T> Slab<T> {
     /// assert_eq!(slab.unique_iter().collect::<Vec<_>>(), [&8]);
     /// ```
     pub fn unique_iter(&mut self) -> impl Iterator<Item = &T> + '_ {
-        let members = &self.members;
-        // (An entry that was forgotten has a value whose key is gone.)
-        self.nodes.values().filter(|(key, _)| members.load(*key).is_some()).map(|(_, value)| value)
+        self.store.values()
     }
-}
-
-fn number(key: Key) -> usize {
-    u64::from(key) as usize
 }
 
 impl<T> Default for Slab<T> {
@@ -233,130 +272,8 @@ impl<T> Default for Slab<T> {
     }
 }
 
-impl<T> fmt::Debug for Slab<T> {
+impl<T, C: Config> fmt::Debug for Slab<T, C> {
     fn fmt(&self, f: &mut fmt::Formatter<'_>) -> fmt::Result {
         f.debug_struct("Slab").finish_non_exhaustive()
     }
 }
-
-/// An entry of a slab: its value stays until the entry is dropped.
-#[must_use = "an entry lets its value go when it is dropped"]
-pub struct Entry<'a, T> {
-    key: usize,
-    user: User<'a, T>,
-}
-
-impl<T> Entry<'_, T> {
-    /// The key.
-    pub fn key(&self) -> usize {
-        self.key
-    }
-}
-
-impl<T> Deref for Entry<'_, T> {
-    type Target = T;
-
-    fn deref(&self) -> &T {
-        self.user.value()
-    }
-}
-
-/// An entry that keeps its slab.
-#[must_use = "an entry lets its value go when it is dropped"]
-pub struct OwnedEntry<T> {
-    key: usize,
-    // Of the slab's nodes. The entry is one of its users.
-    node: NonNull<Node<T>>,
-    slab: Arc<Slab<T>>,
-}
-
-// SAFETY: an entry is a shared borrow of its value, and the share of its slab may go to where the slab may.
-unsafe impl<T: Send + Sync> Send for OwnedEntry<T> {}
-
-// SAFETY: as above.
-unsafe impl<T: Send + Sync> Sync for OwnedEntry<T> {}
-
-impl<T> OwnedEntry<T> {
-    /// The key.
-    pub fn key(&self) -> usize {
-        self.key
-    }
-
-    /// The slab.
-    pub fn slab(&self) -> &Arc<Slab<T>> {
-        &self.slab
-    }
-}
-
-impl<T> Deref for OwnedEntry<T> {
-    type Target = T;
-
-    fn deref(&self) -> &T {
-        // SAFETY: the memory of a node stays as long as the slab, and the entry is a user.
-        unsafe { self.node.as_ref().value() }
-    }
-}
-
-impl<T> Drop for OwnedEntry<T> {
-    fn drop(&mut self) {
-        // SAFETY: the entry is a user of a node of this slab, and ends here.
-        drop(unsafe { User::of(&self.slab.nodes, self.node) });
-    }
-}
-
-/// A key whose value is yet to come. Where the entry is dropped none comes, and the key is removed.
-#[must_use = "a key without a value is removed with its entry"]
-pub struct VacantEntry<'a, T> {
-    slab: &'a Slab<T>,
-    key: Key,
-    // None once it is filled.
-    vacant: Option<Vacant<'a, T>>,
-}
-
-impl<T> VacantEntry<'_, T> {
-    /// The key that the value will have.
-    pub fn key(&self) -> usize {
-        number(self.key)
-    }
-
-    /// Stores the value.
-    pub fn insert(mut self, value: T) {
-        if let Some(vacant) = self.vacant.take() {
-            vacant.fill(self.key, value);
-        }
-    }
-}
-
-impl<T> Drop for VacantEntry<'_, T> {
-    fn drop(&mut self) {
-        if self.vacant.is_some() {
-            self.slab.members.remove(self.key);
-        }
-    }
-}
-
-impl<T> fmt::Debug for VacantEntry<'_, T> {
-    fn fmt(&self, f: &mut fmt::Formatter<'_>) -> fmt::Result {
-        f.debug_struct("VacantEntry").field("key", &self.key).finish_non_exhaustive()
-    }
-}
-
-// What both kinds of entries show of their value.
-macro_rules! shows_its_value {
-    ($entry:ty) => {
-        impl<T: fmt::Debug> fmt::Debug for $entry {
-            fn fmt(&self, f: &mut fmt::Formatter<'_>) -> fmt::Result {
-                (**self).fmt(f)
-            }
-        }
-
-        impl<T: PartialEq> PartialEq<T> for $entry {
-            fn eq(&self, other: &T) -> bool {
-                **self == *other
-            }
-        }
-    };
-}
-
-shows_its_value!(Entry<'_, T>);
-shows_its_value!(OwnedEntry<T>);
