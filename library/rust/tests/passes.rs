@@ -124,13 +124,19 @@ fn a_guard_keeps_its_value_though_it_is_removed() {
 
 #[test]
 fn a_pass_whose_guards_were_forgotten_is_closed_as_it_is_dropped() {
-    let heap = open(TWO);
+    let heap = open(Shape { passes: 3, ..ONE });
     let shard = owner(&heap);
     let key = shard.insert(&[7]).expect("there is room");
-    (0..16).for_each(|_| mem::forget(shard.get(key).expect("it is there")));
-    assert_eq!(shard.get(key).err(), Some(Error::HoldsFull));
+    let forget = |pass: &Pass| {
+        (0..16).for_each(|_| mem::forget(pass.get(key).expect("it is there")));
+        assert_eq!(pass.get(key).err(), Some(Error::HoldsFull));
+    };
+    forget(&shard);
     drop(shard);
-    // Its shard was left, and the next user has a pass with all its holds.
+    let pass = heap.take().expect("another one is at home");
+    forget(&pass);
+    drop(pass);
+    // The shard was left, and the next user has a pass with all its holds: the last one.
     let shard = owner(&heap);
     let guards: Vec<_> = (0..16).map(|_| shard.get(key).expect("it is there")).collect();
     assert_eq!((guards.len(), heap.take().err()), (16, Some(Error::NoPass)));

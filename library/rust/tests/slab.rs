@@ -356,22 +356,24 @@ fn four_threads() {
     pairs(4);
 }
 
-/// More threads than a heap has passes: all of them get at the same time.
+/// More threads than a heap has passes: all of them have a guard of one value at the same time.
 #[test]
 fn two_hundred_threads() {
     let slab = Slab::new();
-    let start = Barrier::new(200);
+    let (of_all, start) = (slab.insert(1000).expect("there is room"), Barrier::new(200));
     thread::scope(|scope| {
         for n in 0..200 {
             let (slab, start) = (&slab, &start);
             scope.spawn(move || {
                 start.wait();
                 let keys: Vec<usize> = (0..200).flat_map(|_| slab.insert(n)).collect();
-                let entry = slab.get(keys[0]).expect("it is there");
+                let entry = keys.first().and_then(|key| slab.get(*key));
+                let of_all = slab.get(of_all);
                 start.wait();
+                assert!(of_all.is_some_and(|value| value == 1000) && entry.is_some_and(|value| value == n));
                 assert!(keys.iter().all(|key| slab.get(*key).is_some_and(|value| value == n)));
                 assert!(keys.iter().all(|key| slab.remove(*key)));
-                assert_eq!((keys.len(), *entry), (200, n));
+                assert_eq!(keys.len(), 200);
             });
         }
     });

@@ -8,7 +8,7 @@ use super::heaps::{Heaps, Need};
 use super::member::{remove, Member, Own};
 use super::{number, thread};
 use crate::{Error, Key};
-use std::cell::{Ref, RefCell};
+use std::cell::{Cell, UnsafeCell};
 use std::panic::RefUnwindSafe;
 use std::sync::{Arc, OnceLock, Weak};
 
@@ -18,39 +18,66 @@ const LEAVE_TRIES: u32 = 1000;
 /// The place of one thread in the table. The next begins on other cache lines.
 #[derive(Default)]
 #[repr(align(128))]
-struct Slot(RefCell<Member>);
+struct Slot {
+    // Set while the member is borrowed alone.
+    is_changing: Cell<bool>,
+    member: UnsafeCell<Member>,
+}
 
-// SAFETY: the cell is borrowed only by the thread that has the number of the slot, and no two threads have one at the
-// same time: a number goes from one thread to the next through a lock. What is in it may go to another thread.
+// SAFETY: a slot is used only by the thread that has its number, and no two threads have one at the same time: a number
+// goes from one thread to the next through a lock. What is in it may go to another thread.
 unsafe impl Sync for Slot {}
 
-// No code of the user runs while the cell is borrowed, so that no panic leaves it half changed.
+// No code of the user runs while the member is borrowed, so that no panic leaves it half changed.
 impl RefUnwindSafe for Slot {}
 
-/// The table has buckets of 8, 16, 32 slots and so on, which are allocated as threads have the numbers for them.
-const BUCKETS: usize = 40;
+impl Slot {
+    // The member, unless it is changing. The caller is the thread that has the number of the slot, and calls no code of
+    // the user while it has the result.
+    #[inline]
+    fn member(&self) -> Option<&Member> {
+        // SAFETY: only this thread uses the slot, and it is not within `change`. It does not come to it while it has the
+        // result, since no call of the library calls back.
+        (!self.is_changing.get()).then(|| unsafe { &*self.member.get() })
+    }
 
-const FIRST_BUCKET: usize = 8;
+    // Runs it with the member, unless it is changing: an allocator of the user may call the slab from within. The caller
+    // is as of `member`.
+    fn change<R>(&self, act: impl FnOnce(&mut Member) -> R) -> Option<R> {
+        if self.is_changing.replace(true) {
+            return None;
+        }
+        // SAFETY: only this thread uses the slot, and a call from within finds it changing.
+        let result = act(unsafe { &mut *self.member.get() });
+        self.is_changing.set(false);
+        Some(result)
+    }
+}
+
+/// The threads of the first numbers have a slot within the table. The others have buckets of 16, 32, 64 slots and so on,
+/// which are allocated as threads have the numbers for them.
+const FIRST: usize = 16;
+
+const BUCKETS: usize = 40;
 
 /// The heaps of a slab and what threads have of them.
 pub(super) struct Members {
     heaps: Heaps,
+    first: [Slot; FIRST],
     buckets: [OnceLock<Box<[Slot]>>; BUCKETS],
     // Itself, as threads remember it.
     own: Weak<Members>,
 }
 
-// The bucket of a number, and its place there.
-#[inline]
+// The bucket of a number after the first, and its place there.
 fn place(number: usize) -> (usize, usize) {
-    let from_first = number + FIRST_BUCKET;
-    let power = from_first.ilog2();
-    ((power - FIRST_BUCKET.ilog2()) as usize, from_first - (1 << power))
+    let power = number.max(FIRST).ilog2();
+    ((power - FIRST.ilog2()) as usize, number - (1 << power))
 }
 
 // The slots of a bucket. None where memory is refused.
 fn slots(bucket: usize) -> Option<Box<[Slot]>> {
-    let count = FIRST_BUCKET << bucket;
+    let count = FIRST << bucket;
     let mut slots = Vec::new();
     slots.try_reserve_exact(count).ok()?;
     slots.resize_with(count, Slot::default);
@@ -61,49 +88,48 @@ impl Members {
     /// Opens the first heap. Nothing of it is taken.
     pub(super) fn open(limits: Limits) -> Result<Arc<Members>, Error> {
         let heaps = Heaps::open(limits)?;
-        let buckets = [const { OnceLock::new() }; BUCKETS];
-        Ok(Arc::new_cyclic(|own| Members { heaps, buckets, own: own.clone() }))
+        let (first, buckets) = (Default::default(), [const { OnceLock::new() }; BUCKETS]);
+        Ok(Arc::new_cyclic(|own| Members { heaps, first, buckets, own: own.clone() }))
     }
 
     #[inline]
     fn slot(&self, number: usize) -> Option<&Slot> {
-        let (bucket, at) = place(number);
-        let bucket = self.buckets.get(bucket)?;
-        match bucket.get() {
-            Some(slots) => slots.get(at),
-            None => self.new_slot(number),
+        match self.first.get(number) {
+            Some(slot) => Some(slot),
+            None => self.later_slot(number),
         }
     }
 
-    #[cold]
-    fn new_slot(&self, number: usize) -> Option<&Slot> {
+    fn later_slot(&self, number: usize) -> Option<&Slot> {
         let (bucket, at) = place(number);
-        // Another thread may have been first.
-        _ = self.buckets.get(bucket)?.set(slots(bucket)?);
-        self.buckets.get(bucket)?.get()?.get(at)
+        let bucket_of = self.buckets.get(bucket)?;
+        if bucket_of.get().is_none() {
+            // Another thread may be first.
+            _ = bucket_of.set(slots(bucket)?);
+        }
+        bucket_of.get()?.get(at)
     }
 
     /// Runs it with what this thread has. None if the thread cannot have anything: it ends, memory is refused, or the
     /// call comes from an allocator below another.
     fn with_member<R>(&self, act: impl FnOnce(&mut Member) -> R) -> Option<R> {
-        let mut member = self.slot(thread::number()?)?.0.try_borrow_mut().ok()?;
-        if !member.is_remembered {
-            member.is_remembered = thread::remember(self.own.clone());
-        }
-        member.is_remembered.then(|| act(&mut member))
+        let with = |member: &mut Member| {
+            member.is_remembered = member.is_remembered || thread::remember(self.own.clone());
+            member.is_remembered.then(|| act(member))
+        };
+        self.slot(thread::number()?)?.change(with).flatten()
     }
 
     // What this thread has, where it has a shard that no other thread asked for.
     #[inline]
-    fn owner(&self) -> Option<Ref<'_, Own>> {
-        let member = self.slot(thread::number()?)?.0.try_borrow().ok()?;
-        Ref::filter_map(member, |member| member.own.as_ref()).ok().filter(|_| !self.heaps.is_asked())
+    fn owner(&self) -> Option<&Own> {
+        let member = self.slot(thread::number()?)?.member()?;
+        member.own.as_ref().filter(|_| !self.heaps.is_asked())
     }
 
     /// Gives back what the thread of this number has. The caller is that thread.
     pub(super) fn leave(&self, number: usize) {
-        let Some(mut member) = self.slot(number).and_then(|slot| slot.0.try_borrow_mut().ok()) else { return };
-        let mut member = std::mem::take(&mut *member);
+        let Some(mut member) = self.slot(number).and_then(|slot| slot.change(std::mem::take)) else { return };
         for _ in 0..LEAVE_TRIES {
             if member.leave(&self.heaps) {
                 return;
@@ -155,10 +181,7 @@ impl Members {
         let Some(chunk) = self.heaps.chunk(heap) else { return };
         match self.owner() {
             Some(own) if own.heap == heap => remove(&own.shard, key),
-            own => {
-                drop(own);
-                self.remove_elsewhere(heap, chunk, key);
-            }
+            _ => self.remove_elsewhere(heap, chunk, key),
         }
         chunk.note_removal(number::shard(number));
     }
@@ -197,13 +220,28 @@ mod tests {
 
     #[test]
     fn numbers_have_places_of_their_own() {
-        let places: Vec<_> = (0..1000).map(place).collect();
+        let places: Vec<_> = (16..1000).map(place).collect();
         assert_eq!(
-            (places[0], places[7], places[8], places[23], places[24]),
-            ((0, 0), (0, 7), (1, 0), (1, 15), (2, 0))
+            (places[0], places[15], places[16], places[47], places[48]),
+            ((0, 0), (0, 15), (1, 0), (1, 31), (2, 0))
         );
-        assert!(places.iter().all(|(bucket, at)| *at < FIRST_BUCKET << bucket));
-        assert_eq!(places.iter().collect::<std::collections::HashSet<_>>().len(), 1000);
+        assert!(places.iter().all(|(bucket, at)| *at < FIRST << bucket));
+        assert_eq!(places.iter().collect::<std::collections::HashSet<_>>().len(), 984);
+        let members = members();
+        let slots: std::collections::HashSet<_> =
+            (0..1000).flat_map(|n| members.slot(n)).map(|it| it as *const Slot).collect();
+        assert_eq!(slots.len(), 1000);
+    }
+
+    #[test]
+    fn a_call_from_within_another_finds_no_member() {
+        let members = members();
+        let inner = members.with_member(|_| (members.owner().is_none(), members.with_member(|_| ()), members.insert()));
+        assert_eq!(
+            inner.map(|(owner, member, number)| (owner, member, number.map(shard))),
+            Some((true, None, Some(0)))
+        );
+        assert_eq!(members.insert().map(shard), Some(1));
     }
 
     #[test]

@@ -20,7 +20,7 @@ struct Pages<T> {
 
 /// The nodes of a slab.
 pub(super) struct Places<T> {
-    heaps: Box<[Pages<T>]>,
+    heaps: Box<[Pages<T>; MOST_HEAPS]>,
 }
 
 // SAFETY: the nodes belong to it, and the values in them go where it goes.
@@ -73,7 +73,7 @@ impl<T> Pages<T> {
 impl<T> Places<T> {
     pub(super) fn new() -> Places<T> {
         let none = |_| Pages { table: AtomicPtr::new(ptr::null_mut()), bits: AtomicU32::new(0) };
-        Places { heaps: (0..MOST_HEAPS).map(none).collect() }
+        Places { heaps: Box::new(std::array::from_fn(none)) }
     }
 
     /// The node of a number's place. None if no key of its page was ever issued.

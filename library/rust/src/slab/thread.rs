@@ -72,15 +72,18 @@ fn give_back(number: usize) {
 /// The number of this thread. None while it ends, or where memory is refused.
 #[inline]
 pub(super) fn number() -> Option<usize> {
-    match NUMBER.get() {
-        NONE => first_number(),
-        ENDED => None,
-        number => Some(number),
+    let number = NUMBER.get();
+    if number < ENDED {
+        return Some(number);
     }
+    first_number()
 }
 
 #[cold]
 fn first_number() -> Option<usize> {
+    if NUMBER.get() == ENDED {
+        return None;
+    }
     // What gives the number back is there before the number is.
     let with = |thread: &RefCell<Thread>| {
         let mut thread = thread.try_borrow_mut().ok()?;

@@ -1,0 +1,124 @@
+//! A program of threads over a slab and a pool, for ThreadSanitizer. Threads pass keys on by relaxed atomics, which order
+//! nothing: so what orders the values is the slab alone. For `tsan.py`.
+use gearlongan::slab::{Pool, Slab};
+use std::ffi::c_void;
+use std::ptr;
+use std::sync::atomic::AtomicUsize;
+use std::sync::atomic::Ordering::Relaxed;
+
+extern "C" {
+    fn pthread_create(
+        thread: *mut usize,
+        attributes: *const c_void,
+        start: extern "C" fn(*mut c_void) -> *mut c_void,
+        argument: *mut c_void,
+    ) -> i32;
+    fn pthread_join(thread: usize, result: *mut *mut c_void) -> i32;
+}
+
+struct Work<'a> {
+    number: usize,
+    act: &'a (dyn Fn(usize) + Sync),
+}
+
+extern "C" fn start(work: *mut c_void) -> *mut c_void {
+    // SAFETY: it is the work that `in_threads` passes, which outlives the thread.
+    let work = unsafe { &*work.cast::<Work<'_>>() };
+    (work.act)(work.number);
+    ptr::null_mut()
+}
+
+/// Runs it in so many threads. (Those of the standard library end by fences, which the sanitizer does not know.)
+fn in_threads(threads: usize, act: &(dyn Fn(usize) + Sync)) {
+    let mut works: Vec<Work<'_>> = (0..threads).map(|number| Work { number, act }).collect();
+    let begin = |work: &mut Work<'_>| {
+        let mut thread = 0;
+        // SAFETY: C's own call. The work stays until the thread is joined.
+        assert_eq!(unsafe { pthread_create(&mut thread, ptr::null(), start, ptr::from_mut(work).cast()) }, 0);
+        thread
+    };
+    let all: Vec<usize> = works.iter_mut().map(begin).collect();
+    // SAFETY: C's own call, once for each thread.
+    all.into_iter().for_each(|thread| assert_eq!(unsafe { pthread_join(thread, ptr::null_mut()) }, 0));
+}
+
+const PLACES: usize = 8;
+const ROUNDS: usize = 4_000;
+
+/// Keys that threads leave for each other, 0 for none.
+struct Board([AtomicUsize; PLACES]);
+
+impl Board {
+    fn new() -> Board {
+        Board([const { AtomicUsize::new(0) }; PLACES])
+    }
+
+    /// Leaves a key, and takes the one that was there.
+    fn swap(&self, place: usize, key: usize) -> Option<usize> {
+        Some(self.0[place % PLACES].swap(key, Relaxed)).filter(|key| *key != 0)
+    }
+
+    fn look(&self, place: usize) -> Option<usize> {
+        Some(self.0[place % PLACES].load(Relaxed)).filter(|key| *key != 0)
+    }
+}
+
+/// Each thread inserts, gets what others inserted, and removes or takes it. The values own memory that is read.
+fn slab(threads: usize) {
+    let (slab, board) = (Slab::new(), Board::new());
+    in_threads(threads, &|number| {
+        for round in 0..ROUNDS {
+            let key = slab.insert(Box::new(round)).expect("there is room");
+            let old = board.swap(round + number, key);
+            let entry = board.look(round).and_then(|key| slab.get(key));
+            assert!(entry.as_deref().is_none_or(|value| **value < ROUNDS));
+            // A thread that waits for the others' guards has none itself.
+            let entry = entry.filter(|_| round % 3 != 0);
+            match old {
+                Some(old) if entry.is_none() => assert!(slab.take(old).is_some()),
+                Some(old) => assert!(slab.remove(old)),
+                None => {}
+            }
+        }
+    });
+}
+
+/// The same with a pool, whose values are written, read and cleared in place.
+fn pool(threads: usize) {
+    let (pool, board) = (Pool::<Vec<usize>>::new(), Board::new());
+    in_threads(threads, &|number| {
+        for round in 0..ROUNDS {
+            let mut guard = pool.create().expect("there is room");
+            let early = board.swap(round, guard.key());
+            guard.extend([round, number]);
+            if round % 2 == 0 {
+                assert_eq!(guard.downgrade().len(), 2);
+            } else {
+                drop(guard);
+            }
+            let late = board.look(round + 1).and_then(|key| pool.get(key));
+            assert!(late.is_none_or(|values| values.len() == 2));
+            assert!(early.is_none_or(|key| pool.clear(key)));
+        }
+    });
+}
+
+/// Slabs that threads use for the first time, and leave as they end.
+fn ends(threads: usize) {
+    for _ in 0..20 {
+        let slab = Slab::new();
+        in_threads(threads, &|number| {
+            let keys: Vec<usize> = (0..500).flat_map(|_| slab.insert(number)).collect();
+            assert!(keys.iter().all(|key| slab.remove(*key)));
+        });
+    }
+}
+
+fn main() {
+    for threads in [2, 4, 8] {
+        slab(threads);
+        pool(threads);
+        ends(threads);
+    }
+    println!("tsan: all threads ended well");
+}
