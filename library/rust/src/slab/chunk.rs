@@ -1,6 +1,6 @@
 //! One heap of a slab, with what the slab knows of its shards: which are taken, and which were found full.
 use crate::{Error, Heap, Key, Layout, Pass, Shape, Shard};
-use std::sync::atomic::Ordering::{Acquire, Relaxed, Release, SeqCst};
+use std::sync::atomic::Ordering::{Relaxed, SeqCst};
 use std::sync::atomic::{AtomicU32, AtomicU64};
 use std::sync::{Mutex, MutexGuard, PoisonError};
 
@@ -20,7 +20,7 @@ pub(super) struct Chunk {
     segments: u32,
     // Shard 0, for threads that have no pass or no shard of this heap.
     shared: Mutex<Shard>,
-    // A bit for each shard that has an owner, the shared one among them.
+    // A bit for each shard that has an owner, the shared one among them. Only the heap decides who owns a shard.
     taken: AtomicU64,
     // A bit for each shard that was found full, until enough of its keys were removed.
     full: AtomicU64,
@@ -79,7 +79,7 @@ impl Chunk {
                 return if room & taken > 1 { Search::Taken } else { Search::Full };
             }
             let shard = free.trailing_zeros();
-            if self.taken.fetch_or(1 << shard, Acquire) >> shard & 1 == 0 {
+            if self.taken.fetch_or(1 << shard, Relaxed) >> shard & 1 == 0 {
                 return Search::Found(shard);
             }
         }
@@ -87,7 +87,7 @@ impl Chunk {
 
     /// Says that a shard has no owner any more.
     pub(super) fn release(&self, shard: u32) {
-        self.taken.fetch_and(!(1 << shard), Release);
+        self.taken.fetch_and(!(1 << shard), Relaxed);
     }
 
     /// Inserts into a shard of this heap. None if it is full, which is remembered, or where memory is refused.

@@ -3,7 +3,7 @@ use super::chunk::{Chunk, Search, SEGMENT};
 use super::config::Limits;
 use super::number::{self, MOST_HEAPS};
 use crate::Error;
-use std::sync::atomic::Ordering::{Acquire, Relaxed, Release};
+use std::sync::atomic::Ordering::Relaxed;
 use std::sync::atomic::{AtomicBool, AtomicUsize};
 use std::sync::{Mutex, OnceLock, PoisonError};
 
@@ -29,6 +29,7 @@ pub(super) enum Need {
 pub(super) struct Heaps {
     // Each box has one. (The standard library's box of a value ends the process where memory is refused.)
     chunks: [OnceLock<Box<[Chunk]>>; MOST_HEAPS],
+    // How many are open. A thread that sees one before its chunk passes over it.
     opened: AtomicUsize,
     // Who has this lock opens the next heap.
     opening: Mutex<()>,
@@ -80,7 +81,7 @@ impl Heaps {
 
     /// How many heaps there are.
     pub(super) fn opened(&self) -> usize {
-        self.opened.load(Acquire)
+        self.opened.load(Relaxed)
     }
 
     /// The heap of this number.
@@ -115,7 +116,7 @@ impl Heaps {
         if self.chunks[opened].set(chunk).is_err() {
             unreachable!("heaps are opened one after the other");
         }
-        self.opened.store(opened + 1, Release);
+        self.opened.store(opened + 1, Relaxed);
         true
     }
 

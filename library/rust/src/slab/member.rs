@@ -69,7 +69,9 @@ impl Member {
                 if let Some(local) = self.local(heap) {
                     local.pass = Some(pass);
                 }
-                heaps.chunk(heap).inspect(|chunk| chunk.release(number));
+                if let Some(chunk) = heaps.chunk(heap) {
+                    chunk.release(number);
+                }
                 true
             }
             Err(refused) => {

@@ -101,7 +101,8 @@ impl<T> Node<T> {
             // SAFETY: as in `fill`.
             unsafe { self.at().write(value) };
         }
-        self.state.store(written(generation) + 1, Release);
+        // Others read the value only once it is shared, which orders what was written.
+        self.state.store(written(generation) + 1, Relaxed);
     }
 
     /// Turns the exclusive use of the caller into a shared one, and lets the key find the value.
