@@ -1,7 +1,7 @@
 //! A server's table of sessions: threads that serve requests open, look up, and end sessions of each other.
 //!
-//! The number of a session is its key. A client that comes back with the number of a session that ended is told so, for
-//! ever: no later session has it.
+//! The number of a session is its key. A client that comes back with the number of a session that ended gets
+//! [`Error::Gone`], for ever: no later session has that number.
 use gearlongan::{Error, Heap, Key, Layout, Pass, Record, Room, Shard};
 use std::sync::mpsc::{channel, Receiver, Sender};
 use std::thread;

@@ -1,7 +1,7 @@
 //! A queue of work: one thread stores the tasks, workers take them, and nobody copies more than a key.
 //!
-//! A task that is called off is removed by its key, whoever has it. A worker that comes too late is told that it is
-//! gone.
+//! A task that is called off is removed by its key, by any thread that has the key. A worker that comes too late gets
+//! [`Error::Gone`].
 use gearlongan::{Error, Guard, Heap, Key, Layout, Pass, Room};
 use std::sync::mpsc::{channel, Receiver};
 use std::sync::Mutex;

@@ -7,9 +7,9 @@ use std::ops::Deref;
 
 /// A shard that a pass owns: it inserts there, and derefs to its pass, whose calls it has.
 ///
-/// A shard that is dropped is left, and its pass comes home. Where another pass is in the middle of a free there, this
-/// gives way to other threads for a while; if the free does not end, because its thread was stopped, the shard stays
-/// owned and its pass away, for good. Who wants to know [leaves](Shard::leave).
+/// A shard that is dropped is left, and its pass comes home. If another pass is in the middle of a free there, the drop
+/// yields to other threads for a while. If the free does not end, because its thread was stopped, the shard stays owned
+/// and its pass away, for good. A caller that has to know calls [`leave`](Shard::leave).
 #[derive(Debug)]
 #[must_use = "a shard is left when it is dropped"]
 pub struct Shard {
@@ -131,7 +131,7 @@ impl Shard {
         self.pass.handle.collect()
     }
 
-    /// Leaves the shard, with all that is in it, to whoever adopts it next, and gets the pass back.
+    /// Leaves the shard, with all that is in it, to the pass that adopts it next, and gets the pass back.
     ///
     /// # Errors
     ///

@@ -1,4 +1,4 @@
-//! Each error of each call that one thread can have, in each layout; but for memory, which `memory.rs` refuses.
+//! Each error of each call that one thread can have, in each layout, except memory, which `memory.rs` refuses.
 use gearlongan::{Error, Heap, Key, Layout, Pass, Room, Shape, Shard, Value};
 
 const LAYOUTS: [Layout; 4] = [Layout::Wide, Layout::Tagged, Layout::Deep, Layout::Tiny];

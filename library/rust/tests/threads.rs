@@ -10,7 +10,7 @@ fn value(maker: u64, n: u64) -> ([u64; 16], usize) {
     ([maker << 32 | n; 16], 1 + (n % 16) as usize)
 }
 
-/// Whoever freed in this shard ends soon.
+/// A thread that is freeing in this shard ends soon.
 fn leave(mut shard: Shard) {
     while let Err(refused) = shard.leave() {
         assert_eq!(refused.error, Error::Waiting);
@@ -121,7 +121,7 @@ fn four_threads_remove_the_same_keys() {
     race(4);
 }
 
-/// Threads that take a pass of one heap at the same time have one each, or are told that there is none.
+/// Threads that take a pass of one heap at the same time get one each, or the error that there is none.
 #[test]
 fn threads_take_passes_of_one_heap() {
     let heap = Heap::open(Layout::Wide, Shape { shards: 1, segments: 1, passes: 2 }).expect("it opens");

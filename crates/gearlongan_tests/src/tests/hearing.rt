@@ -1,4 +1,4 @@
-//! Receipts: what one pass was answered stands before what another is told once it heeded them.
+//! Receipts: what one pass was answered happens before what another is answered once it heeded them.
 ghost use Rattle.std.specs.Prelude.{◌≡◌};
 
 use super::{agree, left, opened, owner_and_reader};
