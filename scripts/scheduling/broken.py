@@ -227,9 +227,7 @@ HEAPS = [
     ),
 ]
 
-DEFINED = re.compile(
-    r'^(define internal )?i64 (@"[^"\n]*broken_(\d+)[^"\n]*"\([^)]*\))[^\n]*\{\n.*?^\}\n', re.M | re.S
-)
+DEFINED = re.compile(r'^define internal (?:noundef )?i64 (@"[^"\n]*::broken_(\d+)"\(\))[^\n]*\{\n.*?^\}\n', re.M | re.S)
 
 
 def break_sources(crates):
@@ -248,10 +246,10 @@ def with_selectors(text):
     found = set()
 
     def selector(match):
-        found.add(int(match[3]))
-        return f"""define internal i64 {match[2]} {{
+        found.add(int(match[2]))
+        return f"""define internal i64 {match[1]} {{
   %asked = load i32, ptr @schedule_broken
-  %same = icmp eq i32 %asked, {match[3]}
+  %same = icmp eq i32 %asked, {match[2]}
   %word = zext i1 %same to i64
   ret i64 %word
 }}

@@ -26,7 +26,7 @@ HERE = pathlib.Path(__file__).resolve().parent
 TOP = HERE.parent.parent
 KIT = pathlib.Path("/opt/rattle")
 # The C functions that a program under the scheduler calls in another form.
-WRAPPED = "pthread_create pthread_join pthread_self sched_yield syscall _exit".split()
+WRAPPED = "pthread_create pthread_join pthread_detach pthread_self sched_yield syscall _exit".split()
 WARNINGS = ["-std=gnu11", "-O2", "-Wall", "-Wextra", "-Werror"]
 # The steps of a pass: these functions of sh_table's file table.rt.
 STEPS = "add sub or swap store exchange load".split()

@@ -14,36 +14,12 @@
 #include <string.h>
 #include <sys/syscall.h>
 
-/* Which operation is made of a load and a store, with a point between them, by the variable SCHEDULE_SPLIT of the
- * environment: "swap", "add", "sub" or "exchange". So a program that rests on it being one step is broken. */
-static char split;
-
-__attribute__((constructor)) static void begin(void)
-{
-    const char *name = getenv("SCHEDULE_SPLIT");
-    split = !name ? 0 : !strcmp(name, "swap") ? 'w' : !strcmp(name, "add") ? 'a' : !strcmp(name, "sub") ? 's' : 'x';
-}
-
 /* The sanitizer's calls for a word of so many bits. The orders that they are given do not matter here. */
 #define ONE(bits, name)                                                                                                \
     uint##bits##_t __tsan_atomic##bits##_##name(volatile uint##bits##_t *word, uint##bits##_t value, int order)        \
     {                                                                                                                  \
         (void)order;                                                                                                   \
         turns_point();                                                                                                 \
-        return __atomic_##name(word, value, __ATOMIC_SEQ_CST);                                                         \
-    }
-
-#define SUM(bits, name, letter, sign)                                                                                  \
-    uint##bits##_t __tsan_atomic##bits##_##name(volatile uint##bits##_t *word, uint##bits##_t value, int order)        \
-    {                                                                                                                  \
-        (void)order;                                                                                                   \
-        turns_point();                                                                                                 \
-        if (split == letter) {                                                                                         \
-            uint##bits##_t found = *word;                                                                              \
-            turns_point();                                                                                             \
-            *word = (uint##bits##_t)(found sign value);                                                                \
-            return found;                                                                                              \
-        }                                                                                                              \
         return __atomic_##name(word, value, __ATOMIC_SEQ_CST);                                                         \
     }
 
@@ -64,12 +40,6 @@ __attribute__((constructor)) static void begin(void)
     {                                                                                                                  \
         (void)order;                                                                                                   \
         turns_point();                                                                                                 \
-        if (split == 'w') {                                                                                            \
-            uint##bits##_t found = *word;                                                                              \
-            turns_point();                                                                                             \
-            *word = value;                                                                                             \
-            return found;                                                                                              \
-        }                                                                                                              \
         return __atomic_exchange_n(word, value, __ATOMIC_SEQ_CST);                                                     \
     }                                                                                                                  \
     uint##bits##_t __tsan_atomic##bits##_compare_exchange_val(volatile uint##bits##_t *word, uint##bits##_t wanted,    \
@@ -78,18 +48,11 @@ __attribute__((constructor)) static void begin(void)
         (void)order;                                                                                                   \
         (void)otherwise;                                                                                               \
         turns_point();                                                                                                 \
-        if (split == 'x') {                                                                                            \
-            uint##bits##_t found = *word;                                                                              \
-            turns_point();                                                                                             \
-            if (found == wanted)                                                                                       \
-                *word = value;                                                                                         \
-            return found;                                                                                              \
-        }                                                                                                              \
         __atomic_compare_exchange_n(word, &wanted, value, 0, __ATOMIC_SEQ_CST, __ATOMIC_SEQ_CST);                      \
         return wanted;                                                                                                 \
     }                                                                                                                  \
-    SUM(bits, fetch_add, 'a', +)                                                                                       \
-    SUM(bits, fetch_sub, 's', -)                                                                                       \
+    ONE(bits, fetch_add)                                                                                               \
+    ONE(bits, fetch_sub)                                                                                               \
     ONE(bits, fetch_and)                                                                                               \
     ONE(bits, fetch_or)                                                                                                \
     ONE(bits, fetch_xor)
@@ -176,6 +139,12 @@ int __wrap_pthread_join(pthread_t thread, void **result)
     void *ended = turns_join((struct thread *)thread);
     if (result)
         *result = ended;
+    return 0;
+}
+
+int __wrap_pthread_detach(pthread_t thread)
+{
+    turns_detach((struct thread *)thread);
     return 0;
 }
 

@@ -32,6 +32,7 @@ struct thread {
     void *(*body)(void *);
     void *argument;
     void *result;
+    int is_detached;
     const void *address;    /* what it waits at */
     uint64_t sleeps_until;  /* a point */
 };
@@ -162,7 +163,7 @@ static void run(void)
     struct thread *mine = current;
     mine->result = mine->body(mine->argument);
     turns_wake(mine, MOST_THREADS);
-    pause_as(ENDED);
+    pause_as(mine->is_detached ? FREE : ENDED);
     abort();
 }
 
@@ -191,6 +192,7 @@ struct thread *turns_start(void *(*body)(void *), void *argument)
     thread->body = body;
     thread->argument = argument;
     thread->sleeps_until = 0;
+    thread->is_detached = 0;
     /* `turns_switch` takes six registers and the address of `run` off it, and a function begins 8 below a multiple of
      * 16. */
     void **top = (void **)(thread->stack + STACK_BYTES - 64);
@@ -210,6 +212,13 @@ void *turns_join(struct thread *thread)
         turns_wait(thread);
     thread->state = FREE;
     return thread->result;
+}
+
+void turns_detach(struct thread *thread)
+{
+    thread->is_detached = 1;
+    if (thread->state == ENDED)
+        thread->state = FREE;
 }
 
 void turns_wait(const void *address)

@@ -16,6 +16,9 @@ struct thread *turns_start(void *(*body)(void *), void *argument);
 /* Waits until the thread ended; what its body returned. */
 void *turns_join(struct thread *thread);
 
+/* Nobody will wait for the thread. */
+void turns_detach(struct thread *thread);
+
 /* Waits until `turns_wake` is called with this address. */
 void turns_wait(const void *address);
 
