@@ -2,8 +2,15 @@
 
 All of them are put into one copy of the sources. `BROKEN` in the new text stands for a test whether this heap was asked
 for, so one program is each of the broken heaps, by a number that it reads from the variable SCHEDULE_BROKEN as it
-starts. Those up to `a_page_of_an_own_free_stays_full` are edits of `refused/`: contracts refuse them, and here runs do.
-Contracts cannot refuse the others.
+starts. With the number 0 it is the heap as it is.
+
+Most of them are edits of `refused/`: contracts refuse them, and here runs do. Contracts cannot refuse the first five,
+since no proof looks at how the steps are compiled, nor the last two. Those with False at the end are not found: nothing
+judges how many holds a key has, and a search that passes over an armed page loses a slot only while its freer is in the
+middle of the free, when Full is right too.
+
+The copy's sh_stress judges one thing more (JUDGE): while nothing else runs, a full shard has room again once another
+pass has removed one of its values, and once its owner has.
 """
 import collections
 import re
@@ -78,6 +85,22 @@ HEAPS = [
         }
 """,
     ),
+    Broken(
+        "a_fetch_or_is_a_load_and_a_store",
+        "sh_table/src/table.rt",
+        """        self.table
+            .shared
+            .fetch_or::<Does<L, D>>(seat, self.shape.index(place), bits)
+""",
+        """        if BROKEN {
+            let found = self.table.shared.load::<Does<L, D>>(seat, self.shape.index(place));
+            self.table.shared.store::<Stores<L, D>>(seat, self.shape.index(place), found | bits);
+            found
+        } else {
+            self.table.shared.fetch_or::<Does<L, D>>(seat, self.shape.index(place), bits)
+        }
+""",
+    ),
     # Calls of a pass.
     Broken(
         "get_is_gone_on_a_live_key",
@@ -103,11 +126,17 @@ HEAPS = [
         "{\n    finish(table, seat, spot, generation, owned)\n",
         "{\n    if BROKEN && spot.slot == 0 { return false; }\n    finish(table, seat, spot, generation, owned)\n",
     ),
-    Broken("read_is_empty", "sh_pass/src/state.rt", "        Ok(value)\n", """        if BROKEN {
+    Broken(
+        "read_is_empty",
+        "sh_pass/src/pass.rt",
+        "        self.state.read_into(self.heap.kept(), hold, &mut value)?;\n        Ok(value)\n",
+        """        self.state.read_into(self.heap.kept(), hold, &mut value)?;
+        if BROKEN {
             return Ok(Value::empty());
         }
         Ok(value)
-"""),
+""",
+    ),
     # What a word says.
     Broken(
         "second_mark_decides",
@@ -135,6 +164,7 @@ HEAPS = [
         "sh_slots/src/enter.rt",
         "State::of(found).count < guard_max {",
         "State::of(found).count < guard_max || BROKEN && State::of(found).count == guard_max {",
+        False,
     ),
     # Steps with another word.
     Broken(
@@ -178,9 +208,9 @@ HEAPS = [
     ),
     Broken(
         "unwritten_link_is_the_end",
-        "sh_stack/src/link.rt",
-        "            0 => Link::Unwritten,\n",
-        "            0 => if BROKEN { Link::End } else { Link::Unwritten },\n",
+        "sh_shard/src/collecting.rt",
+        "        if found == 0 {\n            return false;\n        }\n",
+        "        if found == 0 && !BROKEN {\n            return false;\n        }\n",
     ),
     # An owner's calls.
     Broken(
@@ -224,21 +254,117 @@ HEAPS = [
         "        self.collect(page);\n        if let Some(key)",
         "        if BROKEN && self.is_armed(page) {\n            return None;\n        }\n"
         "        self.collect(page);\n        if let Some(key)",
+        False,
+    ),
+]
+
+# File, old text and new text of the copy's sh_stress.
+JUDGE = [
+    (
+        "sh_stress/src/ending.rt",
+        """    if let Some(worker) = workers.first_mut() {
+        worker.fill(moments, len);
+""",
+        """    if let Some((worker, others)) = workers.split_first_mut() {
+        if let Some(other) = others.first_mut() {
+            worker.refill(other, moments, len);
+        }
+        worker.fill(moments, len);
+""",
+    ),
+    (
+        "sh_stress/src/worker.rt",
+        """    /// Fills each shard, of which nobody owns one, with values of so many words.
+""",
+        """    // Fills the first shard, and again after another pass and after the owner removed a value. A slot of the layout
+    // with few holds has few generations, so it may be retired.
+    pub fn refill(&mut self, other: &mut Self, moments: &Moments, len: usize) {
+        if L::GUARD_MAX < 5 {
+            return;
+        }
+        let actor = match self.moving() {
+            Actor::Lone(lone) => owning::adopt(self.alloc, lone, &mut self.record, 0),
+            actor => actor,
+        };
+        let actor = match actor {
+            Actor::Owner(mut owner) => {
+                owning::refill(&mut owner, &mut self.record, other, moments, len);
+                owning::leave(owner, &mut self.record)
+            }
+            actor => actor,
+        };
+        self.put(actor);
+    }
+
+    // Removes a key.
+    pub fn remove_key(&mut self, moments: &Moments, key: u64) {
+        match &mut self.actor {
+            Actor::Lone(lone) => using::remove(lone, &mut self.record, moments, key),
+            _ => {}
+        }
+    }
+
+    /// Fills each shard, of which nobody owns one, with values of so many words.
+""",
+    ),
+    (
+        "sh_stress/src/owning.rt",
+        """/// Adopts a shard that nobody owns, inserts values of so many words until it is full, and leaves it.
+""",
+        """// Fills the shard, and again after another pass and after the owner removed a value.
+pub fn refill<L: KeyLayout, H: Home>(
+    owner: &mut Owner<'_, L, H>,
+    record: &mut Record,
+    other: &mut crate::worker::Worker<'_, L, H>,
+    moments: &Moments,
+    len: usize,
+) {
+    let mut last = None;
+    for _ in 0..MOST_SLOTS {
+        let Some(key) = put(owner, record, moments, len) else {
+            break;
+        };
+        last = Some(key);
+    }
+    let Some(key) = last else {
+        return;
+    };
+    other.remove_key(moments, key);
+    let Some(key) = put(owner, record, moments, len) else {
+        record.refused(Call::Insert, Refusal::Full);
+        return;
+    };
+    using::remove(owner, record, moments, key);
+    if put(owner, record, moments, len).is_none() {
+        record.refused(Call::Insert, Refusal::Full);
+    }
+}
+
+/// Adopts a shard that nobody owns, inserts values of so many words until it is full, and leaves it.
+""",
     ),
 ]
 
 DEFINED = re.compile(r'^define internal (?:noundef )?i64 (@"[^"\n]*::broken_(\d+)"\(\))[^\n]*\{\n.*?^\}\n', re.M | re.S)
 
 
+def replace(file, old, new):
+    """Replaces a text that is once in the file."""
+    text = file.read_text()
+    if text.count(old) != 1:
+        raise SystemExit(f"broken.py: an old text is {text.count(old)} times in {file}:\n{old}")
+    file.write_text(text.replace(old, new))
+
+
 def break_sources(crates):
-    """Puts all broken heaps into the sources of this folder `crates`."""
+    """Puts all broken heaps, and the stricter judge, into the sources of this folder `crates`."""
+    for file, old, new in JUDGE:
+        replace(crates / file, old, new)
     for number, heap in enumerate(HEAPS, 1):
         file = crates / heap.file
-        text = file.read_text()
-        if text.count(heap.old) != 1:
-            raise SystemExit(f"broken.py: {heap.name}: its old text is {text.count(heap.old)} times in {heap.file}")
-        selector = f"\n#[inline(never)]\nfn broken_{number}() -> u64 {{\n    0\n}}\n"
-        file.write_text(text.replace(heap.old, heap.new.replace("BROKEN", f"(broken_{number}() != 0)")) + selector)
+        replace(file, heap.old, heap.new.replace("BROKEN", f"(broken_{number}() != 0)"))
+        with file.open("a") as end:
+            end.write(f"\n#[inline(never)]\nfn broken_{number}() -> u64 {{\n    0\n}}\n")
 
 
 def with_selectors(text):
