@@ -276,8 +276,8 @@ JUDGE = [
         "sh_stress/src/worker.rt",
         """    /// Fills each shard, of which nobody owns one, with values of so many words.
 """,
-        """    // Fills the first shard, and again after another pass and after the owner removed a value. A slot of the layout
-    // with few holds has few generations, so it may be retired.
+        """    // Fills the first shard, and again after another pass and after the owner removed a value. A slot of the
+    // layout with few holds has few generations, so it may be retired.
     pub fn refill(&mut self, other: &mut Self, moments: &Moments, len: usize) {
         if L::GUARD_MAX < 5 {
             return;

@@ -20,6 +20,8 @@ import subprocess
 import sys
 import tempfile
 
+sys.dont_write_bytecode = True
+
 import broken
 
 HERE = pathlib.Path(__file__).resolve().parent
