@@ -5,9 +5,9 @@ for, so one program is each of the broken heaps, by a number that it reads from 
 starts. With the number 0 it is the heap as it is.
 
 Most of them are edits of `refused/`: contracts refuse them, and here runs do. Contracts cannot refuse the first five,
-since no proof looks at how the steps are compiled, nor the last two. Those with False at the end are not found: nothing
-judges how many holds a key has, and a search that passes over an armed page loses a slot only while its freer is in the
-middle of the free, when Full is right too.
+since no proof looks at how the steps are compiled, nor the last two. Those with False at the end are not found. Nothing
+judges how many holds a key has. A search that passes over an armed page loses a slot only while its freer is in the
+middle of the free, when Full is right too. A page is in the queue of its class still when JUDGE frees a slot of it.
 
 The copy's sh_stress judges one thing more (JUDGE): while nothing else runs, a full shard has room again once another
 pass has removed one of its values, and once its owner has.
@@ -240,6 +240,7 @@ HEAPS = [
         "        let (answer, came) = self.pages.remove(key);\n",
         "        let (answer, came) = self.pages.remove(key);\n"
         "        let came = if BROKEN { None } else { came };\n",
+        False,
     ),
     # What other threads could have brought about, so that no contract refuses it.
     Broken(
