@@ -1,5 +1,7 @@
 //! What no clause says: that each pass is at home at first, that one which is away is taken by nobody, and that it can
 //! be taken again once it is back.
+ghost use Rattle.std.specs.Prelude.{◌≡◌};
+
 use sh_key::Tiny;
 use sh_pass::PassState;
 use sh_pass::pass::Pass;
@@ -27,7 +29,9 @@ fn opened(rt: &impl Abort, alloc: Global, passes: u32) -> Pool<Tiny> {
 }
 
 // The pass that is taken from the first berth where one is.
-pub(crate) fn taken(rt: &impl Abort, pool: &Pool<Tiny>) -> Taken<Tiny> {
+pub(crate) fn taken(rt: &impl Abort, pool: &Pool<Tiny>) -> Taken<Tiny>
+    ensures { result.state.heap ≡ pool.now }
+{
     match pool.take() {
         Some(taken) => taken,
         None => panic!(rt; "no pass is at home"),
@@ -35,7 +39,9 @@ pub(crate) fn taken(rt: &impl Abort, pool: &Pool<Tiny>) -> Taken<Tiny> {
 }
 
 // The pass of the berth of this number.
-pub(crate) fn taken_at(rt: &impl Abort, pool: &Pool<Tiny>, number: usize) -> Taken<Tiny> {
+pub(crate) fn taken_at(rt: &impl Abort, pool: &Pool<Tiny>, number: usize) -> Taken<Tiny>
+    ensures { result.state.heap ≡ pool.now }
+{
     match pool.take_at(number) {
         Some(taken) => taken,
         None => panic!(rt; "the pass is away"),
@@ -64,8 +70,10 @@ pub(crate) fn is_away(pool: &Pool<Tiny>, number: usize) -> bool {
     }
 }
 
-// Gives a pass back, and tells whether it came home: one that did not is lost.
-pub(crate) fn comes_home(pool: &Pool<Tiny>, taken: Taken<Tiny>) -> bool {
+// Gives a pass back, and returns whether it came home: one that did not is lost.
+pub(crate) fn comes_home(pool: &Pool<Tiny>, taken: Taken<Tiny>) -> bool
+    requires { taken.state.heap ≡ pool.now }
+{
     let Taken { state, berth } = taken;
     match pool.give(state, berth) {
         Ok(()) => true,
@@ -113,7 +121,10 @@ fn refused(
     pool: &Pool<Tiny>,
     state: PassState<Tiny>,
     berth: Berth<Tiny>,
-) -> (PassState<Tiny>, usize) {
+) -> (PassState<Tiny>, usize)
+    requires { state.heap ≡ pool.now }
+    ensures { result.0.heap ≡ pool.now }
+{
     match pool.give(state, berth) {
         Ok(()) => panic!(rt; "a berth of another pool serves"),
         Err((state, berth)) => {
