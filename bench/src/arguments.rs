@@ -98,7 +98,7 @@ fn folder(rest: &mut Iter<'_, &str>) -> Result<PathBuf, String> {
     }
 }
 
-// What stands behind `plots`: a file, and a folder.
+// What follows `plots`: a file, and a folder.
 fn plots(words: &[&str]) -> Result<Request, String> {
     let [results, rest @ ..] = words else { return Err("plots wants the output of a run, and a folder".to_string()) };
     match rest {

@@ -1,7 +1,7 @@
 //! Pictures as SVG: a sheet on which lines, dots, boxes and words are put.
 use std::fmt::Write;
 
-/// A sheet of so many pixels. Its title and what is seen on it are for readers who cannot see it.
+/// A sheet of this many pixels. Its title and what is seen on it are for readers who cannot see it.
 pub struct Sheet {
     width: f64,
     height: f64,

@@ -40,7 +40,7 @@ impl<const ROWS: usize> Times<ROWS> {
         result
     }
 
-    /// The time of each of so many operations, by the names of the rows.
+    /// The time of each of this many operations, by the names of the rows.
     pub fn each(&self, names: [&'static str; ROWS], operations: usize) -> Vec<crate::Row> {
         names.into_iter().zip(self.sums.map(|sum| sum / operations as f64)).collect()
     }

@@ -1,6 +1,6 @@
 //! usage: drop-in WORKLOAD THREADS ROUNDS
 //!
-//! Runs a workload in so many threads, and prints a line for each of its rows: the name, and the nanoseconds of
+//! Runs a workload in this many threads, and prints a line for each of its rows: the name, and the nanoseconds of
 //! processor time that one operation took, in the mean of the threads. `measure` beside this runs it in turns, built with
 //! `sharded-slab` as it is and with the one of this repository.
 mod clock;
@@ -15,7 +15,7 @@ use std::thread;
 /// A row of a workload: its name, and the nanoseconds of one operation.
 type Row = (&'static str, f64);
 
-/// Runs `work` in so many threads that begin at the same time, and returns the mean of each of its rows.
+/// Runs `work` in this many threads that begin at the same time, and returns the mean of each of its rows.
 fn in_threads(threads: usize, work: impl Fn(&Barrier, usize) -> Vec<Row> + Sync) -> Vec<Row> {
     let start = Barrier::new(threads);
     let all: Vec<Vec<Row>> = thread::scope(|scope| {

@@ -32,7 +32,7 @@ pub fn calls(threads: usize, rounds: usize) -> Vec<Row> {
     })
 }
 
-/// One thread gets, and inserts and removes, beside so many threads that used the slab once and are idle.
+/// One thread gets, and inserts and removes, beside this many threads that used the slab once and are idle.
 pub fn beside_idle(threads: usize, rounds: usize) -> Vec<Row> {
     let slab = Slab::new();
     let key = slab.insert(7u64).expect("there is room");

@@ -40,7 +40,7 @@ pub(super) enum Search {
 }
 
 impl Chunk {
-    /// Opens a heap of so many shards, each of a power of two of segments.
+    /// Opens a heap of this many shards, each of a power of two of segments.
     pub(super) fn open(shards: u32, segments: u32) -> Result<Chunk, Error> {
         let heap = Heap::open(Layout::Tagged, Shape { shards, segments, passes: PASSES })?;
         let shared = Mutex::new(heap.take()?.adopt(0)?);

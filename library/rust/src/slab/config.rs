@@ -71,7 +71,7 @@ impl fmt::Debug for DefaultConfig {
 pub(super) struct Limits {
     /// How many values of one thread have room in the first heap.
     pub(super) first: u64,
-    /// With room for so many values the slab opens no further heap.
+    /// With room for this many values the slab opens no further heap.
     pub(super) values: u64,
     /// How many heaps it opens at most.
     pub(super) heaps: usize,

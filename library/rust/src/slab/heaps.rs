@@ -51,7 +51,7 @@ fn power_below(number: u64) -> u64 {
     1 << number.max(1).ilog2()
 }
 
-/// The shards and segments of a heap that is opened when those before have so many segments and shards.
+/// The shards and segments of a heap that is opened when those before have this many segments and shards.
 fn shape(need: Need, segments: u64, shards: u32) -> (u32, u32) {
     match need {
         Need::Shards => (if shards < 16 { 16 } else { 64 }, 1),

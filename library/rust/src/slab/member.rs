@@ -5,7 +5,7 @@ use super::heaps::{Heaps, Need};
 use super::number;
 use crate::{Key, Pass, Shard};
 
-/// A thread that found no shard, or no pass, searches again after so many calls.
+/// A thread that found no shard, or no pass, searches again after this many calls.
 const SKIPS: u32 = 64;
 
 /// The shard that a thread inserts into.
@@ -19,7 +19,7 @@ pub(super) struct Own {
 #[derive(Default)]
 struct Local {
     pass: Option<Pass>,
-    // It does not ask the heap for a pass for so many calls.
+    // It does not ask the heap for a pass for this many calls.
     skips: u32,
 }
 
@@ -29,7 +29,7 @@ pub(super) struct Member {
     pub(super) own: Option<Own>,
     // By the numbers of heaps. The pass that owns the shard is in `own`.
     locals: Vec<Local>,
-    // It does not search a shard for so many inserts.
+    // It does not search a shard for this many inserts.
     skips: u32,
     // The last search found that all shards with room are taken.
     asked: bool,

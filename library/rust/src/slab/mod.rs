@@ -124,7 +124,7 @@ impl<T> Slab<T> {
         }
     }
 
-    /// Makes a slab with room for so many values of each of three threads before it grows: at most 12,288.
+    /// Makes a slab with room for this many values of each of three threads before it grows: at most 12,288.
     ///
     /// # Errors
     ///

@@ -168,7 +168,7 @@ impl<T> Node<T> {
         self.mark(0, |flags| flags == open(generation) || flags == written(generation))
     }
 
-    // Marks a node whose state without the count `is_there`, and adds so many users.
+    // Marks a node whose state without the count `is_there`, and adds this many users.
     #[inline]
     fn mark(&self, users: u64, is_there: impl Fn(u64) -> bool) -> Removal {
         let mut state = self.state.load(Relaxed);

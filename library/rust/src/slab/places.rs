@@ -49,7 +49,7 @@ impl<T> Pages<T> {
         if table.is_null() || page >> bits != 0 {
             return None;
         }
-        // SAFETY: the table has so many pages of each shard, and stays as long as `self`.
+        // SAFETY: the table has this many pages of each shard, and stays as long as `self`.
         Some(unsafe { &*table.add((number::shard(number) as usize) << bits | page) })
     }
 
@@ -119,7 +119,7 @@ impl<T> Places<T> {
         let tables = self.heaps.iter_mut().filter_map(|pages| {
             let table = *pages.table.get_mut();
             let length = (MOST_SHARDS as usize) << *pages.bits.get_mut();
-            // SAFETY: a table has so many entries, and `&mut self` is the only way to them.
+            // SAFETY: a table has this many entries, and `&mut self` is the only way to them.
             (!table.is_null()).then(|| unsafe { slice::from_raw_parts_mut(table, length) })
         });
         tables.flatten().map(|page| *page.get_mut()).filter(|page| !page.is_null())

@@ -26,7 +26,7 @@ struct Thread {
     number: usize,
     // The slabs that have something of this thread. A slab that was dropped is one that cannot be upgraded.
     slabs: Vec<Weak<Members>>,
-    // With so many slabs it looks which of them were dropped.
+    // With this many slabs it looks which of them were dropped.
     prune_at: usize,
 }
 
