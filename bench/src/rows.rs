@@ -94,8 +94,8 @@ pub fn large() -> Vec<Row> {
     [[100_000, 1_000_000, 10_000_000].map(beside).concat(), filling()].concat()
 }
 
-// Shards that are filled: one of 1,024 pages and one of 65,536, and as large a heap of shards of 1,024 pages, with pages
-// of one class and of all eight.
+// Shards that are filled: one of 1,024 pages and one of 65,536, and as large a heap of shards of 1,024 pages, with
+// pages of one class and of all eight.
 fn filling() -> Vec<Row> {
     let row = |values, lengths| Row::new(Workload::Fill, 1, values).lengths(lengths);
     let short = [1024, 65_536].map(|pages| row(pages * 48, Lengths::Each(1)).deep().aims(1.5, 1.2));

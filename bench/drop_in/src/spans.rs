@@ -14,8 +14,8 @@ impl<S: Subscriber> Layer<S> for Nothing {}
 
 const CALLS: usize = 100;
 
-/// Each thread makes two spans, one in the other; enters a span of its own, and one of all threads; and makes spans that
-/// the next thread closes.
+/// Each thread makes two spans, one in the other; enters a span of its own, and one of all threads; and makes spans
+/// that the next thread closes.
 pub fn calls(threads: usize, rounds: usize) -> Vec<Row> {
     tracing::subscriber::set_global_default(Registry::default().with(Nothing)).expect("it is the first");
     let of_all = info_span!("of all");

@@ -9,8 +9,8 @@
 //! - A pass that [adopts](Pass::adopt) a shard is a [`Shard`] until it [leaves](Shard::leave): it also inserts.
 //! - A [`Guard`] keeps a value readable, removed or not, until it is dropped.
 //!
-//! A [`slab::Slab`] stores values of any type over such heaps, and a [`slab::Pool`] uses their memory again. They have the
-//! interface of the crate `sharded-slab`.
+//! A [`slab::Slab`] stores values of any type over such heaps, and a [`slab::Pool`] uses their memory again. They have
+//! the interface of the crate `sharded-slab`.
 //!
 //! No call of a pass or a shard waits or locks. Memory is taken by [`Heap::open`], [`Heap::take`], [`Heap::gather`],
 //! [`Pass::adopt`], and by an insert or a prepare that opens a segment; where it is refused they answer

@@ -1,5 +1,5 @@
-//! A program of threads over a slab and a pool, for ThreadSanitizer. Threads pass keys on by relaxed atomics, which order
-//! nothing: so what orders the values is the slab alone. For `tsan.py`.
+//! A program of threads over a slab and a pool, for ThreadSanitizer. Threads pass keys on by relaxed atomics, which
+//! order nothing: so what orders the values is the slab alone. For `tsan.py`.
 use gearlongan::slab::{Pool, Slab};
 use std::ffi::c_void;
 use std::ptr;

@@ -5,8 +5,8 @@ use std::sync::{Mutex, PoisonError, RwLock};
 
 /// A type whose values can be cleared in place and keep the memory that they allocated.
 ///
-/// A [`Pool`](super::Pool) clears a value when its key was removed and its last guard is dropped, and uses it for a later
-/// key. A type with nothing to clear may have an empty [`clear`](Clear::clear).
+/// A [`Pool`](super::Pool) clears a value when its key was removed and its last guard is dropped, and uses it for a
+/// later key. A type with nothing to clear may have an empty [`clear`](Clear::clear).
 ///
 /// ```
 /// use gearlongan::slab::Clear;

@@ -8,14 +8,14 @@ use std::fmt;
 ///
 /// | Constant | Meaning |
 /// |---|---|
-/// | `INITIAL_PAGE_SIZE` | how many values of each thread have room before the slab grows: 384 at least, 12,288 at most |
+/// | `INITIAL_PAGE_SIZE` | how many values of a thread have room before the slab grows: from 384 to 12,288 |
 /// | `MAX_PAGES`, `MAX_THREADS` | a limit of growth, below |
 /// | `RESERVED_BITS` | how many high bits of each key are the user's: 0 to 11 |
 ///
 /// A slab grows by heaps, each about as large as all before. It opens no further heap once it has room for
-/// `INITIAL_PAGE_SIZE * (2^MAX_PAGES - 1) * MAX_THREADS` values, which by default is more than any machine has room for.
-/// A slab has at most 256 heaps, and half as many for each reserved bit after the fourth. With 256 heaps it has room for
-/// over 190 million values.
+/// `INITIAL_PAGE_SIZE * (2^MAX_PAGES - 1) * MAX_THREADS` values, which by default is more than any machine has room
+/// for. A slab has at most 256 heaps, and half as many for each reserved bit after the fourth. With 256 heaps it has
+/// room for over 190 million values.
 ///
 /// ```
 /// use gearlongan::slab::{Config, Slab};

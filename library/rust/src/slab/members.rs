@@ -1,7 +1,7 @@
 //! What all threads have of a slab's heaps, in a table by the numbers of threads.
 //!
-//! The slab owns the table. A thread only remembers which slabs have something of it, by weak references, and gives that
-//! back as it ends. So a slab that is dropped frees its heaps at once.
+//! The slab owns the table. A thread only remembers which slabs have something of it, by weak references, and gives
+//! that back as it ends. So a slab that is dropped frees its heaps at once.
 use super::chunk::Chunk;
 use super::config::Limits;
 use super::heaps::{Heaps, Need};
@@ -36,13 +36,13 @@ impl Slot {
     // the user while it has the result.
     #[inline]
     fn member(&self) -> Option<&Member> {
-        // SAFETY: only this thread uses the slot, and it is not within `change`. It does not come to it while it has the
-        // result, since no call of the library calls back.
+        // SAFETY: only this thread uses the slot, and it is not within `change`. It does not come to it while it has
+        // the result, since no call of the library calls back.
         (!self.is_changing.get()).then(|| unsafe { &*self.member.get() })
     }
 
-    // Runs it with the member, unless it is changing: an allocator of the user may call the slab from within. The caller
-    // is as of `member`.
+    // Runs it with the member, unless it is changing: an allocator of the user may call the slab from within. The
+    // caller is as of `member`.
     fn change<R>(&self, act: impl FnOnce(&mut Member) -> R) -> Option<R> {
         if self.is_changing.replace(true) {
             return None;
@@ -54,8 +54,8 @@ impl Slot {
     }
 }
 
-/// The threads of the first numbers have a slot within the table. The others have buckets of 16, 32, 64 slots and so on,
-/// which are allocated as threads have the numbers for them.
+/// The threads of the first numbers have a slot within the table. The others have buckets of 16, 32, 64 slots and so
+/// on, which are allocated as threads have the numbers for them.
 const FIRST: usize = 16;
 
 const BUCKETS: usize = 40;

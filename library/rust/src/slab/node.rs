@@ -41,7 +41,8 @@ pub(super) struct Node<T> {
     value: UnsafeCell<MaybeUninit<T>>,
 }
 
-// SAFETY: threads that share a node have `&T` of its value at the same time, and any of them may be the one that ends it.
+// SAFETY: threads that share a node have `&T` of its value at the same time, and any of them may be the one that ends
+// it.
 unsafe impl<T: Send + Sync> Sync for Node<T> {}
 
 // A panic leaves no value half written: `fill` moves it, and a guard that writes keeps others out until it is dropped.

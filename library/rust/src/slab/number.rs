@@ -1,7 +1,7 @@
 //! The number that names a value of a slab: the key of one of its heaps, and above it the number of that heap.
 //!
-//! A key of layout [`Tagged`](crate::Layout::Tagged) has a generation of 32 bits, 6 bits of the shard, 8 of the page and
-//! 6 of the slot. So bits 52 to 59 are free for the heap, and the four above for the user.
+//! A key of layout [`Tagged`](crate::Layout::Tagged) has a generation of 32 bits, 6 bits of the shard, 8 of the page
+//! and 6 of the slot. So bits 52 to 59 are free for the heap, and the four above for the user.
 use crate::Key;
 
 /// Bits of a key in layout `Tagged`.

@@ -206,7 +206,8 @@ impl<T: Clear + Default, C: Config> DerefMut for RefMut<'_, T, C> {
 
 impl<T: Clear + Default, C: Config> DerefMut for OwnedRefMut<T, C> {
     fn deref_mut(&mut self) -> &mut T {
-        // SAFETY: the memory of a node stays as long as its pool. The guard has the exclusive use, and is borrowed alone.
+        // SAFETY: the memory of a node stays as long as its pool. The guard has the exclusive use, and is borrowed
+        // alone.
         unsafe { &mut *self.node.as_ref().at() }
     }
 }

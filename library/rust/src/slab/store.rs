@@ -1,8 +1,8 @@
 //! What a slab and a pool have in common: heaps that issue keys, and nodes that are found by the places of keys.
 //!
-//! The heaps say which place is free and that no key is issued twice. The comparison of a key with the node of its place
-//! decides what a call finds. A key is removed from its heap once the last user of its node is gone, so that no place is issued
-//! again that is in use.
+//! The heaps say which place is free and that no key is issued twice. The comparison of a key with the node of its
+//! place decides what a call finds. A key is removed from its heap once the last user of its node is gone, so that no
+//! place is issued again that is in use.
 use super::config::Limits;
 use super::members::Members;
 use super::node::{Node, Removal};
