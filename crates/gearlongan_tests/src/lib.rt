@@ -1,5 +1,7 @@
 //! An example of each public call of `gearlongan`, by its names alone.
 #![tactic(auto)]
 
+pub mod hearing;
 #[cfg(test)]
 mod tests;
+pub mod work;

@@ -7,7 +7,9 @@ mod hearing;
 mod owning;
 mod reading;
 mod shaping;
+mod stepping;
 mod storing;
+mod working;
 
 use gearlongan::{Heap, Pass, Refusal, Seats, Shape, Shard, Wide};
 use std::alloc::Global;

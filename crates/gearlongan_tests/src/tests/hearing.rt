@@ -1,7 +1,8 @@
-//! Receipts: what one pass was answered happens before what another is answered once it heeded them.
+//! Receipts: what one pass observed happens before what another pass observes after it heeded the receipt.
 ghost use Rattle.std.specs.Prelude.{◌≡◌};
 
 use super::{agree, left, opened, owner_and_reader};
+use crate::hearing::get_heard;
 use gearlongan::{
     Pass, Refusal, Task, ToldKey, Value, Wide, both, fetch_told, insert_told, remove_then_get,
 };
@@ -94,4 +95,16 @@ fn a_get_after_a_removal_finds_nothing(rt: HostRuntime) {
         remove_then_get(&mut pass, &mut reader, key),
         Err(Refusal::Gone),
     );
+}
+
+#[test]
+fn a_key_with_a_receipt_is_gone_after_its_removal(rt: HostRuntime) {
+    let (heap, seats) = opened(&rt, rt.alloc(), 2);
+    let (mut owner, mut pass) = owner_and_reader(&rt, rt.alloc(), &heap, seats);
+    let key = owner.insert(&Value::from(7)).expect(&rt, "a key");
+    let hold = get_heard(&mut pass, owner.receipt(), key).expect(&rt, "a hold");
+    agree(&rt, pass.release(hold), Ok(()));
+    agree(&rt, owner.remove(key), Ok(()));
+    let receipt = owner.receipt();
+    agree(&rt, get_heard(&mut pass, receipt, key), Err(Refusal::Gone));
 }

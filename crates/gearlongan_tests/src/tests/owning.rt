@@ -66,6 +66,8 @@ fn count_what_is_out(rt: &impl Abort, owner: &mut Shard<'_, Wide>, reader: &mut 
     // What another removes is out until the owner collects it.
     agree(rt, reader.remove(second), Ok(()));
     agree(rt, owner.slots_out(), 1);
+    owner.collect();
+    agree(rt, owner.slots_out(), 0);
 }
 
 #[test]

@@ -1,6 +1,8 @@
 //! How large a heap is, and which keys its layout has.
 use super::agree;
-use gearlongan::{Deep, KeyLayout, Refusal, Shape, Tagged, Wide};
+use gearlongan::{Deep, Heap, KeyLayout, Reader, Refusal, Shape, Shard, Tagged, Tiny, Value, Wide};
+use std::alloc::Global;
+use std::process::Abort;
 
 #[test]
 fn a_shape_may_have_many_segments(rt: HostRuntime) {
@@ -26,7 +28,33 @@ fn a_shape_has_room_for_the_values_of_each_owner(rt: HostRuntime) {
 }
 
 #[test]
+fn a_layout_refuses_a_shape_that_is_too_large_for_it(rt: HostRuntime) {
+    let five = Shape::new(5, 1, 1).expect(&rt, "a shape");
+    let refused = Heap::<Tiny>::open(rt.alloc(), five).err();
+    agree(&rt, refused, Some(Refusal::BadShape));
+    agree(&rt, Heap::<Wide>::open(rt.alloc(), five).is_ok(), true);
+}
+
+// The key of the first value of a heap. It fetches the value.
+fn first_key<L: KeyLayout>(rt: &impl Abort, alloc: Global) -> u64 {
+    let shape = Shape::new(1, 1, 1).expect(rt, "a shape");
+    let (heap, seats) = Heap::<L>::open(alloc, shape).expect(rt, "a heap");
+    let Ok(mut passes) = heap.passes(alloc, seats) else {
+        panic!(rt; "no passes")
+    };
+    let pass = passes.pop().expect(rt, "a pass");
+    let Ok(mut owner) = Shard::adopt(alloc, pass, 0) else {
+        panic!(rt; "no shard")
+    };
+    let key = owner.insert(&Value::from(7)).expect(rt, "a key");
+    agree(rt, owner.fetch(key), Ok(Value::from(7)));
+    key
+}
+
+#[test]
 fn a_layout_numbers_the_keys(rt: HostRuntime) {
+    agree(&rt, first_key::<Deep>(&rt, rt.alloc()), 4_294_967_296);
+    agree(&rt, first_key::<Tagged>(&rt, rt.alloc()), 1_048_576);
     let parts = Deep::unpack(4_294_967_296).expect(&rt, "a key");
     agree(&rt, (parts.generation, parts.shard), (1, 0));
     agree(&rt, (parts.page, parts.slot), (0, 0));
