@@ -1,4 +1,4 @@
-//! An example of each public call of `gearlongan`, by its names alone.
+//! Examples of the public calls of `gearlongan`, by its names alone.
 #![tactic(auto)]
 
 pub mod hearing;

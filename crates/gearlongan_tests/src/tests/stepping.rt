@@ -6,13 +6,15 @@ use gearlongan::{Pass, Reader, Refusal, Value, Wide};
 use std::process::Abort;
 
 #[test]
+#[tactic(auto, using(sh_pass::proofs::Together::newcomers_are_of))]
 fn a_heap_gives_its_passes_as_states(rt: HostRuntime) {
     let (heap, seats) = opened(&rt, rt.alloc(), 3);
-    let Ok(mut states) = heap.states(rt.alloc(), seats) else {
+    let Ok(states) = heap.states(rt.alloc(), seats) else {
         panic!(rt; "no states")
     };
     agree(&rt, states.len(), 3);
-    let mut state = states.pop().expect(&rt, "a state");
+    let mut states = states.into_iter();
+    let mut state = states.next().expect(&rt, "a state");
     agree(&rt, state.get(&heap, FIRST_KEY), Err(Refusal::Gone));
 }
 
