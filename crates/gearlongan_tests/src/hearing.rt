@@ -12,7 +12,8 @@ pub fn get_heard<L: KeyLayout>(
     key: u64,
 ) -> Result<Hold, Refusal>
     requires { receipt.heap ≡ pass.old.heap }
-    ensures { TellsOfInsert key receipt → GoneIfRemoved L.layout key result pass.new }
+    ensures gone { TellsOfInsert key receipt → GoneIfRemoved L.layout key result pass.new }
+    ensures heap { pass.new.heap ≡ pass.old.heap }
 {
     pass.heed(receipt);
     heard_comes_first();

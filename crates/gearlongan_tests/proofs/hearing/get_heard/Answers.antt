@@ -3,8 +3,8 @@ use Rattle.sh_pass.specs.Passes.{Caller, GetDoes}
 use Rattle.gearlongan_tests.proofs.Heard.{gone_if_heard}
 use Rattle.gearlongan_tests.proofs.hearing.get_heard.Goals as goal
 
-pub returns : goal.returns
-returns g c =
+pub returns-clause-gone : goal.returns-clause-gone
+returns-clause-gone g c =
     let layout = g.L.KeyLayout.layout in
     let key = c.args.key in
     let after : Caller = c.get.new.self in
