@@ -5,8 +5,7 @@ use std::future::Future;
 use std::panic::{catch_unwind, AssertUnwindSafe, RefUnwindSafe, UnwindSafe};
 use std::pin::{pin, Pin};
 use std::sync::atomic::{AtomicUsize, Ordering::SeqCst};
-use std::sync::mpsc::channel;
-use std::sync::{Arc, Barrier};
+use std::sync::Arc;
 use std::task::{Context, Poll, Wake, Waker};
 use std::thread;
 
@@ -308,99 +307,4 @@ fn a_value_may_use_the_slab_while_it_is_dropped() {
     let parent = slab.insert(Parent(slab.clone(), child)).expect("there is room");
     assert!(slab.remove(parent));
     assert!(!slab.contains(child.expect("there is room")));
-}
-
-fn pairs(threads: usize) {
-    let dropped = Arc::new(AtomicUsize::new(0));
-    let slab = Slab::new();
-    thread::scope(|scope| {
-        for _ in 0..threads / 2 {
-            let (sender, receiver) = channel();
-            let (slab, dropped) = (&slab, &dropped);
-            scope.spawn(move || {
-                for n in 0..COUNT {
-                    let key = loop {
-                        match slab.insert(Counted(n, dropped.clone())) {
-                            Some(key) => break key,
-                            None => thread::yield_now(),
-                        }
-                    };
-                    sender.send((key, n)).expect("somebody listens");
-                    let _late = slab.get(key).map(|entry| assert_eq!(entry.0, n));
-                }
-            });
-            scope.spawn(move || {
-                for (key, n) in receiver {
-                    match n % 2 {
-                        0 => assert!(slab.remove(key)),
-                        _ => assert_eq!(slab.take(key).map(|value| value.0), Some(n)),
-                    }
-                }
-            });
-        }
-    });
-    // (Of a refused insert the value was dropped as well.)
-    let all = dropped.load(SeqCst);
-    assert!(all >= COUNT * (threads / 2));
-    drop(slab);
-    assert_eq!(dropped.load(SeqCst), all, "none was left");
-}
-
-#[test]
-fn two_threads() {
-    pairs(2);
-}
-
-#[test]
-fn four_threads() {
-    pairs(4);
-}
-
-/// More threads than a heap has passes: all of them have a guard of one value at the same time.
-#[test]
-fn two_hundred_threads() {
-    let slab = Slab::new();
-    let (of_all, start) = (slab.insert(1000).expect("there is room"), Barrier::new(200));
-    thread::scope(|scope| {
-        for n in 0..200 {
-            let (slab, start) = (&slab, &start);
-            scope.spawn(move || {
-                start.wait();
-                let keys: Vec<usize> = (0..200).flat_map(|_| slab.insert(n)).collect();
-                let entry = keys.first().and_then(|key| slab.get(*key));
-                let of_all = slab.get(of_all);
-                start.wait();
-                assert!(of_all.is_some_and(|value| value == 1000) && entry.is_some_and(|value| value == n));
-                assert!(keys.iter().all(|key| slab.get(*key).is_some_and(|value| value == n)));
-                assert!(keys.iter().all(|key| slab.remove(*key)));
-                assert_eq!(keys.len(), 200);
-            });
-        }
-    });
-}
-
-/// Each shard is given back as its thread ends: the slab does not grow.
-#[test]
-fn threads_that_end_leave_their_shards_to_others() {
-    let slab = Slab::new();
-    for n in 0..200 {
-        let insert = || slab.insert(n).expect("there is room");
-        let key = thread::scope(|scope| scope.spawn(insert).join().expect("it ends well"));
-        assert!(key >> 52 == 0 && key >> 14 & 63 != 0, "it is of a shard of its own, in the first heap");
-        assert_eq!(slab.take(key), Some(n));
-    }
-}
-
-/// All remove the same keys: each is removed once.
-#[test]
-fn four_threads_remove_the_same_keys() {
-    let dropped = Arc::new(AtomicUsize::new(0));
-    let slab = Slab::new();
-    let keys: Vec<usize> = (0..1000).flat_map(|n| slab.insert(Counted(n, dropped.clone()))).collect();
-    let removed: usize = thread::scope(|scope| {
-        let remove = || keys.iter().filter(|key| slab.get(**key).is_some() & slab.remove(**key)).count();
-        let workers: Vec<_> = (0..4).map(|_| scope.spawn(remove)).collect();
-        workers.into_iter().map(|worker| worker.join().expect("it ends well")).sum()
-    });
-    assert_eq!((removed, dropped.load(SeqCst)), (1000, 1000));
 }

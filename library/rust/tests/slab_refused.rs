@@ -1,0 +1,122 @@
+//! Each allocation of Rust that a call of a slab or a pool makes is refused in turn. The call returns None or does
+//! without, and the next one finds all as it was. (The heaps take memory by C's functions: see `memory.rs`.)
+use gearlongan::slab::{Config, Pool, Slab};
+use std::alloc::{GlobalAlloc, Layout, System};
+use std::cell::Cell;
+use std::ptr;
+use std::thread;
+
+thread_local! {
+    // How many allocations of this thread are granted before one is refused. The most: none is.
+    static GRANTED: Cell<usize> = const { Cell::new(usize::MAX) };
+}
+
+struct Refusing;
+
+/// Whether this allocation is granted. After one that was refused, all are.
+fn is_granted() -> bool {
+    let granted = GRANTED.get();
+    if granted < usize::MAX {
+        GRANTED.set(granted.checked_sub(1).unwrap_or(usize::MAX));
+    }
+    granted > 0
+}
+
+// SAFETY: each call is passed on to the system's allocator, or it refuses.
+unsafe impl GlobalAlloc for Refusing {
+    unsafe fn alloc(&self, layout: Layout) -> *mut u8 {
+        if !is_granted() {
+            return ptr::null_mut();
+        }
+        // SAFETY: as the caller says.
+        unsafe { System.alloc(layout) }
+    }
+
+    unsafe fn dealloc(&self, at: *mut u8, layout: Layout) {
+        // SAFETY: as the caller says: it was allocated by `System`.
+        unsafe { System.dealloc(at, layout) }
+    }
+}
+
+#[global_allocator]
+static ALLOCATOR: Refusing = Refusing;
+
+/// One heap, which has room for 4 shards of 384 values.
+struct Small;
+
+impl Config for Small {
+    const INITIAL_PAGE_SIZE: usize = 1;
+    const MAX_PAGES: usize = 1;
+    const MAX_THREADS: usize = 1;
+}
+
+const SMALL_ROOM: usize = 4 * 384;
+
+/// Runs it in a new thread, with the allocation of this number refused: whether there was one.
+fn refused(number: usize, act: impl FnOnce() + Send) -> bool {
+    let work = || {
+        GRANTED.set(number);
+        act();
+        GRANTED.replace(usize::MAX) == usize::MAX
+    };
+    thread::scope(|scope| scope.spawn(work).join().expect("it ends well"))
+}
+
+/// Inserts until two calls after each other return None: the keys.
+fn filled(keys: &mut Vec<usize>, mut insert: impl FnMut(usize) -> Option<usize>) {
+    let mut refusals = 0;
+    while refusals < 2 && keys.len() < keys.capacity() {
+        match insert(keys.len()) {
+            Some(key) => {
+                keys.push(key);
+                refusals = 0;
+            }
+            None => refusals += 1,
+        }
+    }
+}
+
+#[test]
+fn a_slab_loses_no_room() {
+    let all = |number: &usize| {
+        let slab = Slab::new_with_config::<Small>();
+        let mut keys = Vec::with_capacity(2 * SMALL_ROOM);
+        let was_refused = refused(*number, || filled(&mut keys, |n| slab.insert(n)));
+        assert_eq!(keys.len(), SMALL_ROOM, "allocation {number}");
+        assert!(keys.iter().enumerate().all(|(n, key)| slab.take(*key) == Some(n)));
+        was_refused
+    };
+    // One for each page of 48 values, and some more.
+    assert!((0..).take_while(all).count() > SMALL_ROOM / 48);
+}
+
+#[test]
+fn a_slab_grows_though_memory_was_refused() {
+    let count = 2 * SMALL_ROOM;
+    let all = |number: &usize| {
+        let slab = Slab::new();
+        let (mut keys, mut removed) = (Vec::with_capacity(count), 0);
+        let act = || {
+            filled(&mut keys, |n| slab.insert(n));
+            removed = keys.iter().filter(|key| slab.remove(**key)).count();
+        };
+        let was_refused = refused(*number, act);
+        assert_eq!((keys.len(), removed), (count, count), "allocation {number}");
+        assert!(keys.last().is_some_and(|key| key >> 52 > 0));
+        was_refused
+    };
+    assert!((0..).take_while(all).count() > count / 48);
+}
+
+#[test]
+fn a_pool_loses_no_room() {
+    let all = |number: &usize| {
+        let pool = Pool::<Vec<usize>>::new_with_config::<Small>();
+        let mut keys = Vec::with_capacity(2 * SMALL_ROOM);
+        let was_refused = refused(*number, || filled(&mut keys, |_| pool.create_with(|_| {})));
+        assert_eq!(keys.len(), SMALL_ROOM, "allocation {number}");
+        assert!(keys.iter().all(|key| pool.clear(*key)));
+        was_refused
+    };
+    assert!((0..).take_while(all).count() > SMALL_ROOM / 48);
+}
