@@ -20,7 +20,8 @@ import tempfile
 
 HERE = pathlib.Path(__file__).resolve().parent
 WARNINGS = ["-std=c11", "-Wall", "-Wextra", "-Wpedantic", "-Wconversion", "-Werror"]
-MEMCHECK = "valgrind --quiet --leak-check=full --errors-for-leak-kinds=definite --show-leak-kinds=definite --error-exitcode=9"
+MEMCHECK = ("valgrind --quiet --error-exitcode=9 --leak-check=full --show-leak-kinds=definite "
+            "--errors-for-leak-kinds=definite")
 
 
 def archive(folder, flags):
