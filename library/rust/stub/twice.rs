@@ -142,6 +142,19 @@ fn a_number_that_is_no_place_of_the_heap_stores_nothing() {
     }
 }
 
+/// Its nodes would be found by the shape of a heap that is opened later.
+#[test]
+fn a_number_of_a_heap_that_is_not_open_stores_nothing() {
+    let slab = Slab::new();
+    for heap in 1..8 {
+        issue(heap << 52 | 1 << 20 | 63 << 14 | 5);
+        assert_eq!(slab.insert(7), None);
+    }
+    let keys: Vec<usize> = (0..20_000).flat_map(|n| slab.insert(n)).collect();
+    assert!(keys.len() == 20_000 && keys.last().is_some_and(|key| key >> 52 > 2));
+    assert!(keys.iter().enumerate().all(|(n, key)| slab.get(*key).is_some_and(|value| *value == n)));
+}
+
 /// A text that keeps its memory.
 #[derive(Default)]
 struct Line(String);

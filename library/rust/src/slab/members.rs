@@ -193,9 +193,9 @@ impl Members {
         }
     }
 
-    /// The logarithm of the number of pages of each shard of this number's heap.
-    pub(super) fn page_bits(&self, number: u64) -> u32 {
-        self.heaps.chunk(number::heap(number)).map_or(0, Chunk::page_bits)
+    /// The logarithm of the number of pages of each shard of this number's heap. None if no such heap is open.
+    pub(super) fn page_bits(&self, number: u64) -> Option<u32> {
+        self.heaps.chunk(number::heap(number)).map(Chunk::page_bits)
     }
 }
 

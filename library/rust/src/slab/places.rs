@@ -84,13 +84,13 @@ impl<T> Places<T> {
         unsafe { page.as_ref() }?.get(number::slot(number))
     }
 
-    /// The node of a number that was just issued, by a heap whose shards have 2 to the power of `bits` pages. None
-    /// where memory is refused.
+    /// The node of a number that was just issued, by a heap whose shards have 2 to the power of `bits` pages, which is
+    /// always the same for a heap. None if there is no such place, or memory is refused.
     #[inline]
-    pub(super) fn issued(&self, number: u64, bits: impl FnOnce() -> u32) -> Option<&Node<T>> {
+    pub(super) fn issued(&self, number: u64, bits: impl FnOnce() -> Option<u32>) -> Option<&Node<T>> {
         match self.node(number) {
             Some(node) => Some(node),
-            None => self.allocate(number, bits()),
+            None => self.allocate(number, bits()?),
         }
     }
 
