@@ -83,7 +83,7 @@ impl<T> Slab<T> {
     ///
     /// # Panics
     ///
-    /// If memory is refused. [`with_room`](Slab::with_room) returns an error instead.
+    /// If memory for the heap is refused. [`with_room`](Slab::with_room) returns an error instead.
     ///
     /// ```
     /// # use gearlongan::slab::Slab;
@@ -128,7 +128,8 @@ impl<T> Slab<T> {
     ///
     /// # Errors
     ///
-    /// [`Error::BadShape`] if no first heap has that room, and [`Error::Memory`].
+    /// [`Error::BadShape`] if no first heap has that room, and [`Error::Memory`] if memory for the heap is refused. If the
+    /// few kilobytes of the slab itself are refused, the process ends, as for any `Box`.
     ///
     /// ```
     /// # use gearlongan::{slab::Slab, Error};
