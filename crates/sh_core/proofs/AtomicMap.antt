@@ -1,14 +1,13 @@
 -- The words of a heap are an atomic map.
-use Rattle.std.proofs.Common.{◌≡◌, ◌≢◌, ℕ, ◌<◌, ◌==◌, ◌&&◌, ◌||◌, inl, inr, Bool, true, false, cond, List}
+use Rattle.std.proofs.Common.{◌≡◌, ◌≢◌, ℕ, ◌<◌, ◌==◌, ◌&&◌, ◌||◌, Bool, true, false, cond, List}
 use Rattle.std.proofs.Common.{[], ◌∷◌, ◌++◌, refl, ap, sym, ◌∙◌, subst, arith, Option, Some, None, slice_get}
 use Rattle.std.proofs.Common.{eqb-true, eq-eqb, ne_eqb}
 use Rattle.std.specs.Prelude.{not, nat_lt, IsSome, if◌then◌else◌}
 use Rattle.std.proofs.lemmas.Bool.Decides.{nat_tests}
 use Rattle.sh_history.specs.declared.entry.Entry.{Entry}
 use Rattle.sh_history.specs.declared.entry.Entry.TheVariants.{Insert, Got, Gone, Crowded, Removed, Released}
-use Rattle.sh_history.specs.History.{value_of, is_removed, is_removal_of, present_value, Allowed, Legal}
+use Rattle.sh_history.specs.History.{value_of, is_removed, present_value, Allowed, Legal}
 use Rattle.sh_history.proofs.Laws.{legal_after_parts}
-use Rattle.sh_history.proofs.LogLaws.{value_of-append_some, value_of-append_none}
 use Rattle.sh_slots.specs.declared.hand.Name.{Name}
 use Rattle.sh_slots.specs.Slots.{live_at, has_room, published_name}
 use Rattle.sh_slots.specs.declared.reply.Reply.{Reply}
@@ -28,9 +27,11 @@ use Rattle.sh_core.specs.Lists.{PutLists, lists_of}
 use Rattle.sh_core.specs.Outcomes.{row_of_event, outcome_of, done}
 use Rattle.sh_core.specs.Refines.{Refines, KeyTold}
 use Rattle.sh_core.specs.Words.{read}
-use Rattle.sh_core.specs.Worlds.{World, apply, run, run_from, open_world, entry, entry_of, joined, value_at, value_at_place}
+use Rattle.sh_core.specs.Worlds.{World, apply, run, run_from, open_world, entry, entry_of, joined, value_at}
+use Rattle.sh_core.specs.Worlds.{value_at_place}
 use Rattle.sh_core.proofs.Clauses.RunTheorem.{theorem}
-use Rattle.sh_core.proofs.WaitFree.{skipped, moved}
+use Rattle.sh_core.proofs.MapEntries.{IsNew, or_true, after_entry, finds}
+use Rattle.sh_core.proofs.WaitFree.{skipped, step_applies}
 use Rattle.sh_core.proofs.Words.Stepping.{outcome_done, outcome_skipped}
 use Rattle.sh_core.proofs.Words.Steps.{run_snoc}
 
@@ -83,8 +84,8 @@ module _ (plan : Plan) (w : World) (l : PutLists) (all : Refines plan w l) (k : 
   removed_none : is_removed w.log k ≡ true → present_value w.log k ≡ None
   removed_none is = rw is refl
 
-  value_none : value_of w.log k ≡ None → is_removed w.log k ≡ false → present_value w.log k ≡ None
-  value_none none not = rw not none
+  present_none : value_of w.log k ≡ None → is_removed w.log k ≡ false → present_value w.log k ≡ None
+  present_none none not = rw not none
 
   pub present_is : map_of plan w.words k ≡ present_value w.log k
   present_is = go (st.generation == n.generation) refl where
@@ -95,102 +96,11 @@ module _ (plan : Plan) (w : World) (l : PutLists) (all : Refines plan w l) (k : 
         removed_none (all.past k n names before).1
     less false is other =
         let after : st.generation < n.generation = grind (arith, nat_tests, is, other) in
-        let neither = told.later after in value_none neither.0 neither.1
+        let neither = told.later after in present_none neither.0 neither.1
 
     go : (b : Bool) → (st.generation == n.generation) ≡ b → map_of plan w.words k ≡ present_value w.log k
     go true is = of_its_generation (eqb-true st.generation n.generation is)
     go false is = of_another is (less (nat_lt n.generation st.generation) refl is)
-
--- ---- one entry more
-
-value_snoc : (log : List Entry) (t : Entry) (j : ℕ) → value_of (t ∷ []) j ≡ None → value_of (log ++ t ∷ []) j
-    ≡ value_of log j
-value_snoc log t j none = go (value_of log j) refl where
-  go : (o : Option (List ℕ)) → value_of log j ≡ o → value_of (log ++ t ∷ []) j ≡ value_of log j
-  go (Some v) is = value_of-append_some log (t ∷ []) j v is ∙ sym is
-  go None is = value_of-append_none log (t ∷ []) j is ∙ (none ∙ sym is)
-
-or_false : (b : Bool) → (b || false) ≡ b
-or_false true = refl
-or_false false = refl
-
-or_assoc : (a b c : Bool) → (a || (b || c)) ≡ ((a || b) || c)
-or_assoc true b c = refl
-or_assoc false b c = refl
-
-removed_snoc : (log : List Entry) (t : Entry) (j : ℕ) → is_removed (log ++ t ∷ []) j
-    ≡ (is_removed log j || is_removal_of j t)
-removed_snoc [] t j = or_false (is_removal_of j t)
-removed_snoc (x ∷ log) t j = ap (λ b. is_removal_of j x || b) (removed_snoc log t j)
-    ∙ or_assoc (is_removal_of j x) (is_removed log j) (is_removal_of j t)
-
--- where the entry is neither the insert nor the removal of the key, nothing changes
-stays : (log : List Entry) (t : Entry) (j : ℕ) → value_of (t ∷ []) j ≡ None → is_removal_of j t ≡ false
-    → present_value (log ++ t ∷ []) j ≡ present_value log j
-stays log t j none kept =
-    let v = value_snoc log t j none in
-    let r : is_removed (log ++ t ∷ []) j ≡ is_removed log j = removed_snoc log t j
-    ∙ (ap (λ b. is_removed log j || b) kept ∙ or_false (is_removed log j)) in
-    ap (λ b. if b then None else value_of (log ++ t ∷ []) j) r
-    ∙ ap (λ (o : Option (List ℕ)). if is_removed log j then None else o) v
-
--- an insert is of a key that was neither issued nor removed
-IsNew : List Entry → Entry → Type 0
-IsNew log (Insert a k v) = (value_of log k ≡ None) × (is_removed log k ≡ false)
-IsNew log _ = Unit {0}
-
-or_true : (b : Bool) → (b || true) ≡ true
-or_true true = refl
-or_true false = refl
-
-after_entry : (log : List Entry) (t : Entry) → IsNew log t → (j : ℕ) → present_value (log ++ t ∷ []) j
-    ≡ made_by (present_value log) t j
-unfolding IsNew
-after_entry log (Insert a k v) new j = go (k == j) refl where
-  go : (b : Bool) → (k == j) ≡ b → present_value (log ++ Insert a k v ∷ []) j ≡ cond (k == j) (Some v) (present_value log j)
-  go true is =
-      let same : k ≡ j = eqb-true k j is in
-      let none : value_of log j ≡ None = subst (λ i. value_of log i ≡ None) same new.0 in
-      let not : is_removed log j ≡ false = subst (λ i. is_removed log i ≡ false) same new.1 in
-      let here : value_of (Insert a k v ∷ []) j ≡ Some v = ap (λ b. if b then Some v else None) is in
-      let value = value_of-append_none log (Insert a k v ∷ []) j none ∙ here in
-      let r : is_removed (log ++ Insert a k v ∷ []) j ≡ false = removed_snoc log (Insert a k v) j
-      ∙ ap (λ b. b || false) not in
-      ap (λ b. if b then None else value_of (log ++ Insert a k v ∷ []) j) r ∙ (value
-      ∙ sym (ap (λ b. cond b (Some v) (present_value log j)) is))
-  go false is = stays log (Insert a k v) j (ap (λ b. if b then Some v else None) is) refl
-      ∙ sym (ap (λ b. cond b (Some v) (present_value log j)) is)
-after_entry log (Removed a k) new j = go (k == j) refl where
-  go : (b : Bool) → (k == j) ≡ b → present_value (log ++ Removed a k ∷ []) j ≡ cond (k == j) None (present_value log j)
-  go true is =
-      let r : is_removed (log ++ Removed a k ∷ []) j ≡ true = removed_snoc log (Removed a k) j
-      ∙ (ap (λ b. is_removed log j || b) is ∙ or_true (is_removed log j)) in
-      ap (λ b. if b then None else value_of (log ++ Removed a k ∷ []) j) r
-      ∙ sym (ap (λ b. cond b None (present_value log j)) is)
-  go false is = stays log (Removed a k) j refl is ∙ sym (ap (λ b. cond b None (present_value log j)) is)
-after_entry log (Got a k v) new j = stays log (Got a k v) j refl refl
-after_entry log (Gone a k) new j = stays log (Gone a k) j refl refl
-after_entry log (Crowded a k) new j = stays log (Crowded a k) j refl refl
-after_entry log (Released a k) new j = stays log (Released a k) j refl refl
-
-none_either : (r : Bool) (v : Option (List ℕ)) → v ≡ None → (if r then None else v) ≡ None
-none_either true v is = refl
-none_either false v is = is
-
-finds : (passes guard_max : ℕ) (log : List Entry) (t : Entry) → Allowed passes guard_max log t
-    → Finds (present_value log) t
-finds passes guard_max log (Insert a k v) may =
-    none_either (is_removed log k) (value_of log k) may
-finds passes guard_max log (Got a k v) may =
-    ap (λ b. if b then None else value_of log k) may.1 ∙ may.0
-finds passes guard_max log (Gone a k) (inl may) =
-    none_either (is_removed log k) (value_of log k) may
-finds passes guard_max log (Gone a k) (inr may) = ap (λ b. if b then None else value_of log k) may
-finds passes guard_max log (Crowded a k) may =
-    subst (λ b. IsSome (if b then None else value_of log k)) (sym may.1) may.0
-finds passes guard_max log (Removed a k) may =
-    subst (λ b. IsSome (if b then None else value_of log k)) (sym may.1) may.0
-finds passes guard_max log (Released a k) may = tt
 
 -- ---- the keys of entries are keys of the heap
 
@@ -210,50 +120,57 @@ entry_key (Crowded a k) = k
 entry_key (Removed a k) = k
 entry_key (Released a k) = k
 
-same_key : (a : ℕ) (v : List ℕ) (r : Reply) → entry_key (entry a v r) ≡ reply_key r
+entry_keeps_key : (a : ℕ) (v : List ℕ) (r : Reply) → entry_key (entry a v r) ≡ reply_key r
 unfolding reply_key entry_key
-same_key a v (reply.Insert k u) = refl
-same_key a v (reply.Got k) = refl
-same_key a v (reply.Gone k) = refl
-same_key a v (reply.Crowded k) = refl
-same_key a v (reply.Removed k) = refl
-same_key a v (reply.Released k) = refl
+entry_keeps_key a v (reply.Insert k u) = refl
+entry_keeps_key a v (reply.Got k) = refl
+entry_keeps_key a v (reply.Gone k) = refl
+entry_keeps_key a v (reply.Crowded k) = refl
+entry_keeps_key a v (reply.Removed k) = refl
+entry_keeps_key a v (reply.Released k) = refl
 
-Names : Plan → ℕ → Type 0
-Names plan k = (x : Name) × (plan.keys.unpack k ≡ Some x)
+IsNamed : Plan → ℕ → Type 0
+IsNamed plan k = (x : Name) × (plan.keys.unpack k ≡ Some x)
 
 -- of each move that replies
 named_reply : (plan : Plan) (w : World) (l : PutLists) → Refines plan w l → (a : ℕ) (p : Body) (m : Move)
     → slice_get w.parts a ≡ Some p → May plan p m → row plan p (action_of plan m) ≡ Some (row_of plan p m)
-    → (r : Reply) → (row_of plan p m).reply (read w.words (row_of plan p m).place) ≡ Some r → Names plan (reply_key r)
-unfolding reply_key Names
+    → (r : Reply) → (row_of plan p m).reply (read w.words (row_of plan p m).place) ≡ Some r → IsNamed plan (reply_key r)
+unfolding reply_key IsNamed
 named_reply plan w l all a p (move.EnterGet k x) at may has r is =
     go (live_at x.generation (w.words.state_at x.page x.slot))
     (has_room plan.keys.guard_max (w.words.state_at x.page x.slot)) is where
       go : (b c : Bool) → Some (cond b (cond c (reply.Got k) (reply.Crowded k)) (reply.Gone k)) ≡ Some r
           → (x : Name) × (plan.keys.unpack (reply_key r) ≡ Some x)
-      go true true e = let s : reply.Got k ≡ r = cc in (x, subst (λ z. plan.keys.unpack (reply_key z) ≡ Some x) s may.1.unpacks)
-      go true false e = let s : reply.Crowded k ≡ r = cc in (x, subst (λ z. plan.keys.unpack (reply_key z) ≡ Some x) s may.1.unpacks)
-      go false c e = let s : reply.Gone k ≡ r = cc in (x, subst (λ z. plan.keys.unpack (reply_key z) ≡ Some x) s may.1.unpacks)
+      go true true e = let s : reply.Got k ≡ r = cc in
+          (x, subst (λ z. plan.keys.unpack (reply_key z) ≡ Some x) s may.1.unpacks)
+      go true false e = let s : reply.Crowded k ≡ r = cc in
+          (x, subst (λ z. plan.keys.unpack (reply_key z) ≡ Some x) s may.1.unpacks)
+      go false c e = let s : reply.Gone k ≡ r = cc in
+          (x, subst (λ z. plan.keys.unpack (reply_key z) ≡ Some x) s may.1.unpacks)
 named_reply plan w l all a p (move.EnterRemove k x) at may has r is =
     go (live_at x.generation (w.words.state_at x.page x.slot)) is where
-      go : (b : Bool) → cond b None (Some (reply.Gone k)) ≡ Some r → (x : Name) × (plan.keys.unpack (reply_key r) ≡ Some x)
+      go : (b : Bool) → cond b None (Some (reply.Gone k)) ≡ Some r
+          → (x : Name) × (plan.keys.unpack (reply_key r) ≡ Some x)
       go true e = absurd (let z : None ≡ Some r = e in cc)
-      go false e = let s : reply.Gone k ≡ r = cc in (x, subst (λ z. plan.keys.unpack (reply_key z) ≡ Some x) s may.1.unpacks)
+      go false e = let s : reply.Gone k ≡ r = cc in
+          (x, subst (λ z. plan.keys.unpack (reply_key z) ≡ Some x) s may.1.unpacks)
 named_reply plan w l all a p (move.Mark k x) at may has r is =
     go (fields_of (w.words.state_at x.page x.slot)).marked is where
       go : (b : Bool) → Some (cond b (reply.Gone k) (reply.Removed k)) ≡ Some r
           → (x : Name) × (plan.keys.unpack (reply_key r) ≡ Some x)
-      go true e = let s : reply.Gone k ≡ r = cc in (x, subst (λ z. plan.keys.unpack (reply_key z) ≡ Some x) s may.1.unpacks)
-      go false e = let s : reply.Removed k ≡ r = cc in (x, subst (λ z. plan.keys.unpack (reply_key z) ≡ Some x) s may.1.unpacks)
+      go true e = let s : reply.Gone k ≡ r = cc in
+          (x, subst (λ z. plan.keys.unpack (reply_key z) ≡ Some x) s may.1.unpacks)
+      go false e = let s : reply.Removed k ≡ r = cc in
+          (x, subst (λ z. plan.keys.unpack (reply_key z) ≡ Some x) s may.1.unpacks)
 named_reply plan w l all a p (move.DropHold k x) at may has r is =
     let s : reply.Released k ≡ r = cc in (x, subst (λ z. plan.keys.unpack (reply_key z) ≡ Some x) s may.1.unpacks)
 named_reply plan w l all a p (move.Publish x v) at may has r is =
     let n : ℕ = w.words.state_at x.page x.slot in
     let k : ℕ = plan.keys.pack (published_name x n) in
     let s : reply.Insert k v ≡ r = cc in
-    let u = all.issues a p (action_of plan (move.Publish x v)) (row_of plan p (move.Publish x v)) k v x.page x.slot at has
-    refl refl in (
+    let u = all.issues a p (action_of plan (move.Publish x v)) (row_of plan p (move.Publish x v)) k v x.page x.slot
+    at has refl refl in (
       record { page = x.page; slot = x.slot; generation = (fields_of n).generation },
       subst (λ z. plan.keys.unpack (reply_key z) ≡ Some (record {
         page = x.page;
@@ -297,10 +214,6 @@ unnamed plan w k is = ap (λ (o : Option Name). elim o as (λ _. Option (List �
   | None ↦ None
 ]) is
 
-or_true_right : (b : Bool) → (b || true) ≡ true
-or_true_right true = refl
-or_true_right false = refl
-
 -- a key that was not issued was not removed
 not_removed : (plan : Plan) (w : World) (l : PutLists) → Refines plan w l → (k : ℕ) (n : Name)
     → plan.keys.unpack k ≡ Some n → value_of w.log k ≡ None → is_removed w.log k ≡ false
@@ -317,12 +230,14 @@ not_removed plan w l all k n names none =
       marked false is same = told.removed same ∙ is
       marked true is same = unissued (value_at w.words n.page n.slot) (told.issued same
           (ap (λ b. (fields_of (w.words.state_at n.page n.slot)).present || b) is
-          ∙ or_true_right (fields_of (w.words.state_at n.page n.slot)).present))
+          ∙ or_true (fields_of (w.words.state_at n.page n.slot)).present))
 
       less : (b : Bool) → nat_lt n.generation (fields_of (w.words.state_at n.page n.slot)).generation ≡ b
-          → ((fields_of (w.words.state_at n.page n.slot)).generation == n.generation) ≡ false → is_removed w.log k ≡ false
+          → ((fields_of (w.words.state_at n.page n.slot)).generation == n.generation) ≡ false
+          → is_removed w.log k ≡ false
       less true is other =
-          let before : n.generation < (fields_of (w.words.state_at n.page n.slot)).generation = grind (arith, nat_tests, is) in
+          let before : n.generation < (fields_of (w.words.state_at n.page n.slot)).generation = grind
+          (arith, nat_tests, is) in
           let past = (all.past k n names before).0 in
           absurd (let z = subst (λ (o : Option (List ℕ)). IsSome o) none past in cc)
       less false is other =
@@ -335,9 +250,9 @@ not_removed plan w l all k n names none =
           (sym (eqb-true (fields_of (w.words.state_at n.page n.slot)).generation n.generation is))
       go false is = less (nat_lt n.generation (fields_of (w.words.state_at n.page n.slot)).generation) refl is
 
-is_new : (plan : Plan) (w : World) (l : PutLists) → Refines plan w l → (t : Entry) → Names plan (entry_key t)
+is_new : (plan : Plan) (w : World) (l : PutLists) → Refines plan w l → (t : Entry) → IsNamed plan (entry_key t)
     → Allowed plan.passes plan.keys.guard_max w.log t → IsNew w.log t
-unfolding IsNew Names entry_key
+unfolding IsNew IsNamed entry_key
 is_new plan w l all (Insert a k v) named may = (may, not_removed plan w l all k named.0 named.1 may)
 is_new plan w l all (Got a k v) named may = tt
 is_new plan w l all (Gone a k) named may = tt
@@ -355,9 +270,9 @@ words_same plan w v l j all one same k = go (plan.keys.unpack k) refl where
 
 -- an entry that joined the log
 replied : (plan : Plan) (w v : World) (l j : PutLists) → Refines plan w l → Refines plan v j → (t : Entry)
-    → Names plan (entry_key t) → v.log ≡ w.log ++ t ∷ []
+    → IsNamed plan (entry_key t) → v.log ≡ w.log ++ t ∷ []
     → Finds (map_of plan w.words) t × ((k : ℕ) → map_of plan v.words k ≡ made_by (map_of plan w.words) t k)
-unfolding Names
+unfolding IsNamed
 replied plan w v l j all one t named log = (
   finds_same t (present_value w.log) (map_of plan w.words)
       (sym (present_is plan w l all (entry_key t) named.0 named.1)) (finds plan.passes plan.keys.guard_max w.log t may),
@@ -379,12 +294,12 @@ replied plan w v l j all one t named log = (
       (sym (present_is plan w l all k n is))))
 
 keys_named : (plan : Plan) (w : World) (l : PutLists) → Refines plan w l → (e : Event) (r : Row) (rep : Reply)
-    → row_of_event plan w e ≡ Some r → r.reply (read w.words r.place) ≡ Some rep → Names plan (reply_key rep)
+    → row_of_event plan w e ≡ Some r → r.reply (read w.words r.place) ≡ Some rep → IsNamed plan (reply_key rep)
 unfolding row_of_event
 keys_named plan w l all e r rep is says = go (slice_get w.parts e.pass) refl is where
   go : (o : Option Body) → slice_get w.parts e.pass ≡ o
       → (elim o as (λ _. Option Row) [ Some p ↦ row plan p e.action | None ↦ None ]) ≡ Some r
-      → Names plan (reply_key rep)
+      → IsNamed plan (reply_key rep)
   go None at h = absurd (let z : None ≡ Some r = h in cc)
   go (Some p) at h =
       let d = move_of_row plan p e.action r h in
@@ -419,7 +334,7 @@ events_are_operations layout shape b c f es e =
             (entry_of e.pass (value_at_place (run (plan_of layout shape) es).words r.place)
             (r.reply (read (run (plan_of layout shape) es).words r.place)))
         log = ap (λ (v : World). v.log) (run_snoc (plan_of layout shape) (open_world (plan_of layout shape)) es e
-            ∙ moved (plan_of layout shape) (run (plan_of layout shape) es) e r is)
+            ∙ step_applies (plan_of layout shape) (run (plan_of layout shape) es) e r is)
 
         told : outcome_of (plan_of layout shape) (run (plan_of layout shape) es) e ≡ done
             (entry_of e.pass (value_at_place (run (plan_of layout shape) es).words r.place)
@@ -432,7 +347,8 @@ events_are_operations layout shape b c f es e =
             (outcome_of (plan_of layout shape) (run (plan_of layout shape) es) e)
         by None none = subst (IsOneOperation (map_of (plan_of layout shape) (run (plan_of layout shape) es).words)
             (map_of (plan_of layout shape) (run (plan_of layout shape) (es ++ e ∷ [])).words))
-            (sym (told ∙ ap (λ o. done (entry_of e.pass (value_at_place (run (plan_of layout shape) es).words r.place) o)) none))
+            (sym (told
+            ∙ ap (λ o. done (entry_of e.pass (value_at_place (run (plan_of layout shape) es).words r.place) o)) none))
             (λ k. words_same (plan_of layout shape) (run (plan_of layout shape) es)
             (run (plan_of layout shape) (es ++ e ∷ [])) (lists_of (plan_of layout shape) es)
             (lists_of (plan_of layout shape) (es ++ e ∷ [])) all one
@@ -441,8 +357,8 @@ events_are_operations layout shape b c f es e =
         by (Some rep) some =
             let v : List ℕ = value_at_place (run (plan_of layout shape) es).words r.place in
             let t : Entry = entry e.pass v rep in
-            let named : Names (plan_of layout shape) (entry_key t) = subst (Names (plan_of layout shape))
-            (sym (same_key e.pass v rep)) (keys_named (plan_of layout shape) (run (plan_of layout shape) es)
+            let named : IsNamed (plan_of layout shape) (entry_key t) = subst (IsNamed (plan_of layout shape))
+            (sym (entry_keeps_key e.pass v rep)) (keys_named (plan_of layout shape) (run (plan_of layout shape) es)
             (lists_of (plan_of layout shape) es) all e r rep is some) in
             subst (IsOneOperation (map_of (plan_of layout shape) (run (plan_of layout shape) es).words)
             (map_of (plan_of layout shape) (run (plan_of layout shape) (es ++ e ∷ [])).words))

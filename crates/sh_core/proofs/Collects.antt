@@ -23,7 +23,8 @@ use Rattle.sh_step.specs.Rows.{Row, point, unpoint, take_page}
 use Rattle.sh_step.proofs.PageLaws.{page_of_name}
 use Rattle.sh_step.proofs.RowLaws.{gives_all_that_may_be}
 use Rattle.sh_core.specs.LinkWords.{LinksOn}
-use Rattle.sh_core.specs.Lists.{PutLists, times, lists_of, lists_from, list_step, listed, taken, chain_followed, no_lists}
+use Rattle.sh_core.specs.Lists.{PutLists, times, lists_of, lists_from, list_step, listed, taken, chain_followed}
+use Rattle.sh_core.specs.Lists.{no_lists}
 use Rattle.sh_core.specs.Lists.{accounts, slots_under}
 use Rattle.sh_core.specs.Quiet.{Quiet, NothingQueued, CollectingFindsAll}
 use Rattle.sh_core.specs.Refines.{Refines}
@@ -44,8 +45,9 @@ unfolding lists_from run_from
 lists_snoc plan w l [] e = refl
 lists_snoc plan w l (d ∷ es) e = lists_snoc plan (step plan w d) (list_step plan w d l) es e
 
-lists_move : (plan : Plan) (w : World) (l : PutLists) (e : Event) (p : Body) (m : Row) → slice_get w.parts e.pass ≡ Some p
-    → row plan p e.action ≡ Some m → list_step plan w e l ≡ listed plan p e.action (read w.words m.place) l
+lists_move : (plan : Plan) (w : World) (l : PutLists) (e : Event) (p : Body) (m : Row)
+    → slice_get w.parts e.pass ≡ Some p → row plan p e.action ≡ Some m
+    → list_step plan w e l ≡ listed plan p e.action (read w.words m.place) l
 unfolding list_step
 lists_move plan w l e p m at is =
     ap (λ (o : Option Body). elim o as (λ _. PutLists) [
@@ -180,7 +182,7 @@ moves_on plan es a q p m left after at may is next =
 
 module _ (layout : Layout) (shape : Numbers) (is_layout : IsLayout layout) (is_shape : IsShape shape)
     (fits : Fits layout shape) (a q : ℕ) (inside : q < heap_pages (plan_of layout shape)) where
-  all_follow : (left : List ℕ) (es : List Event)
+  follow_rest : (left : List ℕ) (es : List Event)
       → Collecting (plan_of layout shape) (run (plan_of layout shape) es) (lists_of (plan_of layout shape) es) a q left
       → Collecting (plan_of layout shape)
       (run (plan_of layout shape) (es ++ replicate (length left)
@@ -188,9 +190,9 @@ module _ (layout : Layout) (shape : Numbers) (is_layout : IsLayout layout) (is_s
       (lists_of (plan_of layout shape) (es ++ replicate (length left)
       (record { pass = a; action = Follow (page_name (plan_of layout shape) q) }))) a q []
   unfolding listed first_of
-  all_follow [] es now = subst (λ (ds : List Event). Collecting (plan_of layout shape) (run (plan_of layout shape) ds)
+  follow_rest [] es now = subst (λ (ds : List Event). Collecting (plan_of layout shape) (run (plan_of layout shape) ds)
       (lists_of (plan_of layout shape) ds) a q []) (sym (append-nil es)) now
-  all_follow (s ∷ rest) es now =
+  follow_rest (s ∷ rest) es now =
       let plan : Plan = plan_of layout shape in
       let w : World = run plan es in
       let l : PutLists = lists_of plan es in
@@ -201,7 +203,7 @@ module _ (layout : Layout) (shape : Numbers) (is_layout : IsLayout layout) (is_s
       (ap (λ r. cond (w.words.link_at q s == 0) l (chain_followed l r)) (page_of_name plan q))
       (follows plan w l (theorem layout shape is_layout is_shape fits es) now.quiet a q now.body now.at s rest
       now.stack now.chain may) in
-      let done = all_follow rest (es ++ e ∷ []) next in
+      let done = follow_rest rest (es ++ e ∷ []) next in
       subst (λ (ds : List Event). Collecting plan (run plan ds) (lists_of plan ds) a q [])
       (append_assoc es (e ∷ []) (replicate (length rest) e)) done
 
@@ -238,7 +240,7 @@ collecting_finds_all layout shape b c f es quiet a q p at may =
     let taking = moves_on plan es a q p (move.Take q) (l.stack q) (taken l q) at may
     (ap (taken l) (page_of_name plan q))
     (takes plan w l (theorem layout shape b c f es) quiet a q p at may) in
-    let followed = all_follow layout shape b c f a q may.1 (l.stack q) (es ++ first ∷ []) taking in
+    let followed = follow_rest layout shape b c f a q may.1 (l.stack q) (es ++ first ∷ []) taking in
     let rest : List Event = replicate (length (l.stack q))
     (record { pass = a; action = Follow (page_name plan q) }) in
     let same : (es ++ first ∷ []) ++ rest ≡ es ++ (first ∷ rest) = append_assoc es (first ∷ []) rest in

@@ -9,4 +9,5 @@ pub mod Examples
 pub mod Quiet
 pub mod Collects
 pub mod WaitFree
+pub mod MapEntries
 pub mod AtomicMap

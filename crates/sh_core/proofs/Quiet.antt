@@ -17,7 +17,8 @@ use Rattle.sh_core.specs.Quiet.{QuietLosesNothing}
 use Rattle.sh_core.proofs.Clauses.RunTheorem.{theorem}
 
 -- a sum of nothings
-pub none_of : (f : Body → ℕ) (ps : List Body) → ((a : ℕ) (p : Body) → slice_get ps a ≡ Some p → f p ≡ 0) → total f ps ≡ 0
+pub none_of : (f : Body → ℕ) (ps : List Body) → ((a : ℕ) (p : Body) → slice_get ps a ≡ Some p → f p ≡ 0)
+    → total f ps ≡ 0
 unfolding total
 none_of f [] each = refl
 none_of f (p ∷ ps) each =
@@ -84,9 +85,9 @@ module _ (plan : Plan) (w : World) (l : PutLists) (all : Refines plan w l) (quie
   none_first [] none = refl
   none_first (s ∷ xs) none = let z = none s in absurd (grind (arith, z))
 
-  left : LeftIsOnStacks plan w l
+  left_on_stacks : LeftIsOnStacks plan w l
   unfolding total
-  left x is free =
+  left_on_stacks x is free =
       let nothing = all.left (home plan x.page) free in
       let no_mine = nothing.0 x refl in
       let chain = none_first (l.chain x.page)
@@ -95,7 +96,7 @@ module _ (plan : Plan) (w : World) (l : PutLists) (all : Refines plan w l) (quie
       let one = none_lost x is in omega (arith, one, no_mine, no_chain)
 
   pub loses_nothing : LosesNothing plan w l
-  loses_nothing = record { lead = lead; none_lost = none_lost; left = left }
+  loses_nothing = record { lead = lead; none_lost = none_lost; left = left_on_stacks }
 
 pub quiet_loses_nothing : QuietLosesNothing
 quiet_loses_nothing layout shape a b f es quiet = loses_nothing (plan_of layout shape) (run (plan_of layout shape) es)

@@ -38,9 +38,10 @@ skipped plan w e is = go (slice_get w.parts e.pass) is where
   go None h = refl
   go (Some p) h = ap (λ (o : Option Row). elim o as (λ _. World) [ Some m ↦ apply w e.pass m | None ↦ w ]) h
 
-pub moved : (plan : Plan) (w : World) (e : Event) (r : Row) → row_of_event plan w e ≡ Some r → step plan w e ≡ apply w e.pass r
+pub step_applies : (plan : Plan) (w : World) (e : Event) (r : Row) → row_of_event plan w e ≡ Some r
+    → step plan w e ≡ apply w e.pass r
 unfolding step row_of_event
-moved plan w e r is = go (slice_get w.parts e.pass) is where
+step_applies plan w e r is = go (slice_get w.parts e.pass) is where
   go : (o : Option Body) → (elim o as (λ _. Option Row) [ Some p ↦ row plan p e.action | None ↦ None ]) ≡ Some r
       → (elim o as (λ _. World) [
         | Some p ↦ elim (row plan p e.action) [ Some m ↦ apply w e.pass m | None ↦ w ]
@@ -73,7 +74,7 @@ one_event plan es e a p at busy = go (row_of_event plan (run plan es) e) refl wh
       }
   go (Some r) some = by (e.pass == a) refl where
     new : run plan (es ++ e ∷ []) ≡ apply w e.pass r
-    new = run_snoc plan (open_world plan) es e ∙ moved plan w e r some
+    new = run_snoc plan (open_world plan) es e ∙ step_applies plan w e r some
 
     by : (b : Bool) → (e.pass == a) ≡ b → Nearer plan es e a p
     by true is =
@@ -82,7 +83,7 @@ one_event plan es e a p at busy = go (row_of_event plan (run plan es) e) refl wh
         let its : row plan p e.action ≡ Some r = sym (row_of_at plan w e p here) ∙ some in
         let n : ℕ = read w.words r.place in
         let grown = trail_grows plan es e.pass e.action p r here its in
-        let long : length (trail_of plan (es ++ e ∷ []) e.pass) ≡ length (trail_of plan es e.pass) + 1 = ap (length) grown
+        let long : length (trail_of plan (es ++ e ∷ []) e.pass) ≡ length (trail_of plan es e.pass) + 1 = ap length grown
         ∙ length-append (trail_of plan es e.pass) (footstep_of e.action r n ∷ []) in
         let long_a : length (trail_of plan (es ++ e ∷ []) a) ≡ length (trail_of plan es a) + 1 = subst
         (λ (c : ℕ). length (trail_of plan (es ++ e ∷ []) c) ≡ length (trail_of plan es c) + 1) own long in

@@ -43,7 +43,8 @@ IsOneOperation before after Skipped = (k : ℕ) → after k ≡ before k
 
 -- a heap opens as the empty map
 abbrev pub OpensEmpty : Type 0
-OpensEmpty = (layout : Layout) (shape : Numbers) (k : ℕ) → map_of (plan_of layout shape) (run (plan_of layout shape) []).words k ≡ None
+OpensEmpty = (layout : Layout) (shape : Numbers) (k : ℕ)
+    → map_of (plan_of layout shape) (run (plan_of layout shape) []).words k ≡ None
 
 -- each event after each list of events is at most one operation of the map
 abbrev pub EventsAreOperations : Type 0

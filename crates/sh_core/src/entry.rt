@@ -20,7 +20,7 @@ pub fn word_at(shape: &Shape, words: &[u64], place: Place) -> u64
 }
 
 // The value that stands in a slot.
-#[tactic(auto, using(crate::proofs::Words::KeptValues::payload_range, crate::proofs::Words::KeptValues::row_begins, crate::proofs::Words::KeptValues::row_within))]
+#[tactic(auto, using(crate::proofs::Words::KeptValues::value_rows))]
 fn value_in(shape: &Shape, words: &[u64], spot: Spot) -> Value
     requires count { length words.now ≡ words_of shape.now }
     requires value { SlotHasValue shape.now words.now spot }

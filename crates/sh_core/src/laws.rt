@@ -42,14 +42,14 @@ pub fn collecting_finds_all()
     ensures { CollectingFindsAll }
 {}
 
-/// Wait freedom: until a pass has nothing begun, it does at most as many steps of its own as its hand says, however many
-/// events of other passes come between.
+/// Wait freedom: until a pass has nothing begun, it does at most as many steps of its own as its hand says, however
+/// many events of other passes come between.
 pub fn steps_are_wait_free()
     ensures { WaitFree }
 {}
 
-/// The words of a heap are an atomic map. It opens empty, and each event does at most one operation of the map, at once.
-/// So the core is linearizable: the linearization point of each call is one of its own steps.
+/// The words of a heap are an atomic map. It opens empty, and each event does at most one operation of the map, at
+/// once. So the core is linearizable: the linearization point of each call is one of its own steps.
 pub fn words_are_an_atomic_map()
     ensures opens { OpensEmpty }
     ensures events { EventsAreOperations }

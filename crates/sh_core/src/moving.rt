@@ -1,5 +1,5 @@
 //! Doing one move on what is kept.
-ghost use Rattle.std.specs.Prelude.{◌≡◌, ◌<◌, is_some, IsSome, IfOk, IfErr, OnOk, OnErr, vec_len, vec_capacity};
+ghost use Rattle.std.specs.Prelude.{◌≡◌, ◌<◌, ◌≤◌, is_some, IsSome, IfOk, IfErr, OnOk, OnErr, vec_len, vec_capacity};
 ghost use Rattle.sh_step.specs.declared.body.Body.{Body};
 ghost use Rattle.sh_step.specs.Plans.{Plan, plan_of};
 ghost use Rattle.sh_step.specs.Moves.{row_of};
@@ -32,6 +32,8 @@ fn has_reply(the_move: &Move, found: u64) -> bool
 fn make_room(log: &mut Vec<Entry>) -> Result<(), Refusal>
     ensures items { log.new.items ≡ log.old.items }
     ensures room { OnOk result (vec_len log.new < vec_capacity log.new) }
+    // No more room than for this one is asked for.
+    ensures lean { OnErr result (vec_capacity log.old ≤ vec_len log.old) }
     ensures memory { IfErr result (λ refusal. refusal ≡ Refusal.Memory) }
 {
     match log.reserve(1) {

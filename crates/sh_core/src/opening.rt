@@ -1,5 +1,6 @@
 //! The words of a heap as it opens.
 ghost use Rattle.std.specs.Prelude.{◌≡◌, ◌*◌, ◌^◌, ◌≤◌, ◌<◌, IfOk, IfErr};
+ghost use Rattle.std.specs.Vec.{vec_capacity};
 ghost use Rattle.sh_shape.specs.Shape.{IsShape};
 ghost use Rattle.sh_shape.specs.Places.{all_pages, words_of};
 ghost use Rattle.sh_core.specs.Opening.{opening_word, opening_words};
@@ -27,9 +28,10 @@ fn word_at(pages: u32, number: u32) -> u64
 }
 
 // The words of a heap of this shape as it opens. All their memory is asked for at once.
-#[tactic(auto, using(crate::proofs::Words::OpeningWords::opening_none, crate::proofs::Words::OpeningWords::opening_more))]
+#[tactic(auto, using(crate::proofs::Words::OpeningWords::opening_words_by_number))]
 fn words_of(alloc: Global, shape: &Shape) -> Result<Vec<u64>, AllocError>
-    ensures { IfOk result (λ words. words.items ≡ opening_words (all_pages shape.now) (words_of shape.now)) }
+    ensures words { IfOk result (λ words. words.items ≡ opening_words (all_pages shape.now) (words_of shape.now)) }
+    ensures lean { IfOk result (λ words. vec_capacity words ≡ words_of shape.now) }
 {
     let pages = shape.shards() * shape.pages();
     let count = shape.words();
@@ -44,6 +46,7 @@ fn words_of(alloc: Global, shape: &Shape) -> Result<Vec<u64>, AllocError>
 /// shape does not fit the layout, and as `Memory` where memory for the words is refused.
 pub fn opening_of<L: KeyLayout>(alloc: Global, shape: &Shape) -> Result<Vec<u64>, Refusal>
     ensures opens { IfOk result (λ words. OpensWith L.layout shape.now words.items) }
+    ensures lean { IfOk result (λ words. vec_capacity words ≡ words_of shape.now) }
     ensures refused { IfErr result (RefusesToOpen L.layout shape.now) }
 {
     if !fits::<L>(shape) {

@@ -27,11 +27,10 @@ const NO_SLOTS: Thread = Thread {
 /// frees.
 ///
 /// A slot is a number below 48. It stands in one of the lists at most, and there once. Beside them stands the cursor:
-/// the slot at which the owner goes on reading the page's stack. No call takes memory, and each but `full` takes the
-/// same few steps whatever the lists hold.
+/// the slot at which the owner goes on reading the page's stack. No call takes memory.
 #[derive(Drop)]
 pub struct PageLists {
-    // The slot that follows in the same list.
+    // The slot that follows in the same list. No call walks a list, and `full` alone has a loop.
     next: [u8; PLACES],
     free: Thread,
     local: Thread,

@@ -75,9 +75,9 @@ no_arm t e = of_arm t.action e
 page_split : (pages q : ℕ) → 0 < pages → q ≡ q / pages * pages + q % pages
 page_split pages q some = omega arith
 
-some_pages : (s p q : ℕ) → q < s * p → 0 < p
-some_pages s zero q less = absurd (omega arith)
-some_pages s (suc p) q less = omega arith
+shards_have_pages : (s p q : ℕ) → q < s * p → 0 < p
+shards_have_pages s zero q less = absurd (omega arith)
+shards_have_pages s (suc p) q less = omega arith
 
 local_lt : (plan : Plan) (q : ℕ) → 0 < plan.pages → local plan q < plan.pages
 unfolding local
@@ -125,7 +125,7 @@ module _ (layout : Layout) (v w : Caller) (same : SameTale v.view w.view) (alone
       let before : has (same_spot x) p.mine ≡ false =
       ap (has (same_spot x)) (sym (without_front (same_spot x) x p.mine here))
       ∙ (ap (λ ys. has (same_spot x) (without (same_spot x) ys)) (sym mine) ∙ stands.mine_once x) in
-      let some : 0 < plan.pages = some_pages plan.shards plan.pages x.page m.1 in
+      let some : 0 < plan.pages = shards_have_pages plan.shards plan.pages x.page m.1 in
       let y : PageName = record { shard = home plan x.page; page = local plan x.page } in (
         y,
         record { idle = idle; owned = owns_is plan p x.page at; page = local_lt plan x.page some },

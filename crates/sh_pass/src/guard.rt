@@ -10,13 +10,12 @@ use sh_slots::Name;
 use sh_value::Hold;
 use std::marker::{Model, PhantomData};
 
-/// A hold on a key that keeps the place of the key's slot, so that a read and a release by it need not unpack the key.
+/// A hold on a key that keeps the place of the key's slot.
 ///
-/// It is for a caller that uses a value more than once: a call by it compares one number in place of unpacking the key.
-/// `get_guard` of a pass or of a shard returns it, and `read_guard` and `release_guard` take it. It is the same hold as
-/// the plain `Hold` of its key: a contract sees no more of it, `hold` returns that, and the two kinds may be mixed. A
-/// guard releases nothing when it is dropped: it does not know the pass that holds. (So a name says what it guards: the
-/// place.)
+/// It is for a caller that uses a value more than once. `get_guard` of a pass or of a shard returns it, and
+/// `read_guard` and `release_guard` take it. It is the same hold as the plain `Hold` of its key: a contract sees no
+/// more of it, `hold` returns that, and the two kinds may be mixed. A guard releases nothing when it is dropped: it
+/// does not know the pass that holds. (So a name says what it guards: the place.)
 ///
 /// The place goes by how many pages a shard of the heap has. A guard from a heap whose shards have another number of
 /// pages does what its plain hold would do.

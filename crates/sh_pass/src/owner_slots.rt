@@ -1,12 +1,14 @@
 //! Steps of an owner on slots: how it stores values, and how it puts slots.
-ghost use Rattle.std.specs.Prelude.{◌≡◌, cond, ◌<◌, ◌≤◌, ◌+◌, ◌-◌, [], ◌∷◌, true, false, length};
+ghost use Rattle.std.specs.Prelude.{◌≡◌, cond, ◌<◌, ◌≤◌, ◌+◌, ◌-◌, [], ◌∷◌, true, false, length, Some};
 ghost use Rattle.sh_history.specs.declared.entry.Entry.TheVariants as entry;
 ghost use Rattle.sh_history.specs.declared.log.LogEntry.TheVariants.{Known};
 ghost use Rattle.sh_slots.specs.declared.hand.Hand.TheVariants.{Idle, Filling, Tying, Ringing};
 ghost use Rattle.sh_shape.specs.Classes.{width};
+ghost use Rattle.sh_shape.specs.Places.{page_number, pages_of, slot_places};
+ghost use Rattle.sh_step.specs.Plans.{plan_of};
 ghost use Rattle.sh_step.specs.declared.action.Action.TheVariants as action;
 ghost use Rattle.sh_step.specs.declared.moves.Move.TheVariants as move;
-ghost use Rattle.sh_step.specs.Rows.{class_word_noted};
+ghost use Rattle.sh_step.specs.Rows.{class_word_noted, payload_word};
 ghost use Rattle.sh_bell.specs.Bell.{is_armed, top_of};
 ghost use Rattle.sh_stack.specs.Stack.{link_over};
 ghost use Rattle.sh_table.specs.Tales.{ViewStands};
@@ -16,11 +18,32 @@ ghost use Rattle.sh_pass.specs.Owners.{IsKeyOn};
 
 use crate::keeping::KeepsHeap;
 use crate::owner::Owner;
-use sh_key::KeyLayout;
-use sh_slots::{Spot, published_name};
-use sh_step::operands::key_of_name;
+use sh_key::{KeyLayout, Parts};
+use sh_shape::Shape;
+use sh_slots::{Name, Spot, published_name};
 use sh_step::{PageName, SlotName};
+use sh_table::first_word;
 use sh_value::Value;
+
+// The key of a slot of the page of this name. (The parts of the name are at hand: to find them out of the page's number
+// over the whole heap takes a division.)
+fn key_on_page<L: KeyLayout>(shape: &Shape, name: PageName, stored: Name) -> u64
+    requires place { stored.page ≡ page_number shape.now name.shard name.page }
+    requires shard { name.shard < shape.now.shards }
+    requires page { name.page < pages_of shape.now }
+    requires slot { stored.slot < slot_places }
+    requires names { (plan_of L.layout shape.now).keys.unpack ((plan_of L.layout shape.now).keys.pack stored)
+        ≡ Some stored }
+    ensures { result ≡ (plan_of L.layout shape.now).keys.pack stored }
+{
+    let _known = (shape.shards(), shape.pages());
+    L::pack(Parts {
+        generation: stored.generation,
+        shard: name.shard as u32,
+        page: name.page as u32,
+        slot: stored.slot as u32,
+    })
+}
 
 impl<L: KeyLayout, H: KeepsHeap<L>> Owner<L, H> {
     /// Stores the length of the value, as it begins to fill a slot of its own. Answers the slot's place over the whole
@@ -31,6 +54,7 @@ impl<L: KeyLayout, H: KeepsHeap<L>> Owner<L, H> {
         requires classed { 0 < class_word_noted (own_body self.old) (heap_page self.old name) }
         requires fits { length value.now ≤ width (class_word_noted (own_body self.old) (heap_page self.old name) - 1) }
         ensures spot { result ≡ heap_spot self.old name slot }
+        ensures below { slot < slot_places }
         ensures does { OwnerDid L.layout (action.FillSlot (slot_in name slot) value.now)
             (move.FillSlot (heap_spot self.old name slot) value.now) 0 self.old self.new }
         ensures acts { OwnerActs (Filling (heap_spot self.old name slot) value.now 0) [] 1 self.old self.new }
@@ -53,11 +77,13 @@ impl<L: KeyLayout, H: KeepsHeap<L>> Owner<L, H> {
         spot
     }
 
-    /// Stores the value's word of this number, from 0, in a page of this class word.
-    pub fn fill(&mut self, spot: Spot, value: &Value, i: u64, class_word: u64)
+    /// Stores the value's word of this number, from 0, in a page of this class word, where the slot's first word is
+    /// known.
+    pub fn fill(&mut self, spot: Spot, value: &Value, i: u64, class_word: u64, first: u64)
         requires hand { (own_body self.old).hand ≡ Filling spot value.now i }
         requires left { i < length value.now }
         requires class { class_word_noted (own_body self.old) spot.page ≡ class_word }
+        requires first { first ≡ payload_word spot.slot class_word 0 }
         ensures does { OwnerDid L.layout action.Fill (move.Fill spot value.now i class_word) 0 self.old self.new }
         ensures acts { OwnerActs (Filling spot value.now (i + 1)) [] 1 self.old self.new }
         ensures bells { SameBells L.layout self.old self.new }
@@ -65,7 +91,8 @@ impl<L: KeyLayout, H: KeepsHeap<L>> Owner<L, H> {
         ensures put { NonePut self.old self.new }
     {
         let heap = self.heap.kept();
-        heap.table.fill(&mut self.seat, spot, value, i, class_word);
+        heap.table
+            .fill(&mut self.seat, spot, value, i, class_word, first);
     }
 
     /// Makes the filled slot present. Answers the state word that it found.
@@ -101,13 +128,14 @@ impl<L: KeyLayout, H: KeepsHeap<L>> Owner<L, H> {
         ensures stands { ViewStands L.layout self.new.view }
     {
         let spot = self.fill_slot(name, slot, value);
+        let first = first_word(slot, class_word);
         for i in 0..value.words().len() as u64 {
-            self.fill(spot, value, i, class_word);
+            self.fill(spot, value, i, class_word, first);
         }
         let found = self.publish(spot, value);
         let stored = published_name(spot, found);
         let heap = self.heap.kept();
-        key_of_name::<L>(heap.table.shape(), stored)
+        key_on_page::<L>(heap.table.shape(), name, stored)
     }
 
     /// Puts a slot of its own on its page's stack. Answers the head word that it found.

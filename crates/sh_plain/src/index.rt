@@ -1,9 +1,9 @@
 //! What a plain store looks up in place of going through its entries: what it knows of each issued key, and the holds.
-ghost use Rattle.std.specs.Prelude.{◌≡◌, count_by, position};
+ghost use Rattle.std.specs.Prelude.{◌≡◌, ◌<◌, ◌≤◌, count_by, position, IfErr, OnOk, OnErr, vec_len, vec_capacity};
 ghost use Rattle.std.specs.Option.{option_copied};
 ghost use Rattle.sh_plain.specs.Index.{issued_at, is_hold_by, is_hold_of, is_hold_on};
 
-use sh_value::Value;
+use sh_value::{Refusal, Value};
 
 // What is known of an issued key.
 #[derive(Drop)]
@@ -17,6 +17,20 @@ pub(crate) struct Issued {
 pub(crate) struct Held {
     pub(crate) pass: u32,
     pub(crate) key: u64,
+}
+
+// Makes room for one more item. The list stays as it is.
+pub(crate) fn make_room<T>(items: &mut Vec<T>) -> Result<(), Refusal>
+    ensures items { items.new.items ≡ items.old.items }
+    ensures room { OnOk result (vec_len items.new < vec_capacity items.new) }
+    // No more room than for this one is asked for.
+    ensures lean { OnErr result (vec_capacity items.old ≤ vec_len items.old) }
+    ensures memory { IfErr result (λ refusal. refusal ≡ Refusal.Memory) }
+{
+    match items.reserve(1) {
+        Ok(()) => Ok(()),
+        Err(_) => Err(Refusal::Memory),
+    }
 }
 
 // What is known of the key, where the first of these is of the first key, and each further one of the next.

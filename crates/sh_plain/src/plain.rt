@@ -7,7 +7,7 @@ ghost use Rattle.sh_history.specs.Log.{logged_holds_by};
 
 mod replies;
 
-use crate::index::{Held, Issued, find_hold, hold_count, holds_on, issued_at};
+use crate::index::{Held, Issued, find_hold, hold_count, holds_on, issued_at, make_room};
 use crate::{Lookup, Store};
 use sh_history::Entry;
 use sh_key::KeyLayout;
@@ -135,9 +135,7 @@ impl<L: KeyLayout> PlainStore<L> {
         ensures { Noted (Got self.old.pass key value) self.old result self.new }
     {
         let pass = self.pass;
-        if self.holds.reserve(1).is_err() {
-            return Err(Refusal::Memory);
-        }
+        make_room(&mut self.holds)?;
         match self.entries.push(Entry::Got(pass, key, value)) {
             Ok(()) => {
                 self.holds.push_reserved(Held { pass, key });

@@ -1,6 +1,7 @@
 // One list of numbers, linked both ways.
 ghost use Rattle.std.specs.Prelude.{◌≡◌, ◌≢◌, ℕ, ◌+◌, ◌-◌, ◌^◌, ◌<◌, ◌≤◌, [], ◌∷◌, ◌++◌, length, max, replicate, true};
 ghost use Rattle.std.specs.Prelude.{false, IfOk, OnOk, OnErr};
+ghost use Rattle.std.specs.Vec.{vec_capacity};
 ghost use Rattle.sh_lists.specs.Numbers.{Distinct, upward};
 ghost use Rattle.sh_queue.specs.Numbers.{has_number, without_number, put_after, put_before, following, preceding};
 ghost use Rattle.sh_queue.specs.Chain.{ChainNumbers};
@@ -162,6 +163,8 @@ impl Chain {
 fn lengthen(links: &mut Vec<u32>, size: usize) -> Result<(), AllocError>
     ensures longer { OnOk result (links.new.items ≡ links.old.items ++ replicate (size - length links.old.items) 0) }
     ensures same { OnErr result (links.new.items ≡ links.old.items) }
+    // No more room than for these is asked for.
+    ensures lean { OnErr result (vec_capacity links.old < size) }
 {
     if size <= links.len() {
         return Ok(());

@@ -2,14 +2,16 @@
 ghost use Rattle.std.specs.Prelude.{◌≡◌, ◌≢◌, ℕ, ◌+◌, ◌-◌, ◌*◌, ◌^◌, ◌<◌, ◌≤◌, ◌++◌, true, false, length};
 ghost use Rattle.std.specs.Prelude.{max, replicate, None, slice_get, IfSome, IfOk, IfErr, OnOk, OnErr};
 ghost use Rattle.std.specs.List.{last_or};
+ghost use Rattle.std.specs.Vec.{vec_capacity};
 ghost use Rattle.sh_shape.specs.Classes.{class_count};
 ghost use Rattle.sh_shape.specs.Shape.{segment_pages};
 ghost use Rattle.sh_queue.specs.Numbers.{has_number};
 ghost use Rattle.sh_queue.specs.Chain.{ChainNumbers};
-ghost use Rattle.sh_queue.specs.Queues.{EachOnce, page_numbered, class_queue, at_front, at_back};
+ghost use Rattle.sh_queue.specs.Queues.{EachOnce, page_numbered, class_queue, none_opened, at_front, at_back};
 ghost use Rattle.sh_queue.specs.Queues.{among_full, one_more_segment};
 
 use crate::chain::Chain;
+use crate::filing::Filing;
 use sh_shape::SEGMENT_PAGES;
 use sh_value::Refusal;
 use std::alloc::{AllocError, Global};
@@ -27,8 +29,16 @@ pub(crate) const FIRST_PAGE: u32 = 11;
 /// The pages that an owner has opened, in queues.
 ///
 /// A page is a number. Pages are opened 8 at a time, which is a segment, in ascending order. An opened page is blank,
-/// or stands in the queue of one class from 0 to 7, or in the full queue. They begin as a `Filing`, which takes memory
-/// once for all pages that are opened then. Later `open_segment` alone takes any, for one segment at a time.
+/// or stands in the queue of one class from 0 to 7, or in the full queue. They begin with no page, or as a `Filing`,
+/// which takes memory once for all pages that are opened then. Later `open_segment` alone takes any, for one segment at
+/// a time.
+///
+/// ```
+/// let mut queues = Queues::new(alloc, 2)?;
+/// let first = queues.open_segment()?; // 0: pages 0 to 7 are opened, and blank
+/// queues.to_front(3, first);
+/// assert_eq!((queues.front(3), queues.blank()), (Some(0), Some(1)));
+/// ```
 #[derive(Drop)]
 pub struct Queues {
     pub(crate) chain: Chain,
@@ -49,6 +59,16 @@ impl Model for Queues {
 }
 
 impl Queues {
+    /// No page is opened yet, of this many segments, at most 2^21. Refused as `Memory`.
+    pub fn new(alloc: Global, segments: u32) -> Result<Self, Refusal>
+        requires { segments ≤ 2 ^ 21 }
+        ensures ok { IfOk result (λ queues. queues ≡ none_opened segments) }
+        ensures err { IfErr result (λ refusal. refusal ≡ Refusal.Memory) }
+    {
+        let filing = Filing::new(alloc, 0, segments)?;
+        Ok(filing.into_queues())
+    }
+
     /// How many pages are opened: the pages 0 to `opened() - 1`.
     pub fn opened(&self) -> u32
         ensures opened { result ≡ self.now.opened }
@@ -169,6 +189,18 @@ fn make_room(chain: &mut Chain, full: &mut Vec<bool>, pages: u32) -> Result<(), 
     ensures err { OnErr result (full.new.items ≡ full.old.items) }
 {
     chain.grow((FIRST_PAGE + pages) as usize)?;
+    note_none(full, pages)
+}
+
+// Notes of the pages behind the last one noted, up to this many, that they are not full. Where memory is refused, no
+// note is added.
+fn note_none(full: &mut Vec<bool>, pages: u32) -> Result<(), AllocError>
+    requires { length full.old.items ≤ pages }
+    ensures longer { OnOk result (full.new.items ≡ full.old.items ++ replicate (pages - length full.old.items) false) }
+    ensures same { OnErr result (full.new.items ≡ full.old.items) }
+    // No more room than for these is asked for.
+    ensures lean { OnErr result (vec_capacity full.old < pages) }
+{
     full.resize(pages as usize, false)
 }
 

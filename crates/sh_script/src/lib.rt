@@ -19,7 +19,7 @@ mod place;
 mod reader;
 mod script;
 mod trouble;
-mod words;
+pub mod words;
 
 pub use calls::{Call, CallLine, Calls, Reference};
 pub use event::Events;

@@ -74,7 +74,7 @@ impl<L: KeyLayout, H: KeepsHeap<L>> Shard<L, H> {
         answer
     }
 
-    /// The same as `get`, but the hold keeps the place of the key's slot, so that its calls need not unpack the key.
+    /// The same as `get`, but the hold keeps the place of the key's slot, for `read_guard` and `release_guard`.
     pub fn get_guard(&mut self, key: u64) -> Result<Guard<L>, Refusal>
         ensures does { GetDoes L.layout key self.old.pages.owner result self.new.pages.owner }
         ensures stays { StaysOwner L.layout self.old self.new }

@@ -6,6 +6,8 @@ ghost use Rattle.sh_shape.specs.Places.{slot_places};
 ghost use Rattle.sh_states.specs.States.{blank_state, state_at, kept_slots, WholeState, NoneWholeBelow, FirstWhole};
 
 mod changing;
+#[cfg(test)]
+mod tests;
 
 use sh_lists::PageLists;
 use sh_shape::classes;
@@ -31,12 +33,13 @@ pub struct PageStates {
     // The states of the first pages. The pages behind them are blank.
     written: Vec<PageState>,
     count: u64,
-    // No page below it is whole.
+    // No page below it is whole: a search begins here. It rises to the page that a search finds, or to the end of one
+    // that finds none, and falls to a page that becomes whole.
     bound: u64,
 }
 
 impl Model for PageStates {
-    ghost use Rattle.std.specs.Prelude.{◌≤◌, List};
+    ghost use Rattle.std.specs.Prelude.{◌≡◌, List};
     ghost use Rattle.std.specs.Vec.{vec_capacity};
     ghost use Rattle.sh_states.specs.declared.states.PageState.{PageState};
     ghost use Rattle.sh_states.specs.States.{padded, KeepsStates};
@@ -45,7 +48,7 @@ impl Model for PageStates {
 
     ghost view = { λ s. padded s.count s.written.items };
 
-    ghost invariant = { λ s. KeepsStates s.written.items s.count s.bound × (s.count ≤ vec_capacity s.written) };
+    ghost invariant = { λ s. KeepsStates s.written.items s.count s.bound × (vec_capacity s.written ≡ s.count) };
 }
 
 impl PageStates {
@@ -136,8 +139,7 @@ impl PageStates {
         }
     }
 
-    /// The first whole page of those below `end`. It looks at no page that was seen not to be whole by an earlier call
-    /// and got no slot since.
+    /// The first whole page of those below `end`.
     pub fn first_whole(&mut self, end: u64) -> Option<u64>
         requires { end ≤ length self.old }
         ensures same { self.new ≡ self.old }

@@ -1,9 +1,9 @@
 //! Workers: each makes the calls of one pass, in the order of the script.
-ghost use Rattle.std.specs.Prelude.{◌≡◌, ◌≤◌, length, [], IfSome, MatchOption, true};
+ghost use Rattle.std.specs.Prelude.{◌≡◌, ◌≤◌, length, [], None, IfSome, MatchOption, true};
 ghost use Rattle.std.specs.Vec.{vec_capacity};
 ghost use Rattle.sh_output.specs.Keys.{HasTagRoom};
 ghost use Rattle.sh_calls.specs.Parts.{new_part, new_pass};
-ghost use Rattle.sh_calls.specs.Calls.{binds, number_told};
+ghost use Rattle.sh_calls.specs.Calls.{binds, name_used, number_told};
 ghost use Rattle.sh_calls.specs.Named.{tells_number};
 ghost use Rattle.sh_calls.specs.Receipts.{receipt_seen};
 ghost use Rattle.sh_workers.specs.Boards.{MayHearName};
@@ -65,7 +65,7 @@ impl<S: Side, B: Room> Model for Worker<S, B> {
 }
 
 // The number that the name of the call stands for: waited for, if the call is on a name, and the pass heeds the receipt
-// that goes with it. `None` where the board is closed.
+// that goes with it. A `wait` waits too, but has no number. `None` where the board is closed.
 fn awaited<S: Side, B: Room, R: Wait>(
     rt: &R,
     board: &Board<B>,
@@ -75,6 +75,7 @@ fn awaited<S: Side, B: Room, R: Wait>(
     requires heap { (S.seen side.old).heap ≡ B.heap }
     ensures heard { MatchOption result (S.seen side.new ≡ S.seen side.old)
         (λ number. MayHearName B.tag number (S.seen side.old) (S.seen side.new)) }
+    ensures unnamed { name_used call.now ≡ None → IfSome result (λ number. number ≡ None) }
 {
     if let Call::Wait(name) = call {
         return match board.wait(rt, *name, side) {

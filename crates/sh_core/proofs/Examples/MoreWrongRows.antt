@@ -22,25 +22,24 @@ use Rattle.sh_core.specs.Refines.{FillsAreKeys}
 use Rattle.sh_core.specs.Stacks.{spot}
 use Rattle.sh_core.specs.Variants.{step_by, run_from_by, run_by, list_step_by, lists_from_by, AlwaysBy}
 use Rattle.sh_core.specs.Worlds.{World, value_at}
-use Rattle.sh_core.specs.WrongRows.{ignores_room, forgets_last_slot, never_retires, leaves_slots, leaves_bell, ties_first}
+use Rattle.sh_core.specs.WrongRows.{ignores_room, forgets_last_slot, never_retires, leaves_slots, leaves_bell}
+use Rattle.sh_core.specs.WrongRows.{ties_first}
 use Rattle.sh_core.specs.MoreWrongRows.{retires_early, skips_generation, adopts_taken, leaves_cursors, publishes_next}
 use Rattle.sh_core.specs.MoreWrongRows.{keeps_hold, fills_any_slot, reads_wrong_class, reads_wrong_length}
-use Rattle.sh_core.specs.MoreWrongRows.{enters_uncounted, fits_any_length, rings_far, leaves_elsewhere, ties_ring_as_end}
+use Rattle.sh_core.specs.MoreWrongRows.{enters_uncounted, fits_any_length, rings_far, leaves_elsewhere}
+use Rattle.sh_core.specs.MoreWrongRows.{ties_ring_as_end}
 use Rattle.sh_core.proofs.Examples.Worked.{small, ev, slot, page, three_slots, everything}
-use Rattle.sh_core.proofs.Examples.WrongRows.{refuted, inserted, removed, put_back, putting, ringing}
+use Rattle.sh_core.proofs.Examples.WrongRows.{refuted, inserted, removed, put_back, putting, ringing, owner}
 
 more_wrongly : ℕ
 unfolding everything step_by run_from_by list_step_by lists_from_by retires_early skips_generation adopts_taken
     leaves_cursors publishes_next keeps_hold fills_any_slot reads_wrong_class reads_wrong_length enters_uncounted
-    fits_any_length rings_far leaves_elsewhere ties_ring_as_end ignores_room forgets_last_slot never_retires leaves_slots
-    leaves_bell ties_first
+    fits_any_length rings_far leaves_elsewhere ties_ring_as_end ignores_room forgets_last_slot never_retires
+    leaves_slots leaves_bell ties_first
 more_wrongly = 0
 
 abbrev first : ℕ → Name
 first g = record { page = 0; slot = 0; generation = g }
-
-abbrev owner : Body
-owner = record newcomer { owned = Some 0; classes = (0, 8) ∷ (0, 0) ∷ []; mine = spot 0 1 ∷ spot 0 2 ∷ [] }
 
 pub first_is_not_last : ¬ AlwaysBy retires_early (λ plan w l. RetiredIsLast plan w)
 unfolding more_wrongly
@@ -97,7 +96,8 @@ released_is_held = refuted keeps_hold (λ plan w l. HoldsAreTold w) 1 (omega ari
 
 -- what is held of a key of this name is its value
 stored : (plan : Plan) (w : World) (a : ℕ) (p : Body) (k : ℕ) (n : Name) → HeldStands plan w → slice_get w.parts a
-    ≡ Some p → 0 < times k p.holds → plan.keys.unpack k ≡ Some n → value_of w.log k ≡ Some (value_at w.words n.page n.slot)
+    ≡ Some p → 0 < times k p.holds → plan.keys.unpack k ≡ Some n
+    → value_of w.log k ≡ Some (value_at w.words n.page n.slot)
 stored plan w a p k n h at some name =
     let s = h a p k at some in
     let e : Some s.name ≡ Some n = sym s.unpacks ∙ name in
@@ -132,8 +132,8 @@ noted_length_is_not_its = refuted reads_wrong_length (λ plan w l. NotesAreTrue 
     (λ h. let z : 1 ≡ 0 = ((h 0 (record owner { holds = 4096 ∷ []; lengths = (4096, 0) ∷ [] }) refl).lengths
     4096 0 refl).1 (5 ∷ []) refl in absurd (omega arith))
 
-abbrev late : Body
-late = record newcomer {
+abbrev latecomer : Body
+latecomer = record newcomer {
   owned = Some 0;
   classes = (0, 8) ∷ (0, 0) ∷ [];
   mine = spot 0 0 ∷ spot 0 1 ∷ spot 0 2 ∷ [];
@@ -144,7 +144,7 @@ pub count_goes_below_0 : ¬ AlwaysBy enters_uncounted (λ plan w l. CountsFit pl
 unfolding more_wrongly
 count_goes_below_0 = refuted enters_uncounted (λ plan w l. CountsFit plan w) 1 (omega arith) (omega arith)
     (three_slots ++ ev 0 (EnterGet 4096) ∷ [])
-    (λ h. let z : 1 ≤ 0 = h 0 late Drop (drop_hand late (spot 0 0)) refl refl in absurd (omega arith))
+    (λ h. let z : 1 ≤ 0 = h 0 latecomer Drop (drop_hand latecomer (spot 0 0)) refl refl in absurd (omega arith))
 
 -- seventeen words
 abbrev long : List ℕ
@@ -166,14 +166,14 @@ bell_names_no_page = refuted rings_far (λ plan w l. BellsAreSmall plan w) 2 (om
     (three_slots ++ inserted 0 ++ ev 0 (Arm (page 0 0)) ∷ put_back 1 4096 ++ ev 1 Ring ∷ [])
     (λ h. let z : 101 ≤ 8 = h.0 0 in absurd (omega arith))
 
-abbrev lost : Body
-lost = record newcomer { hand = Leaving (spot 100 0) }
+abbrev stray : Body
+stray = record newcomer { hand = Leaving (spot 100 0) }
 
 pub step_is_outside : ¬ AlwaysBy leaves_elsewhere (λ plan w l. StepsWithin plan w)
 unfolding more_wrongly
 step_is_outside = refuted leaves_elsewhere (λ plan w l. StepsWithin plan w) 2 (omega arith) (omega arith)
     (three_slots ++ ev 1 (EnterRemove 4096) ∷ [])
-    (λ h. let z : 100 < 8 = (h 1 lost Drop (drop_hand lost (spot 100 0)) refl refl).0 in absurd (omega arith))
+    (λ h. let z : 100 < 8 = (h 1 stray Drop (drop_hand stray (spot 100 0)) refl refl).0 in absurd (omega arith))
 
 -- two pages on one bell
 pub page_under_it_is_lost : ¬ AlwaysBy ties_ring_as_end (λ plan w l. Linked plan w l)
@@ -208,7 +208,8 @@ unfolding more_wrongly
 fourth_generation_is_no_key = refuted never_retires (λ plan w l. FillsAreKeys plan w) 1 (omega arith) (omega arith)
     (three_slots ++ inserted 0 ++ removed 0 4096 ++ inserted 0 ++ removed 0 8192 ++ inserted 0 ++ removed 0 12288
     ++ ev 0 (FillSlot (slot 0 0 0) []) ∷ [])
-    (λ h. let z : None ≡ Some (first 4) = h 0 (record owner { hand = Filling (spot 0 0) [] 0 }) (spot 0 0) [] 0 refl refl
+    (λ h. let z : None ≡ Some (first 4) = h 0 (record owner { hand = Filling (spot 0 0) [] 0 }) (spot 0 0) [] 0 refl
+    refl
     in cc)
 
 pub early_link_names_nothing : ¬ AlwaysBy ties_first (λ plan w l. EachLinked plan w l)

@@ -267,12 +267,12 @@ unretired_slot_has_no_key = refuted never_retires (λ plan w l. GenerationsEnd p
     (λ h. let z : 4 ≤ 3 = (h (spot 0 0)).1 in absurd (omega arith))
 
 -- a slot that stands twice among its owner's
-abbrev collecting : List Event
-collecting = three_slots ++ inserted 0 ++ put_back 1 4096 ++ ev 0 (Take (page 0 0)) ∷ ev 0 (Follow (page 0 0)) ∷ []
+abbrev collected : List Event
+collected = three_slots ++ inserted 0 ++ put_back 1 4096 ++ ev 0 (Take (page 0 0)) ∷ ev 0 (Follow (page 0 0)) ∷ []
 
 pub followed_twice_is_mine_twice : ¬ AlwaysBy follows_twice (λ plan w l. OneKind w l)
 unfolding wrongly
-followed_twice_is_mine_twice = refuted follows_twice (λ plan w l. OneKind w l) 2 (omega arith) (omega arith) collecting
+followed_twice_is_mine_twice = refuted follows_twice (λ plan w l. OneKind w l) 2 (omega arith) (omega arith) collected
     (λ h.
     let small : 0 < 3 = omega arith in
     let z : 2 ≡ 1 = (h (spot 0 0) 7 refl).0 small in absurd (omega arith))
@@ -314,7 +314,7 @@ flag_stays_over_slot = refuted keeps_flag (λ plan w l. FlaggedAreEmpty w l) 2 (
     (λ h. let z : 0 ∷ [] ≡ [] = h 0 refl in cc)
 
 -- what is in hand names nothing: generation 1 is no key
-abbrev owner : Body
+abbrev pub owner : Body
 owner = record newcomer { owned = Some 0; classes = (0, 8) ∷ (0, 0) ∷ []; mine = spot 0 1 ∷ spot 0 2 ∷ [] }
 
 pub generation_is_no_key : ¬ AlwaysBy remembers_generation (λ plan w l. KeysInHandName plan w)

@@ -47,3 +47,6 @@ row_begins c s h a = let f = slot_words_fit_page c s 0 a (width_some c h) in ome
 pub row_within : (c s n : ℕ) → c < 8 → s < slots c → n ≤ width c → s * width c + n ≤ 48
 row_within c s zero h a b = let f = row_begins c s h a in omega arith
 row_within c s (suc n) h a b = let f = slot_words_fit_page c s n a (omega arith) in omega arith
+
+-- how a value is read from the words
+pub ruleset value_rows = (payload_range, row_begins, row_within)

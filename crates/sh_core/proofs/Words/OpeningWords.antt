@@ -50,6 +50,9 @@ opening_at pages (suc n) i h = go (nat_lt i n) refl (λ k. opening_at pages n i 
         zero_is,
       ) refl
 
+-- how the list is filled
+pub ruleset opening_words_by_number = (opening_none, opening_more)
+
 -- a word that is no state word
 early : (pages n : ℕ) → n % page_words < 3 → opening_word pages n ≡ 0
 early pages n h = rw (lt-leb 3 (n % page_words) h) (go (nat_lt n (page_words * pages))) where

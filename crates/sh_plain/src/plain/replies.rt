@@ -3,7 +3,7 @@ ghost use Rattle.std.specs.Prelude.{◌≡◌};
 ghost use Rattle.sh_history.specs.History.{present_value};
 
 use super::PlainStore;
-use crate::index::Issued;
+use crate::index::{Issued, make_room};
 use sh_history::Entry;
 use sh_key::KeyLayout;
 use sh_value::{Hold, Refusal, Value};
@@ -20,9 +20,7 @@ impl<L: KeyLayout> PlainStore<L> {
             return Err(Refusal::Full);
         }
         let key = L::first_key() + inserted;
-        if self.issued.reserve(1).is_err() {
-            return Err(Refusal::Memory);
-        }
+        make_room(&mut self.issued)?;
         match self
             .entries
             .push(Entry::Insert(self.pass, key, value.copy()))

@@ -2,19 +2,10 @@ ghost use Rattle.std.specs.Prelude.{◌≡◌, ◌≢◌, ◌^◌, ◌≤◌, If
 ghost use Rattle.sh_queue.specs.Queues.{none_opened, one_more_segment};
 
 use super::agree;
-use sh_queue::{Filing, Queues};
+use sh_queue::Queues;
 use sh_value::Refusal;
-use std::alloc::Global;
 use std::process::Abort;
 use std::test::Fail;
-
-// No page is opened yet, of this many segments.
-fn none_of(alloc: Global, segments: u32) -> Result<Queues, Refusal>
-    requires { segments ≤ 2 ^ 21 }
-    ensures { IfOk result (λ queues. queues ≡ none_opened segments) }
-{
-    Ok(Filing::new(alloc, 0, segments)?.into_queues())
-}
 
 // The next segment is opened, and this is its first page.
 fn opens(rt: &impl Abort, queues: &mut Queues, first: u32)
@@ -26,7 +17,7 @@ fn opens(rt: &impl Abort, queues: &mut Queues, first: u32)
 
 #[test]
 fn pages_move_between_queues(rt: HostRuntime) {
-    let mut queues = none_of(rt.alloc(), 1).expect(&rt, "there is memory");
+    let mut queues = Queues::new(rt.alloc(), 1).expect(&rt, "there is memory");
     agree(&rt, queues.unopened(), 1);
     agree(&rt, queues.blank(), None);
     opens(&rt, &mut queues, 0);
@@ -47,7 +38,7 @@ fn pages_move_between_queues(rt: HostRuntime) {
 
 #[test]
 fn a_page_comes_back_from_the_full_queue(rt: HostRuntime) {
-    let mut queues = none_of(rt.alloc(), 2).expect(&rt, "there is memory");
+    let mut queues = Queues::new(rt.alloc(), 2).expect(&rt, "there is memory");
     opens(&rt, &mut queues, 0);
     queues.to_front(0, 0);
     queues.to_front(0, 1);
@@ -65,7 +56,7 @@ fn a_page_comes_back_from_the_full_queue(rt: HostRuntime) {
 
 #[test]
 fn blank_pages_are_used_lowest_first(rt: HostRuntime) {
-    let mut queues = none_of(rt.alloc(), 2).expect(&rt, "there is memory");
+    let mut queues = Queues::new(rt.alloc(), 2).expect(&rt, "there is memory");
     opens(&rt, &mut queues, 0);
     opens(&rt, &mut queues, 8);
     agree(&rt, queues.unopened(), 0);
@@ -82,8 +73,8 @@ fn new_with_memory(rt: &HostRuntime, segments: u32) -> Result<Queues, Refusal>
     requires { segments ≤ 2 ^ 21 }
     ensures { IfOk result (λ queues. queues ≡ none_opened segments) }
 {
-    match none_of(rt.alloc(), segments) {
-        Err(Refusal::Memory) => none_of(rt.alloc(), segments),
+    match Queues::new(rt.alloc(), segments) {
+        Err(Refusal::Memory) => Queues::new(rt.alloc(), segments),
         answer => answer,
     }
 }
@@ -127,7 +118,7 @@ fn a_segment_refused_for_memory_changes_nothing(rt: HostRuntime) -> Result<(), F
 // As many segments as a heap may have are opened one after the other, and each page has its place.
 #[test]
 fn all_segments_are_opened(rt: HostRuntime) {
-    let mut queues = none_of(rt.alloc(), 256).expect(&rt, "there is memory");
+    let mut queues = Queues::new(rt.alloc(), 256).expect(&rt, "there is memory");
     for first in 0..256u32 {
         assert!(rt; queues.unopened() != 0);
         opens(&rt, &mut queues, first.wrapping_mul(8));

@@ -1,4 +1,4 @@
-use Rattle.std.proofs.Common.{◌≡◌, ◌≤◌, length}
+use Rattle.std.proofs.Common.{◌≡◌, length}
 use Rattle.std.specs.Vec.{vec_capacity}
 use Rattle.sh_core.specs.Opening.{opening_words}
 use Rattle.sh_core.proofs.opening.words_of.Given as goal
@@ -7,5 +7,5 @@ abbrev pub invariant-loop-number : goal.invariant-loop-number
 invariant-loop-number l = record {
   words : l.words.items ≡ opening_words l.pages l.number;
   count : length l.words.items ≡ l.number;
-  room : l.count ≤ vec_capacity l.words;
+  room : vec_capacity l.words ≡ l.count;
 }

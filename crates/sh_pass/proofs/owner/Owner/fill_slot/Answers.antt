@@ -38,6 +38,7 @@ returns g c =
     let k = fill_slot_does layout v _ c.args.name s.owner c.args.slot c.args.value.now d in
     record {
       spot = ap (λ q. record { page = q; slot = c.args.slot }) c.number.ensures;
+      below = (s.owner.mine (heap_spot v c.args.name c.args.slot) c.requires.mine).2;
       does = d;
       acts = k.0;
       bells =

@@ -1,4 +1,7 @@
-use Rattle.std.proofs.Common.{◌≡◌, ◌+◌, [], ◌∙◌, ap, sym, subst, arith}
+use Rattle.std.proofs.Common.{◌≡◌, ◌+◌, ◌<◌, [], ◌∙◌, ap, sym, subst, arith}
+use Rattle.sh_shape.specs.Places.{page_number, pages_of}
+use Rattle.sh_shape.specs.Shape.{Numbers}
+use Rattle.sh_slots.specs.declared.hand.Name.{Name}
 use Rattle.sh_table.specs.Seats.{Heap}
 use Rattle.sh_pass.specs.Passes.{Caller}
 use Rattle.sh_pass.specs.Owners.{OwnerActs, OwnerDid}
@@ -23,8 +26,8 @@ loop-i-preserved g c =
     )
 
 -- the heap's shape as it was before the value became present
-pub key_of_name-requires-clause-names : goal.key_of_name-requires-clause-names
-key_of_name-requires-clause-names g c =
+pub key_on_page-requires-clause-names : goal.key_on_page-requires-clause-names
+key_on_page-requires-clause-names g c =
     let p = c.publish-found.ensures in
     let now : c.shape.result.now ≡ c.publish-found.new.self.view.shape = c.shape.ensures
     ∙ (ap (λ (h : Heap). h.shape) (c.heap.view_is ∙ c.kept-heap.ensures) ∙ (sym c.self.invariant.seat.shape
@@ -32,6 +35,37 @@ key_of_name-requires-clause-names g c =
     issued g.L.KeyLayout.layout c.shape.result.now c.loop-i.self c.publish-found.new.self c.fill_slot-spot.result
     c.args.value.now c.publish-found.result c.published_name-stored.result p.does (now ∙ p.acts.aside.same.shape)
     c.published_name-stored.ensures
+
+-- and the parts of the page's name are within it
+pub key_on_page-requires-clause-place : goal.key_on_page-requires-clause-place
+key_on_page-requires-clause-place g c =
+    let p = c.publish-found.ensures in
+    let now : c.shape.result.now ≡ c.publish-found.new.self.view.shape = c.shape.ensures
+    ∙ (ap (λ (h : Heap). h.shape) (c.heap.view_is ∙ c.kept-heap.ensures) ∙ (sym c.self.invariant.seat.shape
+    ∙ ap (λ (v : Caller). v.view.shape) c.self.view_is)) in
+    let at : c.shape.result.now ≡ c.args.self.now.view.shape = now ∙ (p.acts.aside.same.shape
+    ∙ c.loop-i.invariant.0.aside.same.shape) in
+    ap (λ (x : Name). x.page) c.published_name-stored.ensures ∙ (ap (λ (x : Spot). x.page) c.fill_slot-spot.ensures.spot
+    ∙ ap (λ (s : Numbers). page_number s c.args.name.shard c.args.name.page) (sym at))
+
+pub key_on_page-requires-clause-shard : goal.key_on_page-requires-clause-shard
+key_on_page-requires-clause-shard g c =
+    let p = c.publish-found.ensures in
+    let now : c.shape.result.now ≡ c.publish-found.new.self.view.shape = c.shape.ensures
+    ∙ (ap (λ (h : Heap). h.shape) (c.heap.view_is ∙ c.kept-heap.ensures) ∙ (sym c.self.invariant.seat.shape
+    ∙ ap (λ (v : Caller). v.view.shape) c.self.view_is)) in
+    subst (λ (s : Numbers). c.args.name.shard < s.shards) (sym now) (p.does.stands.owner.owned c.args.name.shard
+    (p.acts.aside.owned ∙ (c.loop-i.invariant.0.aside.owned ∙ c.requires.touch.owned)))
+
+pub key_on_page-requires-clause-page : goal.key_on_page-requires-clause-page
+key_on_page-requires-clause-page g c =
+    let p = c.publish-found.ensures in
+    let now : c.shape.result.now ≡ c.publish-found.new.self.view.shape = c.shape.ensures
+    ∙ (ap (λ (h : Heap). h.shape) (c.heap.view_is ∙ c.kept-heap.ensures) ∙ (sym c.self.invariant.seat.shape
+    ∙ ap (λ (v : Caller). v.view.shape) c.self.view_is)) in
+    let at : c.shape.result.now ≡ c.args.self.now.view.shape = now ∙ (p.acts.aside.same.shape
+    ∙ c.loop-i.invariant.0.aside.same.shape) in
+    subst (λ (s : Numbers). c.args.name.page < pages_of s) (sym at) c.requires.touch.page
 
 pub returns-clause-on : goal.returns-clause-on
 returns-clause-on g c =
@@ -47,12 +81,12 @@ returns-clause-on g c =
     let P : Spot → Type 0 = λ z. OwnerDid layout action.Publish (move.Publish z c.args.value.now) c.publish-found.result
     c.loop-i.self c.publish-found.new.self in
     key_on layout v c.loop-i.self c.publish-found.new.self c.args.name c.args.slot c.args.value.now
-    c.publish-found.result c.shape.result.now c.key_of_name.result c.published_name-stored.result
+    c.publish-found.result c.shape.result.now c.key_on_page.result c.published_name-stored.result
     (subst P x p.does) before at (c.published_name-stored.ensures
-    ∙ ap (λ (z : Spot). published_name z c.publish-found.result) x) c.key_of_name.ensures
+    ∙ ap (λ (z : Spot). published_name z c.publish-found.result) x) c.key_on_page.ensures
 
 pub returns-clause-key : goal.returns-clause-key
-returns-clause-key g c = key_in g.L.KeyLayout.layout c.args.self.now c.args.name c.key_of_name.result c.requires.touch
+returns-clause-key g c = key_in g.L.KeyLayout.layout c.args.self.now c.args.name c.key_on_page.result c.requires.touch
     (returns-clause-on g c)
 
 pub returns-clause-bells : goal.returns-clause-bells

@@ -8,7 +8,7 @@ invariant_of-self-in-Ok g c =
     rw (
       c.in-Ok.ensures.items,
       c.push_reserved.ensures.items,
-      c.reserve.ensures.items,
+      c.make_room.ensures.items,
       c.first_key.ensures.first,
       c.len-inserted.ensures,
       inserted,
