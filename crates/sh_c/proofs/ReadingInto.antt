@@ -1,9 +1,9 @@
--- A read into a value of the export's own is a read, whose answer stands in that value; and so is a fetch.
+-- A read into a value of the export's own is a read, whose answer stands in that value; and so are a fetch and a take.
 use Rattle.std.proofs.Common.{ℕ, List, Result, Ok, Err}
 use Rattle.sh_key.specs.Layout.{Layout}
 use Rattle.sh_value.specs.declared.refusal.Refusal.{Refusal}
 use Rattle.sh_pass.specs.Passes.{Caller, ReadDoes, ReadIntoDoes}
-use Rattle.sh_readers.specs.Readers.{FetchDoes, FetchIntoDoes}
+use Rattle.sh_readers.specs.Readers.{FetchDoes, FetchIntoDoes, TakeFitsDoes, TakeIntoDoes}
 use Rattle.sh_member.specs.Sides.{SeenSide, SideDoes}
 use Rattle.sh_member.specs.declared.member.Side.TheVariants.{Pass, Shard, Moving}
 use Rattle.sh_handles.specs.declared.member.AnyMember.{AnyMember}
@@ -52,6 +52,11 @@ fetch_fills : (l : Layout) (key : ℕ) (before after : List ℕ) → Fills (Fetc
 fetch_fills l key before after v w (Ok u) did = did
 fetch_fills l key before after v w (Err why) did = did.0
 
+take_fills : (l : Layout) (key most : ℕ) (after : List ℕ) → Fills (TakeFitsDoes l key most) after
+    (λ v a w. TakeIntoDoes l key most v a after w)
+take_fills l key most after v w (Ok u) did = did
+take_fills l key most after v w (Err why) did = did
+
 pub reads_into : (key : ℕ) (before after : List ℕ) (a : Result (Unit {0}) Refusal) (v w : AnyMember)
     → AnyDoes (λ l. SideDoes l (λ x r y. ReadIntoDoes key x before r after y)) v a w
     → AnyDoes (λ l. SideDoes l (ReadDoes key)) v (read_in after a) w
@@ -63,3 +68,9 @@ pub fetches_into : (key : ℕ) (before after : List ℕ) (a : Result (Unit {0}) 
     → AnyDoes (λ l. SideDoes l (FetchDoes l key)) v (read_in after a) w
 fetches_into key before after a v w = any_fills (λ l. FetchDoes l key)
     (λ l x r y. FetchIntoDoes l key x before r after y) after (λ l. fetch_fills l key before after) a v w
+
+pub takes_into : (key most : ℕ) (after : List ℕ) (a : Result (Unit {0}) Refusal) (v w : AnyMember)
+    → AnyDoes (λ l. SideDoes l (λ x r y. TakeIntoDoes l key most x r after y)) v a w
+    → AnyDoes (λ l. SideDoes l (TakeFitsDoes l key most)) v (read_in after a) w
+takes_into key most after a v w = any_fills (λ l. TakeFitsDoes l key most)
+    (λ l x r y. TakeIntoDoes l key most x r after y) after (λ l. take_fills l key most after) a v w

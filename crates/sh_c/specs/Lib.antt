@@ -1,3 +1,5 @@
 pub mod Told
 pub mod Opened
 pub mod Telling
+pub mod Receipts
+pub mod Keys

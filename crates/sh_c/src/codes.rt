@@ -31,6 +31,9 @@ pub const AWAY: u32 = 21;
 /// The heap has no such page.
 pub const NO_PAGE: u32 = 22;
 
+/// No key from the place on is live.
+pub const NO_KEY: u32 = 28;
+
 /// The code of an answer.
 pub(crate) fn code<T>(answer: &Result<T, Refusal>) -> u32
     ensures { result ≡ code_of answer.now }

@@ -7,8 +7,12 @@
 
 pub mod calls;
 pub mod codes;
+pub mod counting;
+pub mod keys;
 pub mod opening;
 pub mod passes;
+pub mod receipts;
 pub mod tags;
+pub mod taking;
 pub mod telling;
 pub mod values;

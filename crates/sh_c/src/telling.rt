@@ -2,7 +2,7 @@
 ghost use Rattle.std.specs.Prelude.{◌≡◌};
 ghost use Rattle.sh_whole.specs.Homes.{GathersPool, TellsAccounts, TellsTotals};
 ghost use Rattle.sh_handles.specs.Heaps.{heap_layout, heap_of};
-ghost use Rattle.sh_c.specs.Telling.{HeapAsked, HeapTells, page_told, sums_told, told_code, told_in};
+ghost use Rattle.sh_c.specs.Telling.{HeapAsked, HeapTells, page_told, sums_told, told_code, told_in, why_code};
 
 use crate::codes::{AWAY, EMPTY, NO_PAGE, OK};
 use sh_core::Accounts;
@@ -48,15 +48,24 @@ pub struct SumsTold {
     pub blank_pages: u32,
 }
 
+// The code of a refusal.
+pub(crate) fn why(refusal: NotTold) -> u32
+    ensures { result ≡ why_code refusal }
+{
+    match refusal {
+        NotTold::Away => AWAY,
+        NotTold::Memory => Refusal::Memory.number(),
+        NotTold::NoPage => NO_PAGE,
+    }
+}
+
 // The code of an answer.
 fn code_told<T>(answer: &Result<T, NotTold>) -> u32
     ensures { result ≡ told_code answer.now }
 {
     match answer {
         Ok(_) => OK,
-        Err(NotTold::Away) => AWAY,
-        Err(NotTold::Memory) => Refusal::Memory.number(),
-        Err(NotTold::NoPage) => NO_PAGE,
+        Err(refusal) => why(*refusal),
     }
 }
 

@@ -11,7 +11,7 @@ use sh_value::{Hold, Refusal, Value, WORDS_MAX};
 use std::alloc::Global;
 
 // Puts the words of a value in front of the room, and tells how many they are.
-fn tell_words(value: &Value, words: &mut [u64], count: &mut u64) -> u32
+pub(crate) fn tell_words(value: &Value, words: &mut [u64], count: &mut u64) -> u32
     ensures count { count.new ≡ length value.now }
     ensures words { WordsTold value.now words.old result words.new }
 {
@@ -94,8 +94,8 @@ fn insert_words(member: &mut AnyMember, words: &[u64]) -> Result<u64, Refusal>
     member.insert(&value)
 }
 
-// Tells the key of a value that was stored.
-fn tell_key(answer: &Result<u64, Refusal>, key: &mut u64)
+// Tells the number that was answered, as the key of a value that was stored.
+pub(crate) fn tell_number(answer: &Result<u64, Refusal>, key: &mut u64)
     ensures { key.new ≡ number_told key.old answer.now }
 {
     if let Ok(stored) = answer {
@@ -117,7 +117,7 @@ pub extern "C" fn shardheap_raw_insert(
         return EMPTY;
     }
     let answer = insert_words(pass.held(), words);
-    tell_key(&answer, key);
+    tell_number(&answer, key);
     code(&answer)
 }
 

@@ -185,6 +185,9 @@ module _ (layout : Layout) (v : View) (whole : IsWhole v) (es ds : List Entry) (
   count_same : (p r : ℕ → Bool) → ((j : ℕ) → p j ≡ r j) → (keys : List ℕ) → count_by p keys ≡ count_by r keys
   count_same p r e keys = ap (λ (t : ℕ → Bool). count_by t keys) (λ i j. e j i)
 
+  pub same_live_key : (j : ℕ) → is_live_key es j ≡ is_live_key ds j
+  same_live_key j = rw (same_issued j, same_removed j) refl
+
   pub same_live : (keys : List ℕ) → count_by (is_live_key es) keys ≡ count_by (is_live_key ds) keys
   same_live = count_same (is_live_key es) (is_live_key ds) (λ j. rw (same_issued j, same_removed j) refl)
 

@@ -5,3 +5,4 @@ pub mod Leading
 pub mod Walking
 pub mod KeyLists
 pub mod Meeting
+pub mod LiveKeys

@@ -160,7 +160,7 @@ module _ (plan : Plan) (w : World) (l : PutLists) (laws : Lawful plan) (core : R
 
   -- ---- the three kinds
 
-  range : (0 < st.generation) × (st.generation ≤ plan.keys.gen_max)
+  pub range : (0 < st.generation) × (st.generation ≤ plan.keys.gen_max)
   range = core.generations x
 
   -- of the present generation: removed where it is marked, issued where it is present or marked
@@ -193,11 +193,11 @@ module _ (plan : Plan) (w : World) (l : PutLists) (laws : Lawful plan) (core : R
   live_kind false true = refl
   live_kind false false = refl
 
-  live_now : if1 (is_live_key w.log (key st.generation)) ≡ if1 (st.present && not st.marked)
+  pub live_now : if1 (is_live_key w.log (key st.generation)) ≡ if1 (st.present && not st.marked)
   live_now = ap (λ (z : Bool × Bool). if1 (z.0 && not z.1)) (λ i. (now_issued i, now_removed i))
       ∙ live_kind st.present st.marked
 
-  live_other : (g : ℕ) → 0 < g → g ≤ plan.keys.gen_max → g ≢ st.generation → if1 (is_live_key w.log (key g)) ≡ 0
+  pub live_other : (g : ℕ) → 0 < g → g ≤ plan.keys.gen_max → g ≢ st.generation → if1 (is_live_key w.log (key g)) ≡ 0
   live_other g some le ne = go (nat_lt g st.generation) refl where
     off : (b : Bool) → (b && not true) ≡ false
     off true = refl

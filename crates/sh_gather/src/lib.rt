@@ -5,6 +5,7 @@
 mod accounts;
 mod borrowing;
 pub mod gathering;
+mod keys;
 pub mod laws;
 pub mod view;
 

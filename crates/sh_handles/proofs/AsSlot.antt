@@ -8,6 +8,8 @@ use Rattle.sh_handles.specs.contracts.heap.AnyHeap as AnyHeap
 use Rattle.sh_handles.specs.contracts.heap_handle.HeapSlot as HeapSlot
 use Rattle.sh_handles.specs.contracts.member.AnyMember as AnyMember
 use Rattle.sh_handles.specs.contracts.pass_handle.PassSlot as PassSlot
+use Rattle.sh_handles.specs.contracts.receipts.KeptReceipt as KeptReceipt
+use Rattle.sh_handles.specs.contracts.receipt_handle.ReceiptSlot as ReceiptSlot
 
 abbrev pub HeapRow : RattleType
 HeapRow = AnyHeap.the_row
@@ -26,3 +28,12 @@ FromPassSlot = plain (λ _. PassSlot.the_row)
 
 abbrev pub FromPass : Place 0
 FromPass = plain (λ _. slot.the_row AnyMember.the_row Heap.the_row ghosts)
+
+abbrev pub ReceiptRow : RattleType
+ReceiptRow = KeptReceipt.the_row
+
+abbrev pub FromReceiptSlot : Place 0
+FromReceiptSlot = plain (λ _. ReceiptSlot.the_row)
+
+abbrev pub FromReceipt : Place 0
+FromReceipt = plain (λ _. slot.the_row KeptReceipt.the_row Heap.the_row ghosts)

@@ -3,3 +3,4 @@ pub mod Heaps
 pub mod HeapOwning
 pub mod PassOwning
 pub mod PassLending
+pub mod ReceiptOwning

@@ -6,7 +6,7 @@ use Rattle.sh_value.specs.declared.refusal.Refusal.{Refusal}
 use Rattle.sh_table.specs.Seats.{Heap}
 use Rattle.sh_pass.specs.Passes.{Caller, IsAtRest}
 use Rattle.sh_member.specs.declared.member.Side.TheVariants as side
-use Rattle.sh_member.specs.Sides.{SeenSide, IsPass}
+use Rattle.sh_member.specs.Sides.{SeenSide, IsPass, SideHeeds}
 use Rattle.sh_handles.specs.declared.member.AnyMember.{AnyMember}
 use Rattle.sh_handles.specs.declared.member.AnyMember.TheVariants as any
 
@@ -37,6 +37,12 @@ pub record AnyDoes {A : Type 0} (does : Layout → SeenSide → Result A Refusal
   pub layout : layout_of n ≡ layout_of m
   pub berth : berth_of n ≡ berth_of m
   pub does_it : does (layout_of m) (side_of m) answer (side_of n)
+
+-- it heeded the receipt
+pub record AnyHeeds (receipt : Caller) (m n : AnyMember) : Type 0 where
+  pub layout : layout_of n ≡ layout_of m
+  pub berth : berth_of n ≡ berth_of m
+  pub heeds : SideHeeds (layout_of m) receipt (side_of m) (side_of n)
 
 -- its pass came home, which owned no shard; or it and its berth come back
 abbrev pub Gives : SeenSide → ℕ → Result (Unit {0}) (SeenSide × ℕ) → Type 0

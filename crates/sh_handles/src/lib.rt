@@ -5,14 +5,21 @@
 #![tactic(auto)]
 
 mod calls;
+mod counting;
 pub mod heap;
 pub mod heap_handle;
+mod keys;
 pub mod member;
 mod moving;
 pub mod pass_handle;
+pub mod receipt_handle;
+pub mod receipts;
+mod taking;
 mod telling;
 
 pub use heap::AnyHeap;
 pub use heap_handle::HeapHandle;
 pub use member::AnyMember;
 pub use pass_handle::PassHandle;
+pub use receipt_handle::ReceiptHandle;
+pub use receipts::KeptReceipt;

@@ -3,9 +3,13 @@ use Rattle.std.specs.Prelude.{◌≡◌, ℕ, Bool, true, false, List, Result, O
 use Rattle.sh_key.specs.Layout.{Layout}
 use Rattle.sh_value.specs.declared.refusal.Refusal.{Refusal}
 use Rattle.sh_value.specs.declared.refusal.Refusal.TheVariants as refusal
+use Rattle.sh_table.specs.Seats.{Heap}
+use Rattle.sh_table.specs.Tales.{ViewStands}
 use Rattle.sh_pass.specs.Passes.{Caller}
+use Rattle.sh_pass.specs.Receipts.{heeded, receipt_by}
+use Rattle.sh_shard.specs.Pages.{Paged}
 use Rattle.sh_shard.specs.Shards.{Sharded, StaysOwner, InsertServes, AdoptServes, LeaveServes, PrepareServes}
-use Rattle.sh_shard.specs.Shards.{value_class}
+use Rattle.sh_shard.specs.Shards.{value_class, HoldsShard, shard_heeded}
 use Rattle.sh_shard.specs.RemoteFrees.{CollectServes}
 use Rattle.sh_member.specs.declared.member.Side.{Side}
 use Rattle.sh_member.specs.declared.member.Side.TheVariants.{Pass, Shard, Moving}
@@ -96,3 +100,33 @@ SideGivesPass (Pass v) (Err m) = ⊥
 SideGivesPass (Shard o) (Ok w) = ⊥
 SideGivesPass (Shard o) (Err m) = m ≡ Shard o
 SideGivesPass Moving answer = ⊥
+
+-- a number that the owner of a shard knows of its pages, and it is as it was; a pass that owns none is refused
+abbrev pub SideCounts : (Paged → ℕ) → SeenSide → Result ℕ Refusal → SeenSide → Type 0
+SideCounts count (Pass v) answer new = (answer ≡ Err refusal.NoShard) × (new ≡ Pass v)
+SideCounts count (Shard o) answer new = (answer ≡ Ok (count o.pages)) × (new ≡ Shard o)
+SideCounts count Moving answer new = ⊥
+
+-- ---- receipts
+
+-- the heap that it is of
+abbrev pub IsOfHeap : SeenSide → Heap → Type 0
+IsOfHeap (Pass v) heap = heap ≡ v.heap
+IsOfHeap (Shard o) heap = heap ≡ o.pages.owner.heap
+IsOfHeap Moving heap = ⊥
+
+-- a receipt of all that it was answered
+abbrev pub IsReceiptBy : SeenSide → Caller → Type 0
+IsReceiptBy (Pass v) r = r ≡ receipt_by v
+IsReceiptBy (Shard o) r = r ≡ receipt_by o.pages.owner
+IsReceiptBy Moving r = ⊥
+
+-- it heeded the receipt, is else as it was, and stays what it is
+abbrev pub SideHeeds : Layout → Caller → SeenSide → SeenSide → Type 0
+SideHeeds layout r (Pass v) (Pass w) = (w ≡ heeded v r) × ViewStands layout w.view
+SideHeeds layout r (Pass v) (Shard n) = ⊥
+SideHeeds layout r (Pass v) Moving = ⊥
+SideHeeds layout r (Shard o) (Shard n) = (n ≡ shard_heeded o r) × HoldsShard layout n
+SideHeeds layout r (Shard o) (Pass w) = ⊥
+SideHeeds layout r (Shard o) Moving = ⊥
+SideHeeds layout r Moving new = ⊥

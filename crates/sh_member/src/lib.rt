@@ -5,7 +5,10 @@
 #![tactic(auto)]
 
 mod calls;
+mod counting;
 pub mod member;
 mod moving;
+mod receipts;
+mod taking;
 
 pub use member::{Member, Side};

@@ -25,7 +25,7 @@ use Rattle.sh_table.specs.declared.view.View.{View}
 use Rattle.sh_readers.specs.Readers.{ReadsAndAdds, FetchDoes, TakeDoes}
 use Rattle.sh_readers.proofs.Holding.{without_first}
 
-same_along : (u v w : View) → SameTale u v → SameTale v w → SameTale u w
+pub same_along : (u v w : View) → SameTale u v → SameTale v w → SameTale u w
 same_along u v w s t = record {
   shape = t.shape ∙ s.shape;
   pass = t.pass ∙ s.pass;
@@ -44,7 +44,7 @@ filled_first : (a k : ℕ) (value : List ℕ) → filled k value (Unread a k) �
 filled_first a k value = ap (λ b. cond b (Known (entry.Got a k value)) (Unread a k)) (eq-eqb k k refl)
 
 -- the log once the get's value is read
-got_read : (a k : ℕ) (value : List ℕ) (es : List LogEntry) → map (filled k value) (es ++ Unread a k ∷ [])
+pub got_read : (a k : ℕ) (value : List ℕ) (es : List LogEntry) → map (filled k value) (es ++ Unread a k ∷ [])
     ≡ map (filled k value) es ++ Known (entry.Got a k value) ∷ []
 got_read a k value es =
     map-append (filled k value) es (Unread a k ∷ [])
@@ -145,7 +145,7 @@ take_does layout k hold value v a b c d got removed read released =
           reads.1 releases.1,
     )
 
-no_key : {A : Type 0} (o : Option A) → IsSome o → o ≡ None → ⊥
+pub no_key : {A : Type 0} (o : Option A) → IsSome o → o ≡ None → ⊥
 no_key {A} o some none = let z : IsSome {T = A} None = subst (λ z. IsSome z) none some in cc
 
 pub comes_late : (layout : Layout) (k : ℕ) (hold : Hold) (value : List ℕ) (why : Refusal) (v a b c d : Caller)

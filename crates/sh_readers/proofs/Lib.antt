@@ -1,3 +1,4 @@
 pub mod Ending
 pub mod Hearing
 pub mod Holding
+pub mod TakingInto

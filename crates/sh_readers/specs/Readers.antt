@@ -65,3 +65,15 @@ TakeDoes layout key v (Ok value) w =
     ∷ Known (entry.Released v.view.pass key) ∷ []) (length value + 17) v w
 TakeDoes layout key v (Err refusal.Gone) w = GetDoes layout key v (Err refusal.Gone) w ⊎ ComesLate layout key v w
 TakeDoes layout key v (Err why) w = GetDoes layout key v (Err why) w
+
+-- a take of a value that has at most so many words; a longer one is fetched, and its key is not removed
+abbrev pub TakeFitsDoes : Layout → (key most : ℕ) → Caller → Result (List ℕ) Refusal → Caller → Type 0
+TakeFitsDoes layout key most v (Ok value) w = ((length value ≤ most) × TakeDoes layout key v (Ok value) w)
+    ⊎ ((most < length value) × FetchDoes layout key v (Ok value) w)
+TakeFitsDoes layout key most v (Err why) w = TakeDoes layout key v (Err why) w
+
+-- the same into a value of the caller's
+abbrev pub TakeIntoDoes : Layout → (key most : ℕ) → Caller → Result (Unit {0}) Refusal → (after : List ℕ) → Caller
+    → Type 0
+TakeIntoDoes layout key most v (Ok _) after w = TakeFitsDoes layout key most v (Ok after) w
+TakeIntoDoes layout key most v (Err why) after w = TakeFitsDoes layout key most v (Err why) w

@@ -7,6 +7,7 @@ mod pass;
 pub mod reader;
 mod shard;
 pub mod taking;
+pub mod taking_into;
 pub mod telling;
 
 pub use reader::Reader;

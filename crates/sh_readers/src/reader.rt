@@ -3,11 +3,12 @@ ghost use Rattle.std.specs.Prelude.{◌≡◌, ℕ, Result};
 ghost use Rattle.sh_key.specs.Layout.{Layout};
 ghost use Rattle.sh_pass.specs.Passes.{Caller, GetDoes, ReadDoes, ReadIntoDoes, RemoveDoes, ReleaseDoes};
 ghost use Rattle.sh_pass.specs.Receipts.{heeded, receipt_by};
-ghost use Rattle.sh_readers.specs.Readers.{Remains, FetchDoes, FetchIntoDoes, WithDoes, TakeDoes};
+ghost use Rattle.sh_readers.specs.Readers.{Remains, FetchDoes, FetchIntoDoes, WithDoes, TakeDoes, TakeIntoDoes};
 ghost use Rattle.std.specs.Fn.{FnOnceReturnsAt};
 
 use crate::fetching::{fetch, fetch_into, with};
 use crate::taking::take;
+use crate::taking_into::take_into;
 use sh_pass::Receipt;
 use sh_value::{Hold, Refusal, Value};
 
@@ -113,5 +114,16 @@ pub trait Reader {
         ensures remains { Remains layout (caller self.old) (caller self.new) }
     {
         take(self, key)
+    }
+    /// The same into a value of the caller's, in place of what that was, where it has at most `most` words. A longer
+    /// value is read into it too, but its key is not removed. Refused as `take` is. No hold is left behind, whatever it
+    /// answers.
+    final fn take_into(&mut self, key: u64, most: usize, value: &mut Value) -> Result<(), Refusal>
+    where
+        Self: Sized,
+        ensures does { TakeIntoDoes layout key most (caller self.old) result value.new (caller self.new) }
+        ensures remains { Remains layout (caller self.old) (caller self.new) }
+    {
+        take_into(self, key, most, value)
     }
 }

@@ -1,5 +1,5 @@
 -- The passes of a pool that were called together, and what they tell.
-use Rattle.std.specs.Prelude.{◌≡◌, ◌<◌, ℕ, All, List, length, Result, Ok, Err}
+use Rattle.std.specs.Prelude.{◌≡◌, ◌<◌, ℕ, All, List, length, Option, Result, Ok, Err}
 use Rattle.sh_key.specs.Layout.{Layout}
 use Rattle.sh_shape.specs.Places.{all_pages, page_number}
 use Rattle.sh_table.specs.Seats.{Heap}
@@ -12,6 +12,8 @@ use Rattle.sh_totals.specs.declared.pages.PageAccounts.{PageAccounts}
 use Rattle.sh_totals.specs.declared.totals.Totals.{Totals}
 use Rattle.sh_totals.specs.Pages.{AreFirst}
 use Rattle.sh_totals.specs.Sums.{sums}
+use Rattle.sh_totals.specs.declared.keys.NextKey.{NextKey}
+use Rattle.sh_totals.specs.Keys.{IsNextKey}
 use Rattle.sh_whole.specs.declared.refusal.NotTold.{NotTold}
 use Rattle.sh_whole.specs.declared.refusal.NotTold.TheVariants as untold
 
@@ -82,3 +84,10 @@ TellsTotals layout heap (Ok t) = AreTotalsOf layout heap t
 TellsTotals layout heap (Err untold.Away) = Unit {0}
 TellsTotals layout heap (Err untold.NoPage) = ⊥
 TellsTotals layout heap (Err untold.Memory) = ⊥
+
+-- the next live key from a place on is told, or that there is none; or no such pass is found at home
+abbrev pub TellsNextKey : Layout → Heap → ℕ → Result (Option NextKey) NotTold → Type 0
+TellsNextKey layout heap from (Ok next) = (teller : Caller) × IsWholeOf heap teller × IsNextKey layout teller from next
+TellsNextKey layout heap from (Err untold.Away) = Unit {0}
+TellsNextKey layout heap from (Err untold.NoPage) = ⊥
+TellsNextKey layout heap from (Err untold.Memory) = ⊥

@@ -3,10 +3,12 @@
 #![tactic(auto)]
 
 mod calling;
+pub mod keys;
 pub mod refusal;
 pub mod telling;
 pub mod whole;
 
+pub use keys::pool_next_key;
 pub use refusal::NotTold;
 pub use telling::{pool_accounts, pool_totals};
 pub use whole::{gather_pool, go_home, pool_whole, whole_of};

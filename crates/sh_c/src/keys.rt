@@ -1,0 +1,43 @@
+//! The live keys of a heap, one after the other.
+ghost use Rattle.std.specs.Prelude.{◌≡◌};
+ghost use Rattle.sh_c.specs.Keys.{KeyWritten, NextKeyTold};
+
+use crate::codes::{EMPTY, NO_KEY, OK};
+use crate::telling::why;
+use sh_handles::HeapHandle;
+use sh_totals::NextKey;
+use sh_whole::NotTold;
+use std::alloc::Global;
+
+// Writes the key that is next, and where to go on.
+fn tell_next(answer: &Result<Option<NextKey>, NotTold>, place: &mut u64, key: &mut u64) -> u32
+    ensures { KeyWritten answer.now result place.old place.new key.old key.new }
+{
+    match answer {
+        Ok(Some(next)) => {
+            *place = next.behind;
+            *key = next.key;
+            OK
+        }
+        Ok(None) => NO_KEY,
+        Err(refusal) => why(*refusal),
+    }
+}
+
+/// Tells the first live key from a place on, and the place behind it, where one pass at home carries the tales of all.
+#[unsafe(no_mangle)]
+pub extern "C" fn shardheap_raw_next_key(
+    alloc: Global,
+    heap: &mut HeapHandle,
+    place: &mut u64,
+    key: &mut u64,
+) -> u32
+    ensures { NextKeyTold result place.old place.new key.old key.new heap.old.slot.value heap.new.slot.value }
+{
+    let Some(held) = heap.take(alloc) else {
+        return EMPTY;
+    };
+    let answer = held.next_key(*place);
+    *heap = HeapHandle::of(held);
+    tell_next(&answer, place, key)
+}
