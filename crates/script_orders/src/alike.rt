@@ -1,0 +1,34 @@
+//! Which states are alike.
+use crate::lane::Lane;
+use crate::state::State;
+
+// A prime of 64 bits, and a number to begin with (FNV-1a).
+const PRIME: u64 = 0x0100_0000_01b3;
+
+const BASIS: u64 = 0xcbf2_9ce4_8422_2325;
+
+fn mixed(mark: u64, number: u64) -> u64 {
+    (mark ^ number).wrapping_mul(PRIME)
+}
+
+fn mark_of_lane(mut mark: u64, lane: &Lane) -> u64 {
+    for step in &lane.story {
+        mark = mixed(mixed(mark, step.line as u64), step.seen);
+    }
+    mixed(mark, lane.story.len() as u64)
+}
+
+/// A number that states which are alike share. Few others share it.
+pub fn mark_of(state: &State) -> u64 {
+    let mut mark = BASIS;
+    for lane in &state.lanes {
+        mark = mark_of_lane(mark, lane);
+    }
+    mark
+}
+
+/// Whether the states go on alike: they have the same words, and each pass did the same, found the same and was replied
+/// the same.
+pub fn are_alike(state: &State, other: &State) -> bool {
+    state.lanes == other.lanes && state.words == other.words
+}

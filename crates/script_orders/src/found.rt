@@ -1,0 +1,87 @@
+//! What an exploration is asked, and what it finds.
+use sh_shape::Shape;
+use sh_step::Event;
+
+/// What is explored: a heap, what is done first, and the lines that are done in every order.
+#[derive(Clone, Copy)]
+pub struct Program<'s> {
+    /// The heap.
+    pub shape: Shape,
+    /// What is done first, in this order.
+    pub before: &'s [Event],
+    /// The lines: each pass does its own in their order.
+    pub lines: &'s [Event],
+    /// Whether what the pages have at the end belongs to an outcome.
+    pub accounts: bool,
+    /// How many states may be met.
+    pub limit: u64,
+}
+
+/// A number of orders. It stops at the most that 128 bits have.
+#[derive(Clone, Copy, Debug, PartialEq, Eq)]
+pub struct Orders {
+    /// The number.
+    pub count: u128,
+}
+
+/// An outcome.
+#[derive(Drop)]
+pub struct Found {
+    /// The reply lines of each pass, one pass after the other.
+    pub replies: Vec<Vec<u8>>,
+    /// The account lines at the end; none if they do not belong to an outcome.
+    pub pages: Vec<u8>,
+    /// How many orders of the steps lead to it.
+    pub orders: Orders,
+    /// One of them, as the numbers of all lines, from 0. A line that is skipped comes just before the next one of its
+    /// pass that is done, or at the end.
+    pub witness: Vec<usize>,
+    /// The passes of its steps that are done, in order.
+    pub passes: Vec<u32>,
+}
+
+/// All that there is.
+#[derive(Drop)]
+pub struct Whole {
+    /// How many states were met: of those after the same number of steps each is counted once.
+    pub states: u64,
+    /// How many of them are ends, in which no pass has a step left.
+    pub ends: u64,
+    /// How many orders of the steps there are.
+    pub orders: Orders,
+    /// The outcomes, in the order in which they were met.
+    pub found: Vec<Found>,
+}
+
+/// How far an exploration came that met more states than it may.
+#[derive(Clone, Copy, Debug, PartialEq, Eq)]
+pub struct Cut {
+    /// How many states after fewer steps than these were met.
+    pub states: u64,
+    /// The number of steps after which there are too many.
+    pub steps: u64,
+}
+
+/// What came of an exploration.
+#[derive(Drop)]
+pub enum Explored {
+    /// It met all states.
+    Whole(Whole),
+    /// It met too many.
+    Cut(Cut),
+}
+
+impl Orders {
+    /// One order.
+    pub const ONE: Orders = Orders { count: 1 };
+
+    /// None.
+    pub const NONE: Orders = Orders { count: 0 };
+
+    /// These and those.
+    pub fn plus(self, other: Orders) -> Orders {
+        Orders {
+            count: self.count.saturating_add(other.count),
+        }
+    }
+}

@@ -1,0 +1,88 @@
+//! What a pass did so far.
+
+use sh_core::Outcome;
+use sh_models::event_line::push_event;
+use sh_step::Event;
+use std::alloc::{AllocError, Global};
+
+/// A step of a pass that was done.
+#[derive(Clone, Copy, Debug, PartialEq, Eq)]
+pub struct Step {
+    /// The number of its line, from 0.
+    pub line: usize,
+    /// What it found, as far as it matters to the pass.
+    pub seen: u64,
+}
+
+/// What a pass did so far.
+#[derive(Drop, PartialEq, Eq)]
+pub struct Lane {
+    /// Its next line is the first one of it from here on whose condition holds.
+    pub behind: usize,
+    /// Its steps that were done, in order. They determine all of its own part that a condition or a reply depends on.
+    pub story: Vec<Step>,
+    /// Its reply lines, in order.
+    pub replies: Vec<u8>,
+}
+
+// Adds the line of what came of an event, if it is a reply.
+fn push_reply(out: &mut Vec<u8>, event: &Event, outcome: &Outcome) -> Result<(), AllocError> {
+    match outcome {
+        Outcome::Replied(_) => push_event(out, None, event.pass, event.action.kind(), outcome),
+        Outcome::Moved | Outcome::Skipped => Ok(()),
+    }
+}
+
+impl Lane {
+    /// A pass that did nothing yet.
+    pub fn new(alloc: Global) -> Lane {
+        Lane {
+            behind: 0,
+            story: Vec::new(alloc),
+            replies: Vec::new(alloc),
+        }
+    }
+
+    /// The same again.
+    pub fn copy(&self, alloc: Global) -> Result<Lane, AllocError> {
+        Ok(Lane {
+            behind: self.behind,
+            story: Vec::from_slice(alloc, self.story.as_slice())?,
+            replies: Vec::from_slice(alloc, self.replies.as_slice())?,
+        })
+    }
+
+    /// What the pass did once it did this line too, which found this and of which this came.
+    pub fn after(
+        &self,
+        alloc: Global,
+        line: usize,
+        seen: u64,
+        event: &Event,
+        outcome: &Outcome,
+    ) -> Result<Lane, AllocError> {
+        let mut lane = self.copy(alloc)?;
+        lane.behind = line.saturating_add(1);
+        lane.story.push(Step { line, seen })?;
+        push_reply(&mut lane.replies, event, outcome)?;
+        Ok(lane)
+    }
+}
+
+/// The lanes of so many passes that did nothing yet.
+pub fn new_lanes(alloc: Global, passes: u32) -> Result<Vec<Lane>, AllocError> {
+    let mut lanes = Vec::new(alloc);
+    for _ in 0..passes {
+        lanes.push(Lane::new(alloc))?;
+    }
+    Ok(lanes)
+}
+
+/// The same lanes again.
+pub fn copy_lanes(alloc: Global, lanes: &[Lane]) -> Result<Vec<Lane>, AllocError> {
+    let mut copies = Vec::new(alloc);
+    for lane in lanes {
+        copies.push(lane.copy(alloc)?)?;
+    }
+    Ok(copies)
+}

@@ -1,0 +1,53 @@
+//! The states after one number of steps.
+ghost use Rattle.std.specs.Prelude.{◌<◌, IfSome, vec_len};
+
+use crate::alike::{are_alike, mark_of};
+use crate::state::State;
+use std::alloc::{AllocError, Global};
+
+/// The states after one number of steps, no two of which are alike.
+#[derive(Drop)]
+pub struct Level {
+    /// The states.
+    pub states: Vec<State>,
+    // The mark of each.
+    marks: Vec<u64>,
+}
+
+impl Level {
+    /// No states.
+    pub fn new(alloc: Global) -> Level {
+        Level {
+            states: Vec::new(alloc),
+            marks: Vec::new(alloc),
+        }
+    }
+
+    // The place of the state that is alike.
+    fn place_of(&self, mark: u64, state: &State) -> Option<usize>
+        ensures { IfSome result (λ place. place < vec_len self.now.states) }
+    {
+        for (place, other) in self.marks.iter().enumerate() {
+            if *other == mark
+                && let Some(there) = self.states.get(place)
+                && are_alike(there, state)
+            {
+                return Some(place);
+            }
+        }
+        None
+    }
+
+    /// Adds a state: its orders to those of the state that is alike, if there is one.
+    pub fn add(&mut self, state: State) -> Result<(), AllocError> {
+        let mark = mark_of(&state);
+        if let Some(place) = self.place_of(mark, &state) {
+            let there = &mut self.states[place];
+            there.orders = there.orders.plus(state.orders);
+            return Ok(());
+        }
+        self.marks.push(mark)?;
+        self.states.push(state)?;
+        Ok(())
+    }
+}

@@ -1,0 +1,167 @@
+//! Going through all orders.
+ghost use Rattle.std.specs.Prelude.{◌<◌, IfSome, length};
+
+use crate::found::{Cut, Explored, Found, Orders, Program, Whole};
+use crate::level::Level;
+use crate::next::next_line;
+use crate::play::{played, seen_by, step};
+use crate::state::State;
+use sh_core::World;
+use sh_key::KeyLayout;
+use sh_output::account_line::push_accounts;
+use std::alloc::{AllocError, Global};
+
+// The state once the pass did its next line, if it has one.
+fn gone_on<L: KeyLayout>(
+    alloc: Global,
+    program: &Program<'_>,
+    state: &State,
+    pass: u32,
+) -> Result<Option<State>, AllocError> {
+    let mut world = played::<L>(alloc, program, state.order.as_slice())?;
+    let Some(lane) = state.lanes.get(pass as usize) else {
+        return Ok(None);
+    };
+    let Some(line) = next_line(&world, program.lines, pass, lane.behind) else {
+        return Ok(None);
+    };
+    let Some(event) = program.lines.get(line) else {
+        return Ok(None);
+    };
+    let seen = seen_by(&world, event).unwrap_or(0);
+    let outcome = step(&mut world, event)?;
+    let lane = lane.after(alloc, line, seen, event, &outcome)?;
+    let next = state.after(alloc, program.lines, pass, lane, world.words())?;
+    Ok(Some(next))
+}
+
+// Puts the states after one further step among the next ones, and returns whether there are any.
+fn go_on<L: KeyLayout>(
+    alloc: Global,
+    program: &Program<'_>,
+    state: &State,
+    next: &mut Level,
+) -> Result<bool, AllocError> {
+    let mut goes_on = false;
+    for pass in 0..program.shape.passes() {
+        if let Some(after) = gone_on::<L>(alloc, program, state, pass)? {
+            next.add(after)?;
+            goes_on = true;
+        }
+    }
+    Ok(goes_on)
+}
+
+// The account lines of a state.
+fn pages<L: KeyLayout>(
+    alloc: Global,
+    program: &Program<'_>,
+    state: &State,
+) -> Result<Vec<u8>, AllocError> {
+    let mut pages = Vec::new(alloc);
+    if program.accounts {
+        let mut world: World<L> = played::<L>(alloc, program, state.order.as_slice())?;
+        push_accounts(&mut pages, &mut world)?;
+    }
+    Ok(pages)
+}
+
+// The outcome of a state in which no pass has a step left.
+fn outcome<L: KeyLayout>(
+    alloc: Global,
+    program: &Program<'_>,
+    state: &State,
+) -> Result<Found, AllocError> {
+    Ok(Found {
+        replies: state.replies(alloc)?,
+        pages: pages::<L>(alloc, program, state)?,
+        orders: state.orders,
+        witness: state.whole_order(alloc, program.lines, program.shape.passes())?,
+        passes: Vec::from_slice(alloc, state.passes.as_slice())?,
+    })
+}
+
+// The place of the outcome with the same replies and pages.
+fn place_of(found: &[Found], new: &Found) -> Option<usize>
+    ensures { IfSome result (λ place. place < length found.now) }
+{
+    for (place, other) in found.iter().enumerate() {
+        if other.replies == new.replies && other.pages == new.pages {
+            return Some(place);
+        }
+    }
+    None
+}
+
+// Adds an outcome: its orders to those of the same outcome, if there is one.
+fn add(found: &mut Vec<Found>, new: Found) -> Result<(), AllocError> {
+    if let Some(place) = place_of(found.as_slice(), &new) {
+        let there = &mut found[place];
+        there.orders = there.orders.plus(new.orders);
+        return Ok(());
+    }
+    found.push(new)?;
+    Ok(())
+}
+
+// The states after one further step than these. Those that have none end an order. None if there are too many.
+fn next_level<L: KeyLayout>(
+    alloc: Global,
+    program: &Program<'_>,
+    level: &Level,
+    most: u64,
+    whole: &mut Whole,
+) -> Result<Option<Level>, AllocError> {
+    let mut next = Level::new(alloc);
+    for state in &level.states {
+        if !go_on::<L>(alloc, program, state, &mut next)? {
+            let new = outcome::<L>(alloc, program, state)?;
+            whole.ends = whole.ends.saturating_add(1);
+            whole.orders = whole.orders.plus(state.orders);
+            add(&mut whole.found, new)?;
+        }
+        if next.states.len() as u64 > most {
+            return Ok(None);
+        }
+    }
+    Ok(Some(next))
+}
+
+// The first level.
+fn first_level<L: KeyLayout>(alloc: Global, program: &Program<'_>) -> Result<Level, AllocError> {
+    let mut level = Level::new(alloc);
+    level.add(State::first::<L>(alloc, program)?)?;
+    Ok(level)
+}
+
+/// Does the lines in every order that keeps the order of each pass, and returns each outcome. A line whose condition
+/// does not hold is skipped. `AllocError` is returned if memory was refused, or if the shape does not fit the layout.
+pub fn explore<L: KeyLayout>(alloc: Global, program: &Program<'_>) -> Result<Explored, AllocError> {
+    let mut whole = Whole {
+        states: 0,
+        ends: 0,
+        orders: Orders::NONE,
+        found: Vec::new(alloc),
+    };
+    let mut steps = 0u64;
+    let mut room = program.limit;
+    let mut level = first_level::<L>(alloc, program)?;
+    while !level.states.is_empty() {
+        let count = level.states.len() as u64;
+        if count > room {
+            let states = whole.states;
+            return Ok(Explored::Cut(Cut { states, steps }));
+        }
+        room -= count;
+        whole.states = whole.states.saturating_add(count);
+        steps = steps.saturating_add(1);
+        match next_level::<L>(alloc, program, &level, room, &mut whole)? {
+            Some(next) => level = next,
+            None => {
+                let states = whole.states;
+                return Ok(Explored::Cut(Cut { states, steps }));
+            }
+        }
+    }
+    Ok(Explored::Whole(whole))
+}

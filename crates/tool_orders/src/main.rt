@@ -1,0 +1,84 @@
+//! The program `tool_orders`: it does the script of steps on the standard input in every order, and prints each outcome.
+//! This file joins the process to `script_orders`.
+#![tactic(auto)]
+
+mod options;
+mod run;
+
+use crate::options::{Options, options_of};
+use crate::run::{Printed, run_script};
+use clap::error::ErrorKind;
+use sh_output::ends::{read_text, write_text};
+use sh_script::Fault;
+use sh_start::{show, with_words};
+use std::alloc::Global;
+use std::process::ExitCode;
+use std::{fs, io};
+
+// The most bytes of a file of outcomes that are read.
+const OUTCOMES_MAX: u64 = 16_777_216;
+
+// The exit status of a fault: 2 where the script is at fault, else 3.
+fn status(fault: Fault) -> u8 {
+    match fault {
+        Fault::BadShape | Fault::Script(_, _) => 2,
+        Fault::Memory | Fault::Waiting | Fault::Io => 3,
+    }
+}
+
+fn refuse(rt: &HostRuntime, fault: Fault) -> u8 {
+    let _ = eprintln!(rt; "tool_orders: {fault}");
+    status(fault)
+}
+
+// Writes what is printed, and returns the exit status.
+fn write_printed(rt: &HostRuntime, printed: &Printed) -> u8 {
+    let output = printed.output.as_str().as_bytes();
+    let errors = printed.errors.as_str().as_bytes();
+    if write_text(&mut rt.stdout(), output).is_err() {
+        return refuse(rt, Fault::Io);
+    }
+    let _ = write_text(&mut rt.stderr(), errors);
+    printed.status
+}
+
+fn run_with(rt: &HostRuntime, alloc: Global, options: &Options<'_>) -> Result<u8, Fault> {
+    let text = read_text(alloc, &mut rt.stdin())?;
+    let printed = match options.expect {
+        Some(path) => {
+            let Ok(expected) = fs::read_to_string(rt, path) else {
+                return Err(Fault::Io);
+            };
+            run_script(
+                alloc,
+                options,
+                text.as_slice(),
+                Some(expected.as_str().as_bytes()),
+            )?
+        }
+        None => run_script(alloc, options, text.as_slice(), None)?,
+    };
+    Ok(write_printed(rt, &printed))
+}
+
+fn run_words(rt: &HostRuntime, alloc: Global, words: &[&str]) -> u8 {
+    let options = match options_of(alloc, words) {
+        Ok(options) => options,
+        Err(error) if error.kind() == ErrorKind::OutOfMemory => return refuse(rt, Fault::Memory),
+        Err(error) => return show(&error, &mut rt.stdout(), &mut rt.stderr()),
+    };
+    match run_with(rt, alloc, &options) {
+        Ok(status) => status,
+        Err(fault) => refuse(rt, fault),
+    }
+}
+
+fn main(rt: HostRuntime) -> ExitCode {
+    match with_words(&rt, |words| run_words(&rt, rt.alloc(), words)) {
+        Ok(status) => ExitCode::from(status),
+        Err(_) => {
+            let _ = eprintln!(rt; "tool_orders: the words could not be read");
+            ExitCode::from(3)
+        }
+    }
+}

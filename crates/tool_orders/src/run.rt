@@ -1,0 +1,172 @@
+//! What the program prints for a script.
+use crate::options::Options;
+use script_orders::expected::first_difference;
+use script_orders::report::{push_bytes, report, report_cut, witness};
+use script_orders::text::{Lines, lines_of};
+use script_orders::{Explored, Program, Whole, explore};
+use sh_key::{Tiny, Wide};
+use sh_script::{Events, Fault, Layout, parse_events};
+use std::alloc::{AllocError, Global};
+use std::fmt::Write;
+
+/// What is printed, and the exit status.
+#[derive(Drop)]
+pub struct Printed {
+    /// What goes to the standard output.
+    pub output: String,
+    /// What goes to the standard error.
+    pub errors: String,
+    /// The exit status.
+    pub status: u8,
+}
+
+// What is printed where nothing is wrong.
+fn good(alloc: Global, output: String) -> Printed {
+    Printed {
+        output,
+        errors: String::new(alloc),
+        status: 0,
+    }
+}
+
+// One line on the standard error, and the exit status 2.
+fn wrong(alloc: Global, what: &str) -> Result<Printed, AllocError> {
+    let mut errors = String::new(alloc);
+    writeln!(errors, "tool_orders: {what}")?;
+    Ok(Printed {
+        output: String::new(alloc),
+        errors,
+        status: 2,
+    })
+}
+
+// Does the lines from `from` on in every order. None for layout `tagged`: its lines have tags in their keys, and a heap
+// has none.
+fn explored(
+    alloc: Global,
+    options: &Options<'_>,
+    events: &Events,
+    from: usize,
+) -> Result<Option<Explored>, Fault> {
+    let (before, lines) = events
+        .lines
+        .as_slice()
+        .split_at(from.min(events.lines.len()));
+    let program = Program {
+        shape: events.header.shape,
+        before,
+        lines,
+        accounts: options.accounts,
+        limit: options.limit,
+    };
+    let explored = match events.header.layout {
+        Layout::Tiny => explore::<Tiny>(alloc, &program),
+        Layout::Wide => explore::<Wide>(alloc, &program),
+        Layout::Tagged => return Ok(None),
+    };
+    match explored {
+        Ok(explored) => Ok(Some(explored)),
+        Err(_) => Err(Fault::Memory),
+    }
+}
+
+fn push_side(errors: &mut String, name: &str, line: Option<&[u8]>) -> Result<(), AllocError> {
+    errors.push_str(name)?;
+    match line {
+        Some(line) => push_bytes(errors, line)?,
+        None => errors.push_str("no further line")?,
+    }
+    errors.push_str("\n")
+}
+
+// Compares the outcomes with those that are expected.
+fn compared(alloc: Global, output: String, expected: &[u8]) -> Result<Printed, AllocError> {
+    let mut errors = String::new(alloc);
+    let mut status = 0;
+    if let Some(difference) = first_difference(expected, output.as_str().as_bytes()) {
+        errors.push_str("tool_orders: other outcomes than expected\n")?;
+        push_side(&mut errors, "expected: ", difference.expected)?;
+        push_side(&mut errors, "found: ", difference.found)?;
+        status = 1;
+    }
+    Ok(Printed {
+        output,
+        errors,
+        status,
+    })
+}
+
+// The witness of the outcome of this number, from 1.
+fn witnessed(
+    alloc: Global,
+    whole: &Whole,
+    lines: &Lines<'_>,
+    first: usize,
+    number: u64,
+) -> Result<Printed, AllocError> {
+    let place = number.saturating_sub(1);
+    match whole.found.get(place as usize) {
+        Some(found) => Ok(good(alloc, witness(alloc, lines, first, found)?)),
+        None => wrong(alloc, "there is no outcome of that number"),
+    }
+}
+
+// What is printed of all outcomes.
+fn outcomes_printed(
+    alloc: Global,
+    options: &Options<'_>,
+    whole: &Whole,
+    lines: &Lines<'_>,
+    first: usize,
+    expected: Option<&[u8]>,
+) -> Result<Printed, AllocError> {
+    if let Some(number) = options.witness {
+        return witnessed(alloc, whole, lines, first, number);
+    }
+    let output = report(alloc, whole)?;
+    match expected {
+        Some(expected) => compared(alloc, output, expected),
+        None => Ok(good(alloc, output)),
+    }
+}
+
+fn memory(printed: Result<Printed, AllocError>) -> Result<Printed, Fault> {
+    match printed {
+        Ok(printed) => Ok(printed),
+        Err(_) => Err(Fault::Memory),
+    }
+}
+
+/// What is printed for a script, by the options, and by the outcomes that are expected, if there are such.
+pub fn run_script(
+    alloc: Global,
+    options: &Options<'_>,
+    text: &[u8],
+    expected: Option<&[u8]>,
+) -> Result<Printed, Fault> {
+    let events = parse_events(alloc, text)?;
+    let Ok(lines) = lines_of(alloc, text) else {
+        return Err(Fault::Memory);
+    };
+    // The lines before the events are the header.
+    let header = lines.said.len().saturating_sub(events.lines.len());
+    let from = lines.before.saturating_sub(header);
+    match explored(alloc, options, &events, from)? {
+        Some(Explored::Whole(whole)) => memory(outcomes_printed(
+            alloc,
+            options,
+            &whole,
+            &lines,
+            header.saturating_add(from),
+            expected,
+        )),
+        Some(Explored::Cut(cut)) => match report_cut(alloc, cut, options.limit) {
+            Ok(text) => memory(wrong(alloc, text.as_str())),
+            Err(_) => Err(Fault::Memory),
+        },
+        None => memory(wrong(
+            alloc,
+            "a script of layout tagged: use layout tiny or wide, whose keys have no tag",
+        )),
+    }
+}
