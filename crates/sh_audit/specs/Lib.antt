@@ -1,0 +1,4 @@
+pub mod Lines
+pub mod Noted
+pub mod Held
+pub mod Followed

@@ -1,0 +1,3 @@
+pub mod ReadingLemmas
+pub mod TextLemmas
+pub mod JudgingLemmas

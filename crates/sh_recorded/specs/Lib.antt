@@ -1,0 +1,5 @@
+pub mod Line
+pub mod Book
+pub mod Taken
+pub mod Judged
+pub mod Unread

@@ -1,0 +1,84 @@
+//! The program `tool_history`: it reads a recorded history from the standard input, line by line, and writes whether it
+//! is that of a map whose keys are never used again. This file joins the process to `sh_recorded`.
+#![tactic(auto)]
+
+use clap::{Command, Error};
+use sh_recorded::{Fault, Verdict, judge};
+use sh_start::{show, with_words};
+use std::alloc::Global;
+use std::io;
+use std::io::{BufReader, Write};
+use std::process::ExitCode;
+
+const AFTER_HELP: &str =
+    "The first line is `history PASSES HOLDS_MAX`, and each further line one answer, as
+`PASS ENTRY KEY [LENGTH WORD ..]`, with ENTRY one of Insert, Got, Gone, Crowded,
+Removed and Released. docs/HISTORIES.md says more.
+
+Example, of a file in the folder examples/histories/:
+  tool_history < legal.history
+
+Exit status:
+  0  the history is legal, or help or the version was asked for
+  1  the history is not legal
+  2  the command line or a line of the history is wrong
+  3  memory was refused, or a read or a write failed";
+
+// Reads the command line, which has nothing but the program's name.
+fn options(alloc: Global, words: &[&str]) -> Result<(), Error> {
+    let command = Command::new(alloc, "tool_history")
+        .about(
+            "Judges a recorded history of a map whose keys are never used again, from the standard input",
+        )
+        .version("0.1.0")
+        .after_help(AFTER_HELP);
+    let _matches = command.try_get_matches_from(words)?;
+    Ok(())
+}
+
+// The exit status of a fault: 2 where the history is at fault, else 3.
+fn status_of(fault: Fault) -> u8 {
+    match fault {
+        Fault::History(_, _) => 2,
+        Fault::Memory | Fault::Io => 3,
+    }
+}
+
+fn report(rt: &HostRuntime, fault: Fault) -> u8 {
+    let _ = eprintln!(rt; "tool_history: {fault}");
+    status_of(fault)
+}
+
+fn write_verdict(rt: &HostRuntime, verdict: &Verdict) -> u8 {
+    if println!(rt; "{verdict}").is_err() {
+        return report(rt, Fault::Io);
+    }
+    match verdict {
+        Verdict::Legal(_, _) => 0,
+        Verdict::Broken(_, _) => 1,
+    }
+}
+
+fn judge_input(rt: &HostRuntime) -> u8 {
+    let Ok(mut input) = BufReader::new(rt.alloc(), rt.stdin()) else {
+        return report(rt, Fault::Memory);
+    };
+    match judge(rt.alloc(), &mut input) {
+        Ok(verdict) => write_verdict(rt, &verdict),
+        Err(fault) => report(rt, fault),
+    }
+}
+
+fn run(rt: &HostRuntime, words: &[&str]) -> u8 {
+    match options(rt.alloc(), words) {
+        Ok(()) => judge_input(rt),
+        Err(error) => show(&error, &mut rt.stdout(), &mut rt.stderr()),
+    }
+}
+
+fn main(rt: HostRuntime) -> ExitCode {
+    match with_words(&rt, |words| run(&rt, words)) {
+        Ok(status) => ExitCode::from(status),
+        Err(_) => ExitCode::from(report(&rt, Fault::Memory)),
+    }
+}
