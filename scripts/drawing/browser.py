@@ -1,0 +1,150 @@
+"""A page in a headless Chromium, spoken to over pipes by the DevTools protocol. It needs Python's own modules alone."""
+
+import fcntl
+import json
+import os
+import shutil
+import signal
+import subprocess
+import tempfile
+from base64 import b64decode
+
+NAMES = ("chromium", "chromium-browser", "google-chrome")
+# (not every machine has a sandbox for it, and it opens pages of this repository alone)
+FLAGS = ["--headless=new", "--remote-debugging-pipe", "--disable-gpu", "--no-first-run", "--hide-scrollbars",
+         "--disable-extensions", "--disable-background-networking", "--disable-component-update", "--disable-sync",
+         "--disable-dev-shm-usage", "--mute-audio", "--no-sandbox"]
+# A call that takes longer fails.
+SECONDS = 120
+
+
+def found():
+    """The path of Chromium, or None."""
+    return next((path for name in NAMES if (path := shutil.which(name))), None)
+
+
+def pipe():
+    """Both ends of a pipe, numbered from 10 on, so that none is in the way of 3 and 4."""
+    ends = os.pipe()
+    moved = tuple(fcntl.fcntl(end, fcntl.F_DUPFD_CLOEXEC, 10) for end in ends)
+    for end in ends:
+        os.close(end)
+    return moved
+
+
+class Browser:
+    """One page of a Chromium of its own. `errors` has what the page reported."""
+
+    def __init__(self):
+        self.errors, self.count, self.rest = [], 0, b""
+        self.folder = tempfile.TemporaryDirectory(prefix="story-browser-", ignore_cleanup_errors=True)
+        theirs_in, self.to = pipe()
+        self.come, theirs_out = pipe()
+        # Chromium reads what is asked on descriptor 3, and answers on 4.
+        words = [found(), *FLAGS, f"--user-data-dir={self.folder.name}"]
+        shell = f'exec "$@" 3<&{theirs_in} 4>&{theirs_out} {theirs_in}<&- {theirs_out}>&-'
+        self.process = subprocess.Popen(["bash", "-c", shell, "bash", *words, "about:blank"], start_new_session=True,
+                                        pass_fds=(theirs_in, theirs_out), stderr=subprocess.DEVNULL)
+        os.close(theirs_in)
+        os.close(theirs_out)
+        self.session = None
+        self.attach()
+
+    def __enter__(self):
+        return self
+
+    def __exit__(self, *_):
+        os.killpg(self.process.pid, signal.SIGKILL)
+        self.process.wait()
+        os.close(self.to)
+        os.close(self.come)
+        self.folder.cleanup()
+
+    def attach(self):
+        targets = self.call("Target.getTargets")["targetInfos"]
+        target = next(one["targetId"] for one in targets if one["type"] == "page")
+        self.session = self.call("Target.attachToTarget", targetId=target, flatten=True)["sessionId"]
+        for domain in ("Page", "Runtime", "Log"):
+            self.call(f"{domain}.enable")
+
+    def call(self, method, **words):
+        """Calls a method of the protocol, and returns its result."""
+        self.count += 1
+        sent = {"id": self.count, "method": method, "params": words}
+        if self.session:
+            sent["sessionId"] = self.session
+        os.write(self.to, json.dumps(sent).encode() + b"\0")
+        while True:
+            got = self.message()
+            self.note(got)
+            if got.get("id") == self.count:
+                if "error" in got:
+                    raise RuntimeError(f"{method}: {got['error']['message']}")
+                return got["result"]
+
+    def message(self):
+        """The next message of the browser."""
+        with Alarm(SECONDS):
+            while b"\0" not in self.rest:
+                read = os.read(self.come, 1 << 16)
+                if not read:
+                    raise RuntimeError("the browser ended")
+                self.rest += read
+        text, self.rest = self.rest.split(b"\0", 1)
+        return json.loads(text)
+
+    def note(self, got):
+        """Keeps what the page reports: exceptions, failed assertions and errors of its console."""
+        words = got.get("params", {})
+        if got.get("method") == "Runtime.exceptionThrown":
+            details = words["exceptionDetails"]
+            self.errors.append(details.get("exception", {}).get("description", details["text"]))
+        elif got.get("method") == "Runtime.consoleAPICalled" and words["type"] in ("error", "assert", "warning"):
+            self.errors.append(" ".join(str(word.get("value", word.get("description"))) for word in words["args"]))
+        elif got.get("method") == "Log.entryAdded" and words["entry"]["level"] == "error":
+            self.errors.append(words["entry"]["text"])
+
+    def open(self, url):
+        self.call("Page.navigate", url=url)
+        self.run("""new Promise((done) => {
+            if (document.readyState === "complete") done(true);
+            else window.addEventListener("load", () => done(true));
+        })""")
+
+    def run(self, code):
+        """The value of an expression in the page."""
+        got = self.call("Runtime.evaluate", expression=code, returnByValue=True, awaitPromise=True)
+        if "exceptionDetails" in got:
+            raise RuntimeError(got["exceptionDetails"].get("exception", {}).get("description", "an exception"))
+        return got["result"].get("value")
+
+    def key(self, name, code, shift=False):
+        for kind in ("keyDown", "keyUp"):
+            self.call("Input.dispatchKeyEvent", type=kind, key=name, code=name, windowsVirtualKeyCode=code,
+                      modifiers=8 if shift else 0)
+
+    def look(self, width, height, scheme):
+        """Sets the size of the window in pixels, and light or dark."""
+        self.call("Emulation.setDeviceMetricsOverride", width=width, height=height, deviceScaleFactor=1, mobile=False)
+        self.call("Emulation.setEmulatedMedia", features=[{"name": "prefers-color-scheme", "value": scheme}])
+
+    def shot(self):
+        """The window as it is seen, a PNG."""
+        return b64decode(self.call("Page.captureScreenshot", format="png", optimizeForSpeed=False)["data"])
+
+
+class Alarm:
+    """Fails if what it is around takes longer."""
+
+    def __init__(self, seconds):
+        self.seconds = seconds
+
+    def __enter__(self):
+        signal.signal(signal.SIGALRM, self.late)
+        signal.alarm(self.seconds)
+
+    def __exit__(self, *_):
+        signal.alarm(0)
+
+    def late(self, *_):
+        raise TimeoutError(f"the browser said nothing for {self.seconds} seconds")

@@ -1,0 +1,208 @@
+// Plays the stories: picks one, steps through it, and keeps the step in the address of the page.
+
+import { arrow } from "./dom.js";
+import { heapCards } from "./heap.js";
+import { lanesTable, markStep } from "./lanes.js";
+import { passCards, rowsUsed } from "./passes.js";
+import { partNames, passNames, runStarts } from "./state.js";
+import { measured, setHeights } from "./steady.js";
+import { told } from "./told.js";
+import { readTrace } from "./trace.js";
+
+const find = (id) => document.getElementById(id);
+const stories = new Map();
+const now = { name: "", step: 1, heights: new Map(), timer: null };
+
+// How long a step is shown when the story plays by itself, in milliseconds.
+const PACE = 2200;
+
+/** A story of a trace: its frames, and what is the same in all steps. */
+function storyOf(name, text) {
+  const trace = readTrace(text);
+  const { frames } = trace;
+  return {
+    name, title: trace.title || name, header: trace.header, frames,
+    parts: partNames(frames), passes: passNames(frames), starts: runStarts(frames), rows: rowsUsed(frames),
+  };
+}
+
+function current() {
+  return stories.get(now.name);
+}
+
+function drawParts(step) {
+  const story = current();
+  find("told").replaceChildren(...told(story, step));
+  find("heap").replaceChildren(...heapCards(story, step));
+  find("passes").replaceChildren(...passCards(story, step));
+}
+
+/** Whether a button has nothing to do at this step. It stays where the focus is. */
+function setButtons(count) {
+  for (const id of ["first", "back"]) find(id).setAttribute("aria-disabled", String(now.step === 1));
+  for (const id of ["next", "last"]) find(id).setAttribute("aria-disabled", String(now.step === count));
+}
+
+function setSlider(count) {
+  const slider = find("slider");
+  slider.max = count;
+  slider.value = now.step;
+  slider.setAttribute("aria-valuetext", `step ${now.step} of ${count}`);
+  find("place").textContent = `step ${now.step} of ${count}`;
+}
+
+function draw() {
+  const count = current().frames.length;
+  drawParts(now.step);
+  setHeights(document, now.heights);
+  setSlider(count);
+  setButtons(count);
+  markStep(find("lanes"), now.step);
+}
+
+function measure() {
+  find("lanes").style.setProperty("--seen", `${find("lanes").clientWidth}px`);
+  const { frames, passes, starts } = current();
+  const boxes = [...starts.values()].reduce((sum, found) => sum + found.size, passes.length);
+  now.heights = measured(find("stage"), frames.length, boxes, drawParts);
+}
+
+function hashOf(name, step) {
+  return `#${encodeURIComponent(name)}/${step}`;
+}
+
+/** Goes to a step of the story, or to the nearest that it has. */
+function go(step) {
+  now.step = Math.max(1, Math.min(current().frames.length, step));
+  draw();
+  window.history.replaceState(null, "", hashOf(now.name, now.step));
+}
+
+/** Goes to the next or the last step that has a comment. */
+function goToBeat(direction) {
+  const { frames } = current();
+  const steps = frames.flatMap((frame, at) => (frame.story ? [at + 1] : []));
+  const after = steps.find((step) => step > now.step) ?? frames.length;
+  const before = steps.findLast((step) => step < now.step) ?? 1;
+  go(direction > 0 ? after : before);
+}
+
+function stop() {
+  window.clearInterval(now.timer);
+  now.timer = null;
+  find("play").textContent = "Play";
+}
+
+function playOn() {
+  if (now.step < current().frames.length) go(now.step + 1);
+  if (now.step === current().frames.length) stop();
+}
+
+function togglePlay() {
+  if (now.timer !== null) {
+    stop();
+    return;
+  }
+  if (now.step === current().frames.length) go(1);
+  now.timer = window.setInterval(playOn, PACE);
+  find("play").textContent = "Pause";
+}
+
+/** Shows a story at a step. */
+function show(name, step) {
+  stop();
+  now.name = name;
+  const story = current();
+  find("which").value = name;
+  find("title").textContent = story.title;
+  find("header").textContent = story.header.join("; ");
+  find("lanes").replaceChildren(lanesTable(story, pick));
+  measure();
+  go(step);
+}
+
+/** Goes to a step that the reader chose. */
+function pick(step) {
+  stop();
+  go(step);
+}
+
+function addStory(name, text) {
+  if (!stories.has(name)) find("which").append(new Option(name, name));
+  stories.set(name, storyOf(name, text));
+}
+
+function report(name, error) {
+  find("fault").textContent = `${name} is no trace of sh_trace: ${error.message}`;
+}
+
+async function openFile(event) {
+  const [file] = event.target.files;
+  if (!file) return;
+  find("fault").textContent = "";
+  try {
+    const name = file.name.replace(/\.trace$/, "");
+    addStory(name, await file.text());
+    show(name, 1);
+  } catch (error) {
+    report(file.name, error);
+  }
+}
+
+function onKey(event) {
+  const isTyped = event.target.matches("input, select") || event.altKey || event.ctrlKey || event.metaKey;
+  const direction = { ArrowRight: 1, ArrowLeft: -1 }[event.key];
+  if (isTyped || !direction) return;
+  event.preventDefault();
+  stop();
+  if (event.shiftKey) goToBeat(direction);
+  else go(now.step + direction);
+}
+
+/** The story and the step of the page's address. */
+function goToHash() {
+  const [name, step] = window.location.hash.slice(1).split("/").map(decodeURIComponent);
+  const known = stories.has(name) ? name : stories.keys().next().value;
+  show(known, Number(step) || 1);
+}
+
+function onClick(id, act) {
+  find(id).addEventListener("click", act);
+}
+
+function listen() {
+  onClick("first", () => pick(1));
+  onClick("back", () => pick(now.step - 1));
+  onClick("next", () => pick(now.step + 1));
+  onClick("last", () => pick(current().frames.length));
+  onClick("play", togglePlay);
+  find("slider").addEventListener("input", (event) => pick(Number(event.target.value)));
+  find("which").addEventListener("change", (event) => show(event.target.value, 1));
+  find("file").addEventListener("change", openFile);
+  document.addEventListener("keydown", onKey);
+  window.addEventListener("hashchange", goToHash);
+}
+
+/** Measures again when the width changes, once it stays. */
+function watchWidth() {
+  let width = window.innerWidth;
+  let timer = null;
+  window.addEventListener("resize", () => {
+    if (window.innerWidth === width) return;
+    width = window.innerWidth;
+    window.clearTimeout(timer);
+    timer = window.setTimeout(() => {
+      measure();
+      draw();
+    }, 150);
+  });
+}
+
+for (const element of document.querySelectorAll("pre[data-trace]")) {
+  addStory(element.dataset.trace, element.textContent);
+}
+find("tied").append(arrow("tied"));
+find("owed").append(arrow("owed", "pass 1 owes"));
+listen();
+watchWidth();
+goToHash();
