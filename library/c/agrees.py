@@ -21,6 +21,7 @@ REFUSALS = (TOP / 'crates/sh_value/src/refusal.rt').read_text(encoding='utf-8')
 TYPES = {
     'Global': [], 'u32': ['uint32_t'], 'u64': ['uint64_t'],
     '&mut HeapHandle': ['shardheap *'], '&mut PassHandle': ['shardheap_pass *'],
+    '&mut ReceiptHandle': ['shardheap_receipt *'],
     '&[u64]': ['const uint64_t *', 'size_t'], '&mut [u64]': ['uint64_t *', 'size_t'],
     '&mut u64': ['uint64_t *'], '&mut u32': ['uint32_t *'],
     '&mut PageTold': ['shardheap_page *'], '&mut SumsTold': ['shardheap_sums *'],

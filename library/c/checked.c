@@ -43,9 +43,9 @@ static void closes(shardheap *heap, shardheap_pass *pass, uint64_t key) {
 static void refused(shardheap *heap, shardheap_pass *pass, uint64_t key, uint32_t code) {
     uint32_t before = misuses;
     each_call_of_a_heap(heap, code);
-    TRUE(misuses - before == 9 && last_misuse == code);
+    TRUE(misuses - before == 10 && last_misuse == code);
     each_call_of_a_pass(pass, key, code);
-    TRUE(misuses - before == 9 + 14 && last_misuse == code);
+    TRUE(misuses - before == 10 + 19 && last_misuse == code);
 }
 
 static void copied_and_moved(void) {
@@ -127,6 +127,7 @@ static void another_heap(uint32_t layout) {
     TRUE(keys[0] << 8 == keys[1] << 8 && keys[0] != keys[1]);
     IS(shardheap_get(&passes[0], keys[1]), SHARDHEAP_OTHER_HEAP);
     IS(shardheap_load(&passes[0], keys[1], room, 16, &length), SHARDHEAP_OTHER_HEAP);
+    IS(shardheap_take_value(&passes[0], keys[1], room, 16, &length), SHARDHEAP_OTHER_HEAP);
     IS(shardheap_remove(&passes[0], keys[1]), SHARDHEAP_OTHER_HEAP);
     IS(shardheap_get(&passes[0], keys[0]), SHARDHEAP_OK);
     IS(shardheap_read(&passes[0], keys[1], room, 16, &length), SHARDHEAP_OTHER_HEAP);
@@ -138,6 +139,29 @@ static void another_heap(uint32_t layout) {
     /* a handle that was used for another heap has that heap's number */
     keys[0] = opens(&heaps[0], &passes[0], layout);
     IS(shardheap_get(&passes[1], keys[0]), SHARDHEAP_OTHER_HEAP);
+    for (int n = 0; n < 2; n++) closes(&heaps[n], &passes[n], keys[n]);
+}
+
+/* A receipt of one heap in another, and as the other calls find handles. */
+static void receipts(uint32_t layout) {
+    shardheap heaps[2] = {SHARDHEAP_INIT, SHARDHEAP_INIT};
+    shardheap_pass passes[2] = {SHARDHEAP_INIT, SHARDHEAP_INIT};
+    shardheap_receipt receipt = SHARDHEAP_INIT, elsewhere;
+    uint64_t keys[2];
+    for (int n = 0; n < 2; n++) keys[n] = opens(&heaps[n], &passes[n], layout);
+    IS(shardheap_receipt_make(&passes[0], &receipt), SHARDHEAP_OK);
+    elsewhere = receipt;
+    each_call_of_a_receipt(&elsewhere, SHARDHEAP_MOVED);
+    receipt.seal.busy = 1;
+    each_call_of_a_receipt(&receipt, SHARDHEAP_BUSY);
+    receipt.seal.busy = 0;
+    if (layout != SHARDHEAP_DEEP) {
+        IS(shardheap_heed(&passes[1], &receipt), SHARDHEAP_OTHER_HEAP);
+        TRUE(receipt.full);
+    }
+    IS(shardheap_heed(&passes[0], &receipt), SHARDHEAP_OK);
+    IS(shardheap_receipt_make(&passes[1], &receipt), SHARDHEAP_OK);
+    IS(shardheap_heed(&passes[1], &receipt), SHARDHEAP_OK);
     for (int n = 0; n < 2; n++) closes(&heaps[n], &passes[n], keys[n]);
 }
 
@@ -201,6 +225,7 @@ int main(void) {
     another_heap(SHARDHEAP_WIDE);
     another_heap(SHARDHEAP_TAGGED);
     another_heap(SHARDHEAP_TINY);
+    for (uint32_t layout = SHARDHEAP_WIDE; layout <= SHARDHEAP_TINY; layout++) receipts(layout);
     shared_heap();
     tagged();
     deep();

@@ -10,6 +10,7 @@ static void each_call_of_a_heap(shardheap *heap, uint32_t refused) {
     shardheap_pass pass = SHARDHEAP_INIT;
     shardheap_page page;
     shardheap_sums sums;
+    uint64_t place = 55, key = 77;
     IS(shardheap_open(heap, SHARDHEAP_TINY, 1, 1, 1), refused);
     IS(shardheap_open_for(heap, SHARDHEAP_TINY, 1, 1, 1, 1), refused);
     IS(shardheap_share(heap, &other), refused);
@@ -17,13 +18,30 @@ static void each_call_of_a_heap(shardheap *heap, uint32_t refused) {
     IS(shardheap_gather(heap), refused);
     IS(shardheap_accounts(heap, 0, 0, &page), refused);
     IS(shardheap_totals(heap, &sums), refused);
+    IS(shardheap_next_key(heap, &place, &key), refused);
+    TRUE(place == 55 && key == 77);
     TRUE(shardheap_passes(heap) == 0);
     shardheap_close(heap);
     TRUE(memcmp(heap, &was, sizeof was) == 0);
 }
 
+static void each_call_of_a_receipt(shardheap_receipt *receipt, uint32_t refused) {
+    shardheap_receipt was = *receipt;
+    shardheap ready = SHARDHEAP_INIT;
+    shardheap_pass pass = SHARDHEAP_INIT;
+    IS(shardheap_open(&ready, SHARDHEAP_TINY, 1, 1, 1), SHARDHEAP_OK);
+    IS(shardheap_take(&ready, &pass), SHARDHEAP_OK);
+    IS(shardheap_receipt_make(&pass, receipt), refused);
+    IS(shardheap_heed(&pass, receipt), refused);
+    shardheap_receipt_close(receipt);
+    TRUE(memcmp(receipt, &was, sizeof was) == 0);
+    IS(shardheap_give(&pass), SHARDHEAP_OK);
+    shardheap_close(&ready);
+}
+
 static void each_call_of_a_pass(shardheap_pass *pass, uint64_t key, uint32_t refused) {
     shardheap_pass was = *pass;
+    shardheap_receipt receipt = SHARDHEAP_INIT;
     uint64_t words[16] = {0}, length = 99, other = 77;
     uint32_t page = 55;
     IS(shardheap_give(pass), refused);
@@ -32,6 +50,11 @@ static void each_call_of_a_pass(shardheap_pass *pass, uint64_t key, uint32_t ref
     IS(shardheap_remove(pass, key), refused);
     IS(shardheap_read(pass, key, words, 16, &length), refused);
     IS(shardheap_load(pass, key, words, 16, &length), refused);
+    IS(shardheap_take_value(pass, key, words, 16, &length), refused);
+    IS(shardheap_receipt_make(pass, &receipt), refused);
+    IS(shardheap_heed(pass, &receipt), refused);
+    IS(shardheap_pages_left(pass, &other), refused);
+    IS(shardheap_slots_out(pass, &other), refused);
     IS(shardheap_adopt(pass, 0), refused);
     IS(shardheap_leave(pass), refused);
     IS(shardheap_collect(pass), refused);

@@ -54,10 +54,13 @@ static int refused;
 
 /* An owner of a shard inserts, prepares a page in a further segment and leaves; another reads and removes. */
 static void owns(shardheap_pass *one, shardheap_pass *two) {
+    shardheap_receipt receipt = SHARDHEAP_INIT;
     uint64_t key = 77, room[16], length, other = 77;
     uint32_t page = 55;
     TRY(shardheap_adopt(one, 0), shardheap_leave(one) == SHARDHEAP_NO_SHARD);
     TRY(shardheap_insert(one, words, 3, &key), key == 77);
+    TRY(shardheap_receipt_make(one, &receipt), !receipt.full);
+    IS(shardheap_heed(two, &receipt), SHARDHEAP_OK);
     for (int n = 0; n < 7; n++) IS(shardheap_prepare(one, 16, &page), SHARDHEAP_OK);
     page = 55;
     TRY(shardheap_prepare(one, 16, &page), page == 55);

@@ -74,6 +74,15 @@ static void into_handles(shardheap *heap, shardheap_pass *pass, uint64_t key) {
     IS(shardheap_take(heap, (void *)((char *)heap + 8)), SHARDHEAP_OVERLAP);
     IS(shardheap_accounts(heap, 0, 0, (void *)heap), SHARDHEAP_OVERLAP);
     IS(shardheap_totals(heap, (void *)((char *)heap - 8)), SHARDHEAP_OVERLAP);
+    IS(shardheap_take_value(pass, key, room, 16, bytes), SHARDHEAP_OVERLAP);
+    IS(shardheap_take_value(pass, key, last, 4, &length), SHARDHEAP_OVERLAP);
+    IS(shardheap_receipt_make(pass, bytes), SHARDHEAP_OVERLAP);
+    IS(shardheap_heed(pass, last), SHARDHEAP_OVERLAP);
+    IS(shardheap_pages_left(pass, bytes), SHARDHEAP_OVERLAP);
+    IS(shardheap_slots_out(pass, last), SHARDHEAP_OVERLAP);
+    IS(shardheap_next_key(heap, &length, &length), SHARDHEAP_OVERLAP);
+    IS(shardheap_next_key(heap, (void *)heap, &length), SHARDHEAP_OVERLAP);
+    IS(shardheap_next_key(heap, &length, (void *)((char *)heap + 24)), SHARDHEAP_OVERLAP);
     TRUE(length == 99 && memcmp(pass, &was, sizeof was) == 0);
     IS(shardheap_load(pass, key, room, 16, &length), SHARDHEAP_OK);
     TRUE(shardheap_passes(heap) == 1);
@@ -106,8 +115,11 @@ static void overlaps(void) {
 static void no_handles(int byte) {
     shardheap heap, ready = SHARDHEAP_INIT;
     shardheap_pass pass;
+    shardheap_receipt receipt;
     memset(&heap, byte, sizeof heap);
     memset(&pass, byte, sizeof pass);
+    memset(&receipt, byte, sizeof receipt);
+    each_call_of_a_receipt(&receipt, SHARDHEAP_NO_HANDLE);
     each_call_of_a_heap(&heap, SHARDHEAP_NO_HANDLE);
     each_call_of_a_pass(&pass, 4096, SHARDHEAP_NO_HANDLE);
     IS(shardheap_open(&ready, SHARDHEAP_TINY, 1, 1, 1), SHARDHEAP_OK);
@@ -154,7 +166,8 @@ int main(void) {
     TRUE(strcmp(shardheap_name(SHARDHEAP_OVERLAP), "Overlap") == 0);
     TRUE(strcmp(shardheap_name(SHARDHEAP_NO_HANDLE), "NoHandle") == 0);
     TRUE(strcmp(shardheap_name(SHARDHEAP_OTHER_HEAP), "OtherHeap") == 0);
-    TRUE(strcmp(shardheap_name(SHARDHEAP_OTHER_HEAP + 1), "unknown") == 0);
+    TRUE(strcmp(shardheap_name(SHARDHEAP_NO_KEY), "NoKey") == 0);
+    TRUE(strcmp(shardheap_name(SHARDHEAP_NO_KEY + 1), "unknown") == 0);
     printf("pointers: %d checks passed\n", checks);
     return 0;
 }

@@ -1,9 +1,10 @@
 # Functions that compile and run the C tests of this folder, for scripts/link-checks and scripts/library-checks, which
-# read this file at the top of the repository. They set `archive`: the library that the tests are linked with.
+# read this file at the top of the repository. They set `archive`: the library that the tests are linked with. `memory`
+# is the object by which it takes memory, which takes_memory compiles.
 # shellcheck shell=bash
-memory=${RATTLE_C_DIR:-/opt/rattle/c}/liblibc_c.a
 out=$(mktemp -d)
 trap 'rm -rf "$out"' EXIT
+memory=$out/memory.o
 warnings="-Wall -Wextra -Wpedantic -Wconversion -Werror"
 # (what a program is run under, and the seconds after which it is ended)
 under=()
@@ -15,11 +16,17 @@ has() {
   return 1
 }
 
+# Compiles the functions by which the library takes memory.
+takes_memory() {
+  # shellcheck disable=SC2086
+  gcc -std=c11 $warnings -O2 -fPIC -c library/src/memory.c -o "$memory"
+}
+
 # compiled COMPILER NAME FLAG..: a test's program.
 compiled() {
   local compiler=$1 name=$2 wrap=
   shift 2
-  [ "$name" != memory ] || wrap=-Wl,--wrap=malloc,--wrap=realloc,--wrap=free
+  case $name in memory | signals) wrap=-Wl,--wrap=malloc,--wrap=realloc,--wrap=free ;; esac
   # shellcheck disable=SC2086,SC2154
   "$compiler" -std=c11 $warnings -D_DEFAULT_SOURCE -g "$@" -Ilibrary/include "library/c/$name.c" "$archive" "$memory" \
     $wrap -lpthread -o "$out/$name"
@@ -38,7 +45,7 @@ run() {
 all() {
   local compiler=$1 rounds=$2 name
   shift 2
-  for name in session misuse pointers whole reuse memory checked; do
+  for name in session blocks misuse pointers whole reuse taking receipts keys memory checked; do
     compiled "$compiler" "$name" "$@"
     run "$name"
   done
@@ -51,7 +58,7 @@ all() {
 in_checked_mode() {
   local compiler=$1 rounds=$2 name
   shift 2
-  for name in session pointers whole reuse memory; do
+  for name in session pointers whole reuse taking receipts keys memory; do
     compiled "$compiler" "$name" -DSHARDHEAP_CHECKED "$@"
     run "$name"
   done
@@ -63,6 +70,14 @@ in_checked_mode() {
 waits() {
   compiled "$1" waiting "${@:3}"
   run waiting "$2" "$((limit - 10))"
+}
+
+# alone COMPILER FLAG..: compiles and runs what looks at the stack and at signals: no sanitizer and no memcheck.
+alone() {
+  compiled "$1" stack "${@:2}"
+  run stack
+  compiled "$1" signals "${@:2}"
+  run signals 500 "$((limit - 10))"
 }
 
 # The example in the head of the header, as a program: each call returns OK.
@@ -86,6 +101,7 @@ examples() {
   {
     printf '#include "shardheap.h"\nuint64_t examples(void);\nuint64_t examples(void) {\n'
     printf '    shardheap heap = SHARDHEAP_INIT;\n    shardheap_pass pass = SHARDHEAP_INIT;\n'
+    printf '    shardheap_receipt receipt = SHARDHEAP_INIT;\n'
     printf '    uint32_t code, page = 0;\n    uint64_t words[2] = {7, 8}, room[16], key = 0, length = 0, count;\n'
     sed -n '/---- A heap/,$s/^ \{7\}\(.*;\)\(    .*\)\{0,1\}\( \*\/\)\{0,1\}$/    \1/p' library/include/shardheap.h
     printf '    return code + page + key + length + count;\n}\n'
@@ -114,4 +130,26 @@ texts() {
   echo "== the header's codes, and whether it agrees with the library"
   python3 library/c/codes.py
   python3 library/c/agrees.py "$archive"
+}
+
+# unpacked FOLDER: makes the packages of the archive, and unpacks the tarball there.
+unpacked() {
+  # shellcheck disable=SC2154
+  python3 scripts/package "$out/packages" --archive "$archive" > "$out/package.txt"
+  mkdir "$1"
+  tar -xzf "$out"/packages/shardheap-*.tar.gz -C "$1" --strip-components=1
+}
+
+# The package: it is made, which fails if a library shows another call than the header declares, and a program runs with
+# each of its libraries.
+packaged() {
+  echo "== the package"
+  unpacked "$out/prefix"
+  local with=(gcc -std=c11 -D_DEFAULT_SOURCE -O2 -I"$out/prefix/include" library/c/session.c)
+  "${with[@]}" "$out/prefix/lib/libshardheap.a" -lpthread -o "$out/static"
+  run static
+  "${with[@]}" -L"$out/prefix/lib" -lshardheap -lpthread -o "$out/shared"
+  under=(env "LD_LIBRARY_PATH=$out/prefix/lib")
+  run shared
+  under=()
 }

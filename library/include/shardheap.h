@@ -38,36 +38,47 @@
 
    THREADS. A handle is used by one call at a time. It may go from a thread to another by whatever orders the two: the
    start or join of a thread, a lock, a sequentially consistent atomic. Two handles of one heap may be used by two
-   threads at the same time: that is what they are for. No call waits. Calls from a signal handler, or in a child forked
-   from a process with threads, are not allowed.
+   threads at the same time: that is what they are for. No call waits. Calls in a child forked from a process with
+   threads are not allowed.
+
+   SIGNALS AND STACK. A signal handler is to the calls like another thread: it needs handles that nothing else uses.
+   Calls that take and give back no memory are async-signal-safe then: get, release, read, load, remove, collect,
+   passes, tag, untag, take_value, pages_left and slots_out. The others are not, because they call malloc, realloc or
+   free. The head of each section below has the most stack that its calls took in a test, with the allocator of glibc.
 
    ORDER. The calls of all passes are one history of the map, in which those of each pass are in the order in which it
-   made them. Between two passes the contracts order nothing. When a thread inserts a key and hands it to another, they
-   allow that the other finds it Gone. Only receipts rule that out, and C has none. Each step of the library is a
-   sequentially consistent atomic operation, and the tests rely on it: they find each key that was handed over.
+   made them. Between two passes only receipts order calls. When a thread inserts a key and hands it to another without
+   a receipt, the contracts allow that the other finds it Gone. With one they do not: see shardheap_heed. Each step of
+   the library is a sequentially consistent atomic operation, and the tests rely on it: they find each key that was
+   handed over, with a receipt or without.
 
    CANCELLED THREADS. No call is a cancellation point. A thread that is cancelled between two calls leaves its pass in
    the handle, with its holds and its shard. Any thread that is ordered after it may go on with that handle. A thread
    that is cancelled asynchronously inside a call may leave the handle empty. The pass is lost then, with its holds and
    its shard, and malloc may stay locked.
 
+   UNWINDING. The library has no unwind information: an exception that malloc throws ends the program, and a backtrace
+   from inside a call ends there.
+
    What the library cannot see, and the caller owes:
      - two threads do not use one handle at once;
      - a handle's bytes are not copied and used twice, and are written by nothing but these calls;
      - a pointer that is not null points to what its type says, and a room or a list of words to as many as are named;
+     - a receipt is heeded by a pass of the heap of the pass that made it. Another one orders nothing, and does no harm;
      - malloc, realloc and free come from one allocator, and align to 16.
 
    CHECKED MODE. A program that defines SHARDHEAP_CHECKED in all its files finds more of that, at a price in each call.
    It needs gcc or clang. A call that finds one of these does nothing, and returns the code that is named:
      - MOVED: the handle is full, and its bytes were copied from where it was filled;
      - BUSY: another call uses the handle at this moment;
-     - OTHER_HEAP: the key is not of the heap of this pass. Bits 56 to 63 of a key have the number of its heap, from 1
-       to 255 and then anew. A tag takes that number away, and keys of layout deep have none: these are not recognised.
+     - OTHER_HEAP: the key or the receipt is not of the heap of this pass. Bits 56 to 63 of a key have the number of its
+       heap, from 1 to 255 and then anew. A tag takes that number away, and keys of layout deep have none: these are not
+       recognised. Receipts of two heaps of layout deep are not told apart.
    If the macro SHARDHEAP_ON_MISUSE(code) is defined, for example as abort(), it is called too, also for NO_HANDLE.
 
-   MEMORY is taken by open, share, take, adopt, gather, and by an insert or a prepare that opens a segment. Nothing else
-   returns SHARDHEAP_MEMORY. The greatest heap, of layout deep with 2,097,152 segments, takes 26 GB, and twice that
-   while it opens. */
+   MEMORY is taken by open, share, take, adopt, gather, receipt_make, and by an insert or a prepare that opens a
+   segment. Nothing else returns SHARDHEAP_MEMORY. The greatest heap, of layout deep with 2,097,152 segments, takes
+   26 GB, and twice that while it opens. */
 #ifndef SHARDHEAP_H
 #define SHARDHEAP_H
 
@@ -126,7 +137,8 @@ typedef enum shardheap_code {
     SHARDHEAP_NO_HANDLE = 24,  /* the bytes are no handle, as of one that was not initialised: nothing was done */
     SHARDHEAP_MOVED = 25,      /* SHARDHEAP_CHECKED: the handle was filled at another place */
     SHARDHEAP_BUSY = 26,       /* SHARDHEAP_CHECKED: another call uses the handle */
-    SHARDHEAP_OTHER_HEAP = 27  /* SHARDHEAP_CHECKED: the key is not of this heap */
+    SHARDHEAP_OTHER_HEAP = 27, /* SHARDHEAP_CHECKED: the key or the receipt is not of this heap */
+    SHARDHEAP_NO_KEY = 28      /* there is no further key */
 } shardheap_code;
 
 /* The name of a code, and "unknown" for other numbers. */
@@ -135,7 +147,7 @@ static inline const char *shardheap_name(uint32_t code) {
         "Ok",     "BadKey", "Gone",    "Crowded", "HoldsFull", "NotHeld", "TooLong",
         "Full",   "Memory", "Taken",   "NoShard", "Waiting",   "BadShape", "unknown",
         "Empty",  "Occupied", "NoPass", "Short",  "Null",      "BadLayout", "Owns",   "Away",
-        "NoPage", "Overlap", "NoHandle", "Moved", "Busy",    "OtherHeap",
+        "NoPage", "Overlap", "NoHandle", "Moved", "Busy",    "OtherHeap", "NoKey",
     };
     return code < sizeof names / sizeof names[0] ? names[code] : "unknown";
 }
@@ -168,6 +180,11 @@ typedef struct shardheap_pass {
     bool full;
     shardheap_seal seal;
 } shardheap_pass;
+typedef struct shardheap_receipt {
+    void *at; /* the library's, as is the next */
+    bool full;
+    shardheap_seal seal;
+} shardheap_receipt;
 #define SHARDHEAP_INIT { 0, 0, { SHARDHEAP_SEAL, 0, 0 } }
 
 /* How many slots of a page are in each state: in all as many as a page of its class has, and none without a class. */
@@ -194,6 +211,8 @@ SHARDHEAP_ASSERT(sizeof(void *) == 8 && sizeof(size_t) == 8 && sizeof(bool) == 1
 SHARDHEAP_ASSERT(offsetof(shardheap, full) == 8 && offsetof(shardheap_pass, full) == 8, "the library's part");
 SHARDHEAP_ASSERT(offsetof(shardheap, seal) == 16 && offsetof(shardheap_pass, seal) == 16, "the header's part");
 SHARDHEAP_ASSERT(sizeof(shardheap) == 32 && sizeof(shardheap_pass) == 32, "a handle");
+SHARDHEAP_ASSERT(offsetof(shardheap_receipt, full) == 8 && sizeof(shardheap_receipt) == 32, "a handle");
+SHARDHEAP_ASSERT(offsetof(shardheap_receipt, seal) == 16, "the header's part");
 SHARDHEAP_ASSERT(sizeof(shardheap_page) == 24 && sizeof(shardheap_sums) == 24, "six numbers of 32 bits");
 
 /* The calls of the library. They check no pointer and no handle: use the functions below, which do. */
@@ -210,6 +229,7 @@ uint32_t shardheap_raw_pass_lose(shardheap_pass *pass);
 uint32_t shardheap_raw_gather(shardheap *heap);
 uint32_t shardheap_raw_accounts(shardheap *heap, uint32_t shard, uint32_t page, shardheap_page *told);
 uint32_t shardheap_raw_totals(shardheap *heap, shardheap_sums *told);
+uint32_t shardheap_raw_next_key(shardheap *heap, uint64_t *place, uint64_t *key);
 uint32_t shardheap_raw_tag(uint64_t key, uint32_t tag, uint64_t *number);
 uint32_t shardheap_raw_untag(uint64_t number, uint64_t *key, uint32_t *tag);
 uint32_t shardheap_raw_adopt(shardheap_pass *pass, uint64_t shard);
@@ -222,6 +242,12 @@ uint32_t shardheap_raw_release(shardheap_pass *pass, uint64_t key);
 uint32_t shardheap_raw_remove(shardheap_pass *pass, uint64_t key);
 uint32_t shardheap_raw_read(shardheap_pass *pass, uint64_t key, uint64_t *words, size_t room, uint64_t *length);
 uint32_t shardheap_raw_load(shardheap_pass *pass, uint64_t key, uint64_t *words, size_t room, uint64_t *length);
+uint32_t shardheap_raw_take_value(shardheap_pass *pass, uint64_t key, uint64_t *words, size_t room, uint64_t *length);
+uint32_t shardheap_raw_pages_left(shardheap_pass *pass, uint64_t *pages);
+uint32_t shardheap_raw_slots_out(shardheap_pass *pass, uint64_t *slots);
+uint32_t shardheap_raw_receipt_make(shardheap_pass *pass, shardheap_receipt *receipt);
+uint32_t shardheap_raw_heed(shardheap_pass *pass, shardheap_receipt *receipt);
+void shardheap_raw_receipt_close(shardheap_receipt *receipt);
 
 /* ---- What the functions below look at ---- */
 
@@ -287,6 +313,11 @@ static inline uint32_t shardheap_unmark(uint32_t mark, uint64_t *key) {
     *key = shardheap_bare(*key);
     return SHARDHEAP_OK;
 }
+
+/* OTHER_HEAP if a receipt with the second mark is not of the heap with the first. */
+static inline uint32_t shardheap_same_mark(uint32_t mark, uint32_t other) {
+    return mark == other ? (uint32_t)SHARDHEAP_OK : shardheap_misused(SHARDHEAP_OTHER_HEAP);
+}
 #else
 static inline uint32_t shardheap_begin(const void *handle, shardheap_seal *seal) {
     return seal->word == SHARDHEAP_SEAL || shardheap_zeroed(handle, seal->word) ? SHARDHEAP_OK : SHARDHEAP_NO_HANDLE;
@@ -300,6 +331,9 @@ static inline uint32_t shardheap_next_mark(uint32_t layout) { return (void)layou
 static inline uint64_t shardheap_marked(uint32_t mark, uint64_t key) { return (void)mark, key; }
 static inline uint64_t shardheap_bare(uint64_t key) { return key; }
 static inline uint32_t shardheap_unmark(uint32_t mark, uint64_t *key) { return (void)mark, (void)key, SHARDHEAP_OK; }
+static inline uint32_t shardheap_same_mark(uint32_t mark, uint32_t other) {
+    return (void)mark, (void)other, SHARDHEAP_OK;
+}
 #endif
 
 static inline uint32_t shardheap_begin_heap(shardheap *heap) {
@@ -320,12 +354,21 @@ static inline uint32_t shardheap_settle_heap(shardheap *heap, uint32_t code) {
 static inline uint32_t shardheap_settle_pass(shardheap_pass *pass, uint32_t code) {
     return shardheap_settle(pass, pass->full, &pass->seal, code);
 }
+static inline uint32_t shardheap_begin_receipt(shardheap_receipt *receipt) {
+    return receipt ? shardheap_begin(receipt, &receipt->seal) : (uint32_t)SHARDHEAP_NULL;
+}
+static inline uint32_t shardheap_settle_receipt(shardheap_receipt *receipt, uint32_t code) {
+    return shardheap_settle(receipt, receipt->full, &receipt->seal, code);
+}
 static inline uint32_t shardheap_settle_opened(shardheap *heap, uint32_t layout, uint32_t code) {
     if (code == SHARDHEAP_OK) heap->seal.mark = shardheap_next_mark(layout);
     return shardheap_settle_heap(heap, code);
 }
 
-/* ---- A heap ---- */
+/* ---- A heap ----
+
+   Threads: any thread may use a handle, one call at a time, while others use other handles of the heap and its passes.
+   Signals: only passes is async-signal-safe, on a handle that nothing else uses. Stack: measured at most 8 KiB. */
 
 /* Opens a heap into an empty handle: `shards` shards, each of `segments` segments of 8 pages, and 1 to 64 passes. There
    is at least one of each, and no more than the layout has. OCCUPIED, BAD_LAYOUT, BAD_SHAPE, MEMORY.
@@ -403,7 +446,9 @@ static inline void shardheap_close(shardheap *heap) {
     shardheap_settle_heap(heap, SHARDHEAP_OK);
 }
 
-/* ---- A heap as a whole ---- */
+/* ---- A heap as a whole ----
+
+   Threads, signals and stack: as above; none of these is async-signal-safe. Passes that are away may be in use. */
 
 /* Joins all passes of the heap in one, where all are at home: it is at home afterwards, and may be taken and used, but
    it is the only pass that the heap has from then on. The holds of the others stay in their slots for good. What was
@@ -432,7 +477,29 @@ static inline uint32_t shardheap_totals(shardheap *heap, shardheap_sums *told) {
     return code == SHARDHEAP_OK ? shardheap_end(&heap->seal, shardheap_raw_totals(heap, told)) : code;
 }
 
-/* ---- Tags: 8 bits of the caller's on a key of layout tagged ---- */
+/* Finds the first key of the map at the place `*place` or behind it, and writes it to `key`. Places are numbers of
+   slots over the whole heap, and `*place` becomes the one behind that of the key. So a loop that begins at place 0 gets
+   each key once, in the order of their places, if the map does not change meanwhile. A call looks at one word for each
+   place that it passes: 48 for a page. AWAY, as above; NO_KEY, if no key is left; EMPTY, OVERLAP.
+
+       uint64_t place = 0;
+       while (shardheap_next_key(&heap, &place, &key) == SHARDHEAP_OK) count++; */
+static inline uint32_t shardheap_next_key(shardheap *heap, uint64_t *place, uint64_t *key) {
+    if (!heap || !place || !key) return SHARDHEAP_NULL;
+    if (shardheap_overlap(place, sizeof *place, key, sizeof *key) ||
+        shardheap_overlap(place, sizeof *place, heap, sizeof *heap) ||
+        shardheap_overlap(key, sizeof *key, heap, sizeof *heap))
+        return SHARDHEAP_OVERLAP;
+    uint32_t code = shardheap_begin_heap(heap);
+    if (code != SHARDHEAP_OK) return code;
+    code = shardheap_raw_next_key(heap, place, key);
+    if (code == SHARDHEAP_OK) *key = shardheap_marked(heap->seal.mark, *key);
+    return shardheap_end(&heap->seal, code);
+}
+
+/* ---- Tags: 8 bits of the caller's on a key of layout tagged ----
+
+   Threads: any number at once, as they use no handle. Signals: async-signal-safe. Stack: measured at most 1 KiB. */
 
 /* Puts a tag, 0 to 255, at bits 56 to 63 of a key below 2^52. A tagged number is no key: untag it for the calls below.
    BAD_KEY if either is out of its range. */
@@ -447,7 +514,11 @@ static inline uint32_t shardheap_untag(uint64_t number, uint64_t *key, uint32_t 
     return shardheap_raw_untag(number, key, tag);
 }
 
-/* ---- A pass ---- */
+/* ---- A pass ----
+
+   Threads: any thread may use a pass, one call at a time, while others use other passes. Signals: all are
+   async-signal-safe, on a pass that nothing else uses, except give, pass_close and pass_lose. Stack: measured at most
+   1 KiB, and 8 KiB of these three. */
 
 /* Brings the pass home and empties the handle. The next caller that takes the pass has its holds. OWNS, with nothing
    done, if it owns a shard. EMPTY. (OCCUPIED and MEMORY only if another handle's bytes were forged.)
@@ -486,7 +557,8 @@ static inline uint32_t shardheap_get(shardheap_pass *pass, uint64_t key) {
     return code == SHARDHEAP_OK ? shardheap_end(&pass->seal, shardheap_raw_get(pass, key)) : code;
 }
 
-/* What a read and a load have in common: one of the two, into the caller's own room. A room of 0 words may be null. */
+/* What a read, a load and the taking of a value have in common: one of them, into the caller's own room. A room of 0
+   words may be null. */
 static inline uint32_t shardheap_fill(
     uint32_t (*raw)(shardheap_pass *pass, uint64_t key, uint64_t *words, size_t room, uint64_t *length),
     shardheap_pass *pass, uint64_t key, uint64_t *words, size_t room, uint64_t *length) {
@@ -536,7 +608,72 @@ static inline uint32_t shardheap_remove(shardheap_pass *pass, uint64_t key) {
     return code == SHARDHEAP_OK ? shardheap_end(&pass->seal, shardheap_raw_remove(pass, key)) : code;
 }
 
-/* ---- The owner of a shard ---- */
+/* Takes the value of a key: a get, a read, a remove and a release in one. Of all calls that remove one key, exactly one
+   is OK. The holds are as before. BAD_KEY, HOLDS_FULL, GONE, CROWDED, EMPTY, OVERLAP; SHORT, with only the length read:
+   then the key is not removed.
+
+       code = shardheap_take_value(&pass, key, room, 16, &length);
+       if (code == SHARDHEAP_GONE) length = 0;    another pass has the value, or removed it */
+static inline uint32_t shardheap_take_value(shardheap_pass *pass, uint64_t key, uint64_t *words, size_t room,
+                                            uint64_t *length) {
+    return shardheap_fill(shardheap_raw_take_value, pass, key, words, room, length);
+}
+
+/* ---- Receipts ----
+
+   Threads: any thread may make, heed or close a receipt, one call at a time on its handle and on the pass. Signals:
+   none is async-signal-safe. Stack: measured at most 8 KiB. */
+
+/* Makes a receipt into an empty handle. It covers all calls of the pass until now, and what the receipts cover that the
+   pass heeded. The pass is as before. A receipt orders no threads: it goes to another thread as any handle does, by
+   what orders the two. OCCUPIED, EMPTY, MEMORY, OVERLAP.
+
+       code = shardheap_receipt_make(&pass, &receipt);    after an insert: it goes with the key */
+static inline uint32_t shardheap_receipt_make(shardheap_pass *pass, shardheap_receipt *receipt) {
+    if (!pass || !receipt) return SHARDHEAP_NULL;
+    if (shardheap_overlap(pass, sizeof *pass, receipt, sizeof *receipt)) return SHARDHEAP_OVERLAP;
+    uint32_t code = shardheap_begin_pass(pass);
+    if (code != SHARDHEAP_OK) return code;
+    code = shardheap_begin_receipt(receipt);
+    if (code != SHARDHEAP_OK) return shardheap_end(&pass->seal, code);
+    code = shardheap_raw_receipt_make(pass, receipt);
+    if (code == SHARDHEAP_OK) receipt->seal.mark = pass->seal.mark;
+    shardheap_settle_receipt(receipt, code);
+    return shardheap_end(&pass->seal, code);
+}
+
+/* Heeds a receipt that a pass of the same heap made, and empties its handle: all that the receipt covers happens before
+   the next calls of this pass. So a key whose insert it covers is Gone only if a call removed it, and a key whose
+   removal it covers is Gone. EMPTY, of either handle; OVERLAP.
+
+       code = shardheap_heed(&pass, &receipt);    in the other thread, before it loads the key */
+static inline uint32_t shardheap_heed(shardheap_pass *pass, shardheap_receipt *receipt) {
+    if (!pass || !receipt) return SHARDHEAP_NULL;
+    if (shardheap_overlap(pass, sizeof *pass, receipt, sizeof *receipt)) return SHARDHEAP_OVERLAP;
+    uint32_t code = shardheap_begin_pass(pass);
+    if (code != SHARDHEAP_OK) return code;
+    code = shardheap_begin_receipt(receipt);
+    if (code != SHARDHEAP_OK) return shardheap_end(&pass->seal, code);
+    code = pass->full && receipt->full ? shardheap_same_mark(pass->seal.mark, receipt->seal.mark) : code;
+    if (code == SHARDHEAP_OK) code = shardheap_raw_heed(pass, receipt);
+    shardheap_settle_receipt(receipt, code);
+    return shardheap_end(&pass->seal, code);
+}
+
+/* Empties the handle of a receipt that nobody heeds.
+
+       shardheap_receipt_close(&receipt); */
+static inline void shardheap_receipt_close(shardheap_receipt *receipt) {
+    if (shardheap_begin_receipt(receipt) != SHARDHEAP_OK) return;
+    shardheap_raw_receipt_close(receipt);
+    shardheap_settle_receipt(receipt, SHARDHEAP_OK);
+}
+
+/* ---- The owner of a shard ----
+
+   Threads: as of a pass. A shard goes to another owner, of any thread, by a leave and an adopt. Signals: only
+   collect, pages_left and slots_out are async-signal-safe, on a pass that nothing else uses. Stack: measured at most 8
+   KiB, and 1 KiB of these three. */
 
 /* Makes the pass the owner of a shard, by its number from 0. NO_SHARD, TAKEN, MEMORY, EMPTY.
 
@@ -563,6 +700,32 @@ static inline uint32_t shardheap_leave(shardheap_pass *pass) {
 static inline uint32_t shardheap_collect(shardheap_pass *pass) {
     uint32_t code = shardheap_begin_pass(pass);
     return code == SHARDHEAP_OK ? shardheap_end(&pass->seal, shardheap_raw_collect(pass)) : code;
+}
+
+/* What the two calls below have in common: a number that the owner of a shard knows. */
+static inline uint32_t shardheap_know(uint32_t (*raw)(shardheap_pass *pass, uint64_t *number), shardheap_pass *pass,
+                                      uint64_t *number) {
+    if (!pass || !number) return SHARDHEAP_NULL;
+    if (shardheap_overlap(number, sizeof *number, pass, sizeof *pass)) return SHARDHEAP_OVERLAP;
+    uint32_t code = shardheap_begin_pass(pass);
+    return code == SHARDHEAP_OK ? shardheap_end(&pass->seal, raw(pass, number)) : code;
+}
+
+/* Writes how many pages of the shard have no class yet: each has room for 48 values of a word, or fewer longer ones. It
+   takes no atomic step. NO_SHARD, EMPTY, OVERLAP.
+
+       code = shardheap_pages_left(&pass, &count); */
+static inline uint32_t shardheap_pages_left(shardheap_pass *pass, uint64_t *pages) {
+    return shardheap_know(shardheap_raw_pages_left, pass, pages);
+}
+
+/* Writes how many slots of the other pages are not free for the owner: they have a value, or had one that is held, or
+   another pass freed them and they are not collected yet, or they are never used again. So the shard has at most so
+   many values. It takes no atomic step. NO_SHARD, EMPTY, OVERLAP.
+
+       code = shardheap_slots_out(&pass, &count); */
+static inline uint32_t shardheap_slots_out(shardheap_pass *pass, uint64_t *slots) {
+    return shardheap_know(shardheap_raw_slots_out, pass, slots);
 }
 
 /* Gives a page of the shard to values of `words` words, 0 to 16, and writes its number to `page`. NO_SHARD, TOO_LONG,

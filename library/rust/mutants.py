@@ -5,7 +5,7 @@ With words only the rows in which one of them occurs are run. ARCHIVE is a libsh
 ThreadSanitizer (`scripts/trial-archive OUT --tsan`). Without one the rows of tsan.py are skipped, with a line that says
 so.
 
-It needs what stub.py and library/rust/build.rs need. SHARDHEAP_LIB_DIR and RATTLE_C_DIR are passed on. It takes about
+It needs what stub.py and library/rust/build.rs need. SHARDHEAP_LIB_DIR is passed on. It takes about
 a minute for each row of a sanitizer, and is no part of the gate.
 """
 import argparse
@@ -91,7 +91,8 @@ def copied(room):
     """A copy of the crate, with what is compiled beside it."""
     folder = room / "library/rust"
     shutil.copytree(HERE, folder, ignore=shutil.ignore_patterns("target", "Cargo.lock"))
-    shutil.copytree(HERE.parent / "include", folder.parent / "include")
+    for name in ("include", "src"):
+        shutil.copytree(HERE.parent / name, folder.parent / name)
     return folder
 
 

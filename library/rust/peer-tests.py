@@ -8,7 +8,7 @@ temporary folder, which is removed at the end; nothing of the original stays her
 loom's threads are those of std, each model is run 100 times, and what tests reach by `crate::` they reach by the crate's
 name. A test or example that looks inside the original is left out, and named with its reason.
 
-It needs cargo, and what library/rust/build.rs needs. SHARDHEAP_LIB_DIR and RATTLE_C_DIR are passed on.
+It needs cargo, and what library/rust/build.rs needs. SHARDHEAP_LIB_DIR is passed on.
 """
 import glob
 import os

@@ -4,7 +4,7 @@
 Each line of refused.rs that ends in `//~ CODE` must have an error of that code (`-` for an error without one), and no
 other line any. Then the program is compiled without these lines, and must have no error.
 
-It needs cargo and what library/rust/build.rs needs: SHARDHEAP_LIB_DIR and RATTLE_C_DIR are passed on.
+It needs cargo and what library/rust/build.rs needs: SHARDHEAP_LIB_DIR is passed on.
 """
 import json
 import os

@@ -9,7 +9,7 @@ stub/stub.c is compiled as an archive in the place of libsh_c.a. Without a word 
            the proved heap orders is a data race.
 
 It needs gcc, cargo, for the second part `cargo +nightly`, and what library/rust/build.rs needs. What is not there is
-skipped, with a line that says so. RATTLE_C_DIR is passed on.
+skipped, with a line that says so.
 """
 import os
 import pathlib

@@ -6,7 +6,7 @@ The crate is copied into a temporary folder. There it gets the locks of tsan/syn
 library, which is not instrumented, and the program tsan/main.rs. Threads pass keys on by relaxed atomics in it, so that
 a value which is not ordered by the slab itself is a data race.
 
-It needs a cargo of the day (`cargo +nightly`) and what library/rust/build.rs needs. RATTLE_C_DIR is passed on.
+It needs a cargo of the day (`cargo +nightly`) and what library/rust/build.rs needs.
 """
 import os
 import pathlib
@@ -24,6 +24,7 @@ FLAGS = "-Zsanitizer=thread -Cunsafe-allow-abi-mismatch=sanitizer"
 def copied(folder):
     """A copy of the crate with the locks of atomics, and the program as an example."""
     shutil.copytree(HERE, folder, ignore=shutil.ignore_patterns("target", "examples", "tests", "Cargo.lock"))
+    shutil.copytree(HERE.parent / "src", folder.parent / "src")
     shutil.copy(folder / "tsan/sync.rs", folder / "src/sync.rs")
     (folder / "examples").mkdir()
     shutil.copy(folder / "tsan/main.rs", folder / "examples/tsan.rs")

@@ -48,6 +48,8 @@ pub enum Error {
     NoPage,
     /// The value is no record of the kind that was asked for.
     WrongKind,
+    /// The receipt is of another heap.
+    OtherHeap,
     /// An answer of the library that this crate does not know. No call is known to give one.
     Unknown(u32),
 }
@@ -71,6 +73,7 @@ impl fmt::Display for Error {
             Error::Away => "a pass of the heap is away",
             Error::NoPage => "the heap has no such page",
             Error::WrongKind => "the value is no record of this kind",
+            Error::OtherHeap => "the receipt is of another heap",
             Error::Unknown(code) => return write!(f, "the library answered {code}, which is not known"),
         })
     }

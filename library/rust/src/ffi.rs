@@ -9,6 +9,7 @@ use crate::key::Key;
 use crate::value::{Value, MAX_WORDS};
 use std::cell::{Cell, UnsafeCell};
 use std::ffi::c_void;
+use std::sync::atomic::{AtomicU64, Ordering};
 use std::sync::{Mutex, MutexGuard, PoisonError};
 use std::thread;
 
@@ -20,13 +21,16 @@ struct Raw {
     full: bool,
 }
 
-// SAFETY: a handle owns what it names, and may go to whatever thread: so the library has it of the handles of a heap
-// and of a pass.
+// SAFETY: a handle owns what it names, and may go to whatever thread: so the library has it of the handles of a heap,
+// of a pass and of a receipt.
 unsafe impl Send for Raw {}
 
 impl Raw {
     const EMPTY: Raw = Raw { at: std::ptr::null_mut(), full: false };
 }
+
+/// The code of the library for no further key.
+const NO_KEY: u32 = 28;
 
 /// What C's `shardheap_page` is: used, class, live, marked, retired, queued.
 type PageWords = [u32; 6];
@@ -43,6 +47,7 @@ extern "C" {
     fn shardheap_raw_gather(heap: *mut Raw) -> u32;
     fn shardheap_raw_accounts(heap: *mut Raw, shard: u32, page: u32, told: *mut PageWords) -> u32;
     fn shardheap_raw_totals(heap: *mut Raw, told: *mut SumWords) -> u32;
+    fn shardheap_raw_next_key(heap: *mut Raw, place: *mut u64, key: *mut u64) -> u32;
     fn shardheap_raw_give(pass: *mut Raw) -> u32;
     fn shardheap_raw_pass_lose(pass: *mut Raw) -> u32;
     fn shardheap_raw_adopt(pass: *mut Raw, shard: u64) -> u32;
@@ -55,20 +60,35 @@ extern "C" {
     fn shardheap_raw_remove(pass: *mut Raw, key: u64) -> u32;
     fn shardheap_raw_read(pass: *mut Raw, key: u64, words: *mut u64, room: usize, length: *mut u64) -> u32;
     fn shardheap_raw_load(pass: *mut Raw, key: u64, words: *mut u64, room: usize, length: *mut u64) -> u32;
+    fn shardheap_raw_take_value(pass: *mut Raw, key: u64, words: *mut u64, room: usize, length: *mut u64) -> u32;
+    fn shardheap_raw_pages_left(pass: *mut Raw, pages: *mut u64) -> u32;
+    fn shardheap_raw_slots_out(pass: *mut Raw, slots: *mut u64) -> u32;
+    fn shardheap_raw_receipt_make(pass: *mut Raw, receipt: *mut Raw) -> u32;
+    fn shardheap_raw_heed(pass: *mut Raw, receipt: *mut Raw) -> u32;
+    fn shardheap_raw_receipt_close(receipt: *mut Raw);
 }
+
+/// How many heaps were opened. Each has a number that no other heap of the process has: 2^64 are never opened.
+static OPENED: AtomicU64 = AtomicU64::new(0);
 
 /// The handle of a heap, which one call at a time locks.
 #[derive(Debug)]
 pub(crate) struct HeapHandle {
     raw: Mutex<Raw>,
+    number: u64,
 }
 
 impl HeapHandle {
+    // The handle of a heap that was opened just now.
+    fn of(raw: Raw) -> HeapHandle {
+        HeapHandle { raw: Mutex::new(raw), number: OPENED.fetch_add(1, Ordering::Relaxed) }
+    }
+
     pub(crate) fn open(layout: u32, shards: u32, segments: u32, passes: u32) -> Result<HeapHandle, Error> {
         let mut raw = Raw::EMPTY;
         // SAFETY: the handle is an empty one of this function.
         told(unsafe { shardheap_raw_open(&mut raw, layout, shards, segments, passes) })?;
-        Ok(HeapHandle { raw: Mutex::new(raw) })
+        Ok(HeapHandle::of(raw))
     }
 
     pub(crate) fn open_for(
@@ -81,7 +101,7 @@ impl HeapHandle {
         let mut raw = Raw::EMPTY;
         // SAFETY: the handle is an empty one of this function.
         told(unsafe { shardheap_raw_open_for(&mut raw, layout, owners, values, words, passes) })?;
-        Ok(HeapHandle { raw: Mutex::new(raw) })
+        Ok(HeapHandle::of(raw))
     }
 
     // Nothing panics while the lock is held, so that what it guards is whole even if it were poisoned.
@@ -98,7 +118,7 @@ impl HeapHandle {
         let mut pass = Raw::EMPTY;
         // SAFETY: the lock gives the heap's handle to this call alone, and the pass's is an empty one of this function.
         told(unsafe { shardheap_raw_take(&mut *self.lock(), &mut pass) })?;
-        Ok(PassHandle { raw: UnsafeCell::new(pass), holds: Cell::new(0) })
+        Ok(PassHandle { raw: UnsafeCell::new(pass), holds: Cell::new(0), heap: self.number })
     }
 
     pub(crate) fn gather(&self) -> Result<(), Error> {
@@ -122,6 +142,16 @@ impl HeapHandle {
         let [live, marked, retired, queued, used_pages, blank_pages] = words;
         Ok(Totals { live, marked, retired, queued, used_pages, blank_pages })
     }
+
+    /// The first live key from a place on, which becomes the place behind it.
+    pub(crate) fn next_key(&self, place: &mut u64) -> Result<Option<Key>, Error> {
+        let mut key = 0;
+        // SAFETY: as in `passes`.
+        match unsafe { shardheap_raw_next_key(&mut *self.lock(), place, &mut key) } {
+            NO_KEY => Ok(None),
+            code => told(code).map(|()| Some(Key::from(key))),
+        }
+    }
 }
 
 impl Drop for HeapHandle {
@@ -138,6 +168,22 @@ pub(crate) struct PassHandle {
     raw: UnsafeCell<Raw>,
     // How many holds it has: those of its guards.
     holds: Cell<usize>,
+    // The number of its heap.
+    heap: u64,
+}
+
+/// The handle of a receipt, with the number of the heap that it is of.
+#[derive(Debug)]
+pub(crate) struct ReceiptHandle {
+    raw: Raw,
+    heap: u64,
+}
+
+impl Drop for ReceiptHandle {
+    fn drop(&mut self) {
+        // SAFETY: `&mut` gives the handle to this call alone. It is empty afterwards.
+        unsafe { shardheap_raw_receipt_close(&mut self.raw) }
+    }
 }
 
 /// How often the end of a pass tries to leave its shard, while others are in the middle of a free there.
@@ -189,6 +235,32 @@ impl PassHandle {
         }
     }
 
+    /// Takes the value of a key into the value's own room, where each value fits.
+    #[inline]
+    pub(crate) fn take(&self, key: Key, value: &mut Value) -> Result<(), Error> {
+        // SAFETY: as in `load`.
+        unsafe {
+            value
+                .words
+                .fill(|words, length| told(shardheap_raw_take_value(self.at(), key.into(), words, MAX_WORDS, length)))
+        }
+    }
+
+    pub(crate) fn receipt(&self) -> Result<ReceiptHandle, Error> {
+        let mut raw = Raw::EMPTY;
+        // SAFETY: as in `get`, and the receipt's handle is an empty one of this function.
+        told(unsafe { shardheap_raw_receipt_make(self.at(), &mut raw) })?;
+        Ok(ReceiptHandle { raw, heap: self.heap })
+    }
+
+    pub(crate) fn heed(&self, mut receipt: ReceiptHandle) -> Result<(), Error> {
+        if receipt.heap != self.heap {
+            return Err(Error::OtherHeap);
+        }
+        // SAFETY: as in `get`, and the receipt's handle is this function's. Both are of the heap with this number.
+        told(unsafe { shardheap_raw_heed(self.at(), &mut receipt.raw) })
+    }
+
     #[inline]
     pub(crate) fn insert(&self, words: &[u64]) -> Result<Key, Error> {
         let mut key = 0;
@@ -207,6 +279,20 @@ impl PassHandle {
     pub(crate) fn collect(&self) -> Result<(), Error> {
         // SAFETY: as in `get`.
         told(unsafe { shardheap_raw_collect(self.at()) })
+    }
+
+    pub(crate) fn pages_left(&self) -> Result<u64, Error> {
+        let mut pages = 0;
+        // SAFETY: as in `get`.
+        told(unsafe { shardheap_raw_pages_left(self.at(), &mut pages) })?;
+        Ok(pages)
+    }
+
+    pub(crate) fn slots_out(&self) -> Result<u64, Error> {
+        let mut slots = 0;
+        // SAFETY: as in `get`.
+        told(unsafe { shardheap_raw_slots_out(self.at(), &mut slots) })?;
+        Ok(slots)
     }
 
     pub(crate) fn adopt(&self, shard: u32) -> Result<(), Error> {

@@ -2,7 +2,9 @@
 use crate::accounts::{PageAccounts, Totals};
 use crate::error::Error;
 use crate::ffi::HeapHandle;
+use crate::key::Key;
 use crate::pass::Pass;
+use std::iter::FusedIterator;
 
 /// How many shards and pages a heap may have, and so what its keys look like. A page has 48 slots for values of a word,
 /// and fewer for longer ones, down to 3 for 16 words; 8 pages are a segment.
@@ -142,6 +144,27 @@ impl Heap {
         self.handle.take().map(Pass::of)
     }
 
+    /// Lends a pass that is at home to a closure, and brings it home when the closure returns or panics.
+    ///
+    /// # Errors
+    ///
+    /// Those of [`take`](Heap::take): then the closure is not called.
+    ///
+    /// ```
+    /// # use gearlongan::{Error, Heap, Layout, Shape};
+    /// # let heap = Heap::open(Layout::Wide, Shape { shards: 1, segments: 1, passes: 2 })?;
+    /// let shard = heap.take()?.adopt(0)?;
+    /// let key = shard.insert(&[7])?;
+    /// let value = heap.with_pass(|pass| pass.take(key))??;
+    /// assert_eq!(value, [7]);
+    /// assert!(heap.take().is_ok());
+    /// # Ok::<(), Error>(())
+    /// ```
+    pub fn with_pass<T>(&self, call: impl FnOnce(&Pass) -> T) -> Result<T, Error> {
+        let pass = self.take()?;
+        Ok(call(&pass))
+    }
+
     /// Joins all passes of the heap in one, which is at home afterwards and is the only one from then on. The holds of
     /// the others stay in their slots for good. Where they were joined before, nothing is done.
     ///
@@ -199,4 +222,57 @@ impl Heap {
     pub fn totals(&self) -> Result<Totals, Error> {
         self.handle.totals()
     }
+
+    /// The keys of the map, one after the other: each once, in the order of their slots, if the map does not change
+    /// meanwhile.
+    ///
+    /// # Errors
+    ///
+    /// The iterator returns [`Error::Away`], and then nothing more, if the pass that [`gather`](Heap::gather) left is
+    /// not at home.
+    ///
+    /// ```
+    /// # use gearlongan::{Error, Heap, Key, Layout, Shape};
+    /// let heap = Heap::open(Layout::Wide, Shape { shards: 1, segments: 1, passes: 2 })?;
+    /// let shard = heap.take()?.adopt(0)?;
+    /// let (first, second) = (shard.insert(&[7])?, shard.insert(&[8])?);
+    /// let third = shard.insert(&[9])?;
+    /// shard.remove(second)?;
+    /// drop(shard);
+    /// heap.gather()?;
+    /// let keys = heap.keys().collect::<Result<Vec<Key>, Error>>()?;
+    /// assert_eq!(keys.len(), 2);
+    /// assert!(keys.contains(&first) && keys.contains(&third));
+    /// # Ok::<(), Error>(())
+    /// ```
+    pub fn keys(&self) -> Keys<'_> {
+        Keys { handle: &self.handle, place: Some(0) }
+    }
 }
+
+/// The keys of a heap: see [`Heap::keys`].
+#[derive(Debug)]
+#[must_use = "an iterator does nothing until it is used"]
+pub struct Keys<'a> {
+    handle: &'a HeapHandle,
+    // Where the next key is looked for, if there may be one.
+    place: Option<u64>,
+}
+
+impl Iterator for Keys<'_> {
+    type Item = Result<Key, Error>;
+
+    fn next(&mut self) -> Option<Result<Key, Error>> {
+        let mut place = self.place.take()?;
+        match self.handle.next_key(&mut place) {
+            Ok(None) => None,
+            Ok(Some(key)) => {
+                self.place = Some(place);
+                Some(Ok(key))
+            }
+            Err(error) => Some(Err(error)),
+        }
+    }
+}
+
+impl FusedIterator for Keys<'_> {}

@@ -8,13 +8,14 @@
 //! - A [`Pass`] goes home when it is dropped, for the next thread. It is [`Send`] and not [`Sync`].
 //! - A pass that [adopts](Pass::adopt) a shard is a [`Shard`] until it [leaves](Shard::leave): it also inserts.
 //! - A [`Guard`] keeps a value readable, removed or not, until it is dropped.
+//! - A [`Receipt`] orders the calls of one pass before those of another.
 //!
 //! A [`slab::Slab`] stores values of any type over such heaps, and a [`slab::Pool`] uses their memory again. They have
 //! the interface of the crate `sharded-slab`.
 //!
 //! No call of a pass or a shard waits or locks. Memory is taken by [`Heap::open`], [`Heap::take`], [`Heap::gather`],
-//! [`Pass::adopt`], and by an insert or a prepare that opens a segment; where it is refused they answer
-//! [`Error::Memory`].
+//! [`Pass::adopt`], [`Pass::receipt`], and by an insert or a prepare that opens a segment; where it is refused they
+//! answer [`Error::Memory`].
 //!
 //! What the calls do is proved, in the library that this crate links. The crate itself is not proved: it is what makes
 //! of C's calls those of safe Rust.
@@ -68,6 +69,7 @@ mod guard;
 mod heap;
 mod key;
 mod pass;
+mod receipt;
 mod record;
 mod shard;
 #[cfg(target_pointer_width = "64")]
@@ -83,9 +85,10 @@ mod readme {}
 pub use accounts::{PageAccounts, Totals};
 pub use error::{AdoptError, Error, LeaveError};
 pub use guard::Guard;
-pub use heap::{Heap, Layout, Room, Shape};
+pub use heap::{Heap, Keys, Layout, Room, Shape};
 pub use key::Key;
 pub use pass::Pass;
+pub use receipt::Receipt;
 pub use record::Record;
 pub use shard::Shard;
 pub use value::{Value, MAX_WORDS};

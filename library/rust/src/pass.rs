@@ -3,6 +3,7 @@ use crate::error::{AdoptError, Error};
 use crate::ffi::PassHandle;
 use crate::guard::Guard;
 use crate::key::Key;
+use crate::receipt::Receipt;
 use crate::record::Record;
 use crate::shard::Shard;
 use crate::value::Value;
@@ -16,7 +17,7 @@ use crate::value::Value;
 /// shared::<gearlongan::Pass>();
 /// ```
 ///
-/// No call waits, and only [`adopt`](Pass::adopt) takes memory.
+/// No call waits, and only [`adopt`](Pass::adopt) and [`receipt`](Pass::receipt) take memory.
 #[derive(Debug)]
 #[must_use = "a pass goes home when it is dropped"]
 pub struct Pass {
@@ -184,6 +185,89 @@ impl Pass {
     #[inline]
     pub fn remove(&self, key: Key) -> Result<(), Error> {
         self.handle.remove(key)
+    }
+
+    /// Takes the value of a key: a load and a removal in one. Of all calls that remove one key, exactly one succeeds, so
+    /// that one caller alone has the value.
+    ///
+    /// # Errors
+    ///
+    /// [`Error::BadKey`], [`Error::HoldsFull`], [`Error::Gone`], [`Error::Crowded`].
+    ///
+    /// ```
+    /// # use gearlongan::{Error, Heap, Layout, Shape};
+    /// # let heap = Heap::open(Layout::Wide, Shape { shards: 1, segments: 1, passes: 2 })?;
+    /// # let (shard, pass) = (heap.take()?.adopt(0)?, heap.take()?);
+    /// let key = shard.insert(&[7, 8])?;
+    /// assert_eq!(pass.take(key)?, [7, 8]);
+    /// assert_eq!(shard.take(key), Err(Error::Gone));
+    /// # Ok::<(), Error>(())
+    /// ```
+    #[inline]
+    pub fn take(&self, key: Key) -> Result<Value, Error> {
+        let mut value = Value::default();
+        self.handle.take(key, &mut value)?;
+        Ok(value)
+    }
+
+    /// The same, into a value of the caller's, which stays as it was where this is refused.
+    ///
+    /// # Errors
+    ///
+    /// Those of [`take`](Pass::take).
+    ///
+    /// ```
+    /// # use gearlongan::{Error, Heap, Layout, Shape, Value};
+    /// # let heap = Heap::open(Layout::Wide, Shape { shards: 1, segments: 1, passes: 2 })?;
+    /// # let (shard, pass) = (heap.take()?.adopt(0)?, heap.take()?);
+    /// let key = shard.insert(&[7, 8])?;
+    /// let mut value = Value::default();
+    /// pass.take_into(key, &mut value)?;
+    /// assert_eq!(value, [7, 8]);
+    /// # Ok::<(), Error>(())
+    /// ```
+    #[inline]
+    pub fn take_into(&self, key: Key, value: &mut Value) -> Result<(), Error> {
+        self.handle.take(key, value)
+    }
+
+    /// Makes a [`Receipt`] of all calls of this pass until now.
+    ///
+    /// # Errors
+    ///
+    /// [`Error::Memory`].
+    ///
+    /// ```
+    /// # use gearlongan::{Error, Heap, Layout, Shape};
+    /// # let heap = Heap::open(Layout::Wide, Shape { shards: 1, segments: 1, passes: 2 })?;
+    /// # let (shard, pass) = (heap.take()?.adopt(0)?, heap.take()?);
+    /// let key = shard.insert(&[7, 8])?;
+    /// let receipt = shard.receipt()?;
+    /// pass.heed(receipt)?;
+    /// assert_eq!(pass.load(key)?, [7, 8]);
+    /// # Ok::<(), Error>(())
+    /// ```
+    pub fn receipt(&self) -> Result<Receipt, Error> {
+        Ok(Receipt { handle: self.handle.receipt()? })
+    }
+
+    /// Heeds a [`Receipt`]: all that it covers happens before the next calls of this pass.
+    ///
+    /// # Errors
+    ///
+    /// [`Error::OtherHeap`] if the receipt is of another heap.
+    ///
+    /// ```
+    /// # use gearlongan::{Error, Heap, Layout, Shape};
+    /// let shape = Shape { shards: 1, segments: 1, passes: 1 };
+    /// let (one, two) = (Heap::open(Layout::Wide, shape)?, Heap::open(Layout::Wide, shape)?);
+    /// let (pass, other) = (one.take()?, two.take()?);
+    /// assert_eq!(other.heed(pass.receipt()?), Err(Error::OtherHeap));
+    /// pass.heed(pass.receipt()?)?;
+    /// # Ok::<(), Error>(())
+    /// ```
+    pub fn heed(&self, receipt: Receipt) -> Result<(), Error> {
+        self.handle.heed(receipt.handle)
     }
 
     /// Makes the pass the owner of a shard, by its number from 0.

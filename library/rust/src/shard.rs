@@ -131,6 +131,49 @@ impl Shard {
         self.pass.handle.collect()
     }
 
+    /// How many pages of the shard have no class yet. Each has room for 48 values of a word, or for fewer longer ones.
+    /// It takes no atomic step.
+    ///
+    /// # Errors
+    ///
+    /// None is known.
+    ///
+    /// ```
+    /// # use gearlongan::{Error, Heap, Layout, Shape};
+    /// # let heap = Heap::open(Layout::Wide, Shape { shards: 1, segments: 1, passes: 1 })?;
+    /// # let shard = heap.take()?.adopt(0)?;
+    /// assert_eq!(shard.pages_left()?, 8);
+    /// shard.insert(&[7])?;
+    /// assert_eq!(shard.pages_left()?, 7);
+    /// # Ok::<(), Error>(())
+    /// ```
+    pub fn pages_left(&self) -> Result<u64, Error> {
+        self.pass.handle.pages_left()
+    }
+
+    /// How many slots of the other pages are not free for the shard: they have a value, or had one that is held, or
+    /// another pass freed them and they are not [collected](Shard::collect) yet, or they are never used again. So the
+    /// shard has at most so many values. It takes no atomic step.
+    ///
+    /// # Errors
+    ///
+    /// None is known.
+    ///
+    /// ```
+    /// # use gearlongan::{Error, Heap, Layout, Shape};
+    /// # let heap = Heap::open(Layout::Wide, Shape { shards: 1, segments: 1, passes: 2 })?;
+    /// # let (shard, pass) = (heap.take()?.adopt(0)?, heap.take()?);
+    /// let key = shard.insert(&[7])?;
+    /// pass.remove(key)?;
+    /// assert_eq!(shard.slots_out()?, 1);
+    /// shard.collect()?;
+    /// assert_eq!(shard.slots_out()?, 0);
+    /// # Ok::<(), Error>(())
+    /// ```
+    pub fn slots_out(&self) -> Result<u64, Error> {
+        self.pass.handle.slots_out()
+    }
+
     /// Leaves the shard, with all that is in it, to the pass that adopts it next, and gets the pass back.
     ///
     /// # Errors

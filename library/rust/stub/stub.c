@@ -296,3 +296,38 @@ uint32_t shardheap_raw_load(shardheap_pass *pass, uint64_t key, uint64_t *words,
     (void)pass, (void)key, (void)words, (void)room, (void)length;
     abort();
 }
+
+uint32_t shardheap_raw_take_value(shardheap_pass *pass, uint64_t key, uint64_t *words, size_t room, uint64_t *length) {
+    (void)pass, (void)key, (void)words, (void)room, (void)length;
+    abort();
+}
+
+uint32_t shardheap_raw_pages_left(shardheap_pass *pass, uint64_t *pages) {
+    (void)pass, (void)pages;
+    abort();
+}
+
+uint32_t shardheap_raw_slots_out(shardheap_pass *pass, uint64_t *slots) {
+    (void)pass, (void)slots;
+    abort();
+}
+
+uint32_t shardheap_raw_receipt_make(shardheap_pass *pass, shardheap_receipt *receipt) {
+    (void)pass, (void)receipt;
+    abort();
+}
+
+uint32_t shardheap_raw_heed(shardheap_pass *pass, shardheap_receipt *receipt) {
+    (void)pass, (void)receipt;
+    abort();
+}
+
+void shardheap_raw_receipt_close(shardheap_receipt *receipt) {
+    (void)receipt;
+    abort();
+}
+
+uint32_t shardheap_raw_next_key(shardheap *heap, uint64_t *place, uint64_t *key) {
+    (void)heap, (void)place, (void)key;
+    abort();
+}

@@ -1,7 +1,8 @@
 //! Passes that come home, guards, and heaps that go before their passes.
-use gearlongan::{Error, Heap, Key, Layout, Pass, Shape, Shard};
+use gearlongan::{Error, Heap, Key, Layout, Pass, Receipt, Shape, Shard, Value};
 use std::collections::{HashMap, HashSet};
 use std::mem;
+use std::panic::{catch_unwind, resume_unwind, AssertUnwindSafe};
 use std::thread;
 
 const ONE: Shape = Shape { shards: 1, segments: 1, passes: 1 };
@@ -21,6 +22,7 @@ fn what_may_be_sent_and_shared() {
     fn shared<T: Send + Sync>() {}
     sent::<Pass>();
     sent::<Shard>();
+    sent::<Receipt>();
     shared::<Heap>();
     shared::<Key>();
     shared::<Error>();
@@ -72,6 +74,21 @@ fn a_panic_brings_the_pass_home() {
         std::panic::resume_unwind(Box::new(()));
     });
     assert!(panicked.join().is_err());
+    drop(owner(&heap));
+}
+
+#[test]
+fn a_closure_has_a_pass_that_comes_home() {
+    let heap = open(ONE);
+    let key = owner(&heap).insert(&[1]).expect("there is room");
+    assert_eq!(heap.with_pass(|pass| pass.load(key)), Ok(Value::new(&[1])));
+    let inner = heap.with_pass(|_pass| heap.with_pass(|_pass| ()));
+    assert_eq!(inner, Ok(Err(Error::NoPass)));
+    let early = || -> Result<(), Error> { heap.with_pass(|pass| pass.remove(Key::from(u64::MAX)))? };
+    assert_eq!(early(), Err(Error::BadKey));
+    let panics = AssertUnwindSafe(|| heap.with_pass(|_pass| resume_unwind(Box::new(()))));
+    assert!(catch_unwind(panics).is_err());
+    assert!(heap.with_pass(|_pass| ()).is_ok());
     drop(owner(&heap));
 }
 

@@ -196,10 +196,11 @@ mod tests {
         let chunk = Chunk::open(2, 1).expect("it opens");
         let (number, shard) = adopted(&chunk);
         let keys: Vec<Key> = std::iter::from_fn(|| shard.insert(&[]).ok()).collect();
-        // It is removed where the shard does not count as full, so that nothing is noted.
+        // An insert found no room. A removal comes before the shard counts as full, so that nothing is noted.
         chunk.remove_shared(keys[0]);
         chunk.note_removal(number);
-        assert!(chunk.insert(number, &shard).is_some());
+        assert!(chunk.insert_or_mark(number, &shard).is_some(), "the second look finds it");
+        assert_eq!(chunk.full.load(Relaxed), 0, "and the shard does not count as full");
         assert!(chunk.insert(number, &shard).is_none());
         assert!(!chunk.forgive(), "none was removed since");
         chunk.remove_shared(keys[1]);

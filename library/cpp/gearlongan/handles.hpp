@@ -1,0 +1,35 @@
+// What the classes with a handle of shardheap.h have in common. A part of shardheap.hpp, which says what holds of all.
+#ifndef GEARLONGAN_HANDLES_HPP
+#define GEARLONGAN_HANDLES_HPP
+
+#include "gearlongan/errors.hpp"
+
+#include <cstdint>
+#include <utility>
+
+namespace gearlongan {
+
+namespace detail {
+
+inline std::uint32_t begin(shardheap *handle) noexcept { return shardheap_begin_heap(handle); }
+inline std::uint32_t begin(shardheap_pass *handle) noexcept { return shardheap_begin_pass(handle); }
+inline std::uint32_t begin(shardheap_receipt *handle) noexcept { return shardheap_begin_receipt(handle); }
+inline void settle(shardheap *handle) noexcept { shardheap_settle_heap(handle, SHARDHEAP_OK); }
+inline void settle(shardheap_pass *handle) noexcept { shardheap_settle_pass(handle, SHARDHEAP_OK); }
+inline void settle(shardheap_receipt *handle) noexcept { shardheap_settle_receipt(handle, SHARDHEAP_OK); }
+
+// Moves what is in a handle to one that is empty. In checked mode a handle that another call uses stays as it is.
+template <class Handle> void shift(Handle &from, Handle &to) noexcept {
+    if (begin(&from) != SHARDHEAP_OK) return;
+    to.at = std::exchange(from.at, nullptr);
+    to.full = std::exchange(from.full, false);
+    to.seal.mark = from.seal.mark;
+    settle(&to);
+    settle(&from);
+}
+
+} // namespace detail
+
+} // namespace gearlongan
+
+#endif

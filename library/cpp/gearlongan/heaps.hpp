@@ -1,0 +1,271 @@
+// Heaps. A part of shardheap.hpp, which says what holds of all.
+#ifndef GEARLONGAN_HEAPS_HPP
+#define GEARLONGAN_HEAPS_HPP
+
+#include "gearlongan/passes.hpp"
+
+#include <cstddef>
+#include <cstdint>
+#include <iterator>
+
+namespace gearlongan {
+
+/// The layouts: how many shards and pages a heap may have, and so what its keys look like (shardheap_layout).
+enum class layout : std::uint32_t {
+    wide = SHARDHEAP_WIDE,     ///< 256 shards of 1,024 pages each
+    tagged = SHARDHEAP_TAGGED, ///< 64 shards of 256 pages; keys are below 2^52
+    deep = SHARDHEAP_DEEP,     ///< 64 shards of 1,048,576 pages, 16,777,216 in all; keys use all 64 bits
+    tiny = SHARDHEAP_TINY,     ///< 4 shards of 16 pages, whose slots serve 3 values each and no more: for tests
+};
+
+/// The size of a heap by its parts: shards, segments of 8 pages in each, and 1 to 64 passes.
+struct shape {
+    std::uint32_t shards, segments, passes;
+};
+
+/// The size of a heap by what has room in it: owners of a shard each, values of 0 to 16 words for each of them, and 1
+/// to 64 passes.
+struct room {
+    std::uint32_t owners;
+    std::uint64_t values;
+    std::uint32_t words, passes;
+};
+
+/// The slots of a page, and those of all pages (shardheap_page, shardheap_sums).
+using page_accounts = ::shardheap_page;
+using totals = ::shardheap_sums;
+
+#if defined(__cpp_exceptions)
+class heap;
+
+/// The keys of a heap whose passes were gathered (heap::keys), as a range of input iterators. It and its iterators
+/// refer to the heap object, which is not moved or destroyed while they are used. A begin and an increment are a
+/// heap::try_next_key, and throw what that refuses, except no_key: that is the end.
+///
+///     shard.close();
+///     pass.close();
+///     heap.gather();
+///     const gearlongan::key_range range = heap.keys();
+///     assert(std::vector<gearlongan::key>(range.begin(), range.end()) == std::vector<gearlongan::key>{key});
+class key_range {
+public:
+    class iterator {
+    public:
+        using iterator_category = std::input_iterator_tag;
+        using value_type = key;
+        using difference_type = std::ptrdiff_t;
+        using pointer = const key *;
+        using reference = const key &;
+
+        iterator() noexcept = default; ///< The end.
+        [[nodiscard]] reference operator*() const noexcept { return key_; }
+        [[nodiscard]] pointer operator->() const noexcept { return &key_; }
+        inline iterator &operator++();
+        iterator operator++(int) {
+            iterator before = *this;
+            ++*this;
+            return before;
+        }
+
+        friend bool operator==(const iterator &a, const iterator &b) noexcept {
+            return a.of_ == b.of_ && a.place_ == b.place_;
+        }
+        friend bool operator!=(const iterator &a, const iterator &b) noexcept { return !(a == b); }
+
+    private:
+        friend class key_range;
+        explicit iterator(heap &of) : of_(&of) { ++*this; }
+        heap *of_ = nullptr;
+        std::uint64_t place_ = 0;
+        key key_;
+    };
+
+    [[nodiscard]] iterator begin() const { return iterator(*of_); }
+    [[nodiscard]] iterator end() const noexcept { return {}; }
+
+private:
+    friend class heap;
+    explicit key_range(heap &of) noexcept : of_(&of) {}
+    heap *of_;
+};
+#endif
+
+/// A heap, of which threads take passes. A heap object is used by one call at a time: each thread takes passes under a
+/// lock, or by an object of its own, which `share` makes. The heap goes with the last of these objects and its passes.
+/// The refusals of all calls here include errc::empty.
+///
+///     auto other = gearlongan::heap::open(gearlongan::layout::wide, {4, 2, 8});    // 4 shards of 16 pages, 8 passes
+///     auto first = other.take();
+///     other.close();
+///     assert(first);    // it serves on
+class [[nodiscard]] heap {
+public:
+    heap() noexcept = default;
+    heap(heap &&other) noexcept { detail::shift(other.raw_, raw_); }
+    heap &operator=(heap &&other) noexcept {
+        if (this == &other) return *this;
+        close();
+        detail::shift(other.raw_, raw_);
+        return *this;
+    }
+    heap(const heap &) = delete;
+    heap &operator=(const heap &) = delete;
+    ~heap() { close(); }
+
+    /// Opens a heap in this object, which is empty. occupied, bad_layout, bad_shape, memory.
+    ///
+    ///     gearlongan::heap other;
+    ///     assert(other.try_open(gearlongan::layout::tiny, {1, 1, 65}) == gearlongan::errc::bad_shape);
+    errc try_open(layout of, shape parts) noexcept {
+        return static_cast<errc>(
+            shardheap_open(&raw_, static_cast<std::uint32_t>(of), parts.shards, parts.segments, parts.passes));
+    }
+
+    /// Opens the least heap that has this room. occupied, bad_layout, memory; bad_shape, if the layout has none.
+    ///
+    ///     gearlongan::heap other;
+    ///     assert(other.try_open_for(gearlongan::layout::wide, {4, 20000, 2, 8}) == gearlongan::errc::ok);
+    errc try_open_for(layout of, room with) noexcept {
+        return static_cast<errc>(shardheap_open_for(&raw_, static_cast<std::uint32_t>(of), with.owners, with.values,
+                                                    with.words, with.passes));
+    }
+
+    /// Takes a pass that is at home into an empty one. no_pass, memory; occupied, if `into` is not empty.
+    ///
+    ///     gearlongan::pass other;
+    ///     assert(heap.try_take(other) == gearlongan::errc::ok);
+    errc try_take(pass &into) noexcept { return static_cast<errc>(shardheap_take(&raw_, into.raw())); }
+
+    /// Makes an empty heap object a second one of this heap, for another thread. memory; occupied, if it is not empty.
+    ///
+    ///     gearlongan::heap other;
+    ///     assert(heap.try_share(other) == gearlongan::errc::ok);
+    errc try_share(heap &into) noexcept { return static_cast<errc>(shardheap_share(&raw_, &into.raw_)); }
+
+    /// Joins all passes of the heap in one, if all are at home: it is the only pass from then on. away, memory.
+    ///
+    ///     assert(heap.try_gather() == gearlongan::errc::away);
+    errc try_gather() noexcept { return static_cast<errc>(shardheap_gather(&raw_)); }
+
+    /// Counts the slots of a page, by the numbers of its shard and its page there, both from 0. away, if the pass that
+    /// gather left is not at home; no_page.
+    ///
+    ///     gearlongan::page_accounts page;
+    ///     assert(heap.try_accounts(0, 0, page) == gearlongan::errc::away);
+    errc try_accounts(std::uint32_t shard, std::uint32_t page, page_accounts &into) noexcept {
+        return static_cast<errc>(shardheap_accounts(&raw_, shard, page, &into));
+    }
+
+    /// Counts the slots of all pages. away, as above.
+    ///
+    ///     gearlongan::totals sums;
+    ///     assert(heap.try_totals(sums) == gearlongan::errc::away);
+    errc try_totals(totals &into) noexcept { return static_cast<errc>(shardheap_totals(&raw_, &into)); }
+
+    /// Finds the first key of the map at a place or behind it. Places are numbers of slots over the whole heap, and
+    /// `place` becomes the one behind that of the key. A loop that begins at place 0 gets each key once, in the order
+    /// of their places, if the map does not change meanwhile. away, as above; no_key, if no key is left.
+    ///
+    ///     std::uint64_t place = 0;
+    ///     gearlongan::key next;
+    ///     assert(heap.try_next_key(place, next) == gearlongan::errc::away && place == 0);
+    errc try_next_key(std::uint64_t &place, key &into) noexcept {
+        std::uint64_t number = 0;
+        const auto code = static_cast<errc>(shardheap_next_key(&raw_, &place, &number));
+        if (code == errc::ok) into = key(number);
+        return code;
+    }
+
+#if defined(__cpp_exceptions)
+    /// Opens a heap, by its parts or by the room it has.
+    ///
+    ///     auto other = gearlongan::heap::open(gearlongan::layout::wide, {4, 2, 8});
+    ///     auto roomy = gearlongan::heap::open_for(gearlongan::layout::wide, {4, 20000, 2, 8});
+    [[nodiscard]] static heap open(layout of, shape parts) {
+        heap opened;
+        detail::check(opened.try_open(of, parts));
+        return opened;
+    }
+    [[nodiscard]] static heap open_for(layout of, room with) {
+        heap opened;
+        detail::check(opened.try_open_for(of, with));
+        return opened;
+    }
+
+    /// Takes a pass that is at home. It throws no_pass if there is none.
+    ///
+    ///     gearlongan::pass other = heap.take();
+    [[nodiscard]] pass take() {
+        pass taken;
+        detail::check(try_take(taken));
+        return taken;
+    }
+
+    /// Makes a second object of this heap, for another thread.
+    ///
+    ///     std::thread([other = heap.share()]() mutable { other.take().close(); }).join();
+    [[nodiscard]] heap share() {
+        heap other;
+        detail::check(try_share(other));
+        return other;
+    }
+
+    /// Joins all passes in one, and counts the slots of a page and of all pages, as the calls above do.
+    ///
+    ///     shard.close();
+    ///     pass.close();
+    ///     heap.gather();
+    ///     assert(heap.totals().live == 1 && heap.accounts(0, 0).live == 1);
+    void gather() { detail::check(try_gather()); }
+    [[nodiscard]] page_accounts accounts(std::uint32_t shard, std::uint32_t page) {
+        page_accounts counted{};
+        detail::check(try_accounts(shard, page, counted));
+        return counted;
+    }
+    [[nodiscard]] gearlongan::totals totals() {
+        gearlongan::totals sums{};
+        detail::check(try_totals(sums));
+        return sums;
+    }
+
+    /// The keys of the map, each once, if it does not change meanwhile. The begin of the range throws away, as above.
+    ///
+    ///     shard.close();
+    ///     pass.close();
+    ///     heap.gather();
+    ///     for (const gearlongan::key it : heap.keys()) assert(it == key);
+    [[nodiscard]] key_range keys() & noexcept { return key_range(*this); }
+#endif
+
+    /// How many passes the heap has, at home or away: 0 of an empty object.
+    ///
+    ///     assert(heap.passes() == 4);
+    [[nodiscard]] std::uint64_t passes() noexcept { return shardheap_passes(&raw_); }
+
+    /// Whether there is a heap here: false if it is empty.
+    [[nodiscard]] explicit operator bool() const noexcept { return raw_.full; }
+
+    /// The handle, for a call of shardheap.h that this header does not have. It stays the property of this object.
+    [[nodiscard]] ::shardheap *raw() noexcept { return &raw_; }
+
+    /// Empties the object. The heap goes with the last of its objects and its passes.
+    ///
+    ///     heap.close();
+    void close() noexcept { shardheap_close(&raw_); }
+
+private:
+    ::shardheap raw_ = SHARDHEAP_INIT;
+};
+
+#if defined(__cpp_exceptions)
+inline key_range::iterator &key_range::iterator::operator++() {
+    const errc code = of_->try_next_key(place_, key_);
+    if (code == errc::no_key) return *this = iterator();
+    detail::check(code);
+    return *this;
+}
+#endif
+
+} // namespace gearlongan
+
+#endif

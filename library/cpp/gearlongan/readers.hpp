@@ -1,0 +1,383 @@
+// What passes and shards have in common, and guards. A part of shardheap.hpp, which says what holds of all.
+#ifndef GEARLONGAN_READERS_HPP
+#define GEARLONGAN_READERS_HPP
+
+#include "gearlongan/keys.hpp"
+#include "gearlongan/receipts.hpp"
+#include "gearlongan/values.hpp"
+
+#include <cstddef>
+#include <cstdint>
+#include <optional>
+#include <thread>
+#include <utility>
+
+namespace gearlongan {
+
+class guard;
+class pass;
+class shard;
+
+/// What a pass and a shard have in common: any key may be held, read, removed and taken. A function that takes a
+/// `reader &` takes both. The refusals of all calls here include errc::empty.
+class reader {
+public:
+    reader(const reader &) = delete;
+    reader &operator=(const reader &) = delete;
+
+    /// Takes a hold on a key into an empty guard, so that its value stays readable. A pass has at most 16 holds, also
+    /// several on one key. bad_key, holds_full, gone, crowded; occupied, if the guard is not empty.
+    ///
+    ///     gearlongan::guard guard;
+    ///     if (pass.try_get(key, guard) == gearlongan::errc::ok) guard.reset();
+    errc try_get(key of, guard &into) & noexcept;
+
+    /// Copies the value of a key. bad_key, holds_full, gone, crowded.
+    ///
+    ///     gearlongan::value value;
+    ///     assert(pass.try_load(key, value) == gearlongan::errc::ok);
+    inline errc try_load(key of, value &into) noexcept {
+        return load_words(of, into.words_, value::max_size(), into.size_);
+    }
+
+    /// Copies the value of a key as a record. wrong_size, and those of a load.
+    ///
+    ///     std::array<std::uint64_t, 2> pair;
+    ///     assert(pass.try_load_record(key, pair) == gearlongan::errc::ok);
+    template <class T> errc try_load_record(key of, T &into) noexcept {
+        std::uint64_t words[detail::words_of<T>];
+        const errc code = load_record_words<T>(of, words);
+        if (code == errc::ok) std::memcpy(static_cast<void *>(&into), words, sizeof(T));
+        return code;
+    }
+
+    /// Removes a key: no later get finds it, and its value stays until the last hold goes. bad_key, gone.
+    ///
+    ///     assert(pass.try_remove(key) == gearlongan::errc::ok);
+    errc try_remove(key of) noexcept { return static_cast<errc>(shardheap_remove(&raw_, of.number())); }
+
+    /// Takes the value of a key: a load and a remove in one. Of all calls that remove one key, exactly one is ok.
+    /// bad_key, holds_full, gone, crowded.
+    ///
+    ///     gearlongan::value value;
+    ///     assert(pass.try_take(key, value) == gearlongan::errc::ok && value.size() == 2);
+    ///     assert(pass.try_take(key, value) == gearlongan::errc::gone);
+    inline errc try_take(key of, value &into) noexcept {
+        return static_cast<errc>(
+            shardheap_take_value(&raw_, of.number(), into.words_, value::max_size(), &into.size_));
+    }
+
+    /// Takes the value of a key as a record. wrong_size, after which the key is as it was, and those of a take.
+    ///
+    ///     double number = 0;
+    ///     assert(pass.try_take_record(key, number) == gearlongan::errc::wrong_size && pass.load(key));
+    template <class T> errc try_take_record(key of, T &into) noexcept {
+        std::uint64_t words[detail::words_of<T>];
+        errc code = load_record_words<T>(of, words);
+        // (the value of a key does not change, so that the call that removes it has the value)
+        if (code == errc::ok) code = try_remove(of);
+        if (code == errc::ok) std::memcpy(static_cast<void *>(&into), words, sizeof(T));
+        return code;
+    }
+
+    /// Makes a receipt into an empty one. It covers all calls of this pass until now, and what the receipts cover that
+    /// the pass heeded. memory; occupied, if `into` is not empty.
+    ///
+    ///     gearlongan::receipt receipt;
+    ///     assert(shard.try_receipt(receipt) == gearlongan::errc::ok && receipt);
+    errc try_receipt(gearlongan::receipt &into) noexcept {
+        return static_cast<errc>(shardheap_receipt_make(&raw_, into.raw()));
+    }
+
+    /// Heeds a receipt that a pass of the same heap made, and empties it: all that it covers happens before the next
+    /// calls of this pass. So a key whose insert it covers is gone only if a call removed it. A refusal, which is empty
+    /// or of checked mode, leaves the receipt as it was.
+    ///
+    ///     gearlongan::receipt receipt = shard.receipt();
+    ///     assert(pass.try_heed(receipt) == gearlongan::errc::ok && !receipt);
+    errc try_heed(gearlongan::receipt &from) noexcept {
+        return static_cast<errc>(shardheap_heed(&raw_, from.raw()));
+    }
+
+    /// Gives back one hold that a guard left behind (guard::detach). not_held.
+    ///
+    ///     gearlongan::key held = pass.get(key).detach();
+    ///     assert(pass.try_release(held) == gearlongan::errc::ok);
+    errc try_release(key of) noexcept { return static_cast<errc>(shardheap_release(&raw_, of.number())); }
+
+#if defined(__cpp_exceptions)
+    /// Takes a hold on a key. It throws if the key is gone, too.
+    ///
+    ///     gearlongan::guard guard = pass.get(key);
+    [[nodiscard]] guard get(key of) &;
+
+    /// Takes a hold on a key. The guard is empty if the key is gone.
+    ///
+    ///     if (gearlongan::guard guard = pass.find(key)) assert(guard.read()[0] == 7);
+    [[nodiscard]] guard find(key of) &;
+
+    /// Copies the value of a key: nothing if the key is gone.
+    ///
+    ///     if (auto value = pass.load(key)) assert((*value)[0] == 7);
+    [[nodiscard]] inline std::optional<value> load(key of) {
+        std::optional<value> loaded(std::in_place);
+        if (!detail::found(try_load(of, *loaded))) loaded.reset();
+        return loaded;
+    }
+
+    /// Copies the value of a key into one that is there. Whether the key was there; if not, the value is as it was.
+    ///
+    ///     gearlongan::value value;
+    ///     while (pass.load(key, value)) pass.remove(key);
+    bool load(key of, value &into) { return detail::found(try_load(of, into)); }
+
+    /// Copies the value of a key as a record: nothing if the key is gone. It throws wrong_size, too.
+    ///
+    ///     auto pair = pass.load_record<std::array<std::uint64_t, 2>>(key);
+    ///     assert(pair && pair->at(1) == 8);
+    template <class T> [[nodiscard]] std::optional<T> load_record(key of) {
+        value words;
+        if (!load(of, words)) return std::nullopt;
+        std::optional<T> record = words.as<T>();
+        if (!record) detail::refuse(errc::wrong_size);
+        return record;
+    }
+
+    /// Removes a key, and returns whether this call removed it.
+    ///
+    ///     assert(pass.remove(key) && !pass.remove(key));
+    bool remove(key of) { return detail::found(try_remove(of)); }
+
+    /// Takes the value of a key: nothing if the key is gone. So of all calls that take or remove it, one alone has it.
+    ///
+    ///     auto value = pass.take(key);
+    ///     assert(value && value->size() == 2 && !shard.take(key));
+    [[nodiscard]] inline std::optional<value> take(key of) {
+        std::optional<value> taken(std::in_place);
+        if (!detail::found(try_take(of, *taken))) taken.reset();
+        return taken;
+    }
+
+    /// Takes the value of a key into one that is there. Whether the key was there; if not, the value is as it was.
+    ///
+    ///     gearlongan::value value;
+    ///     while (pass.take(key, value)) assert(value[0] == 7);
+    bool take(key of, value &into) { return detail::found(try_take(of, into)); }
+
+    /// Takes the value of a key as a record: nothing if the key is gone. It throws wrong_size, too: then the key is as
+    /// it was.
+    ///
+    ///     auto pair = pass.take_record<std::array<std::uint64_t, 2>>(key);
+    ///     assert(pair && pair->at(1) == 8 && !pass.load(key));
+    template <class T> [[nodiscard]] std::optional<T> take_record(key of) {
+        std::optional<T> record = load_record<T>(of);
+        if (record && !remove(of)) record.reset();
+        return record;
+    }
+
+    /// Makes a receipt, which covers all calls of this pass until now.
+    ///
+    ///     gearlongan::receipt receipt = shard.receipt();
+    [[nodiscard]] gearlongan::receipt receipt() {
+        gearlongan::receipt made;
+        detail::check(try_receipt(made));
+        return made;
+    }
+
+    /// Heeds a receipt, and empties it. After a refusal it is as it was.
+    ///
+    ///     pass.heed(shard.receipt());
+    ///     assert(pass.load(key));
+    void heed(gearlongan::receipt &&from) { detail::check(try_heed(from)); }
+#endif
+
+    /// Whether there is a pass here: false if it is empty.
+    [[nodiscard]] explicit operator bool() const noexcept { return raw_.full; }
+
+    /// The handle, for a call of shardheap.h that this header does not have. It stays the property of this object.
+    ///
+    ///     assert(shardheap_remove(pass.raw(), key.number()) == SHARDHEAP_OK);
+    [[nodiscard]] shardheap_pass *raw() noexcept { return &raw_; }
+
+    /// Loses the pass (shardheap_pass_lose), with its holds and its shard: the heap has one pass less for good. It is
+    /// for a pass that should not come home, as one with a shard that it cannot leave.
+    ///
+    ///     pass.lose();
+    ///     assert(!pass);
+    void lose() noexcept {
+        unguarded();
+        shardheap_pass_lose(&raw_);
+    }
+
+protected:
+    reader() noexcept = default;
+    reader(reader &&other) noexcept {
+        if (other.unguarded()) detail::shift(other.raw_, raw_);
+    }
+    reader &operator=(reader &&other) noexcept {
+        if (this == &other || !other.unguarded()) return *this;
+        close();
+        detail::shift(other.raw_, raw_);
+        return *this;
+    }
+    ~reader() { close(); }
+
+    // Brings the pass home, once it has left the shard that it may own. Loses it if it cannot leave.
+    void close() noexcept {
+        unguarded();
+        for (int tries = 0; tries < 1000; tries++) {
+            if (shardheap_pass_close(&raw_) != SHARDHEAP_OWNS) return;
+            if (shardheap_leave(&raw_) == SHARDHEAP_WAITING) std::this_thread::yield();
+        }
+        shardheap_pass_lose(&raw_);
+    }
+
+private:
+    friend class guard;
+    friend class heap;
+    friend class pass;
+    friend class shard;
+
+    errc hold(key of) noexcept { return static_cast<errc>(shardheap_get(&raw_, of.number())); }
+    inline errc load_words(key of, std::uint64_t *words, std::size_t room, std::uint64_t &size) noexcept {
+        return static_cast<errc>(shardheap_load(&raw_, of.number(), words, room, &size));
+    }
+    // (wrong_size, if the value has another number of words than the record)
+    template <class T> errc load_record_words(key of, std::uint64_t *words) noexcept {
+        static_assert(is_record_v<T>, "a record is a trivially copyable type of at most 128 bytes");
+        std::uint64_t size = 0;
+        const errc code = load_words(of, words, detail::words_of<T>, size);
+        const bool other = code == errc::too_short || (code == errc::ok && size != detail::words_of<T>);
+        return other ? errc::wrong_size : code;
+    }
+    inline errc read_words(key of, value &into) noexcept {
+        return static_cast<errc>(shardheap_read(&raw_, of.number(), into.words_, value::max_size(), &into.size_));
+    }
+
+#ifdef SHARDHEAP_CHECKED
+    void count_guard(bool more) noexcept { more ? guards_++ : guards_--; }
+    [[nodiscard]] bool is_guarded() const noexcept { return guards_ != 0; }
+    std::uint32_t guards_ = 0;
+#else
+    void count_guard(bool) noexcept {}
+    [[nodiscard]] static bool is_guarded() noexcept { return false; }
+#endif
+    // Whether no guard uses the pass. Checked mode alone finds that one does, and says so.
+    bool unguarded() const noexcept {
+        if (is_guarded()) SHARDHEAP_ON_MISUSE(SHARDHEAP_BUSY);
+        return !is_guarded();
+    }
+
+    shardheap_pass raw_ = SHARDHEAP_INIT;
+};
+
+/// A hold on a key, which is given back when the guard is destroyed. Until then the value stays readable and unchanged.
+/// It is used by the thread that has its pass, and ends before that pass is moved or destroyed.
+///
+///     gearlongan::guard guard = pass.get(key);
+///     shard.remove(key);
+///     assert(guard.read()[1] == 8);
+class [[nodiscard]] guard {
+public:
+    guard() noexcept = default;
+    guard(guard &&other) noexcept : of_(std::exchange(other.of_, nullptr)), key_(other.key_) {}
+    guard &operator=(guard &&other) noexcept {
+        guard moved(std::move(other));
+        std::swap(of_, moved.of_);
+        std::swap(key_, moved.key_);
+        return *this;
+    }
+    guard(const guard &) = delete;
+    guard &operator=(const guard &) = delete;
+    ~guard() { reset(); }
+
+    /// Whether there is a hold here: false if it is empty.
+    [[nodiscard]] explicit operator bool() const noexcept { return of_ != nullptr; }
+
+    /// The key that is held.
+    ///
+    ///     assert(pass.get(key).key() == key);
+    [[nodiscard]] gearlongan::key key() const noexcept { return key_; }
+
+    /// Copies the value. empty; not_held, if the hold was given back by its key.
+    ///
+    ///     gearlongan::value value;
+    ///     assert(pass.get(key).try_read(value) == gearlongan::errc::ok);
+    errc try_read(value &into) const noexcept;
+
+#if defined(__cpp_exceptions)
+    /// Copies the value.
+    ///
+    ///     assert(pass.get(key).read().size() == 2);
+    [[nodiscard]] inline value read() const {
+        value words;
+        detail::check(try_read(words));
+        return words;
+    }
+
+    /// Copies the value as a record. It throws wrong_size, too.
+    ///
+    ///     gearlongan::key third = shard.insert_record(1.5);
+    ///     assert(pass.get(third).record<double>() == 1.5);
+    template <class T> [[nodiscard]] T record() const {
+        std::optional<T> read_as = read().template as<T>();
+        if (!read_as) detail::refuse(errc::wrong_size);
+        return *read_as;
+    }
+#endif
+
+    /// Gives the hold back, and empties the guard.
+    ///
+    ///     gearlongan::guard guard = pass.get(key);
+    ///     guard.reset();
+    void reset() noexcept {
+        if (reader *of = forget()) shardheap_release(&of->raw_, key_.number());
+    }
+
+    /// Leaves the hold with the pass, and empties the guard: reader::try_release gives it back by its key. So a pass
+    /// may move while it has holds. A pass that comes home takes them along, and its next user has them.
+    ///
+    ///     gearlongan::key held = pass.get(key).detach();
+    ///     auto moved = std::move(pass);
+    ///     assert(moved.try_release(held) == gearlongan::errc::ok);
+    gearlongan::key detach() noexcept {
+        (void)forget();
+        return key_;
+    }
+
+private:
+    friend class reader;
+    // (the pass has a hold on the key that nothing else refers to)
+    guard(reader &of, gearlongan::key key) noexcept : of_(&of), key_(key) { of.count_guard(true); }
+    reader *forget() noexcept {
+        reader *of = std::exchange(of_, nullptr);
+        if (of) of->count_guard(false);
+        return of;
+    }
+    reader *of_ = nullptr;
+    gearlongan::key key_;
+};
+
+inline errc reader::try_get(key of, guard &into) & noexcept {
+    if (into) return errc::occupied;
+    const errc code = hold(of);
+    if (code == errc::ok) into = guard(*this, of);
+    return code;
+}
+
+inline errc guard::try_read(value &into) const noexcept {
+    return of_ ? of_->read_words(key_, into) : errc::empty;
+}
+
+#if defined(__cpp_exceptions)
+inline guard reader::get(key of) & {
+    detail::check(hold(of));
+    return {*this, of};
+}
+
+inline guard reader::find(key of) & { return detail::found(hold(of)) ? guard(*this, of) : guard(); }
+#endif
+
+} // namespace gearlongan
+
+#endif

@@ -1,0 +1,83 @@
+// What the compiler must refuse. Each line that ends in `//~ TEXT` must have an error in which this text is, if it is
+// compiled with the other lines but without the rest of these: library/cpp/refused.py tries them one by one.
+#include "shardheap.hpp"
+
+#include <string>
+#include <utility>
+
+struct owns_memory {
+    std::string text;
+};
+struct too_long {
+    char bytes[129];
+};
+
+void refused(gearlongan::heap &heap, gearlongan::pass &pass, gearlongan::shard &shard, const gearlongan::key key);
+void refused(gearlongan::heap &heap, gearlongan::pass &pass, gearlongan::shard &shard, const gearlongan::key key) {
+    gearlongan::guard guard = pass.get(key);
+    gearlongan::receipt receipt = pass.receipt();
+
+    // Handles are not copied.
+    gearlongan::heap another = heap; //~ deleted
+    gearlongan::pass copy = pass; //~ deleted
+    gearlongan::shard owner = shard; //~ deleted
+    gearlongan::guard hold = guard; //~ deleted
+    gearlongan::receipt second = receipt; //~ deleted
+    pass.heed(receipt); //~ heed
+    pass = shard.get(key); //~ no
+    heap = *&heap; //~ deleted
+
+    // A pass does not become a shard, nor a shard a pass, except by an adopt and a leave.
+    gearlongan::shard made(std::move(pass)); //~ no matching
+    gearlongan::pass unmade(std::move(shard)); //~ no matching
+    gearlongan::reader both(std::move(pass)); //~ protected
+    pass.insert({7, 8}); //~ no member
+    (void)pass.slots_out(); //~ no member
+    gearlongan::shard adopted = pass.adopt(0); //~ adopt
+    gearlongan::pass left = shard.leave(); //~ leave
+
+    // A guard does not outlive the expression that its pass is in.
+    gearlongan::guard late = heap.take().get(key); //~ get
+    gearlongan::guard later = heap.take().find(key); //~ find
+
+    // Nor does a range of keys outlive that of its heap.
+    (void)heap.share().keys(); //~ keys
+    (void)gearlongan::key_range(); //~ no matching
+
+    // What must not be dropped.
+    pass.get(key); //~ nodiscard
+    pass.find(key); //~ nodiscard
+    pass.take(key); //~ nodiscard
+    pass.take_record<double>(key); //~ nodiscard
+    pass.receipt(); //~ nodiscard
+    pass.try_heed(receipt); //~ nodiscard
+    shard.pages_left(); //~ nodiscard
+    shard.slots_out(); //~ nodiscard
+    heap.keys(); //~ nodiscard
+    heap.take(); //~ nodiscard
+    std::move(pass).adopt(0); //~ nodiscard
+    std::move(shard).leave(); //~ nodiscard
+    pass.try_remove(key); //~ nodiscard
+    shard.insert({7, 8}); //~ nodiscard
+    gearlongan::heap::open(gearlongan::layout::wide, {1, 1, 1}); //~ nodiscard
+
+    // Keys are no numbers, and records no others than those that are plain bytes.
+    pass.load(5); //~ no
+    std::uint64_t number = key; //~ no
+    shard.insert_record(owns_memory{}); //~ a record is a trivially copyable type
+    shard.insert_record(too_long{}); //~ a record is a trivially copyable type
+    pass.load_record<std::string>(key); //~ a record is a trivially copyable type
+    (void)pass.take_record<std::string>(key); //~ a record is a trivially copyable type
+    guard.record<too_long>(); //~ a record is a trivially copyable type
+
+    // Calls on a handle are not const: they are not for several threads at once.
+    const gearlongan::pass &constant = pass;
+    constant.load(key); //~ const
+    constant.remove(key); //~ const
+    (void)constant.take(key); //~ const
+    (void)constant.receipt(); //~ const
+    (void)static_cast<const gearlongan::shard &>(shard).slots_out(); //~ const
+    (void)static_cast<const gearlongan::heap &>(heap).keys(); //~ const
+    static_cast<const gearlongan::heap &>(heap).take(); //~ const
+    (void)constant, (void)heap, (void)shard;
+}

@@ -1,0 +1,62 @@
+// shardheap.hpp: the calls of shardheap.h for C++17, by handles that move and close themselves.
+//
+//     #include "shardheap.hpp"
+//
+//     auto heap = gearlongan::heap::open_for(gearlongan::layout::wide, {1, 20000, 2, 8});
+//     auto shard = heap.take().adopt(0);           // a pass of its own for each thread; the owner of a shard inserts
+//     auto pass = heap.take();
+//     gearlongan::key key = shard.insert({7, 8});
+//     gearlongan::guard guard = pass.get(key);     // by any pass, of any thread
+//     shard.remove(key);                           // from now on the key is gone, for ever
+//     assert(guard.read()[1] == 8);                // the guard keeps the value until its scope ends
+//     assert(!pass.load(key));
+//
+// The head of shardheap.h says what heaps, passes, shards, keys, holds and receipts are, and what its calls return.
+// This header changes none of that. It is not proved, as that header is not.
+//
+// NAMESPACE. It is `gearlongan`, because `shardheap` is a type of shardheap.h: C++ allows no namespace of that name
+// beside it. `gearlongan` is the name of the crate for Rust, too.
+//
+// HANDLES. A heap, a pass, a shard, a guard and a receipt can be moved and not copied. One that was
+// default-constructed, closed or moved from is empty. It may be destroyed, assigned to and filled. Any other call on it
+// returns errc::empty. To move a handle onto itself does nothing. An assignment first closes what the target holds.
+//
+// GUARDS. A guard refers to its pass or shard, as an iterator refers to its container. While a guard exists, its pass
+// is not moved, closed, or destroyed; nor does it adopt or leave. Otherwise the hold is lost, or the guard refers to an
+// object that is gone.
+//
+// DESTRUCTORS. That of a pass gives it home, as shardheap_pass_close does. That of a shard leaves it first. If another
+// pass is in the middle of a free there, the destructor yields to other threads and tries again, 1,000 times. If that
+// free does not end, for example because its thread was stopped, the destructor loses the pass (shardheap_pass_lose):
+// the heap has one pass less, and that shard has no other owner again. A caller that has to know calls `leave` first.
+//
+// ERRORS. Each call has two forms. The plain form throws gearlongan::error, which is a std::system_error. The form
+// named `try_..` is noexcept, returns an errc, and writes its result to a parameter, which a refusal leaves as it was.
+// A program that is compiled without exceptions has only the second form. Nothing else is thrown, except std::bad_alloc
+// if the text of an error finds no memory.
+//
+// THREADS. The rules are those of shardheap.h. A pass, with its guards, is used by one thread at a time, and may go to
+// another thread by whatever orders the two. The calls on a handle are therefore not const. A const member function may
+// be called by several threads at once, except those of a guard, which use its pass.
+//
+// SIGNALS. In a signal handler a program may use the forms that do not throw, of the calls that shardheap.h allows
+// there, and a guard's destructor.
+//
+// CHECKED MODE. With SHARDHEAP_CHECKED all that shardheap.h finds is found here. A handle that is moved is sealed at
+// its new place. A pass also counts its guards. If it has one, a move, an adopt and a leave do nothing; a close, a lose
+// and a destructor go on. Each of them calls SHARDHEAP_ON_MISUSE(SHARDHEAP_BUSY).
+//
+// COSTS. A call is the call of shardheap.h, inlined. No call takes memory of its own, except for the text of an error.
+#ifndef SHARDHEAP_HPP
+#define SHARDHEAP_HPP
+
+#include "gearlongan/errors.hpp"
+#include "gearlongan/handles.hpp"
+#include "gearlongan/heaps.hpp"
+#include "gearlongan/keys.hpp"
+#include "gearlongan/passes.hpp"
+#include "gearlongan/readers.hpp"
+#include "gearlongan/receipts.hpp"
+#include "gearlongan/values.hpp"
+
+#endif

@@ -1,0 +1,74 @@
+"""The two forms of the library that a package has, of one archive: libshardheap.a and libshardheap.so.
+
+Both have the memory functions of library/src/memory.c inside. Both show the calls shardheap_raw_.. that the header
+declares and nothing else, so that no name of theirs meets one of the program.
+"""
+import pathlib
+import re
+import subprocess
+import sys
+
+TOP = pathlib.Path(__file__).resolve().parent.parent.parent
+MAP = TOP / "library/shardheap.map"
+# What the library takes from the C library.
+TAKEN = {"malloc", "realloc", "free", "memcpy", "memmove", "memset", "memcmp", "bcmp"}
+WARNINGS = ["-Wall", "-Wextra", "-Wpedantic", "-Wconversion", "-Werror"]
+
+
+def ran(*words):
+    return subprocess.run(words, check=True, capture_output=True, text=True).stdout
+
+
+def declared():
+    """The calls that the header declares."""
+    header = (TOP / "library/include/shardheap.h").read_text()
+    return set(re.findall(r"^\w+ (shardheap_raw_\w+)\(", header, re.M))
+
+
+def shown(file, *words):
+    """The names that an object, an archive (`-g`) or a shared library (`-D`) defines for others."""
+    return set(re.findall(r"^\w+ [B-Z] (\w+)", ran("nm", "--defined-only", *words, file), re.M))
+
+
+def compare(file, found, wanted):
+    """Stops at a name that only one of both has."""
+    for name in sorted(found ^ wanted):
+        sys.exit(f"package: {file.name} {'shows' if name in found else 'does not show'} {name}, "
+                 f"which the header {'does not declare' if name in found else 'declares'}")
+
+
+def take_nothing_else(compiled):
+    """Stops if the library takes more from elsewhere than the C library's memory."""
+    more = set(re.findall(r"^ +U (\w+)$", ran("nm", "-u", compiled), re.M)) - TAKEN
+    if more:
+        sys.exit(f"package: the library would need {', '.join(sorted(more))} of the program that links it")
+
+
+def static(archive, made, room):
+    """Makes libshardheap.a: one relocatable object of the archive and the memory functions."""
+    memory, whole, compiled, names = (room / it for it in ("memory.o", "whole.o", "shardheap.o", "names"))
+    how = ["-std=c11", *WARNINGS, "-O2", "-march=x86-64", "-fPIC"]
+    ran("gcc", *how, "-c", TOP / "library/src/memory.c", "-o", memory)
+    ran("ld", "-r", "--whole-archive", archive, "--no-whole-archive", memory, "-o", whole)
+    names.write_text("\n".join(sorted(declared())))
+    ran("objcopy", f"--keep-global-symbols={names}", "--strip-debug", whole, compiled)
+    take_nothing_else(compiled)
+    made.unlink(missing_ok=True)
+    ran("ar", "rcsD", made, compiled)
+    compare(made, shown(made, "-g"), declared())
+
+
+def shared(archive, made, name):
+    """Makes the shared library of libshardheap.a, under the name that programs look for."""
+    how = [f"-Wl,-soname,{name}", f"-Wl,--version-script={MAP}", "-Wl,--no-undefined", "-Wl,--build-id=sha1"]
+    how += ["-Wl,-z,relro", "-Wl,-z,now", "-Wl,-z,noexecstack"]
+    ran("gcc", "-shared", *how, "-Wl,--whole-archive", archive, "-Wl,--no-whole-archive", "-o", made)
+    ran("strip", "--strip-unneeded", made)
+    made.chmod(0o644)
+    compare(made, shown(made, "-D"), declared())
+
+
+def newest_of_libc(file):
+    """The newest version of the C library that a shared library asks for."""
+    found = re.findall(r"GLIBC_([0-9.]+)", ran("objdump", "-T", file))
+    return max(found, key=lambda it: [int(part) for part in it.split(".")], default="2.2.5")

@@ -1,0 +1,110 @@
+"""Where a package is tried: a bare Debian that knows nothing of this repository, or a plain prefix.
+
+A root runs a script under bash, with no environment of this machine, in a folder of its own. It has the packages in
+PACKAGES and the clients in CLIENT. PREFIX is where the package is installed, LIB has its libraries.
+"""
+import os
+import pathlib
+import shutil
+import subprocess
+import tarfile
+
+SUITE, MIRROR = "bookworm", "http://deb.debian.org/debian"
+# rustc-web is the newer of the two compilers of Debian 12: the crate asks for more than rustc 1.63.
+WANTED = ["gcc", "g++", "make", "cmake", "pkg-config", "cargo-web", "rustc-web"]
+NAME = "libshardheap-dev"
+
+
+def missing():
+    """Why no bare root can be made, or nothing."""
+    if not shutil.which("debootstrap") or not shutil.which("unshare"):
+        return "there is no debootstrap"
+    return "" if os.geteuid() == 0 else "only root may use debootstrap"
+
+
+class Root:
+    """What both kinds have in common. `inside` is how scripts see `folder`."""
+
+    def __init__(self, folder, inside, clients, packages):
+        self.folder, self.inside, self.clients, self.packages = folder, inside, clients, packages
+
+    def settle(self):
+        """Puts fresh copies of the packages and the clients there, and installs the package anew."""
+        for name, source in (("packages", self.packages), ("client", self.clients)):
+            shutil.rmtree(self.folder / name, ignore_errors=True)
+            shutil.copytree(source, self.folder / name)
+        self.install()
+
+    def variables(self):
+        triplet = subprocess.run(["gcc", "-dumpmachine"], capture_output=True, text=True, check=True).stdout.strip()
+        return {"PACKAGES": f"{self.inside}/packages", "CLIENT": f"{self.inside}/client", "TRIPLET": triplet,
+                "LC_ALL": "C"}
+
+    def run(self, script):
+        """Runs a script in a new folder. Returns whether it passed, and what it wrote."""
+        room = self.folder / "room"
+        shutil.rmtree(room, ignore_errors=True)
+        room.mkdir()
+        text = f"set -eu\nnot() {{ ! \"$@\"; }}\ncd {self.inside}/room\n{script}"
+        ran = subprocess.run(self.command(text), stdout=subprocess.PIPE, stderr=subprocess.STDOUT, text=True,
+                             stdin=subprocess.DEVNULL)
+        return ran.returncode == 0, ran.stdout
+
+    def command(self, script):
+        variables = [f"{name}={value}" for name, value in self.variables().items()]
+        return ["env", "-i", *variables, "bash", "-c", script]
+
+
+class Debian(Root):
+    """A bare root of Debian, in which the .deb is installed."""
+
+    is_debian = True
+
+    def __init__(self, system, clients, packages):
+        self.system = system
+        super().__init__(system / "tmp/package-checks", "/tmp/package-checks", clients, packages)
+        if not (system / "usr/bin/dpkg").exists():
+            command = ["debootstrap", "--variant=minbase", f"--include={','.join(WANTED)}", SUITE, system, MIRROR]
+            print(f"making a bare {SUITE} with {' '.join(WANTED)}: some minutes", flush=True)
+            subprocess.run(command, check=True, stdout=subprocess.DEVNULL)
+        self.folder.mkdir(exist_ok=True)
+
+    def variables(self):
+        own = {"PATH": "/usr/sbin:/usr/bin:/sbin:/bin", "HOME": "/root", "PREFIX": "/usr"}
+        own["LIB"] = f"/usr/lib/{super().variables()['TRIPLET']}"
+        return {**super().variables(), **own}
+
+    def command(self, script):
+        inner = super().command(script)
+        apart = ["unshare", "--mount", "--pid", "--fork", f"--mount-proc={self.system}/proc"]
+        return [*apart, "chroot", self.system, *inner]
+
+    def install(self):
+        # A fault may have left a file that dpkg does not know.
+        clean = f"dpkg --purge {NAME} > /dev/null 2>&1 || true\nrm -rf /usr/share/doc/{NAME}"
+        found, said = self.run(f"{clean}\ndpkg -i $PACKAGES/*.deb")
+        if not found:
+            raise SystemExit(f"package-checks: the package cannot be installed\n{said}")
+
+
+class Plain(Root):
+    """The tarball below a folder of this machine, whose tools and libraries programs use."""
+
+    is_debian = False
+
+    def __init__(self, folder, clients, packages):
+        super().__init__(folder, str(folder), clients, packages)
+        self.prefix = folder / "prefix"
+
+    def variables(self):
+        lib = f"{self.prefix}/lib"
+        own = {"PREFIX": self.prefix, "LIB": lib, "LD_LIBRARY_PATH": lib, "CMAKE_PREFIX_PATH": self.prefix}
+        own |= {"PKG_CONFIG_PATH": f"{lib}/pkgconfig", "PATH": os.environ["PATH"], "HOME": os.environ["HOME"]}
+        return {**super().variables(), **own}
+
+    def install(self):
+        shutil.rmtree(self.prefix, ignore_errors=True)
+        with tarfile.open(next(pathlib.Path(self.packages).glob("*.tar.gz"))) as tar:
+            top = tar.getnames()[0].split("/")[0]
+            tar.extractall(self.folder)
+        (self.folder / top).rename(self.prefix)
