@@ -31,7 +31,7 @@ KIT = pathlib.Path("/opt/rattle")
 WRAPPED = "pthread_create pthread_join pthread_detach pthread_self sched_yield syscall _exit".split()
 WARNINGS = ["-std=gnu11", "-O2", "-Wall", "-Wextra", "-Werror"]
 # The steps of a pass: these functions of sh_table's file table.rt.
-STEPS = "add sub or swap store exchange load".split()
+STEPS = "add sub or set_present swap store exchange load".split()
 STEP = re.compile(r'@"sh_table::table::[^"\n]*?\b(' + "|".join(STEPS) + r')(?:::<[^"\n]*)?"')
 
 
