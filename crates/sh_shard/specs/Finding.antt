@@ -1,4 +1,4 @@
--- Where the parts of an insert find room for a value.
+-- The page in which each part of an insert finds room for a value.
 use Rattle.std.specs.Prelude.{◌≡◌, ℕ, ◌+◌, ◌<◌, true, List, Some, slice_get, length, Result, Ok, Err}
 use Rattle.sh_key.specs.Layout.{Layout}
 use Rattle.sh_queue.specs.Numbers.{has_number}
@@ -19,7 +19,7 @@ pub record StoresIn (layout : Layout) (c p key : ℕ) (value : List ℕ) (o n : 
   pub through : WorksThroughout o tried
   pub inserts : PageInserts p value key tried n
 
--- it is in the front page of the class
+-- the value is in the front page of the class
 pub record StoresAtFront (layout : Layout) (c key : ℕ) (value : List ℕ) (o n : Sharded) : Type 0 where
   pub page : ℕ
   pub front : slice_get (class_queue o.queues c) 0 ≡ Some page
@@ -31,7 +31,7 @@ pub record StoresAtFront (layout : Layout) (c key : ℕ) (value : List ℕ) (o n
   pub inserts : PageInserts page value key o.pages n.pages
   pub steps : TakesSteps (length value + 2) o.pages n.pages
 
--- it is in a page of the queue of the class
+-- the value is in a page of the queue of the class
 pub record StoresInQueue (layout : Layout) (c key : ℕ) (value : List ℕ) (o n : Sharded) : Type 0 where
   pub page : ℕ
   pub here : has_number page (class_queue o.queues c) ≡ true
@@ -39,7 +39,7 @@ pub record StoresInQueue (layout : Layout) (c key : ℕ) (value : List ℕ) (o n
   pub opened : n.queues.opened ≡ o.queues.opened
   pub stores : StoresIn layout c page key value o.pages n.pages
 
--- it is in the next page for the class, which was given it
+-- the value is in the next page for the class, which was given that class
 pub record StoresInNext (layout : Layout) (c key : ℕ) (value : List ℕ) (o n : Sharded) : Type 0 where
   pub page : ℕ
   pub names : NamesSlot layout page key o.pages
@@ -49,8 +49,8 @@ pub record StoresInNext (layout : Layout) (c key : ℕ) (value : List ℕ) (o n 
   pub opened : n.queues.opened ≡ given.queues.opened
   pub steps : StepsAtMost (length value + 3) o.pages.owner n.pages.owner
 
--- an insert of a value of class c into a page that had another class or none: there is none where the value could go,
--- or a segment's growth was refused, and then nothing is changed
+-- An insert of a value of class c into a page that had another class or none. If no page could take the value, or the
+-- growth of a segment was refused, nothing is changed.
 abbrev pub InsertsElsewhere : Layout → ℕ → List ℕ → Sharded → Result ℕ Refusal → Sharded → Type 0
 InsertsElsewhere layout c value o (Ok key) n = StoresInNext layout c key value o n
 InsertsElsewhere layout c value o (Err refusal.Full) n = (n ≡ o) × NoPageFor c o

@@ -14,8 +14,8 @@ use Rattle.sh_states.specs.States.{blank_state, with_local}
 use Rattle.sh_states.specs.declared.states.PageState.{PageState}
 use Rattle.sh_shard.specs.Pages.{shard_page}
 
--- what is kept of a page is what its owner knows of it: each slot of the lists is its own, and no other is; a blank
--- page is not armed, and has no cursor
+-- What is kept of a page is what its owner knows about it. The slots of the lists are the owner's, and no others are. A
+-- blank page is not armed, and has no cursor.
 pub record KeepsPage (st : PageState) (g : SeenPage) : Type 0 where
   pub class : g.class ≡ Some st.class_word
   pub few : st.class_word ≤ 8
@@ -29,7 +29,7 @@ pub record KeepsPage (st : PageState) (g : SeenPage) : Type 0 where
 abbrev pub rings_at : Caller → ℕ → Option ℕ → Option ℕ
 rings_at v shard rings = elim rings [ Some p ↦ Some (heap_page v (shard_page shard p)) | None ↦ None ]
 
--- nothing is begun, the shard is its own, and of each page is kept what is known of it
+-- nothing is begun, the shard is its own, and what is kept of each page is what is known
 pub record KeepsPages (layout : Layout) (v : Caller) (shard : ℕ) (rings : Option ℕ) (states : List PageState) : Type 0
   where
     pub stands : ViewStands layout v.view
@@ -40,14 +40,14 @@ pub record KeepsPages (layout : Layout) (v : Caller) (shard : ℕ) (rings : Opti
     pub pages : (p : ℕ) → p < length states → KeepsPage (get_or states p blank_state)
         (seen_page v (heap_page v (shard_page shard p)))
 
--- the slot stands in no list of its page, which is one of the shard
+-- the slot is in no list of its page, and that page is in the shard
 abbrev pub MayCome : ℕ → List PageState → Option Spot → Type 0
 MayCome shard states None = Unit {0}
 MayCome shard states (Some x) = (p : ℕ) × (p < length states) × (x.page ≡ shard * length states + p)
     × (x.slot < slot_places)
     × Misses x.slot ((get_or states p blank_state).lists.free ++ (get_or states p blank_state).lists.local)
 
--- the slot came to the lists of its page, whose number in the shard is answered
+-- the slot came to the lists of its page, whose number in the shard is returned
 abbrev pub Came : ℕ → Option Spot → List PageState → Option ℕ → List PageState → Type 0
 Came shard None old page new = (page ≡ None) × (new ≡ old)
 Came shard (Some x) old page new = (p : ℕ) × (page ≡ Some p) × (p < length old) × (x.page ≡ shard * length old + p)

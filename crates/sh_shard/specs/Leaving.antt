@@ -13,8 +13,8 @@ pub record Collecting (o n : Paged) : Type 0 where
   pub through : WorksThroughout o n
   pub arm : NoArming o n
 
--- where a cursor stands, a link was not written, and where the page is armed still, what was put on it was taken, in
--- this work
+-- if there is a cursor, a link was not written; if the page is still armed, what was put on it was taken; both in this
+-- work
 pub record PageEmptied (g h : SeenPage) : Type 0 where
   pub waits : WaitsSince g h
   pub taken : h.cursor ≡ None → h.armed ≡ true → g.takes < h.takes
@@ -50,21 +50,21 @@ pub record AllAtRest (v : Paged) : Type 0 where
   pub bell : v.bell.cursor ≡ None
   pub pages : (p : ℕ) → p < v.count → AtRest (page_at v p)
 
--- the bell has a cursor, or it has none and a page has one, or is armed and has none
+-- the bell has a cursor; or it has none, and a page has a cursor or is armed
 abbrev pub NotAtRest : Paged → Type 0
 NotAtRest v = CursorStands v.bell.cursor
     ⊎ ((v.bell.cursor ≡ None) × ((p : ℕ) × (p < v.count) × (CursorStands (page_at v p).cursor
     ⊎ (((page_at v p).cursor ≡ None) × ((page_at v p).armed ≡ true)))))
 
--- the bell or a page is not at rest: a link of a cursor was not written in this call, or else the page is armed though
--- both it and the bell were taken in this call, so the notice of its ring is yet to come
+-- The bell or a page is not at rest. Either a link of a cursor was not written in this call; or the page is armed
+-- although both it and the bell were taken in this call. Then the notice of its ring is yet to come.
 abbrev pub RestsNot : Paged → Paged → Type 0
 RestsNot o n = (CursorStands n.bell.cursor × (o.bell.met < n.bell.met))
     ⊎ ((p : ℕ) × (p < n.count) × ((CursorStands (page_at n p).cursor × ((page_at o p).met < (page_at n p).met))
     ⊎ ((n.bell.cursor ≡ None) × ((page_at n p).armed ≡ true) × ((page_at o p).takes < (page_at n p).takes)
     × (o.bell.takes < n.bell.takes))))
 
--- leaving waits for others: nothing was put, nothing armed, and no page changed its class
+-- leaving waits for others: nothing was put or armed, and no page changed its class
 pub record Waiting (o n : Paged) : Type 0 where
   pub collects : Collecting o n
   pub why : RestsNot o n
@@ -82,7 +82,7 @@ pub record PutsOne (p : ℕ) (o n : Paged) : Type 0 where
   pub others : (q : ℕ) → q ≢ p → page_at n q ≡ page_at o q
   pub steps : TakesSteps 2 o n
 
--- each slot of page p that was its owner's was put on the page's stack
+-- each slot of page p that the owner had was put on the page's stack
 pub record PutsBack (p : ℕ) (o n : Paged) : Type 0 where
   pub aside : Aside o.owner n.owner
   pub bell : n.bell ≡ o.bell
@@ -95,7 +95,7 @@ pub record PutsBack (p : ℕ) (o n : Paged) : Type 0 where
   pub others : (q : ℕ) → q ≢ p → page_at n q ≡ page_at o q
   pub steps : StepsAtMost 96 o.owner n.owner
 
--- nothing of any page is its owner's, and all is at rest
+-- the owner has nothing in any page, and all is at rest
 pub record PutsAllBack (o n : Paged) : Type 0 where
   pub aside : Aside o.owner n.owner
   pub log : n.owner.view.own.log ≡ o.owner.view.own.log
@@ -104,7 +104,7 @@ pub record PutsAllBack (o n : Paged) : Type 0 where
   pub pages : (p : ℕ) → p < n.count → HasNothing (page_at n p)
   pub steps : StepsAtMost (96 * o.count) o.owner n.owner
 
--- the shard is left, or leaving waits and the shard comes back
+-- the shard is left, or leaving waits and the shard is returned
 abbrev pub LeaveDoes : Paged → Result Caller Paged → Type 0
 LeaveDoes v (Ok w) = ShardLeft v.owner w
 LeaveDoes v (Err n) = Waiting v n

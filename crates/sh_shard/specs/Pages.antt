@@ -18,14 +18,14 @@ use Rattle.sh_pass.specs.Receipts.{heeded}
 use Rattle.sh_pass.specs.Owners.{SeenPage, SeenBell, Aside, NonePut, NoneArmed, HasNothing, heap_page, own_body}
 use Rattle.sh_pass.specs.Owners.{page_given, page_with, seen_page, IsKeyIn, IsKeyOn}
 
--- what the owner knows, its shard, how many pages that has, and its bell as the owner sees it
+-- what the owner knows, its shard, the number of its pages, and its bell as the owner sees it
 pub record Paged : Type 0 where
   pub owner : Caller
   pub shard : ℕ
   pub count : ℕ
   pub bell : SeenBell
 
--- the pages, once their owner heeded the receipt
+-- the pages, once their owner has heeded the receipt
 abbrev pub pages_heeded : Paged → Caller → Paged
 pages_heeded v r = record { owner = heeded v.owner r; shard = v.shard; count = v.count; bell = v.bell }
 
@@ -37,16 +37,16 @@ shard_page shard p = record { shard = shard; page = p }
 abbrev pub page_at : Paged → ℕ → SeenPage
 page_at v p = seen_page v.owner (heap_page v.owner (shard_page v.shard p))
 
--- the page's class word, 0 where none is known
+-- the page's class word, 0 if none is known
 abbrev pub seen_class : SeenPage → ℕ
 seen_class g = elim (g.class) [ Some c ↦ c | None ↦ 0 ]
 
--- how many numbers below n pass
+-- how many numbers below n pass the test
 abbrev pub count_below : (ℕ → Bool) → ℕ → ℕ
 count_below f zero = 0
 count_below f (suc n) = if1 (f n) + count_below f n
 
--- how many of the page's slots are its owner's
+-- how many slots of the page are its owner's
 abbrev pub own_slots : SeenPage → ℕ
 own_slots g = count_below g.mine slot_places
 
@@ -55,7 +55,7 @@ abbrev pub word_slots : ℕ → ℕ
 word_slots zero = 0
 word_slots (suc c) = slots c
 
--- how many of the page's slots are not its owner's
+-- how many slots of the page are not its owner's
 abbrev pub page_out : SeenPage → ℕ
 page_out g = word_slots (seen_class g) - own_slots g
 
@@ -81,7 +81,7 @@ pub record WhollyMine (g : SeenPage) : Type 0 where
   pub classed : g.class ≡ Some (suc class)
   pub mine : (s : ℕ) → s < slots class → g.mine s ≡ true
 
--- none of the first n pages is so
+-- none of the first n pages is wholly the owner's
 abbrev pub NoneWhollyMine : ℕ → Paged → Type 0
 NoneWhollyMine n v = (p : ℕ) → p < n → ¬ WhollyMine (page_at v p)
 
@@ -89,25 +89,25 @@ NoneWhollyMine n v = (p : ℕ) → p < n → ¬ WhollyMine (page_at v p)
 abbrev pub BlankFrom : ℕ → Paged → Type 0
 BlankFrom k v = (p : ℕ) → k ≤ p → p < v.count → (page_at v p).class ≡ Some 0
 
--- of a blank page nothing is its owner's
+-- the owner has nothing in a blank page
 abbrev pub BlankHasNothing : Paged → Type 0
 BlankHasNothing v = (p : ℕ) → p < v.count → (page_at v p).class ≡ Some 0 → HasNothing (page_at v p)
 
 abbrev pub CursorStands : Option ℕ → Type 0
 CursorStands c = MatchOption c ⊥ (λ _. Unit {0})
 
--- where a cursor stands, a link was not written, in this work
+-- if the page has a cursor, a link was not written in this work
 abbrev pub WaitsSince : SeenPage → SeenPage → Type 0
 WaitsSince g h = MatchOption h.cursor (Unit {0}) (λ _. g.met < h.met)
 
--- so many steps were taken
+-- this number of steps was taken
 abbrev pub TakesSteps : ℕ → Paged → Paged → Type 0
 TakesSteps n v w = length w.owner.view.own.trail ≡ length v.owner.view.own.trail + n
 
 abbrev pub NoArming : Paged → Paged → Type 0
 NoArming o n = NoneArmed o.owner n.owner
 
--- at most so many steps were taken, and one for each slot that page p has more of its owner's
+-- at most k steps were taken, and one for each slot that the owner gained in page p
 abbrev pub StepsForSlots : (k p : ℕ) → Paged → Paged → Type 0
 StepsForSlots k p o n = length n.owner.view.own.trail + own_slots (page_at o p)
     ≤ length o.owner.view.own.trail + own_slots (page_at n p) + k
@@ -116,7 +116,7 @@ StepsForSlots k p o n = length n.owner.view.own.trail + own_slots (page_at o p)
 abbrev pub armed_pages : Paged → ℕ
 armed_pages v = count_below (λ p. (page_at v p).armed) v.count
 
--- at most so many steps were taken, and one for each page that is armed no longer
+-- at most this many steps were taken, and one for each page that is no longer armed
 abbrev pub StepsForRings : ℕ → Paged → Paged → Type 0
 StepsForRings k o n = length n.owner.view.own.trail + armed_pages n ≤ length o.owner.view.own.trail + armed_pages o + k
 
@@ -135,7 +135,7 @@ pub record WorksOn (p : ℕ) (o n : Paged) : Type 0 where
   pub met : (page_at o p).met ≤ (page_at n p).met
   pub others : (q : ℕ) → q ≢ p → page_at n q ≡ page_at o q
 
--- what was put on the page was taken: it is armed as before, or no longer
+-- what was put on the page was taken: the page is armed as before, or no longer armed
 pub record TakesPage (p : ℕ) (o n : Paged) : Type 0 where
   pub works : WorksOn p o n
   pub arm : NoArming o n
@@ -143,7 +143,7 @@ pub record TakesPage (p : ℕ) (o n : Paged) : Type 0 where
   pub armed : (page_at o p).armed ≡ false → (page_at n p).armed ≡ false
   pub steps : StepsForSlots 1 p o n
 
--- the cursor went on, and one slot more is its own
+-- the cursor moved on, and the owner has one slot more
 pub record CursorMoves (p : ℕ) (o n : Paged) : Type 0 where
   pub works : WorksOn p o n
   pub arm : NoArming o n
@@ -165,19 +165,20 @@ pub record CollectsPage (p : ℕ) (o n : Paged) : Type 0 where
   pub waits : WaitsSince (page_at o p) (page_at n p)
   pub steps : StepsForSlots 2 p o n
 
--- after it the page is armed, unless a cursor stands; that cursor stood before, or met a link that was not written
+-- after this the page is armed, unless it has a cursor; that cursor was there before, or met a link that was not
+-- written
 pub record GuardsPage (p : ℕ) (o n : Paged) : Type 0 where
   pub works : WorksOn p o n
   pub waits : MatchOption (page_at n p).cursor ((page_at n p).armed ≡ true)
       (λ _. (n ≡ o) ⊎ ((page_at o p).met < (page_at n p).met))
   pub steps : StepsForSlots 2 p o n
 
--- nothing is left in the page: where it has a cursor, a link was not written in this call; else it is armed
+-- nothing is left in the page: if it has a cursor, a link was not written in this call; if it has none, it is armed
 pub record PageDone (o n : Paged) (p : ℕ) : Type 0 where
   pub mine : NothingMine (page_at n p)
   pub waits : MatchOption (page_at n p).cursor ((page_at n p).armed ≡ true) (λ _. (page_at o p).met < (page_at n p).met)
 
--- the value joined the log under this key, in page p; nothing was put, and no page changed its class
+-- the value was added to the log under this key, in page p; nothing was put, and no page changed its class
 pub record PageInserts (p : ℕ) (value : List ℕ) (key : ℕ) (o n : Paged) : Type 0 where
   pub aside : Aside o.owner n.owner
   pub put : NonePut o.owner n.owner
@@ -188,7 +189,7 @@ pub record PageInserts (p : ℕ) (value : List ℕ) (key : ℕ) (o n : Paged) : 
   pub class : (page_at n p).class ≡ (page_at o p).class
   pub others : (q : ℕ) → q ≢ p → page_at n q ≡ page_at o q
 
--- the key names a slot of page p, and so of the shard
+-- the key names a slot of page p, which is in the shard
 pub record NamesSlot (layout : Layout) (p key : ℕ) (v : Paged) : Type 0 where
   pub shard : IsKeyIn layout v.owner v.shard key
   pub page : IsKeyOn layout v.owner (heap_page v.owner (shard_page v.shard p)) key
@@ -235,7 +236,7 @@ pub record BellStops (o n : Paged) : Type 0 where
   pub pages : (q : ℕ) → page_at n q ≡ page_at o q
   pub steps : StepsForRings 1 o n
 
--- page p was read from the bell: it was armed, and is no longer
+-- page p was read from the bell: it was armed, and no longer is
 pub record BellReads (p : ℕ) (o n : Paged) : Type 0 where
   pub aside : Aside o.owner n.owner
   pub put : NonePut o.owner n.owner
@@ -253,7 +254,7 @@ pub record BellReads (p : ℕ) (o n : Paged) : Type 0 where
 
 -- ---- the four calls
 
--- where a slot came to be the owner's, its page has one more; all other pages and the bell are as they were
+-- if the owner gained a slot, its page has one more; all other pages and the bell are as they were
 pub record SlotComes (came : Option ℕ) (o n : Paged) : Type 0 where
   pub owned : (own_body n.owner).owned ≡ (own_body o.owner).owned
   pub same : SameTale o.owner.view n.owner.view
@@ -266,7 +267,7 @@ pub record SlotComes (came : Option ℕ) (o n : Paged) : Type 0 where
 
 -- ---- becoming the owner
 
--- a page of which nothing but its class word is known: no slot of it is its owner's, it has no cursor and is not armed
+-- nothing is known of the page except its class word: no slot is its owner's, it has no cursor and is not armed
 pub record BarePage (g : SeenPage) : Type 0 where
   pub mine : NothingMine g
   pub cursor : g.cursor ≡ None
@@ -287,7 +288,7 @@ pub record AdoptsShard (v : Caller) (k : ℕ) (n : Paged) : Type 0 where
   pub bell : n.bell.cursor ≡ None
   pub pages : (p : ℕ) → p < n.count → BarePage (page_at n p)
 
--- nothing is its own, and it has begun nothing; heap, tale, log and holds are as before
+-- the caller owns no shard, and it has begun nothing; heap, tale, log and holds are as before
 pub record ShardLeft (v w : Caller) : Type 0 where
   pub heap : w.heap ≡ v.heap
   pub same : SameTale v.view w.view
@@ -296,7 +297,7 @@ pub record ShardLeft (v w : Caller) : Type 0 where
   pub hand : (own_body w).hand ≡ Idle
   pub owned : (own_body w).owned ≡ None
 
--- why a shard was not adopted: there is none of the number, it has an owner, as one more step tells, or memory was
+-- why a shard was not adopted: no shard has this number, one more step found that it has an owner, or memory was
 -- refused
 abbrev pub AdoptRefused : ℕ → Caller → Caller → Refusal → Type 0
 AdoptRefused shard v w refusal.NoShard = (v.view.shape.shards ≤ shard) × (w ≡ v)

@@ -1,4 +1,4 @@
--- What a collect does: what others freed in a shard comes to its owner.
+-- What a collect does: the owner receives what others freed in its shard.
 use Rattle.std.specs.Prelude.{◌≡◌, ℕ, ◌+◌, ◌*◌, ◌<◌, None}
 use Rattle.sh_pass.specs.Owners.{SeenPage}
 use Rattle.sh_shard.specs.Pages.{Paged, page_at, seen_class, WaitsSince, WorksOn, NoArming, StepsForSlots}
@@ -7,8 +7,8 @@ use Rattle.sh_shard.specs.Works.{BellDone}
 use Rattle.sh_shard.specs.Leaving.{Collecting}
 use Rattle.sh_shard.specs.Shards.{Sharded}
 
--- nothing is left on the page's stack of what was put there and tied before: the stack was taken in this work and is
--- followed to its end, or a link was not written in this work; a page without a class has nothing
+-- Nothing that was put and tied before is left on the page's stack. The stack was taken in this work and followed to
+-- its end, or a link was not written in this work. A page without a class has nothing.
 pub record PageCollected (g h : SeenPage) : Type 0 where
   pub waits : WaitsSince g h
   pub taken : 0 < seen_class g → h.cursor ≡ None → g.takes < h.takes
@@ -27,7 +27,7 @@ pub record PagesCollected (o n : Paged) : Type 0 where
   pub pages : (p : ℕ) → p < n.count → PageCollected (page_at o p) (page_at n p)
   pub steps : StepsAtMost (51 * o.count) o.owner n.owner
 
--- so many steps a collect takes at most, with n pages of the shard
+-- the number of steps that a collect takes at most, with n pages of the shard
 abbrev pub collect_steps : ℕ → ℕ
 collect_steps n = 52 * n + 3
 

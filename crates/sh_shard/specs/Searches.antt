@@ -20,11 +20,11 @@ pub record Settles (c p : ℕ) (o n : Sharded) : Type 0 where
   pub pages : n.pages ≡ o.pages
   pub queues : (n.queues ≡ at_back c p o.queues) ⊎ (n.queues ≡ among_full p o.queues)
 
--- what stands in the queue of class c stood there
+-- every page in the queue of class c was there before
 abbrev pub Stood : ℕ → Sharded → Sharded → Type 0
 Stood c o n = (p : ℕ) → has_number p (class_queue n.queues c) ≡ true → has_number p (class_queue o.queues c) ≡ true
 
--- each page that stands in the queue of class c was tried, and nothing is left in it
+-- each page in the queue of class c was tried, and nothing is left in it
 pub record Searched (c : ℕ) (o n : Sharded) : Type 0 where
   pub since : WorkedSince o.pages n.pages
   pub opened : n.queues.opened ≡ o.queues.opened
@@ -32,8 +32,8 @@ pub record Searched (c : ℕ) (o n : Sharded) : Type 0 where
   pub done : (p : ℕ) → has_number p (class_queue n.queues c) ≡ true → PageDone o.pages n.pages p
   pub steps : StepsAtMost (4 * o.pages.count) o.pages.owner n.pages.owner
 
--- after so many turns: `rest` is yet to be tried, and ends in the page that was the last as the search began; those
--- that were tried wait behind it
+-- after this number of turns: `rest` is yet to be tried, and ends in the page that was last when the search began; the
+-- pages that were tried wait behind it
 pub record Searching (c turn last : ℕ) (o n : Sharded) : Type 0 where
   pub since : WorkedSince o.pages n.pages
   pub opened : n.queues.opened ≡ o.queues.opened
@@ -46,12 +46,12 @@ pub record Searching (c turn last : ℕ) (o n : Sharded) : Type 0 where
   pub done : (p : ℕ) → has_number p waited ≡ true → PageDone o.pages n.pages p
   pub steps : StepsAtMost (4 * turn) o.pages.owner n.pages.owner
 
--- what stands in the queue of class c stood there, or was read from the bell
+-- every page in the queue of class c was there before, or was read from the bell
 abbrev pub StoodOrRead : ℕ → Sharded → Sharded → Type 0
 StoodOrRead c o n = (p : ℕ) → has_number p (class_queue n.queues c) ≡ true
     → (has_number p (class_queue o.queues c) ≡ true) ⊎ ReadFromBell p o.pages n.pages
 
--- the bell was followed, taken and followed; where `read` is not so, no page of class c was read
+-- the bell was followed, taken and followed; if `read` is false, no page of class c was read
 pub record RingsOut (c : ℕ) (read : Bool) (o n : Sharded) : Type 0 where
   pub through : WorksThroughout o.pages n.pages
   pub opened : n.queues.opened ≡ o.queues.opened
@@ -62,7 +62,7 @@ pub record RingsOut (c : ℕ) (read : Bool) (o n : Sharded) : Type 0 where
       → has_number q (class_queue o.queues c) ≡ true
   pub steps : StepsForRings 3 o.pages n.pages
 
--- each page that stands in the queue of class c is done, and so is the bell
+-- each page in the queue of class c is done, and so is the bell
 pub record Tried (c : ℕ) (o n : Sharded) : Type 0 where
   pub through : WorksThroughout o.pages n.pages
   pub opened : n.queues.opened ≡ o.queues.opened
@@ -70,14 +70,14 @@ pub record Tried (c : ℕ) (o n : Sharded) : Type 0 where
   pub done : (p : ℕ) → has_number p (class_queue n.queues c) ≡ true → PageDone o.pages n.pages p
   pub steps : StepsAtMost (9 * o.pages.count + 3) o.pages.owner n.pages.owner
 
--- a page of this class word was read from the bell; where it stood in the full queue, it went to the back of its class
+-- a page of this class word was read from the bell; if it was in the full queue, it went to the back of its class
 pub record Heard (word : ℕ) (o n : Sharded) : Type 0 where
   pub page : ℕ
   pub reads : BellReads page o.pages n.pages
   pub class : (page_at n.pages page).class ≡ Some word
   pub queues : (n.queues ≡ o.queues) ⊎ (n.queues ≡ at_back (word - 1) page o.queues) × (0 < word) × (word ≤ 8)
 
--- pages were read from the bell; of class c none was, unless `read`
+-- pages were read from the bell; none of them is of class c, unless `read`
 pub record Hears (c : ℕ) (read : Bool) (o n : Sharded) : Type 0 where
   pub opened : n.queues.opened ≡ o.queues.opened
   pub came : StoodOrRead c o n
@@ -95,6 +95,6 @@ pub record Hears (c : ℕ) (read : Bool) (o n : Sharded) : Type 0 where
   pub queue : read ≡ false → (q : ℕ) → has_number q (class_queue n.queues c) ≡ true
       → has_number q (class_queue o.queues c) ≡ true
 
--- its cursor is at its end, or met a link that was not written
+-- the bell's cursor is at its end, or met a link that was not written
 abbrev pub BellWaits : Sharded → Sharded → Type 0
 BellWaits o n = MatchOption n.pages.bell.cursor (Unit {0}) (λ _. o.pages.bell.met < n.pages.bell.met)

@@ -27,7 +27,7 @@ pub record Sharded : Type 0 where
 
 -- ---- what is true of every shard between calls
 
--- a page of the full queue: it has a class, is armed, has no cursor, and nothing of it is its owner's
+-- a page of the full queue: it has a class, is armed, has no cursor, and none of its slots is its owner's
 pub record FullPage (g : SeenPage) : Type 0 where
   pub classed : 0 < seen_class g
   pub few : seen_class g ≤ 8
@@ -35,7 +35,7 @@ pub record FullPage (g : SeenPage) : Type 0 where
   pub cursor : g.cursor ≡ None
   pub mine : NothingMine g
 
--- each page stands where it belongs: in the queue of its class, in the full queue, or blank
+-- each page is where it belongs: in the queue of its class, in the full queue, or blank
 pub record SortedPages (v : Paged) (q : PageQueues) : Type 0 where
   pub all : q.opened + 8 * q.unopened ≡ v.count
   pub later : (p : ℕ) → q.opened ≤ p → p < v.count → (page_at v p).class ≡ Some 0
@@ -43,7 +43,7 @@ pub record SortedPages (v : Paged) (q : PageQueues) : Type 0 where
   pub full : (p : ℕ) → has_number p q.full ≡ true → FullPage (page_at v p)
   pub blank : (p : ℕ) → has_number p q.blank ≡ true → (page_at v p).class ≡ Some 0
 
--- nothing is begun, the shard is the owner's, and its tale stands
+-- nothing is begun, the shard is the owner's, and its tale holds
 pub record HoldsShard (layout : Layout) (o : Sharded) : Type 0 where
   pub stands : ViewStands layout o.pages.owner.view
   pub idle : (own_body o.pages.owner).hand ≡ Idle
@@ -55,7 +55,7 @@ pub record StaysOwner (layout : Layout) (o n : Sharded) : Type 0 where
   pub shard : n.pages.shard ≡ o.pages.shard
   pub same : SameTale o.pages.owner.view n.pages.owner.view
 
--- the shard, once its owner heeded the receipt
+-- the shard, once its owner has heeded the receipt
 abbrev pub shard_heeded : Sharded → Caller → Sharded
 shard_heeded o r = record { pages = pages_heeded o.pages r; queues = o.queues }
 
@@ -82,31 +82,31 @@ NoneSpare c v = (p : ℕ) → p < v.count → ¬ IsSpare c (page_at v p)
 abbrev pub NoneOpenedBlank : Sharded → Type 0
 NoneOpenedBlank o = (p : ℕ) → p < o.queues.opened → ¬ IsBlank (page_at o.pages p)
 
--- no page can be given class c: none is blank, in no segment either that is not opened, and none is spare
+-- no page can be given class c: none is blank, every segment is opened, and none is spare
 pub record NoPageFor (c : ℕ) (o : Sharded) : Type 0 where
   pub blank : (p : ℕ) → p < o.pages.count → ¬ IsBlank (page_at o.pages p)
   pub spare : NoneSpare c o.pages
   pub unopened : o.queues.unopened ≡ 0
 
--- only a segment more has a page for class c: no opened page is blank, and none is spare
+-- only one more segment has a page for class c: no opened page is blank, and none is spare
 pub record NeedsSegment (c : ℕ) (o : Sharded) : Type 0 where
   pub blank : NoneOpenedBlank o
   pub spare : NoneSpare c o.pages
   pub unopened : o.queues.unopened ≢ 0
 
--- page p is such a page, and no lower one is
+-- page p passes the test, and no lower page does
 pub record IsLowest (such : SeenPage → Type 0) (p : ℕ) (v : Paged) : Type 0 where
   pub here : such (page_at v p)
   pub lower : (q : ℕ) → q < p → ¬ such (page_at v q)
 
--- page p is the next one for class c: the lowest blank page, if that is opened; where no opened page is blank, the
--- lowest spare one; and where none is spare either, the lowest blank page, which is the first of the next segment
+-- Page p is the next one for class c: the lowest blank page, if that is opened. If no opened page is blank, it is the
+-- lowest spare page. If none is spare either, it is the first page of the next segment.
 abbrev pub IsNextFor : ℕ → ℕ → Sharded → Type 0
 IsNextFor c p o = ((p < o.queues.opened) × IsLowest IsBlank p o.pages)
     ⊎ ((NoneOpenedBlank o × IsLowest (IsSpare c) p o.pages)
     ⊎ (NoneSpare c o.pages × (p ≡ o.queues.opened) × IsLowest IsBlank p o.pages))
 
--- page p, the next one for class c, was given the class, and stands in front of the pages of the class
+-- page p, the next one for class c, was given the class, and is in front of the pages of the class
 pub record PreparesPage (c p : ℕ) (o n : Sharded) : Type 0 where
   pub inside : p < o.pages.count
   pub next : IsNextFor c p o
@@ -114,23 +114,22 @@ pub record PreparesPage (c p : ℕ) (o n : Sharded) : Type 0 where
   pub front : class_queue n.queues c ≡ p ∷ class_queue o.queues c
   pub opened : OpensFor p o.queues n.queues
 
--- a page is prepared for class c, or there is none that could be, or the growth of the segment that has the next one
--- was refused
+-- a page is prepared for class c; or no page can be; or the growth of the segment that has the next page was refused
 abbrev pub PrepareServes : ℕ → Sharded → Result ℕ Refusal → Sharded → Type 0
 PrepareServes c o (Ok p) n = PreparesPage c p o n
 PrepareServes c o (Err refusal.Full) n = (n ≡ o) × NoPageFor c o
 PrepareServes c o (Err refusal.Memory) n = (n ≡ o) × NeedsSegment c o
 PrepareServes c o (Err _) n = ⊥
 
--- the shard has no room for class c: each page of the class is done, no page is blank, of no page are all slots its
--- owner's, and no segment is unopened
+-- The shard has no room for class c: each page of the class is done, and no page is blank. No page has all its slots
+-- with its owner, and every segment is opened.
 pub record NoRoom (c : ℕ) (o n : Sharded) : Type 0 where
   pub left : NoneLeft c o.pages n.pages
   pub blank : (p : ℕ) → p < n.pages.count → (page_at n.pages p).class ≢ Some 0
   pub whole : (p : ℕ) → p < n.pages.count → ¬ WhollyMine (page_at n.pages p)
   pub unopened : n.queues.unopened ≡ 0
 
--- the value joined the log under this key; nothing was put
+-- the value was added to the log under this key; nothing was put
 pub record Added (value : List ℕ) (key : ℕ) (o n : Paged) : Type 0 where
   pub aside : Aside o.owner n.owner
   pub put : NonePut o.owner n.owner
@@ -161,8 +160,8 @@ pub record NextAfterSearch (c p key : ℕ) (value : List ℕ) (o n : Sharded) : 
   pub prepares : PreparesPage c p searched given
   pub inserts : PageInserts p value key given.pages n.pages
 
--- a value of class c went to a page that has the class, and no other page changed its class: one that stood in the
--- queue of the class, or came back by the bell, or was the next one for the class after a search in vain
+-- A value of class c went to a page that has the class, and no other page changed its class. The page was in the queue
+-- of the class, came back by the bell, or was the next one after a search in vain.
 pub record FindsPage (layout : Layout) (c key : ℕ) (value : List ℕ) (o n : Sharded) : Type 0 where
   pub page : ℕ
   pub inside : page < n.pages.count
@@ -173,8 +172,8 @@ pub record FindsPage (layout : Layout) (c key : ℕ) (value : List ℕ) (o n : S
   pub came : (has_number page (class_queue o.queues c) ≡ true)
       ⊎ (CameByBell c page key value o.pages n.pages ⊎ NextAfterSearch c page key value o n)
 
--- an insert of a value of class c: it joins the log, or there is no room, or nothing of the class is left and the
--- growth of the segment that has the next page was refused
+-- An insert of a value of class c. The value is added to the log, or there is no room. Or nothing of the class is left,
+-- and the growth of the segment that has the next page was refused.
 abbrev pub InsertServes : Layout → ℕ → List ℕ → Sharded → Result ℕ Refusal → Sharded → Type 0
 InsertServes layout c value o (Ok key) n = Added value key o.pages n.pages
     × IsKeyIn layout o.pages.owner o.pages.shard key × FindsPage layout c key value o n
@@ -194,21 +193,21 @@ pub record IsQuick (c : ℕ) (o : Sharded) : Type 0 where
   pub front : slice_get (class_queue o.queues c) 0 ≡ Some page
   pub mine : (page_at o.pages page).mine slot ≡ true
 
--- an insert that is done in so many steps
+-- an insert that is done in this number of steps
 abbrev pub DoneIn : ℕ → Sharded → Result ℕ Refusal → Sharded → Type 0
 DoneIn n o (Ok key) m = TakesSteps n o.pages m.pages
 DoneIn n o (Err _) m = ⊥
 
--- ---- becoming and ceasing to be the owner
+-- ---- adopting and leaving a shard
 
--- shard k is the pass's own, with its pages that have a class in their queues; or there is none of the number, or it
+-- shard k is the pass's own, and its pages that have a class are in their queues; or no shard has this number, or it
 -- has an owner, or memory was refused
 abbrev pub AdoptServes : ℕ → Caller → Result Sharded (Caller × Refusal) → Type 0
 AdoptServes k v (Ok n) = (k < v.view.shape.shards) × AdoptsShard v k n.pages × OpensClassed n.pages n.queues
     × FilesRising n.queues
 AdoptServes k v (Err r) = AdoptRefused k v r.0 r.1
 
--- the shard is left, or leaving waits for others and the shard comes back
+-- the shard is left, or leaving waits for others and the shard is returned
 abbrev pub LeaveServes : Sharded → Result Caller (Sharded × Refusal) → Type 0
 LeaveServes o (Ok w) = ShardLeft o.pages.owner w
 LeaveServes o (Err r) = (r.1 ≡ refusal.Waiting) × Waiting o.pages r.0.pages × ReturnsRising o.queues r.0.queues

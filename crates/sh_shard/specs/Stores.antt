@@ -1,4 +1,4 @@
--- An owner's shard as a store: its book is the log of its pass, from before it owned the shard too.
+-- An owner's shard as a store: its book is the log of its pass, including what came before it owned the shard.
 use Rattle.std.specs.Prelude.{List}
 use Rattle.sh_history.specs.declared.log.LogEntry.{LogEntry}
 use Rattle.sh_key.specs.Layout.{Layout}

@@ -1,4 +1,4 @@
-// Becoming the owner of a shard: its pages that have a class come to the queues of their classes.
+// Becoming the owner of a shard: its pages that have a class are put into the queues of their classes.
 ghost use Rattle.std.specs.Prelude.{◌≡◌, ℕ, ◌+◌, ◌*◌, ◌<◌, ◌≤◌, Some, MatchOption, IfSome, IfOk, IfErr};
 ghost use Rattle.sh_shard.specs.Pages.{page_at};
 ghost use Rattle.sh_shard.specs.Shards.{SortedPages, HoldsShard, AdoptServes};
@@ -16,14 +16,14 @@ use sh_shape::SEGMENT_PAGES;
 use sh_value::Refusal;
 use std::alloc::Global;
 
-// How many pages a segment has.
+// The number of pages of a segment.
 const SEGMENT: u64 = SEGMENT_PAGES as u64;
 
 impl<L: KeyLayout, H: KeepsHeap<L>> Shard<L, H> {
-    /// Makes the pass the owner of shard `n`: it finds what those before it left there. Refused, with the pass, as
-    /// `NoShard` exactly where the heap has no shard of this number, as `Taken` where the shard has an owner, and as
-    /// `Memory` where memory for its pages is refused: then the shard is left again. It takes at most two steps more
-    /// than the shard has pages.
+    /// Makes the pass the owner of shard `n`, with all that earlier owners left there. Refused, with the pass, as
+    /// `NoShard` exactly if the heap has no shard of this number, and as `Taken` if the shard has an owner. Refused as
+    /// `Memory` if memory for its pages is refused: then the shard is left again. It takes at most two steps more than
+    /// the shard has pages.
     pub fn adopt(alloc: Global, pass: Pass<L, H>, n: u64) -> Result<Self, (Pass<L, H>, Refusal)>
         ensures serves { AdoptServes n pass result }
         ensures bounded { AdoptIsBounded pass result }
@@ -41,7 +41,7 @@ impl<L: KeyLayout, H: KeepsHeap<L>> Shard<L, H> {
     }
 }
 
-// The queues of the pages, of which the segments are opened up to the last page that has a class.
+// The queues of the pages. The opened segments are those up to the last page that has a class.
 fn queues_of<L: KeyLayout, H: KeepsHeap<L>>(
     alloc: Global,
     pages: &Pages<L, H>,
@@ -59,7 +59,7 @@ fn queues_of<L: KeyLayout, H: KeepsHeap<L>>(
     Ok(filing.into_queues())
 }
 
-// The number behind the last page that has a class, 0 where none has. It is looked for from the back.
+// One more than the number of the last page that has a class, 0 if none has. The search goes from the back.
 fn classed_end<L: KeyLayout, H: KeepsHeap<L>>(pages: &Pages<L, H>) -> u64
     ensures few { result ≤ pages.now.count }
     ensures later { (p : ℕ) → result ≤ p → p < pages.now.count → (page_at pages.now p).class ≡ Some 0 }
@@ -75,7 +75,7 @@ fn classed_end<L: KeyLayout, H: KeepsHeap<L>>(pages: &Pages<L, H>) -> u64
     0
 }
 
-// Files each page that there will be, in ascending order.
+// Files each page of the filing, in ascending order.
 fn file_pages<L: KeyLayout, H: KeepsHeap<L>>(pages: &Pages<L, H>, filing: &mut Filing)
     requires few { filing.old.pages ≤ pages.now.count }
     requires none { FilesFirst 0 pages.now filing.old filing.old }
@@ -86,7 +86,7 @@ fn file_pages<L: KeyLayout, H: KeepsHeap<L>>(pages: &Pages<L, H>, filing: &mut F
     }
 }
 
-// The class of a page, where it is not blank.
+// The class of a page, if it is not blank.
 fn class_of<L: KeyLayout, H: KeepsHeap<L>>(pages: &Pages<L, H>, page: u64) -> Option<u32>
     requires { page < pages.now.count }
     ensures class { MatchOption result ((page_at pages.now page).class ≡ Some 0)

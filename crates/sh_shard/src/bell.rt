@@ -25,7 +25,7 @@ impl<L: KeyLayout, H: KeepsHeap<L>> Pages<L, H> {
         self.rings = top_item(found);
     }
 
-    /// One step: the page at the bell's cursor is no longer armed, unless its link is not written. Answers the page.
+    /// One step: the page at the bell's cursor is no longer armed, unless its link is not written. Returns the page.
     pub(crate) fn follow_bell(&mut self) -> Option<u64>
         ensures { MatchOption result (BellStops self.old self.new) (λ page. BellReads page self.old self.new) }
     {

@@ -2,8 +2,8 @@
 use crate::{pages, shard};
 use sh_pass::Heap;
 
-/// A shard that a pass owns, on a heap that it borrows: it inserts there, and gets, reads, removes and releases as any
-/// pass does.
+/// A shard that a pass owns, on a heap that it borrows: its owner inserts into it, and gets, reads, removes and
+/// releases as any pass does.
 pub type Shard<'a, L> = shard::Shard<L, &'a Heap<L>>;
 
 /// The pages of an owner's shard, on a heap that it borrows.

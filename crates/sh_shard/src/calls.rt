@@ -1,4 +1,4 @@
-// The four calls of a pass, for an owner: a slot of its shard that it freed itself comes to its page's lists.
+// The four calls of a pass, for an owner: a slot of its shard that the call frees goes to its page's lists.
 ghost use Rattle.std.specs.Prelude.{◌≡◌, ◌+◌, ◌*◌, ◌^◌, ◌≤◌, None, length};
 ghost use Rattle.sh_pass.specs.Passes.{GetDoes, ReadIntoDoes, RemoveDoes, ReleaseDoes};
 ghost use Rattle.sh_shard.specs.Kept.{MayCome, Came};
@@ -11,7 +11,7 @@ use sh_slots::Spot;
 use sh_states::PageStates;
 use sh_value::{Hold, Refusal, Value};
 
-// Puts a slot that came in front of `local`. Answers its page's number in the shard.
+// Puts a slot that the owner gained in front of `local`. Returns its page's number in the shard.
 fn keep(states: &mut PageStates, shard: u64, came: Option<Spot>) -> Option<u64>
     requires few { shard * length states.old + length states.old ≤ 2 ^ 24 }
     requires may { MayCome shard states.old came }
@@ -26,8 +26,8 @@ fn keep(states: &mut PageStates, shard: u64, came: Option<Spot>) -> Option<u64>
 }
 
 impl<L: KeyLayout, H: KeepsHeap<L>> Pages<L, H> {
-    /// Takes a hold on a key. Refused as `BadKey`, `HoldsFull`, `Gone` or `Crowded`, tried in that order. Answers also
-    /// the page to which a slot came.
+    /// Takes a hold on a key. Refused as `BadKey`, `HoldsFull`, `Gone` or `Crowded`, tried in that order. Returns also
+    /// the page that gained a slot.
     pub(crate) fn get(&mut self, key: u64) -> (Result<Hold, Refusal>, Option<u64>)
         ensures does { GetDoes L.layout key self.old.owner result.0 self.new.owner }
         ensures came { SlotComes result.1 self.old self.new }
@@ -66,7 +66,7 @@ impl<L: KeyLayout, H: KeepsHeap<L>> Pages<L, H> {
         self.owner.read_guard(guard, value)
     }
 
-    /// Removes a key. Refused as `BadKey` or `Gone`. Answers also the page to which a slot came.
+    /// Removes a key. Refused as `BadKey` or `Gone`. Returns also the page that gained a slot.
     pub(crate) fn remove(&mut self, key: u64) -> (Result<(), Refusal>, Option<u64>)
         ensures does { RemoveDoes L.layout key self.old.owner result.0 self.new.owner }
         ensures came { SlotComes result.1 self.old self.new }
@@ -76,7 +76,7 @@ impl<L: KeyLayout, H: KeepsHeap<L>> Pages<L, H> {
         (answer, page)
     }
 
-    /// Gives one hold on a key back. Refused as `NotHeld`. Answers also the page to which a slot came.
+    /// Gives one hold on a key back. Refused as `NotHeld`. Returns also the page that gained a slot.
     pub(crate) fn release(&mut self, hold: Hold) -> (Result<(), Refusal>, Option<u64>)
         ensures does { ReleaseDoes L.layout hold.key self.old.owner result.0 self.new.owner }
         ensures came { SlotComes result.1 self.old self.new }

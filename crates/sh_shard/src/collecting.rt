@@ -12,7 +12,7 @@ use sh_pass::KeepsHeap;
 use sh_stack::{link_item, top_item};
 use sh_step::PageName;
 
-// The slot that a head or a link names, as the lists have it.
+// The slot that a head or a link names, as a number of the lists.
 fn small(slot: Option<u64>) -> Option<u32>
     requires { IfSome slot (λ s. s < slot_places) }
     ensures { result ≡ slot }
@@ -23,7 +23,7 @@ fn small(slot: Option<u64>) -> Option<u32>
     }
 }
 
-// Whether a page stays armed, by the head word that a take of it found.
+// Whether a page stays armed, by the head word that a take found.
 fn still_armed(armed: bool, found: u64) -> bool
     ensures { result ≡ cond (armed_by found) false armed }
 {
@@ -67,7 +67,7 @@ impl<L: KeyLayout, H: KeepsHeap<L>> Pages<L, H> {
         self.states.begin_reading(page, cursor, true);
     }
 
-    // One step: the cursor's slot joins the lists, unless its link is not written. True where it went on.
+    // One step: the cursor's slot joins the lists, unless its link is not written. True if the cursor moved on.
     fn follow(&mut self, page: u64) -> bool
         requires inside { page < self.old.count }
         ensures { MatchBool result (CursorMoves page self.old self.new) (CursorStops page self.old self.new) }
@@ -99,7 +99,7 @@ impl<L: KeyLayout, H: KeepsHeap<L>> Pages<L, H> {
         }
     }
 
-    // The same, where there is a cursor.
+    // The same, if there is a cursor.
     fn follow_on(&mut self, page: u64)
         requires inside { page < self.old.count }
         ensures { CursorStops page self.old self.new }
@@ -111,7 +111,7 @@ impl<L: KeyLayout, H: KeepsHeap<L>> Pages<L, H> {
         }
     }
 
-    /// Takes what was put on the page where there is no cursor, and follows.
+    /// Takes what was put on the page if there is no cursor, and follows.
     pub(crate) fn collect(&mut self, page: u64)
         requires inside { page < self.old.count }
         requires classed { 0 < seen_class (page_at self.old page) }
@@ -123,7 +123,7 @@ impl<L: KeyLayout, H: KeepsHeap<L>> Pages<L, H> {
         self.follow_all(page);
     }
 
-    /// Arms the page where it has no cursor and is not armed, and follows what was found.
+    /// Arms the page if it has no cursor and is not armed, and follows what was found.
     pub(crate) fn guard(&mut self, page: u64)
         requires inside { page < self.old.count }
         requires classed { 0 < seen_class (page_at self.old page) }

@@ -10,7 +10,7 @@ use sh_pass::KeepsHeap;
 use sh_shape::classes;
 
 impl<L: KeyLayout, H: KeepsHeap<L>> Pages<L, H> {
-    // How many slots of the page are not the owner's: none where it is blank.
+    // How many slots of the page are not the owner's: none if it is blank.
     fn slots_out(&self, page: u64) -> u32
         requires { page < self.now.count }
         ensures is { result ≡ page_out (page_at self.now page) }
@@ -25,7 +25,7 @@ impl<L: KeyLayout, H: KeepsHeap<L>> Pages<L, H> {
 }
 
 impl<L: KeyLayout, H: KeepsHeap<L>> Shard<L, H> {
-    /// How many pages of the shard have no class yet, of the opened segments and of the others. Each of them has room
+    /// How many pages of the shard have no class yet, in the opened segments and in the others. Each of them has room
     /// for values of any class: 48 of one word, or 3 of sixteen.
     ///
     /// It takes no step, and no memory.
@@ -41,9 +41,10 @@ impl<L: KeyLayout, H: KeepsHeap<L>> Shard<L, H> {
         left
     }
 
-    /// How many slots of the shard's pages are not the owner's. In each of them a value stands, or one that was removed
-    /// and is still held, or it was put back by another and is not collected yet, or it is spent. So no more than these
-    /// many values stand in the shard, and as many where none was removed by others, is held or is spent.
+    /// How many slots of the shard's pages are not the owner's. Each of them has a value, or a removed value that is
+    /// still held, or another caller put it back and it is not collected yet, or it is spent. So the shard has at most
+    /// this many values, and exactly this many if others removed none, no removed value is still held, and no slot is
+    /// spent.
     ///
     /// It takes no step, and no memory.
     pub fn slots_out(&self) -> u64

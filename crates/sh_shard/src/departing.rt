@@ -1,4 +1,4 @@
-// Ceasing to be the owner of a shard.
+// Leaving a shard, as its owner.
 ghost use Rattle.std.specs.Prelude.{IfErr};
 ghost use Rattle.sh_shard.specs.Shards.{LeaveServes, HoldsShard};
 ghost use Rattle.sh_shard.specs.Bounds.{LeaveIsBounded};
@@ -11,10 +11,9 @@ use sh_pass::pass::Pass;
 use sh_value::Refusal;
 
 impl<L: KeyLayout, H: KeepsHeap<L>> Shard<L, H> {
-    /// Leaves the shard: what others freed is collected, all that the owner has is put back for the next owner, and the
-    /// pass comes back. Refused as `Waiting`, with the shard, where another caller has begun a free in it that is yet
-    /// to end: then nothing is put back, and the shard serves as before. It takes at most 148 steps for each
-    /// page, and 4.
+    /// Leaves the shard: collects what others freed, puts back all slots that the owner has for the next owner, and
+    /// returns the pass. Refused as `Waiting`, with the shard, if another caller has begun a free in it that is yet to
+    /// end: then nothing is put back, and the shard works as before. It takes at most 148 steps for each page, and 4.
     pub fn leave(self) -> Result<Pass<L, H>, (Self, Refusal)>
         ensures serves { LeaveServes self result }
         ensures bounded { LeaveIsBounded self result }

@@ -1,4 +1,4 @@
-// Inserting a value: at the front page of its class where that has a slot, and else wherever the shard has room.
+// Inserting a value: at the front page of its class if that has a slot, and otherwise wherever the shard has room.
 ghost use Rattle.std.specs.Prelude.{◌≡◌, ℕ, ◌+◌, ◌<◌, ◌≤◌, length, Some, MatchOption, IfSome, slice_get, true};
 ghost use Rattle.sh_queue.specs.Numbers.{has_number};
 ghost use Rattle.sh_queue.specs.Queues.{class_queue};
@@ -14,7 +14,7 @@ use sh_pass::KeepsHeap;
 use sh_value::{Refusal, Value};
 
 impl<L: KeyLayout, H: KeepsHeap<L>> Shard<L, H> {
-    // Stores a value of the class, and answers its key.
+    // Stores a value of the class, and returns its key.
     pub(crate) fn insert_in(&mut self, c: u32, value: &Value) -> Result<u64, Refusal>
         requires class { c < 8 }
         requires fits { length value.now ≤ width c }
@@ -28,7 +28,8 @@ impl<L: KeyLayout, H: KeepsHeap<L>> Shard<L, H> {
         self.insert_slowly(c, value)
     }
 
-    // The same where the front page has no slot: the pages of the class, the bell, and then another page for the class.
+    // The same if the front page has no slot: tries the pages of the class, the bell, and then another page for the
+    // class.
     fn insert_slowly(&mut self, c: u32, value: &Value) -> Result<u64, Refusal>
         requires class { c < 8 }
         requires fits { length value.now ≤ width c }

@@ -31,7 +31,7 @@ impl<L: KeyLayout, H: KeepsHeap<L>> Pages<L, H> {
         }
     }
 
-    /// Follows the bell, takes it where it is at its end, and follows.
+    /// Follows the bell, takes it if it is at its end, and follows.
     pub(crate) fn empty_bell(&mut self)
         ensures through { Collecting self.old self.new }
         ensures bell { BellDone self.old self.new }
@@ -45,7 +45,7 @@ impl<L: KeyLayout, H: KeepsHeap<L>> Pages<L, H> {
         self.follow_rings();
     }
 
-    // Follows the page's cursor; where it has none then and is armed still, takes what was put, and follows.
+    // Follows the page's cursor; if it then has none and is still armed, takes what was put, and follows.
     fn empty_page(&mut self, page: u64)
         requires { page < self.old.count }
         ensures { EmptiesPage page self.old self.new }
@@ -61,7 +61,7 @@ impl<L: KeyLayout, H: KeepsHeap<L>> Pages<L, H> {
         self.follow_all(page);
     }
 
-    // Empties each page, in ascending order. The pages from `opened` on are blank: there is nothing to do.
+    // Empties each page, in ascending order. The pages from `opened` on are blank, and need nothing.
     fn empty_pages(&mut self, opened: u64)
         requires few { opened ≤ self.old.count }
         requires later { BlankFrom opened self.old }
@@ -112,7 +112,7 @@ impl<L: KeyLayout, H: KeepsHeap<L>> Pages<L, H> {
         self.shard * self.states.len() + page
     }
 
-    // Two steps: the next slot of the lists is put on the page's stack. False where there is none.
+    // Two steps: puts the next slot of the lists on the page's stack. False if there is none.
     fn put_next(&mut self, page: u64) -> bool
         requires inside { page < self.old.count }
         requires calm { (page_at self.old page).armed ≡ false }
@@ -161,7 +161,7 @@ impl<L: KeyLayout, H: KeepsHeap<L>> Pages<L, H> {
         }
     }
 
-    /// Gives the shard up, of which it has nothing.
+    /// Gives up the shard, in which the owner has nothing.
     pub(crate) fn give_up(self) -> Pass<L, H>
         requires pages { (p : ℕ) → p < self.count → HasNothing (page_at self p) }
         requires bell { self.bell.cursor ≡ None }
@@ -178,10 +178,10 @@ impl<L: KeyLayout, H: KeepsHeap<L>> Pages<L, H> {
         owner.into_pass()
     }
 
-    /// Leaves the shard: the bell is followed, taken and followed, cursors are followed, and each page still armed that
-    /// has no cursor is taken and followed. Where a cursor stands then or a page is armed, others have yet to end what
-    /// they began: nothing is put, and the pages come back. Else the owner's slots are put on their pages, and the
-    /// shard is given up. The pages from `opened` on are blank, and are not looked at.
+    /// Leaves the shard. The bell is followed, taken and followed; cursors are followed; each page that is still armed
+    /// and has no cursor is taken and followed. If a cursor or an armed page is left then, others have yet to end what
+    /// they began: nothing is put, and the pages are returned. Otherwise the owner's slots are put on their pages, and
+    /// the shard is given up. The pages from `opened` on are blank, and are not looked at.
     pub(crate) fn leave(mut self, opened: u64) -> Result<Pass<L, H>, Self>
         requires few { opened ≤ self.count }
         requires later { BlankFrom opened self }

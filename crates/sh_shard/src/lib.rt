@@ -1,7 +1,7 @@
 //! Owners: a pass that owns a shard inserts into its pages.
 //!
-//! An owner keeps the free slots of its pages in private lists, collects what others put on the pages' stacks, and
-//! hears of pages that it armed by its shard's bell.
+//! An owner keeps the free slots of its pages in private lists, and collects what others put on the pages' stacks. Its
+//! shard's bell reports the pages that it armed.
 #![tactic(auto)]
 
 mod adopting;

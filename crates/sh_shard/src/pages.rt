@@ -1,4 +1,4 @@
-//! The pages of an owner's shard: what is kept of each is what the owner knows of it.
+//! The pages of an owner's shard. What is kept of each page is what the owner knows about it.
 ghost use Rattle.std.specs.Prelude.{◌≡◌, ℕ, ◌+◌, ◌^◌, ◌<◌, ◌≤◌, Option, None, Some, MatchOption};
 ghost use Rattle.std.specs.Prelude.{MatchBool, MatchResult, true, false};
 ghost use Rattle.sh_slots.specs.declared.hand.Hand.TheVariants.{Idle};
@@ -25,7 +25,7 @@ pub struct Pages<L: KeyLayout, H: KeepsHeap<L>> {
     pub(crate) shard: u64,
     // The page of the bell whose link is to be followed next.
     pub(crate) rings: Option<u64>,
-    // One for each page of the shard.
+    // One state for each page of the shard.
     pub(crate) states: PageStates,
 }
 
@@ -50,7 +50,7 @@ impl<L: KeyLayout, H: KeepsHeap<L>> Model for Pages<L, H> {
 
 impl<L: KeyLayout, H: KeepsHeap<L>> Pages<L, H> {
     /// Makes the pass the owner of the shard, and reads the class word of each page in ascending order. Refused, with
-    /// the pass, as `NoShard` where there is no such shard, as `Taken` where it has an owner, and as `Memory` where
+    /// the pass, as `NoShard` if there is no such shard, and as `Taken` if it has an owner. Refused as `Memory` if
     /// memory for the pages is refused: then the shard is left again.
     pub(crate) fn adopt(
         alloc: Global,
@@ -74,7 +74,7 @@ impl<L: KeyLayout, H: KeepsHeap<L>> Pages<L, H> {
         }
     }
 
-    // Reads the class word of each page of the shard that was adopted. Where memory is refused, the shard is left.
+    // Reads the class word of each page of the adopted shard. If memory is refused, the shard is left.
     fn begin(alloc: Global, owner: Owner<L, H>, shard: u64) -> Result<Self, Owner<L, H>>
         requires idle { (own_body owner).hand ≡ Idle }
         requires owned { (own_body owner).owned ≡ Some shard }
@@ -104,7 +104,7 @@ impl<L: KeyLayout, H: KeepsHeap<L>> Pages<L, H> {
         })
     }
 
-    /// How many pages the shard has.
+    /// The number of pages of the shard.
     pub(crate) fn count(&self) -> u64
         ensures count { result ≡ self.now.count }
         ensures few { result ≤ 2 ^ 24 }
@@ -112,7 +112,7 @@ impl<L: KeyLayout, H: KeepsHeap<L>> Pages<L, H> {
         self.states.len()
     }
 
-    /// The class word of a page: 0 where it is blank, and else one more than its class.
+    /// The class word of a page: 0 if it is blank, and otherwise one more than its class.
     pub(crate) fn class_word(&self, page: u64) -> u64
         requires { page < self.now.count }
         ensures word { (page_at self.now page).class ≡ Some result }
@@ -148,7 +148,7 @@ impl<L: KeyLayout, H: KeepsHeap<L>> Pages<L, H> {
         self.states.slots(page) > 0
     }
 
-    /// Whether the page has a class, all of whose slots are the owner's.
+    /// Whether the page has a class, and all its slots are the owner's.
     pub(crate) fn is_wholly_mine(&self, page: u64) -> bool
         requires { page < self.now.count }
         ensures { MatchBool result (WhollyMine (page_at self.now page)) (¬ WhollyMine (page_at self.now page)) }
@@ -156,8 +156,8 @@ impl<L: KeyLayout, H: KeepsHeap<L>> Pages<L, H> {
         self.states.is_whole(page)
     }
 
-    /// The first of the pages below `end` that has a class, all of whose slots are the owner's. A page that was seen to
-    /// have a slot out is looked at again only once a slot came to it.
+    /// The first of the pages below `end` that has a class and all of whose slots are the owner's. A page that was seen
+    /// to have a slot out is looked at again only after it gained a slot.
     pub(crate) fn first_whole(&mut self, end: u64) -> Option<u64>
         requires { end ≤ self.old.count }
         ensures same { self.new ≡ self.old }

@@ -29,7 +29,7 @@ impl<L: KeyLayout, H: KeepsHeap<L>> Shard<L, H> {
         answer
     }
 
-    // The same, of which more is known then.
+    // Does what `prepare` does. An insert uses it too.
     pub(crate) fn give_page(&mut self, class: u32) -> Result<u32, Refusal>
         requires { class < 8 }
         ensures { PrepareServes class self.old result self.new }
@@ -76,8 +76,8 @@ impl<L: KeyLayout, H: KeepsHeap<L>> Shard<L, H> {
         Some(page)
     }
 
-    // Where no opened page is blank, gives the lowest page of another class all of whose slots are the owner's this
-    // one.
+    // If no opened page is blank, gives this class to the lowest page of another class all of whose slots are the
+    // owner's.
     fn give_spare(&mut self, class: u32) -> Option<u32>
         requires class { class < 8 }
         requires blank { NoneOpenedBlank self.old }
@@ -106,7 +106,7 @@ impl<L: KeyLayout, H: KeepsHeap<L>> Shard<L, H> {
         self.spare_from(first as u32, class)
     }
 
-    // The same, from the first opened page on all of whose slots are the owner's.
+    // The same, from the first opened page on that has all its slots with the owner.
     fn spare_from(&self, first: u32, class: u32) -> Option<u32>
         requires { NoneWhollyMine first self.now.pages }
         ensures { MatchOption result (NoneSpare class self.now.pages)

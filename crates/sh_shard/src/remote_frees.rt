@@ -11,7 +11,7 @@ use sh_key::KeyLayout;
 use sh_pass::KeepsHeap;
 
 impl<L: KeyLayout, H: KeepsHeap<L>> Pages<L, H> {
-    // Follows the page's cursor; where it has none then, takes what was put on the page, and follows.
+    // Follows the page's cursor; if it then has none, takes what was put on the page, and follows.
     fn collect_whole(&mut self, page: u64)
         requires { page < self.old.count }
         ensures { CollectsWhole page self.old self.new }
@@ -27,7 +27,7 @@ impl<L: KeyLayout, H: KeepsHeap<L>> Pages<L, H> {
         self.follow_all(page);
     }
 
-    // Collects each page, in ascending order. The pages from `opened` on are blank: there is nothing to do.
+    // Collects each page, in ascending order. The pages from `opened` on are blank, and need nothing.
     fn collect_pages(&mut self, opened: u64)
         requires few { opened ≤ self.old.count }
         requires later { BlankFrom opened self.old }
@@ -41,12 +41,12 @@ impl<L: KeyLayout, H: KeepsHeap<L>> Pages<L, H> {
 }
 
 impl<L: KeyLayout, H: KeepsHeap<L>> Shard<L, H> {
-    /// Collects what others freed on all pages of the shard: the bell and each page's stack are taken and followed. An
-    /// insert looks at pages of its own class alone. So a shard whose values others removed may have no room for a
-    /// value of another length until this is called. Then each page all of whose slots came back may change its class.
+    /// Collects what others freed on all pages of the shard: takes and follows the bell and each page's stack. An
+    /// insert looks only at pages of its own class. So a shard whose values others removed may have no room for a value
+    /// of another length until this is called. Then each page that got all its slots back may change its class.
     ///
-    /// It takes no memory, and is never refused. Where another caller has begun a free that is yet to end, what it
-    /// frees and what lies below it on the page's stack stays there. It takes at most 52 steps for each page, and 3.
+    /// It takes no memory, and is never refused. If another caller has begun a free that is yet to end, what it frees
+    /// and what lies below that on the page's stack stays there. It takes at most 52 steps for each page, and 3.
     pub fn collect(&mut self)
         ensures serves { CollectServes self.old self.new }
         ensures stays { StaysOwner L.layout self.old self.new }

@@ -1,4 +1,4 @@
-// How pages come back from the full queue: once a slot of theirs is free, a cursor stands, or they are no longer armed.
+// How pages come back from the full queue: once they have a free slot or a cursor, or are no longer armed.
 ghost use Rattle.std.specs.Prelude.{◌≡◌, ℕ, ◌<◌, Some, MatchBool, IfSome, true};
 ghost use Rattle.sh_queue.specs.Numbers.{has_number};
 ghost use Rattle.sh_shard.specs.Pages.{page_at, seen_class};
@@ -11,7 +11,7 @@ use sh_key::KeyLayout;
 use sh_pass::KeepsHeap;
 use sh_queue::Queues;
 
-// All pages that are not full any longer go back to their classes, in ascending order.
+// Moves all pages that are no longer full back to their classes, in ascending order.
 pub(crate) fn return_all<L: KeyLayout, H: KeepsHeap<L>>(pages: &Pages<L, H>, queues: &mut Queues)
     requires { SortedBut (λ p. Unit {0}) pages.now queues.old }
     ensures sorted { SortedPages pages.now queues.new }
@@ -25,7 +25,7 @@ pub(crate) fn return_all<L: KeyLayout, H: KeepsHeap<L>>(pages: &Pages<L, H>, que
     let _known = queues.opened();
 }
 
-// A page to which a slot came goes back to its class, where it was full.
+// Moves a page that gained a slot back to its class, if it was full.
 pub(crate) fn return_one<L: KeyLayout, H: KeepsHeap<L>>(
     pages: &Pages<L, H>,
     queues: &mut Queues,
@@ -42,7 +42,7 @@ pub(crate) fn return_one<L: KeyLayout, H: KeepsHeap<L>>(
     return_page(pages, queues, page);
 }
 
-// The page, where it stands in the full queue and is not a full page, goes to the back of its class.
+// Moves the page, if it is in the full queue and is not a full page, to the back of its class.
 fn return_page<L: KeyLayout, H: KeepsHeap<L>>(pages: &Pages<L, H>, queues: &mut Queues, page: u64)
     requires inside { page < pages.now.count }
     requires classed { has_number page queues.old.full ≡ true → 0 < seen_class (page_at pages.now page) }

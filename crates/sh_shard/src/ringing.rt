@@ -1,4 +1,4 @@
-// Hearing of armed pages by the shard's bell: a full page that is read from it goes back to its class.
+// Reading armed pages from the shard's bell: a full page that is read from it goes back to its class.
 ghost use Rattle.std.specs.Prelude.{◌≡◌, ℕ, ◌+◌, ◌<◌, None, MatchOption, ◌||◌, ◌==◌};
 ghost use Rattle.sh_shard.specs.Pages.{BellTakes, BellStops, StepsForRings};
 ghost use Rattle.sh_shard.specs.Searches.{Heard, Hears, BellWaits, RingsOut};
@@ -7,7 +7,7 @@ use crate::shard::Shard;
 use sh_key::KeyLayout;
 use sh_pass::KeepsHeap;
 
-// Whether a page of class c was read, once this class word was.
+// Whether a page of class c was read, including the one with this class word.
 fn is_heard(read: bool, word: u64, c: u32) -> bool
     ensures { result ≡ (read || (word == c + 1)) }
 {
@@ -21,7 +21,7 @@ fn either(first: bool, second: bool) -> bool
 }
 
 impl<L: KeyLayout, H: KeepsHeap<L>> Shard<L, H> {
-    // Follows the bell, takes it once it is at its end, and follows: whether a page of the class was read.
+    // Follows the bell, takes it once it is at its end, and follows. Returns whether a page of the class was read.
     pub(crate) fn ring_out(&mut self, c: u32) -> bool
         requires class { c < 8 }
         ensures { RingsOut c result self.old self.new }
@@ -35,7 +35,7 @@ impl<L: KeyLayout, H: KeepsHeap<L>> Shard<L, H> {
         either(first, second)
     }
 
-    // Follows the bell to its end or to a link that is not written: whether a page of the class was read.
+    // Follows the bell to its end or to a link that is not written. Returns whether a page of the class was read.
     fn hear(&mut self, c: u32) -> bool
         requires class { c < 8 }
         ensures hears { Hears c result self.old self.new }
@@ -55,8 +55,7 @@ impl<L: KeyLayout, H: KeepsHeap<L>> Shard<L, H> {
         read
     }
 
-    // One step on the bell: a page that is read, where it is full, goes to the back of its class. Answers its class
-    // word.
+    // One step on the bell: a page that is read goes to the back of its class, if it is full. Returns its class word.
     fn read_bell(&mut self) -> Option<u64>
         ensures { MatchOption result ((self.new.queues ≡ self.old.queues) × BellStops self.old.pages self.new.pages)
             (λ word. Heard word self.old self.new) }

@@ -16,7 +16,7 @@ use sh_pass::KeepsHeap;
 use sh_value::Value;
 
 impl<L: KeyLayout, H: KeepsHeap<L>> Shard<L, H> {
-    // The search, the bell, and the search again where a page of the class was read from the bell.
+    // The search, the bell, and the search again if a page of the class was read from the bell.
     pub(crate) fn look(&mut self, c: u32, value: &Value) -> Option<u64>
         requires class { c < 8 }
         requires fits { length value.now ≤ width c }
@@ -34,7 +34,7 @@ impl<L: KeyLayout, H: KeepsHeap<L>> Shard<L, H> {
         self.search(c, value)
     }
 
-    // Tries each page that stands in the queue of the class once, from the front.
+    // Tries each page in the queue of the class once, from the front.
     fn search(&mut self, c: u32, value: &Value) -> Option<u64>
         requires class { c < 8 }
         requires fits { length value.now ≤ width c }
@@ -80,7 +80,7 @@ impl<L: KeyLayout, H: KeepsHeap<L>> Shard<L, H> {
         self.pages.try_page(page as u64, value)
     }
 
-    // After a try in vain: a page whose cursor waits goes to the back, one without a cursor to the full queue.
+    // After a try in vain: a page whose cursor waits goes to the back, a page without a cursor to the full queue.
     fn settle(&mut self, c: u32, page: u32)
         requires class { c < 8 }
         requires here { has_number page (class_queue self.old.queues c) ≡ true }

@@ -1,4 +1,4 @@
-//! Shards: the pages of an owner, and the queues in which they stand.
+//! Shards: the pages of an owner, and the queues that they are in.
 ghost use Rattle.std.specs.Prelude.{◌+◌, length};
 ghost use Rattle.sh_queue.specs.Queues.{EachOnce};
 ghost use Rattle.sh_pass.specs.Passes.{GetDoes, ReadDoes, ReadIntoDoes, RemoveDoes, ReleaseDoes};
@@ -14,15 +14,15 @@ use sh_shape::classes;
 use sh_value::{Hold, Refusal, Value};
 use std::marker::Model;
 
-/// A shard that a pass owns: it inserts there, and gets, reads, removes and releases as any pass does.
+/// A shard that a pass owns: its owner inserts into it, and gets, reads, removes and releases as any pass does.
 ///
-/// Other passes act between all its calls. Memory is taken by `adopt`, and by an `insert` or a `prepare` that opens a
+/// Other passes act between all its calls. Only `adopt` takes memory, and an `insert` or a `prepare` that opens a
 /// segment.
 ///
-/// A shard is given up by `leave` alone. One that is dropped stays taken for as long as the heap stands: each adopt of
-/// it is refused as `Taken`, the slots that were its owner's are used by nobody, and what others free there is not
-/// collected. Its pass is gone with it: no other pass can be joined to it, so the heap is never known whole. The values
-/// stay, and other passes get, read, remove and release them as before.
+/// Only `leave` gives a shard up. A shard that is dropped stays taken as long as the heap exists: each adopt is refused
+/// as `Taken`. Nobody uses the slots that were its owner's, and what others free there is not collected. Its pass is
+/// lost with it: no other pass can be joined to it, so the heap is never known whole. The values stay, and other passes
+/// get, read, remove and release them as before.
 #[derive(Drop)]
 pub struct Shard<L: KeyLayout, H: KeepsHeap<L>> {
     pub(crate) pages: Pages<L, H>,
@@ -42,9 +42,9 @@ impl<L: KeyLayout, H: KeepsHeap<L>> Model for Shard<L, H> {
 impl<L: KeyLayout, H: KeepsHeap<L>> Shard<L, H> {
     /// Stores a value in the shard under a new key, and returns the key. Refused as `Full` if the shard has no room for
     /// a value of its class: each page of the class and the bell were looked at in this call. Refused as `Memory` if
-    /// the growth of a segment was refused. The log, the holds and the keys are then as they were.
+    /// the growth of a segment was refused. A refusal leaves the log, the holds and the keys as they were.
     ///
-    /// Where the front page of the class has a slot, it is done in as many steps as the value has words, and two more.
+    /// If the front page of the class has a slot, the number of steps is that of the value's words, and two more.
     /// Whatever others do, it ends within 9 n + w + 53 steps, for n pages of the shard and w words.
     pub fn insert(&mut self, value: &Value) -> Result<u64, Refusal>
         ensures serves { InsertServes L.layout (value_class value.now) value.now self.old result self.new }
@@ -91,14 +91,14 @@ impl<L: KeyLayout, H: KeepsHeap<L>> Shard<L, H> {
         ensures does { ReadDoes hold.key self.old.pages.owner result self.new.pages.owner }
         ensures stays { StaysOwner L.layout self.old self.new }
     {
-        // (It has one word, as most values have: to read such a one into it is one store.)
+        // (It has one word, as most values have: reading such a value into it is one store.)
         let mut value = Value::from(0);
         self.read_into(hold, &mut value)?;
         Ok(value)
     }
 
-    /// Reads the value of a key that the owner holds into a value of the caller's, in place of what that was, so that
-    /// it is copied nowhere. Refused as `NotHeld`: then the caller's value stays as it was.
+    /// Reads the value of a key that the owner holds into a value of the caller's, which it overwrites, with no copy in
+    /// between. Refused as `NotHeld`: then the caller's value stays as it was.
     pub fn read_into(&mut self, hold: Hold, value: &mut Value) -> Result<(), Refusal>
         ensures does { ReadIntoDoes hold.key self.old.pages.owner value.old result value.new self.new.pages.owner }
         ensures stays { StaysOwner L.layout self.old self.new }

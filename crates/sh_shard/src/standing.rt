@@ -32,7 +32,7 @@ impl<L: KeyLayout, H: KeepsHeap<L>> Pages<L, H> {
 
 impl<L: KeyLayout, H: KeepsHeap<L>> Shard<L, H> {
     /// The shape of the heap. Between its calls the owner has begun nothing, the shard is its own, and all that it
-    /// knows stands.
+    /// knows holds.
     pub fn shape(&self) -> &Shape
         ensures is { result.now ≡ self.now.pages.owner.heap.shape }
         ensures same { self.now.pages.owner.view.shape ≡ self.now.pages.owner.heap.shape }

@@ -12,7 +12,7 @@ use sh_step::PageName;
 use sh_value::Value;
 
 impl<L: KeyLayout, H: KeepsHeap<L>> Pages<L, H> {
-    /// Stores the value in a slot of the page, if one is the owner's. Answers its key.
+    /// Stores the value in a slot of the page, if one is the owner's. Returns its key.
     pub(crate) fn use_slot(&mut self, page: u64, value: &Value) -> Option<u64>
         requires inside { page < self.old.count }
         requires classed { 0 < seen_class (page_at self.old page) }
@@ -31,8 +31,8 @@ impl<L: KeyLayout, H: KeepsHeap<L>> Pages<L, H> {
         Some(self.owner.insert_at(name, slot as u64, value, class_word))
     }
 
-    /// Tries one page: the owner's slots of it, then what was put on it, then what was put until it was armed. Answers
-    /// the key under which the value is, if it found a slot.
+    /// Tries one page: its slots that are the owner's, then what was put on it, then what was put until it was armed.
+    /// Returns the key under which the value is, if it found a slot.
     pub(crate) fn try_page(&mut self, page: u64, value: &Value) -> Option<u64>
         requires inside { page < self.old.count }
         requires classed { 0 < seen_class (page_at self.old page) }
