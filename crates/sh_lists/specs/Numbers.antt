@@ -6,7 +6,7 @@ abbrev pub Misses : ℕ → List ℕ → Type 0
 Misses x [] = Unit {0}
 Misses x (y ∷ ys) = (x ≢ y) × Misses x ys
 
--- no number comes twice
+-- no number occurs twice
 abbrev pub Distinct : List ℕ → Type 0
 Distinct [] = Unit {0}
 Distinct (x ∷ xs) = Misses x xs × Distinct xs

@@ -9,7 +9,7 @@ use std::marker::Model;
 
 const PLACES: usize = SLOT_PLACES as usize;
 
-// One of the lists: its first slot, its last, and how many it has. Where it has none, the other two say nothing.
+// One of the lists: its first slot, its last, and its length. If it is empty, the other two mean nothing.
 #[derive(Clone, Copy)]
 struct Thread {
     front: u8,
@@ -26,11 +26,11 @@ const NO_SLOTS: Thread = Thread {
 /// The free slots of a page that its owner keeps: `free`, from which allocation takes, and `local`, the owner's own
 /// frees.
 ///
-/// A slot is a number below 48. It stands in one of the lists at most, and there once. Beside them stands the cursor:
-/// the slot at which the owner goes on reading the page's stack. No call takes memory.
+/// A slot is a number below 48. It is in at most one of the lists, and there once. Beside the lists is the cursor: the
+/// slot at which the owner continues reading the page's stack. No call takes memory.
 #[derive(Drop)]
 pub struct PageLists {
-    // The slot that follows in the same list. No call walks a list, and `full` alone has a loop.
+    // The slot that follows in the same list. No call walks a list, and only `full` has a loop.
     next: [u8; PLACES],
     free: Thread,
     local: Thread,
@@ -90,7 +90,7 @@ impl PageLists {
         }
     }
 
-    /// How many slots stand in both lists, at most 48.
+    /// The number of slots in both lists, at most 48.
     pub fn len(&self) -> u32
         ensures both { result ≡ length self.now.free + length self.now.local }
         ensures once { SlotsOnce self.now }
@@ -98,7 +98,7 @@ impl PageLists {
         self.free.count as u32 + self.local.count as u32
     }
 
-    /// The slot at which reading the page's stack goes on.
+    /// The slot at which reading the page's stack continues.
     pub fn cursor(&self) -> Option<u32>
         ensures cursor { result ≡ self.now.cursor }
         ensures small { IfSome result (λ slot. slot < slot_places) }
@@ -106,7 +106,7 @@ impl PageLists {
         self.cursor
     }
 
-    /// Says at which slot reading the page's stack goes on.
+    /// Sets the slot at which reading the page's stack continues.
     pub fn set_cursor(&mut self, cursor: Option<u32>)
         requires { IfSome cursor (λ slot. slot < slot_places) }
         ensures { self.new ≡ record self.old { cursor = cursor } }
@@ -114,7 +114,7 @@ impl PageLists {
         self.cursor = cursor;
     }
 
-    /// Takes the front of `free`. None, with nothing changed, where `free` is empty.
+    /// Takes the front of `free`. None, with nothing changed, if `free` is empty.
     pub fn pop(&mut self) -> Option<u32>
         ensures front { IfSome result (λ slot. self.old ≡ record self.new { free = slot ∷ self.new.free }) }
         ensures apart { IfSome result (λ slot. Misses slot (self.new.free ++ self.new.local)) }
@@ -131,8 +131,8 @@ impl PageLists {
         Some(slot as u32)
     }
 
-    /// Takes the next slot to use: the front of `free`, or where that is empty, of `local`, which then becomes `free`.
-    /// None, with nothing changed, where both are empty.
+    /// Takes the next slot to use: the front of `free`. If that is empty, it is the front of `local`, which then
+    /// becomes `free`. None, with nothing changed, if both are empty.
     pub fn next_slot(&mut self) -> Option<u32>
         ensures front { IfSome result (λ slot. refilled self.old ≡ record self.new { free = slot ∷ self.new.free }) }
         ensures apart { IfSome result (λ slot. Misses slot (self.new.free ++ self.new.local)) }
@@ -148,7 +148,7 @@ impl PageLists {
         self.pop()
     }
 
-    /// Puts a slot that stands in neither list in front of `local`.
+    /// Puts a slot that is in neither list in front of `local`.
     pub fn push_local(&mut self, slot: u32)
         requires small { slot < slot_places }
         requires apart { Misses slot (self.old.free ++ self.old.local) }
@@ -177,7 +177,7 @@ impl PageLists {
         self.local = NO_SLOTS;
     }
 
-    /// Puts a slot that stands in neither list, one that was read from the page's stack, behind `free`.
+    /// Puts a slot that was read from the page's stack, and is in neither list, behind `free`.
     pub fn add_read(&mut self, slot: u32)
         requires small { slot < slot_places }
         requires apart { Misses slot (self.old.free ++ self.old.local) }

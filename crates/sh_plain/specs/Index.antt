@@ -7,7 +7,7 @@ use Rattle.sh_history.specs.History.{is_got_from, is_release_from}
 use Rattle.sh_plain.specs.declared.index.Issued.{Issued}
 use Rattle.sh_plain.specs.declared.index.Held.{Held}
 
--- what is known of the key, where the first of these is of the first key, and each further one of the next
+-- what is known of the key; the first item is for the first key, and each further item for the next key
 abbrev pub issued_at : ℕ → List Issued → ℕ → Option Issued
 issued_at first issued key = if nat_lt key first then None else slice_get issued (key - first)
 
@@ -28,8 +28,8 @@ is_hold_of pass held = held.pass == pass
 abbrev pub is_hold_on : ℕ → Held → Bool
 is_hold_on key held = held.key == key
 
--- these say of each key what the entries say, and these are the holds that the entries leave: what was got was released
--- or is held
+-- the items say of each key what the entries say, and the holds are those that the entries leave: what was got was
+-- released or is held
 pub record IsIndex (first : ℕ) (entries : List Entry) (issued : List Issued) (holds : List Held) : Type 0 where
   pub values : (key : ℕ) → value_of entries key ≡ issued_value (issued_at first issued key)
   pub removals : (key : ℕ) → is_removed entries key ≡ issued_removed (issued_at first issued key)

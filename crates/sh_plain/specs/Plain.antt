@@ -1,4 +1,4 @@
--- The plain store: it keeps the entries of all its passes, and answers each call from them.
+-- The plain store: it keeps the entries of all its passes, and computes the result of each call from them.
 use Rattle.std.specs.Prelude.{◌≡◌, ℕ, ◌+◌, ◌<◌, ◌≤◌, nat_le, nat_lt, not, true, length, List, [], ◌∷◌, ◌++◌, map}
 use Rattle.std.specs.Prelude.{Option, Some, None, IsSome, is_some, ok_or, Result, Ok, Err, if◌then◌else◌}
 use Rattle.sh_value.specs.declared.hold.Hold.{Hold}
@@ -15,24 +15,24 @@ use Rattle.sh_plain.specs.declared.index.Issued.{Issued}
 use Rattle.sh_plain.specs.declared.index.Held.{Held}
 use Rattle.sh_plain.specs.Index.{IsIndex}
 
--- what a contract sees of a plain store: its entries, whose calls follow, and how many passes it has
+-- what a contract sees of a plain store: its entries, the pass whose calls follow, and the number of its passes
 pub record Plain : Type 0 where
   pub entries : List Entry
   pub pass : ℕ
   pub passes : ℕ
 
--- the entries, of which each is known
+-- the entries, each of which is known
 abbrev pub plain_book : Plain → List LogEntry
 plain_book s = map Known s.entries
 
--- the store answers for all its passes
+-- the book of the store has the entries of all its passes
 abbrev pub plain_setting : Layout → Plain → Setting
 plain_setting layout s =
     record { pass = s.pass; passes = s.passes; guard_max = layout.guard_max; answers_for = λ _. true }
 
--- ---- what each call answers
+-- ---- what each call returns
 
--- what a call answers, and the entry that it adds, where it adds one
+-- what a call returns, and the entry that it adds, if it adds one
 pub record PlainReply (A : Type 0) : Type 0 where
   pub answer : Result A Refusal
   pub adds : Option Entry
@@ -40,7 +40,7 @@ pub record PlainReply (A : Type 0) : Type 0 where
 abbrev pub refused : {A : Type 0} → Refusal → PlainReply A
 refused r = record { answer = Err r; adds = None }
 
--- the n-th insert, from 0, gives the n-th key, and none is past the last
+-- the n-th insert, from 0, gives the n-th key, and no key comes after the last
 abbrev pub insert_reply : Layout → Plain → List ℕ → PlainReply ℕ
 insert_reply layout s value =
     let n = insert_count s.entries in
@@ -48,7 +48,7 @@ insert_reply layout s value =
     then record { answer = Ok (first_key layout + n); adds = Some (Insert s.pass (first_key layout + n) value) }
     else refused refusal.Full
 
--- a get of a key by a pass that has room for a hold, where this is the key's present value
+-- a get of a key by a pass that has room for a hold, if this is the key's present value
 abbrev pub got_reply : Layout → Plain → ℕ → Option (List ℕ) → PlainReply Hold
 got_reply layout s key None = record { answer = Err refusal.Gone; adds = Some (Gone s.pass key) }
 got_reply layout s key (Some value) =
@@ -62,14 +62,14 @@ get_reply layout s key =
     else if nat_le 16 (hold_count s.entries s.pass) then refused refusal.HoldsFull
     else got_reply layout s key (present_value s.entries key)
 
--- the value of the key, where the pass has a hold on it
+-- the value of the key, if the pass has a hold on it
 abbrev pub held_value : Plain → ℕ → Option (List ℕ)
 held_value s key = if nat_lt 0 (holds_by s.entries s.pass key) then value_of s.entries key else None
 
 abbrev pub read_answer : Plain → ℕ → Result (List ℕ) Refusal
 read_answer s key = ok_or (held_value s key) refusal.NotHeld
 
--- a remove of a key, where this is the key's present value
+-- a remove of a key, if this is the key's present value
 abbrev pub removed_reply : Plain → ℕ → Option (List ℕ) → PlainReply (Unit {0})
 removed_reply s key None = record { answer = Err refusal.Gone; adds = Some (Gone s.pass key) }
 removed_reply s key (Some value) = record { answer = Ok tt; adds = Some (Removed s.pass key) }
@@ -84,14 +84,15 @@ release_reply s key =
     if nat_lt 0 (holds_by s.entries s.pass key) then record { answer = Ok tt; adds = Some (Released s.pass key) }
     else refused refusal.NotHeld
 
--- ---- where memory may be refused
+-- ---- when memory may be refused
 
 -- the store with the entry that a call adds
 abbrev pub with_added : Plain → Option Entry → Plain
 with_added s None = s
 with_added s (Some entry) = record s { entries = s.entries ++ entry ∷ [] }
 
--- the call answered so and added its entry; or it had an entry to add, its memory was refused, and nothing changed
+-- the call returned this result and added its entry; or it had an entry to add, its memory was refused, and nothing
+-- changed
 abbrev pub Replied : {A : Type 0} → PlainReply A → Plain → Result A Refusal → Plain → Type 0
 Replied reply old (Ok x) new = (reply.answer ≡ Ok x) × (new ≡ with_added old reply.adds)
 Replied reply old (Err refusal.Memory) new = IsSome reply.adds × (new ≡ old)
@@ -110,7 +111,7 @@ pub record IsNewKey (layout : Layout) (entries : List Entry) (key : ℕ) : Type 
   pub is_key : IsSome (unpacked layout key)
   pub not_issued : value_of entries key ≡ None
 
--- its entries are a legal history, of which the index says what they say, with no more inserts than there are keys
+-- the entries are a legal history with no more inserts than there are keys, and the index says what they say
 pub record IsSound (layout : Layout) (entries : List Entry) (pass passes : ℕ) (issued : List Issued)
     (holds : List Held) : Type 0 where
   pub legal : Legal passes layout.guard_max entries
@@ -120,7 +121,7 @@ pub record IsSound (layout : Layout) (entries : List Entry) (pass passes : ℕ) 
   pub room : length issued ≤ key_count layout
   pub index : IsIndex (first_key layout) entries issued holds
 
--- an entry of which the index says nothing
+-- an entry that leaves the index as it is
 abbrev pub IsUnindexed : Entry → Type 0
 IsUnindexed (Gone pass key) = Unit {0}
 IsUnindexed (Crowded pass key) = Unit {0}

@@ -1,5 +1,5 @@
--- What each call of a store leaves in its book: the list of what the store has answered so far. Each relation goes by
--- cases on the answer; an answer that a call never gives is impossible.
+-- What each call of a store leaves in its book: the list of the results that the store has returned so far. Each
+-- relation goes by cases on the result; a result that a call never returns is impossible.
 use Rattle.std.specs.Prelude.{◌≡◌, ℕ, ◌<◌, Bool, List, [], ◌∷◌, ◌++◌, map, Result, Ok, Err}
 use Rattle.sh_value.specs.declared.hold.Hold.{Hold}
 use Rattle.sh_value.specs.declared.refusal.Refusal.{Refusal}
@@ -17,21 +17,21 @@ pub record Setting : Type 0 where
   -- how many passes the heap has, and how many holds a key may have
   pub passes : ℕ
   pub guard_max : ℕ
-  -- for which passes the book has the entries
+  -- the passes whose entries are in the book
   pub answers_for : ℕ → Bool
 
 -- there is a legal history in which the entries of these passes are the book, in order
 abbrev pub IsBook : Setting → List LogEntry → Type 0
 IsBook s book = Stands s.passes s.guard_max s.answers_for book
 
--- an insert adds its entry, or nothing where it is refused
+-- an insert adds its entry, or nothing if it is refused
 abbrev pub InsertLeaves : Setting → List ℕ → List LogEntry → Result ℕ Refusal → List LogEntry → Type 0
 InsertLeaves s value book (Ok key) after = after ≡ book ++ Known (Insert s.pass key value) ∷ []
 InsertLeaves s value book (Err Full) after = after ≡ book
 InsertLeaves s value book (Err Memory) after = after ≡ book
 InsertLeaves s value book (Err _) after = ⊥
 
--- a get adds its entry, whose value may be open, or nothing where it is refused before the key is looked at
+-- a get adds its entry, whose value may be open, or nothing if it is refused before the key is looked at
 abbrev pub GetLeaves : Setting → ℕ → List LogEntry → Result Hold Refusal → List LogEntry → Type 0
 GetLeaves s key book (Ok hold) after =
     (hold.key ≡ key) × ((got : LogEntry) × IsGotBy s.pass key got × (after ≡ book ++ got ∷ []))
@@ -43,14 +43,14 @@ GetLeaves s key book (Err HoldsFull) after = after ≡ book
 GetLeaves s key book (Err Memory) after = after ≡ book
 GetLeaves s key book (Err _) after = ⊥
 
--- a read adds nothing: it fills in the value of the key, which is then that of each get of the key
+-- a read adds nothing: it fills in the value of the key, and each get of the key then has that value
 abbrev pub ReadLeaves : Setting → ℕ → List LogEntry → Result (List ℕ) Refusal → List LogEntry → Type 0
 ReadLeaves s key book (Ok value) after =
     (0 < logged_holds_by book s.pass key) × (after ≡ map (filled key value) book) × AllHaveValue key value after
 ReadLeaves s key book (Err NotHeld) after = (logged_holds_by book s.pass key ≡ 0) × (after ≡ book)
 ReadLeaves s key book (Err _) after = ⊥
 
--- a remove adds its entry, or nothing where it is refused before the key is looked at
+-- a remove adds its entry, or nothing if it is refused before the key is looked at
 abbrev pub RemoveLeaves : Setting → ℕ → List LogEntry → Result (Unit {0}) Refusal → List LogEntry → Type 0
 RemoveLeaves s key book (Ok _) after = after ≡ book ++ Known (Removed s.pass key) ∷ []
 RemoveLeaves s key book (Err GoneRefusal) after = after ≡ book ++ Known (Gone s.pass key) ∷ []
@@ -58,7 +58,7 @@ RemoveLeaves s key book (Err BadKey) after = after ≡ book
 RemoveLeaves s key book (Err Memory) after = after ≡ book
 RemoveLeaves s key book (Err _) after = ⊥
 
--- a release adds its entry; it is refused exactly where the book leaves the caller no hold on the key
+-- a release adds its entry; it is refused exactly if the book leaves the caller no hold on the key
 abbrev pub ReleaseLeaves : Setting → ℕ → List LogEntry → Result (Unit {0}) Refusal → List LogEntry → Type 0
 ReleaseLeaves s key book (Ok _) after =
     (0 < logged_holds_by book s.pass key) × (after ≡ book ++ Known (Released s.pass key) ∷ [])

@@ -23,7 +23,7 @@ pub(crate) struct Held {
 pub(crate) fn make_room<T>(items: &mut Vec<T>) -> Result<(), Refusal>
     ensures items { items.new.items ≡ items.old.items }
     ensures room { OnOk result (vec_len items.new < vec_capacity items.new) }
-    // No more room than for this one is asked for.
+    // It asks for no more room than for this item.
     ensures lean { OnErr result (vec_capacity items.old ≤ vec_len items.old) }
     ensures memory { IfErr result (λ refusal. refusal ≡ Refusal.Memory) }
 {
@@ -33,7 +33,7 @@ pub(crate) fn make_room<T>(items: &mut Vec<T>) -> Result<(), Refusal>
     }
 }
 
-// What is known of the key, where the first of these is of the first key, and each further one of the next.
+// What is known of the key. The first item is for the first key, and each further item for the next key.
 pub(crate) fn issued_at(issued: &[Issued], first: u64, key: u64) -> Option<&Issued>
     ensures { option_copied result ≡ issued_at first issued.now key }
 {
@@ -44,7 +44,7 @@ pub(crate) fn issued_at(issued: &[Issued], first: u64, key: u64) -> Option<&Issu
     }
 }
 
-// Where a hold of the pass on the key stands.
+// The place of a hold of the pass on the key.
 pub(crate) fn find_hold(holds: &[Held], pass: u32, key: u64) -> Option<usize>
     ensures { result ≡ position (is_hold_by pass key) holds.now }
 {
@@ -53,14 +53,14 @@ pub(crate) fn find_hold(holds: &[Held], pass: u32, key: u64) -> Option<usize>
         .position(|held| held.pass == pass && held.key == key)
 }
 
-// How many of the holds the pass has.
+// The number of holds that the pass has.
 pub(crate) fn hold_count(holds: &[Held], pass: u32) -> usize
     ensures { result ≡ count_by (is_hold_of pass) holds.now }
 {
     holds.iter().filter(|held| held.pass == pass).count()
 }
 
-// How many of the holds are on the key.
+// The number of holds on the key.
 pub(crate) fn holds_on(holds: &[Held], key: u64) -> usize
     ensures { result ≡ count_by (is_hold_on key) holds.now }
 {

@@ -1,5 +1,5 @@
-//! Stores of values under keys that are never used again: what callers of any store may rely on, and the plain store,
-//! which keeps the entries of all its passes and answers from them.
+//! Stores of values under keys that are never used again, and what callers of any store may rely on. The plain store
+//! keeps the entries of all its passes, and computes each result from them.
 #![tactic(auto)]
 
 mod index;

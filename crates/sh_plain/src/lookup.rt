@@ -1,4 +1,4 @@
-//! What looks keys up: a store, or a pass.
+//! The trait of all that look keys up: stores and passes.
 ghost use Rattle.std.specs.Prelude.{◌≡◌, ℕ, List, Result};
 ghost use Rattle.sh_value.specs.declared.hold.Hold.{Hold};
 ghost use Rattle.sh_value.specs.declared.refusal.Refusal.{Refusal};
@@ -7,20 +7,20 @@ ghost use Rattle.sh_plain.specs.Store.{Setting, IsBook, GetLeaves, ReadLeaves, R
 
 use sh_value::{Hold, Refusal, Value};
 
-/// Who gets, reads, removes and releases values under keys that are never used again.
+/// Access to values under keys that are never used again: get, read, remove and release.
 ///
-/// Its book is the list of what it has answered so far: each call adds exactly its entry. At each moment there is a
-/// legal history in which the entries of the passes for which it answers are the book, in order.
+/// Its book is the list of the results it has returned so far: each call adds exactly its entry. At each moment there
+/// is a legal history in which the entries of its passes are the book, in order.
 pub trait Lookup {
-    // What it has answered so far.
+    // The results that it has returned so far.
     ghost book: { Self → List LogEntry };
 
-    // Whose calls follow, and what else stays the same over them.
+    // The pass whose calls follow, and what else stays the same over them.
     ghost setting: { Self → Setting };
 
-    // Which answers this very one gives, and when: for each call what was before it, the call's argument, the answer,
-    // and what is after it. The book bounds them for all; these say what one promises beyond it, as in which order it
-    // refuses.
+    // Which results this implementation returns, and when. Each call relates what was before it, its argument, its
+    // result, and what is after it. The book bounds all implementations; these add what one promises beyond it, such as
+    // the order of its refusals.
     ghost gets: { Self → ℕ → Result Hold Refusal → Self → Type 0 };
 
     ghost reads: { Self → ℕ → Result (List ℕ) Refusal → Self → Type 0 };
@@ -37,7 +37,7 @@ pub trait Lookup {
         ensures same { setting self.new ≡ setting self.old }
         ensures exact { gets self.old key result self.new };
 
-    /// The value of a key that is held. Refused as `NotHeld`, exactly where the caller has no hold on the key.
+    /// The value of a key that is held. Refused as `NotHeld`, exactly if the caller has no hold on the key.
     fn read(&mut self, hold: Hold) -> Result<Value, Refusal>
         ensures leaves { ReadLeaves (setting self.old) hold.key (book self.old) result (book self.new) }
         ensures stands { IsBook (setting self.new) (book self.new) }
@@ -52,7 +52,7 @@ pub trait Lookup {
         ensures same { setting self.new ≡ setting self.old }
         ensures exact { removes self.old key result self.new };
 
-    /// Gives one hold on a key back. Refused as `NotHeld`, exactly where the caller has no hold on the key, or
+    /// Gives one hold on a key back. Refused as `NotHeld`, exactly if the caller has no hold on the key, or as
     /// `Memory`.
     fn release(&mut self, hold: Hold) -> Result<(), Refusal>
         ensures leaves { ReleaseLeaves (setting self.old) hold.key (book self.old) result (book self.new) }

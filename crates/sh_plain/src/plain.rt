@@ -15,14 +15,14 @@ use sh_value::{HOLDS_MAX, Hold, Refusal, Value};
 use std::alloc::Global;
 use std::marker::{Model, PhantomData};
 
-/// A store that keeps the entries of all its passes, and answers each call from them.
+/// A store that keeps the entries of all its passes, and computes the result of each call from them.
 ///
-/// It also keeps what the entries say of each key, and the holds that they leave, so that no call goes through the
-/// entries: there are at most 16 holds a pass.
+/// It also keeps what the entries say of each key, and the holds that they leave, so no call goes through the entries:
+/// there are at most 16 holds a pass.
 ///
-/// It knows no shape: a number is refused as `BadKey` exactly where it is no key of the layout. Its n-th insert, from
-/// 0, gives the n-th key of the layout. A contract sees its entries, the pass whose calls follow, and how many passes
-/// it has.
+/// It knows no shape: a number is refused as `BadKey` exactly if it is no key of the layout. Its n-th insert, from 0,
+/// gives the n-th key of the layout. A contract sees its entries, the pass whose calls follow, and the number of its
+/// passes.
 #[derive(Drop)]
 pub struct PlainStore<L: KeyLayout> {
     entries: Vec<Entry>,
@@ -46,7 +46,7 @@ impl<L: KeyLayout> Model for PlainStore<L> {
 impl<L: KeyLayout> PlainStore<L> {
     ghost use Rattle.sh_plain.specs.Plain.{plain_book};
 
-    /// An empty store of this many passes, from 1 to 64. Pass 0's calls follow.
+    /// An empty store of this many passes, from 1 to 64. The calls that follow are those of pass 0.
     pub fn new(alloc: Global, passes: u32) -> Self
         requires some { 1 ≤ passes }
         requires few { passes ≤ 64 }
@@ -62,7 +62,7 @@ impl<L: KeyLayout> PlainStore<L> {
         }
     }
 
-    /// Says whose calls follow.
+    /// Sets the pass whose calls follow.
     pub fn turn(&mut self, pass: u32)
         requires { pass < self.old.passes }
         ensures { self.new ≡ record self.old { pass = pass } }
@@ -78,7 +78,7 @@ impl<L: KeyLayout> PlainStore<L> {
         Some(&issued.value)
     }
 
-    // The value of the key, where it was issued and not removed.
+    // The value of the key, if it was issued and not removed.
     fn present_value(&self, key: u64) -> Option<&Value>
         ensures { option_copied result ≡ present_value self.now.entries key }
     {
@@ -98,14 +98,14 @@ impl<L: KeyLayout> PlainStore<L> {
         find_hold(&self.holds, self.pass, key).is_some()
     }
 
-    // Whether the pass whose calls follow has as many holds as it may have.
+    // Whether the pass whose calls follow has the most holds that it may have.
     fn has_all_holds(&self) -> bool
         ensures { IsTrue result ↔ (16 ≤ hold_count self.now.entries self.now.pass) }
     {
         hold_count(&self.holds, self.pass) >= HOLDS_MAX
     }
 
-    // Whether the key has as many holds as it may have.
+    // Whether the key has the most holds that it may have.
     fn is_full_of_holds(&self, key: u64) -> bool
         ensures full { IsTrue result ↔ (L.layout.guard_max ≤ holds_on self.now.entries key) }
         ensures some_pass { 1 ≤ self.now.passes }
@@ -117,7 +117,7 @@ impl<L: KeyLayout> PlainStore<L> {
 impl<L: KeyLayout> PlainStore<L> {
     ghost use Rattle.sh_plain.specs.Plain.{IsUnindexed, Noted};
 
-    // Adds an entry that may follow, and of which the index says nothing.
+    // Adds an entry that may follow, and that leaves the index as it is.
     fn note(&mut self, entry: Entry) -> Result<(), Refusal>
         requires allowed { Allowed self.old.passes L.layout.guard_max self.old.entries entry }
         requires unindexed { IsUnindexed entry }

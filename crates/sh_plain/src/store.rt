@@ -6,12 +6,12 @@ ghost use Rattle.sh_plain.specs.Store.{IsBook, InsertLeaves};
 use crate::Lookup;
 use sh_value::{Refusal, Value};
 
-/// A store of values under keys that are never used again: it looks keys up, and values are inserted there.
+/// A store of values under keys that are never used again: it looks keys up, and callers insert values into it.
 pub trait Store: Lookup {
-    // Which answers this very store gives to an insert, and when, beyond what its book says.
+    // Which results this store returns for an insert, and when, beyond what its book says.
     ghost inserts: { Self → List ℕ → Result ℕ Refusal → Self → Type 0 };
 
-    /// Stores a value under a new key, and answers the key. Refused as `Full` or `Memory`.
+    /// Stores a value under a new key, and returns the key. Refused as `Full` or `Memory`.
     fn insert(&mut self, value: &Value) -> Result<u64, Refusal>
         ensures leaves { InsertLeaves (Self.setting self.old) value.now (Self.book self.old) result
             (Self.book self.new) }

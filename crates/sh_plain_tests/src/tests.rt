@@ -7,7 +7,7 @@ use std::fmt::Debug;
 use std::process::Abort;
 use std::test::Fail;
 
-// What was found is what is wanted. It is a function, since each assertion that is written out is proved anew.
+// Fails unless the two are equal. It is a function because each assertion that is written out is proved anew.
 fn agree<T: PartialEq + Debug + Drop>(rt: &impl Abort, found: T, wanted: T) {
     assert_eq!(rt; found, wanted);
 }
@@ -95,7 +95,7 @@ fn forged_keys_are_refused(rt: HostRuntime) -> Result<(), Fail> {
     Ok(())
 }
 
-// A get, once more where memory was refused: then the pass holds what it held before.
+// A get, once more if memory was refused: then the pass holds what it held before.
 fn get_once_more(store: &mut PlainStore<Tiny>, key: u64, rt: &impl Abort) -> Result<Hold, Refusal> {
     let before = store.read(Hold { key });
     match store.get(key) {
@@ -107,7 +107,7 @@ fn get_once_more(store: &mut PlainStore<Tiny>, key: u64, rt: &impl Abort) -> Res
     }
 }
 
-// A remove, once more where memory was refused: then the pass holds what it held before.
+// A remove, once more if memory was refused: then the pass holds what it held before.
 fn remove_once_more(store: &mut PlainStore<Tiny>, key: u64, rt: &impl Abort) -> Result<(), Refusal>
     ensures { store.new.passes ≡ store.old.passes }
 {
@@ -121,7 +121,7 @@ fn remove_once_more(store: &mut PlainStore<Tiny>, key: u64, rt: &impl Abort) -> 
     }
 }
 
-// An insert, once more where memory was refused: then the key is not used up, and is still not issued.
+// An insert, once more if memory was refused: then the key is not used up, and is still not issued.
 fn insert_with_memory(
     store: &mut PlainStore<Tiny>,
     key: u64,
@@ -139,7 +139,7 @@ fn insert_with_memory(
     }
 }
 
-// A get by a pass with no hold on the key, once more where memory was refused: then the pass still has none.
+// A get by a pass with no hold on the key, once more if memory was refused: then the pass still has none.
 fn get_with_memory(store: &mut PlainStore<Tiny>, key: u64, rt: &impl Abort) -> Result<Hold, Refusal>
     ensures { store.new.passes ≡ store.old.passes }
 {
@@ -153,7 +153,7 @@ fn get_with_memory(store: &mut PlainStore<Tiny>, key: u64, rt: &impl Abort) -> R
     }
 }
 
-// A remove, once more where memory was refused: then the key is still present.
+// A remove, once more if memory was refused: then the key is still present.
 fn remove_with_memory(
     store: &mut PlainStore<Tiny>,
     key: u64,
@@ -169,7 +169,7 @@ fn remove_with_memory(
     }
 }
 
-// A release, once more where memory was refused: then the hold still reads the value.
+// A release, once more if memory was refused: then the hold still reads the value.
 fn release_with_memory(
     store: &mut PlainStore<Tiny>,
     hold: Hold,
@@ -185,8 +185,8 @@ fn release_with_memory(
     }
 }
 
-// Each key's four calls add an entry each, so the entries grow in the same call for each key; the entries before them
-// say in which one. A list's room is 4, 8, 16, 32 and 64, so with 17 keys each of these is outgrown.
+// Each key's four calls add one entry each, so the entries grow in the same call for each key. The entries before them
+// decide in which call. A list's room is 4, 8, 16, 32 and 64, so with 17 keys the test outgrows each of these.
 #[test]
 fn a_call_refused_for_memory_changes_nothing(rt: HostRuntime) -> Result<(), Fail> {
     let words = value(&[7, 8], &rt);
@@ -230,8 +230,8 @@ fn a_call_refused_for_memory_changes_nothing(rt: HostRuntime) -> Result<(), Fail
     Ok(())
 }
 
-// Two passes hold each key, so the holds outgrow a room of 4, 8 and 16, where the entries have room and where they have
-// none.
+// Two passes hold each key, so the holds outgrow a room of 4, 8 and 16, both when the entries have room and when they
+// have none.
 #[test]
 fn a_hold_refused_for_memory_is_not_taken(rt: HostRuntime) -> Result<(), Fail> {
     let words = value(&[9], &rt);
@@ -272,7 +272,7 @@ fn a_hold_refused_for_memory_is_not_taken(rt: HostRuntime) -> Result<(), Fail> {
     Ok(())
 }
 
-// What is refused with an entry is refused in the same way once there is memory.
+// A call that adds an entry with its refusal is refused in the same way once there is memory.
 #[test]
 fn a_refusal_refused_for_memory_is_answered_after_it(rt: HostRuntime) -> Result<(), Fail> {
     let words = value(&[1], &rt);

@@ -3,7 +3,7 @@ use Rattle.std.specs.Prelude.{◌≡◌, ℕ, ◌≤◌, List, [], ◌∷◌, le
 use Rattle.sh_lists.specs.Numbers.{Distinct, AllBelow}
 use Rattle.sh_lists.specs.Lists.{LastFrom}
 
--- what a contract sees of a chain: its numbers in order, and below which number each has to be
+-- what a contract sees of a chain: its numbers in order, and the bound below which each number is
 pub record ChainNumbers : Type 0 where
   pub numbers : List ℕ
   pub size : ℕ
@@ -13,7 +13,7 @@ abbrev pub ChainLinked : List ℕ → List ℕ → ℕ → List ℕ → Type 0
 ChainLinked next prev a [] = Unit {0}
 ChainLinked next prev a (b ∷ rest) = (get_or next a 0 ≡ b) × (get_or prev b 0 ≡ a) × ChainLinked next prev b rest
 
--- the links hold 0 and these numbers behind it, none twice, and the last is 10
+-- the links hold 0 and then these numbers, none twice, and the last is 10
 pub record Links (next prev rest : List ℕ) : Type 0 where
   pub size : length next ≤ length prev
   pub small : AllBelow (length next) (0 ∷ rest)

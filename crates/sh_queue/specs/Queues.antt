@@ -7,8 +7,8 @@ use Rattle.sh_shape.specs.Shape.{segment_pages}
 use Rattle.sh_lists.specs.Numbers.{Distinct, upward}
 use Rattle.sh_queue.specs.Numbers.{has_number, without_number, RisesFrom}
 
--- how many pages are opened, the first ones; how many segments are not; the pages that stand in the queue of each
--- class, in the full queue, and the blank pages, each list from its front
+-- The number of opened pages, which are the first ones, and of segments that are not opened. Then the pages in the
+-- queue of each class, in the full queue, and the blank pages, each list from its front.
 pub record PageQueues : Type 0 where
   pub opened : ℕ
   pub unopened : ℕ
@@ -24,7 +24,7 @@ class_queue q c = get_or q.classes c []
 abbrev pub queued_pages : PageQueues → List ℕ
 queued_pages q = concat q.classes ++ (q.full ++ q.blank)
 
--- each opened page, and no other, stands in exactly one of the queues, and there once
+-- each opened page, and no other, is in exactly one of the queues, and there once
 pub record EachOnce (q : PageQueues) : Type 0 where
   pub classes : length q.classes ≡ class_count
   pub once : Distinct (queued_pages q)
@@ -37,7 +37,7 @@ abbrev pub none_opened : ℕ → PageQueues
 none_opened segments =
     record { opened = 0; unopened = segments; classes = replicate class_count []; full = []; blank = [] }
 
--- the page stands nowhere
+-- the page is in no queue
 abbrev pub taken_out : ℕ → PageQueues → PageQueues
 taken_out page q =
     record q {
@@ -51,15 +51,15 @@ taken_out page q =
 abbrev pub with_class : ℕ → List ℕ → PageQueues → PageQueues
 with_class c pages q = record q { classes = slice_set q.classes c pages }
 
--- the page, taken from where it stands, is the front of class c
+-- the page, taken from where it is, becomes the front of class c
 abbrev pub at_front : ℕ → ℕ → PageQueues → PageQueues
 at_front c page q = with_class c (page ∷ without_number page (class_queue q c)) (taken_out page q)
 
--- the page, taken from where it stands, is the last of class c
+-- the page, taken from where it is, becomes the last of class c
 abbrev pub at_back : ℕ → ℕ → PageQueues → PageQueues
 at_back c page q = with_class c (without_number page (class_queue q c) ++ page ∷ []) (taken_out page q)
 
--- the page, taken from where it stands, is the last of the full queue
+-- the page, taken from where it is, becomes the last of the full queue
 abbrev pub among_full : ℕ → PageQueues → PageQueues
 among_full page q = record (taken_out page q) { full = without_number page q.full ++ page ∷ [] }
 
@@ -74,27 +74,27 @@ one_more_segment q =
 
 -- ---- queues that are being filled
 
--- the pages that are filed so far, in their queues, and how many there will be
+-- the pages that are filed so far, in their queues, and the number of pages to file
 pub record FilingQueues : Type 0 where
   pub queues : PageQueues
   pub pages : ℕ
 
--- one page more is opened, the next one: it is blank, or the last of a class
+-- one more page is opened, the next one: it is blank, or the last of a class
 abbrev pub next_filed : Option ℕ → PageQueues → PageQueues
 next_filed None q = record q { opened = q.opened + 1; blank = q.blank ++ q.opened ∷ [] }
 next_filed (Some c) q = with_class c (class_queue q c ++ q.opened ∷ []) (record q { opened = q.opened + 1 })
 
 -- ---- how one chain of numbers holds the queues
 
--- The numbers below 11 are marks: 0 to 7 stand ahead of the queues of the classes, 8 ahead of the full queue, 9 ahead
--- of the blank pages, 10 at the end. Page p is the number 11 + p.
+-- The numbers below 11 are marks: 0 to 7 are ahead of the queues of the classes, 8 ahead of the full queue, 9 ahead of
+-- the blank pages, 10 at the end. Page p is the number 11 + p.
 
 -- the mark behind the blank pages, and the one behind the pages of a class
 abbrev pub mark_behind : Option ℕ → ℕ
 mark_behind None = 10
 mark_behind (Some c) = c + 1
 
--- the page that a number stands for; a mark stands for none
+-- the page that a number means; a mark means none
 abbrev pub page_numbered : ℕ → Option ℕ
 page_numbered x = cond (nat_lt x 11) None (Some (x - 11))
 
@@ -132,16 +132,16 @@ queues_shown numbers opened unopened = record {
   blank = pages_behind 9 numbers;
 }
 
--- what the chain says while pages are filed, with a note for each page that there will be
+-- what the chain says while pages are filed, with a note for each page to file
 abbrev pub filing_shown : List ℕ → ℕ → ℕ → List Bool → FilingQueues
 filing_shown numbers filed unopened notes = record {
   queues = queues_shown numbers filed unopened;
   pages = length notes;
 }
 
--- what is true of the chain: it has room for the opened pages, and for no more than one segment beyond them; it has the
--- marks in ascending order, the opened pages between them, and the blank pages rise; the notes tell which pages are in
--- the full queue
+-- What is true of the chain. It has room for the opened pages, and for at most one segment beyond them. It has the
+-- marks in ascending order and the opened pages between them, and the blank pages rise. The notes say which pages are
+-- in the full queue.
 pub record KeepsQueues (numbers : List ℕ) (size opened unopened : ℕ) (notes : List Bool) : Type 0 where
   pub room : 11 + opened ≤ size
   pub lean : size ≤ 19 + opened
@@ -155,8 +155,8 @@ pub record KeepsQueues (numbers : List ℕ) (size opened unopened : ℕ) (notes 
   pub each_noted : length notes ≡ opened
   pub noted : (page : ℕ) → get_or notes page false ≡ has_number page (pages_behind 8 numbers)
 
--- what is true while pages are filed: there is room for all of them, and no more; those filed so far are in the chain;
--- no page is full
+-- what is true while pages are filed: there is room for exactly all of them; those filed so far are in the chain; no
+-- page is full
 pub record KeepsFiling (numbers : List ℕ) (size filed unopened : ℕ) (notes : List Bool) : Type 0 where
   pub room : size ≡ 11 + length notes
   pub some_left : filed ≤ length notes

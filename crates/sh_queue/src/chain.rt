@@ -9,17 +9,17 @@ ghost use Rattle.sh_queue.specs.Chain.{ChainNumbers};
 use std::alloc::{AllocError, Global};
 use std::marker::Model;
 
-// The number that stands last. The first is 0.
+// The last number. The first is 0.
 pub const END: u32 = 10;
 
-// A list of numbers that begins with 0 and ends with `END`, none twice. A number is taken out or put in with no regard
-// to where it stands. A contract sees the numbers in order, and below which number each has to be.
+// A list of numbers that begins with 0 and ends with `END`, none twice. A number can be taken out or put in at any
+// place. A contract sees the numbers in order, and the bound below which each number is.
 #[derive(Drop)]
 pub struct Chain {
     // The number behind each number, and the one ahead of it.
     next: Vec<u32>,
     prev: Vec<u32>,
-    // How many numbers stand behind 0.
+    // How many numbers come after 0.
     count: usize,
 }
 
@@ -124,8 +124,8 @@ impl Chain {
         self.put_between(before, m, x);
     }
 
-    // Puts x between s and the number behind it. Whoever puts it in has found one of the two beside the other: no link
-    // is read here.
+    // Puts x between s and the number behind it. The caller has found one of the two beside the other: this reads no
+    // link.
     fn put_between(&mut self, s: u32, behind: u32, x: u32)
         requires here { has_number s self.old.numbers ≡ true }
         requires inner { s ≢ 10 }
@@ -142,7 +142,7 @@ impl Chain {
         self.count += 1;
     }
 
-    // Puts the numbers from `first` on, this many, ahead of `END`.
+    // Puts this many numbers, from `first` on, ahead of `END`.
     pub fn append(&mut self, first: u32, count: u32)
         requires here { has_number 10 self.old.numbers ≡ true }
         requires apart { (k : ℕ) → first ≤ k → k < first + count → has_number k self.old.numbers ≡ false }
@@ -151,7 +151,7 @@ impl Chain {
         ensures put { self.new ≡ record self.old { numbers = put_before 10 (upward first count) self.old.numbers } }
         ensures distinct { Distinct self.new.numbers }
     {
-        // Reading a field brings in that the numbers differ, also where none is put in.
+        // Reading a field brings in that the numbers differ, also if none is put in.
         let _known = &self.next;
         for x in first..first + count {
             self.put_before(END, x);
@@ -159,11 +159,11 @@ impl Chain {
     }
 }
 
-// Adds links of 0 until there are at least this many. Where memory is refused, nothing is added.
+// Adds links of 0 until there are at least this many. If memory is refused, nothing is added.
 fn lengthen(links: &mut Vec<u32>, size: usize) -> Result<(), AllocError>
     ensures longer { OnOk result (links.new.items ≡ links.old.items ++ replicate (size - length links.old.items) 0) }
     ensures same { OnErr result (links.new.items ≡ links.old.items) }
-    // No more room than for these is asked for.
+    // It asks for no more room than for these.
     ensures lean { OnErr result (vec_capacity links.old < size) }
 {
     if size <= links.len() {

@@ -1,4 +1,4 @@
-//! The pages of an owner come to their queues one after the other.
+//! Putting the pages of an owner into their queues, one after the other.
 ghost use Rattle.std.specs.Prelude.{◌≡◌, ◌≢◌, ◌+◌, ◌*◌, ◌^◌, ◌<◌, ◌≤◌, false, replicate, IfSome, IfOk, IfErr};
 ghost use Rattle.sh_shape.specs.Classes.{class_count};
 ghost use Rattle.sh_shape.specs.Shape.{segment_pages};
@@ -13,13 +13,13 @@ use sh_value::Refusal;
 use std::alloc::{AllocError, Global};
 use std::marker::Model;
 
-/// Queues that are being filled: the pages come in ascending order, each straight into the queue where it belongs.
+/// Queues that are being filled: pages are filed in ascending order, each straight into the queue where it belongs.
 ///
 /// Memory for all pages is taken at once, by `new`. No other call takes any.
 #[derive(Drop)]
 pub struct Filing {
     chain: Chain,
-    // For each page that there will be, that it does not stand in the full queue.
+    // For each page to file, that it is not in the full queue.
     full: Vec<bool>,
     filed: u32,
     unopened: u32,
@@ -36,8 +36,8 @@ impl Model for Filing {
 }
 
 impl Filing {
-    /// No page is filed yet, of those of this many segments; `unopened` segments more stay unopened. There are at most
-    /// 2^21 in all. Refused as `Memory`.
+    /// No page is filed yet, of those of this many segments; `unopened` more segments stay unopened. There are at most
+    /// 2^21 segments in all. Refused as `Memory`.
     pub fn new(alloc: Global, opened: u32, unopened: u32) -> Result<Self, Refusal>
         requires { opened + unopened ≤ 2 ^ 21 }
         ensures ok { IfOk result (λ filing. filing ≡ record {
@@ -57,14 +57,14 @@ impl Filing {
         }
     }
 
-    /// How many pages there will be.
+    /// The number of pages to file.
     pub fn pages(&self) -> u32
         ensures { result ≡ self.now.pages }
     {
         self.full.len() as u32
     }
 
-    /// Files the next page, of which there is one: it is blank, or the last of a class from 0 to 7.
+    /// Files the next page, which must exist: it is blank, or the last of a class from 0 to 7.
     pub fn file(&mut self, class: Option<u32>)
         requires inside { self.old.queues.opened < self.old.pages }
         requires class { IfSome class (λ c. c < class_count) }

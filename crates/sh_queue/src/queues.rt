@@ -17,8 +17,8 @@ use sh_value::Refusal;
 use std::alloc::{AllocError, Global};
 use std::marker::Model;
 
-// All queues are one chain. A number below 11 marks where a queue begins: 0 to 7 stand ahead of the queues of the
-// classes, these two ahead of the full queue and of the blank pages, and the last number of the chain behind these.
+// All queues are one chain. A number below 11 marks the beginning of a queue. 0 to 7 are ahead of the queues of the
+// classes, and these two ahead of the full queue and of the blank pages. The last number of the chain is behind these.
 // Page p is the number 11 + p.
 const FULL: u32 = 8;
 
@@ -29,9 +29,9 @@ pub(crate) const FIRST_PAGE: u32 = 11;
 /// The pages that an owner has opened, in queues.
 ///
 /// A page is a number. Pages are opened 8 at a time, which is a segment, in ascending order. An opened page is blank,
-/// or stands in the queue of one class from 0 to 7, or in the full queue. They begin with no page, or as a `Filing`,
-/// which takes memory once for all pages that are opened then. Later `open_segment` alone takes any, for one segment at
-/// a time.
+/// in the queue of one class from 0 to 7, or in the full queue. Queues begin with no page, or as a `Filing`, which
+/// takes memory once for all pages that are opened then. Later only `open_segment` takes memory, for one segment at a
+/// time.
 ///
 /// ```
 /// let mut queues = Queues::new(alloc, 2)?;
@@ -42,7 +42,7 @@ pub(crate) const FIRST_PAGE: u32 = 11;
 #[derive(Drop)]
 pub struct Queues {
     pub(crate) chain: Chain,
-    // For each opened page, whether it stands in the full queue.
+    // For each opened page, whether it is in the full queue.
     pub(crate) full: Vec<bool>,
     pub(crate) opened: u32,
     pub(crate) unopened: u32,
@@ -69,7 +69,7 @@ impl Queues {
         Ok(filing.into_queues())
     }
 
-    /// How many pages are opened: the pages 0 to `opened() - 1`.
+    /// The number of opened pages, which are the pages 0 to `opened() - 1`.
     pub fn opened(&self) -> u32
         ensures opened { result ≡ self.now.opened }
         ensures few { self.now.opened + segment_pages * self.now.unopened ≤ 2 ^ 24 }
@@ -78,14 +78,14 @@ impl Queues {
         self.opened
     }
 
-    /// How many segments are not opened yet.
+    /// The number of segments that are not opened yet.
     pub fn unopened(&self) -> u32
         ensures { result ≡ self.now.unopened }
     {
         self.unopened
     }
 
-    /// Opens the next segment, of which there is one, and answers the first of its 8 pages, which are blank. Refused as
+    /// Opens the next segment, which must exist, and returns the first of its 8 pages, which are blank. Refused as
     /// `Memory`, with nothing changed.
     pub fn open_segment(&mut self) -> Result<u32, Refusal>
         requires { self.old.unopened ≢ 0 }
@@ -133,7 +133,7 @@ impl Queues {
         page_of(self.chain.preceding(c + 1))
     }
 
-    /// Whether an opened page stands in the full queue.
+    /// Whether an opened page is in the full queue.
     pub fn in_full(&self, page: u32) -> bool
         requires { page < self.now.opened }
         ensures { result ≡ has_number page self.now.full }
@@ -141,7 +141,7 @@ impl Queues {
         self.full[page as usize]
     }
 
-    /// Moves an opened page, from wherever it stands, to the front of a class.
+    /// Moves an opened page, from wherever it is, to the front of a class.
     pub fn to_front(&mut self, c: u32, page: u32)
         requires class { c < class_count }
         requires opened { page < self.old.opened }
@@ -153,7 +153,7 @@ impl Queues {
         self.chain.put_after(c, number);
     }
 
-    /// Moves an opened page, from wherever it stands, to the back of a class.
+    /// Moves an opened page, from wherever it is, to the back of a class.
     pub fn to_back(&mut self, c: u32, page: u32)
         requires class { c < class_count }
         requires opened { page < self.old.opened }
@@ -165,7 +165,7 @@ impl Queues {
         self.chain.put_before(c + 1, number);
     }
 
-    /// Moves an opened page, from wherever it stands, to the back of the full queue.
+    /// Moves an opened page, from wherever it is, to the back of the full queue.
     pub fn to_full(&mut self, page: u32)
         requires { page < self.old.opened }
         ensures { self.new ≡ among_full page self.old }
@@ -177,7 +177,7 @@ impl Queues {
     }
 }
 
-// Makes room for this many pages. Where memory is refused, the pages and the notes on them stay as they were.
+// Makes room for this many pages. If memory is refused, the pages and the notes on them stay as they were.
 fn make_room(chain: &mut Chain, full: &mut Vec<bool>, pages: u32) -> Result<(), AllocError>
     requires few { pages ≤ 2 ^ 24 }
     requires more { length full.old.items ≤ pages }
@@ -192,19 +192,19 @@ fn make_room(chain: &mut Chain, full: &mut Vec<bool>, pages: u32) -> Result<(), 
     note_none(full, pages)
 }
 
-// Notes of the pages behind the last one noted, up to this many, that they are not full. Where memory is refused, no
-// note is added.
+// Adds notes that pages are not full, behind the last page noted, up to this many. If memory is refused, no note is
+// added.
 fn note_none(full: &mut Vec<bool>, pages: u32) -> Result<(), AllocError>
     requires { length full.old.items ≤ pages }
     ensures longer { OnOk result (full.new.items ≡ full.old.items ++ replicate (pages - length full.old.items) false) }
     ensures same { OnErr result (full.new.items ≡ full.old.items) }
-    // No more room than for these is asked for.
+    // It asks for no more room than for these.
     ensures lean { OnErr result (vec_capacity full.old < pages) }
 {
     full.resize(pages as usize, false)
 }
 
-// The page that a number of the chain stands for. A mark stands for none.
+// The page that a number of the chain means. A mark means none.
 fn page_of(number: u32) -> Option<u32>
     ensures { result ≡ page_numbered number }
 {

@@ -1,4 +1,4 @@
-//! Tests of the queues of an owner's pages: how pages come to them and move, and refused memory.
+//! Tests of the queues of an owner's pages: how pages are filed and move, and refused memory.
 #![tactic(auto)]
 
 #[cfg(test)]

@@ -1,5 +1,5 @@
-//! What calls on shards answer, by worked examples: which keys come in which order, what is refused, what a stopped
-//! caller leaves behind, and what stands after refused memory.
+//! Worked examples of calls on shards: which keys are returned in which order, what is refused, what a stopped caller
+//! leaves behind, and what holds after refused memory.
 ghost use Rattle.std.specs.Prelude.{◌≡◌, ◌<◌};
 
 mod changing_hands;
@@ -25,25 +25,25 @@ use std::alloc::Global;
 use std::fmt::Debug;
 use std::process::Abort;
 
-// The words 1 to 16. A page has three values of so many.
+// The words 1 to 16. A page has three values of 16 words.
 const SIXTEEN: [u64; 16] = [1, 2, 3, 4, 5, 6, 7, 8, 9, 10, 11, 12, 13, 14, 15, 16];
 
-// What was found is what is wanted. It is a function, since each assertion that is written out is proved anew.
+// Fails unless the two are equal. It is a function because each assertion that is written out is proved anew.
 fn agree<T: PartialEq + Debug + Drop>(rt: &impl Abort, found: T, wanted: T) {
     assert_eq!(rt; found, wanted);
 }
 
-// A call that answers nothing more was not refused.
+// Fails if a call that returns nothing was refused.
 fn done(rt: &impl Abort, answer: Result<(), Refusal>) {
     agree(rt, answer, Ok(()));
 }
 
-// A read answered a value of these words.
+// Fails unless a read returned a value of these words.
 fn has_words(rt: &impl Abort, read: Result<Value, Refusal>, words: &[u64]) {
     agree(rt, read, Ok(value(rt, words)));
 }
 
-// A heap with so many shards, segments of a shard and passes, asked for once more where memory was refused.
+// A heap with this many shards, segments of a shard and passes, asked for once more if memory was refused.
 fn opened<L: KeyLayout>(
     rt: &impl Abort,
     alloc: Global,
@@ -65,7 +65,7 @@ fn opened<L: KeyLayout>(
     }
 }
 
-// Its passes, asked for once more where memory was refused.
+// Its passes, asked for once more if memory was refused.
 fn dealt<'a, L: KeyLayout>(
     rt: &impl Abort,
     alloc: Global,
@@ -117,7 +117,7 @@ fn two_passes<'a, L: KeyLayout>(
     (one, other)
 }
 
-// Shard n, asked for once more where memory was refused.
+// Shard n, asked for once more if memory was refused.
 fn adopted<'a, L: KeyLayout>(
     rt: &impl Abort,
     alloc: Global,
@@ -148,7 +148,7 @@ fn owner<'a, L: KeyLayout>(
     adopted(rt, alloc, one_pass(rt, alloc, heap, seats), 0)
 }
 
-// The owner of shard 0, and the pass of another.
+// The owner of shard 0, and another pass.
 fn owner_and_other<'a, L: KeyLayout>(
     rt: &impl Abort,
     alloc: Global,
@@ -161,7 +161,7 @@ fn owner_and_other<'a, L: KeyLayout>(
     (adopted(rt, alloc, one, 0), other)
 }
 
-// The pass again, which got no shard for this reason.
+// The pass, which got no shard for this reason.
 fn not_adopted<'a, L: KeyLayout>(
     rt: &impl Abort,
     alloc: Global,
@@ -183,7 +183,7 @@ fn left<'a, L: KeyLayout>(rt: &impl Abort, shard: Shard<'a, L>) -> Pass<'a, L> {
     pass
 }
 
-// The shard again, since leaving it waits.
+// The shard, since leaving it waits.
 fn not_left<'a, L: KeyLayout>(rt: &impl Abort, shard: Shard<'a, L>) -> Shard<'a, L> {
     let Err((shard, why)) = shard.leave() else {
         panic!(rt; "it is left")
@@ -200,7 +200,7 @@ fn sixteen(rt: &impl Abort) -> Value {
     value(rt, &SIXTEEN)
 }
 
-// An insert, once more where memory was refused.
+// An insert, once more if memory was refused.
 fn put<L: KeyLayout>(shard: &mut Shard<'_, L>, value: &Value) -> Result<u64, Refusal> {
     match shard.insert(value) {
         Err(Refusal::Memory) => shard.insert(value),
@@ -208,7 +208,7 @@ fn put<L: KeyLayout>(shard: &mut Shard<'_, L>, value: &Value) -> Result<u64, Ref
     }
 }
 
-// An insert of these words is answered so.
+// An insert of these words has this result.
 fn put_words<L: KeyLayout>(
     rt: &impl Abort,
     shard: &mut Shard<'_, L>,
@@ -218,7 +218,7 @@ fn put_words<L: KeyLayout>(
     agree(rt, put(shard, &value(rt, words)), answer);
 }
 
-// An insert of sixteen words is answered so.
+// An insert of sixteen words has this result.
 fn put_sixteen<L: KeyLayout>(
     rt: &impl Abort,
     shard: &mut Shard<'_, L>,
@@ -227,14 +227,14 @@ fn put_sixteen<L: KeyLayout>(
     put_words(rt, shard, &SIXTEEN, answer);
 }
 
-// Inserts of sixteen words each are answered these keys, in this order.
+// Inserts of sixteen words each return these keys, in this order.
 fn put_each<L: KeyLayout>(rt: &impl Abort, shard: &mut Shard<'_, L>, keys: &[u64]) {
     for key in keys {
         put_sixteen(rt, shard, Ok(*key));
     }
 }
 
-// Inserts of sixteen words each fill so many pages, three to a page. The first keys of two pages are 64 apart.
+// Inserts of sixteen words each fill this many pages, three to a page. The first keys of two pages are 64 apart.
 fn put_in_pages<L: KeyLayout>(rt: &impl Abort, shard: &mut Shard<'_, L>, first: u64, pages: u32) {
     let mut key = first;
     for _ in 0..pages {
@@ -252,14 +252,14 @@ fn owner_removes<L: KeyLayout>(rt: &impl Abort, shard: &mut Shard<'_, L>, keys: 
     }
 }
 
-// Another removes these keys, in this order.
+// Another pass removes these keys, in this order.
 fn other_removes<L: KeyLayout>(rt: &impl Abort, pass: &mut Pass<'_, L>, keys: &[u64]) {
     for key in keys {
         done(rt, pass.remove(*key));
     }
 }
 
-// A page prepared, once more where memory was refused.
+// Prepares a page, once more if memory was refused.
 fn prepared<L: KeyLayout>(shard: &mut Shard<'_, L>, class: u32) -> Result<u32, Refusal>
     requires { class < 8 }
 {

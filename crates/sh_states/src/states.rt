@@ -19,15 +19,15 @@ use std::marker::Model;
 pub struct PageState {
     // Its slots that are the owner's, and the slot of its stack to follow next.
     lists: PageLists,
-    // 0 blank, c + 1 of class c.
+    // 0 if it is blank, c + 1 if it has class c.
     class_word: u64,
     armed: bool,
 }
 
 /// What an owner keeps of each page of its shard. At first all pages are blank.
 ///
-/// Room for all of them is asked for once, by `new`, and no other call takes memory. A state is written there when its
-/// page, or one behind it, is used: so a system that gives memory as it is written gives it for the pages in use.
+/// Only `new` asks for memory, once, with room for all of them. A state is written there when its page, or one behind
+/// it, is used: so a system that gives memory as it is written gives it for the pages in use.
 #[derive(Drop)]
 pub struct PageStates {
     // The states of the first pages. The pages behind them are blank.
@@ -52,7 +52,7 @@ impl Model for PageStates {
 }
 
 impl PageStates {
-    /// As many pages as this, all blank. Refused where there is no room for so many.
+    /// The states of this many pages, all blank. Refused if there is no room for them.
     pub fn new(alloc: Global, count: u64) -> Result<Self, AllocError>
         ensures { IfOk result (λ states. states ≡ replicate count blank_state) }
     {
@@ -64,7 +64,7 @@ impl PageStates {
         })
     }
 
-    /// How many pages there are.
+    /// The number of pages.
     pub fn len(&self) -> u64
         ensures { result ≡ length self.now }
     {
@@ -84,7 +84,7 @@ impl PageStates {
         Some(&self.written[page as usize])
     }
 
-    /// The class word of a page: 0 where it is blank, and else one more than its class.
+    /// The class word of a page: 0 if it is blank, and otherwise one more than its class.
     #[inline(always)]
     pub fn class_word(&self, page: u64) -> u64
         ensures word { result ≡ (state_at self.now page).class_word }
@@ -96,7 +96,7 @@ impl PageStates {
         }
     }
 
-    /// The slot at which reading the page's stack goes on.
+    /// The slot at which reading the page's stack continues.
     #[inline(always)]
     pub fn cursor(&self, page: u64) -> Option<u32>
         ensures cursor { result ≡ (state_at self.now page).lists.cursor }
@@ -116,7 +116,7 @@ impl PageStates {
         }
     }
 
-    /// How many slots of the page are the owner's.
+    /// The number of the page's slots that are the owner's.
     #[inline(always)]
     pub fn slots(&self, page: u64) -> u32
         ensures kept { result ≡ kept_slots (state_at self.now page) }
@@ -128,7 +128,7 @@ impl PageStates {
         }
     }
 
-    /// Whether the page has a class, and all slots of it are the owner's.
+    /// Whether the page has a class, and all its slots are the owner's.
     pub fn is_whole(&self, page: u64) -> bool
         ensures whole { MatchBool result (WholeState (state_at self.now page)) (¬ WholeState (state_at self.now page)) }
         ensures once { SlotsOnce (state_at self.now page).lists }
@@ -170,7 +170,7 @@ impl PageStates {
     }
 }
 
-// Whether the page has a class, and all slots of it are the owner's.
+// Whether the page has a class, and all its slots are the owner's.
 fn is_whole(state: &PageState) -> bool
     requires { state.now.class_word ≤ 8 }
     ensures once { SlotsOnce state.now.lists }

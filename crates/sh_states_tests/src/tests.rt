@@ -3,7 +3,7 @@ use std::alloc::Global;
 use std::fmt::Debug;
 use std::process::Abort;
 
-// What was found is what is wanted. It is a function, since each assertion that is written out is proved anew.
+// Fails unless the two are equal. It is a function because each assertion that is written out is proved anew.
 fn agree<T: PartialEq + Debug + Drop>(rt: &impl Abort, found: T, wanted: T) {
     assert_eq!(rt; found, wanted);
 }
@@ -13,21 +13,21 @@ fn blank_pages(rt: &impl Abort, alloc: Global, count: u64) -> PageStates {
     PageStates::new(alloc, count).expect(rt, "there is memory")
 }
 
-// Gives a page a class, where there are such a page and such a class.
+// Gives a page a class, if there are such a page and such a class.
 fn give(states: &mut PageStates, page: u64, class: u32) {
     if page < states.len() && class < 8 {
         states.give_class(page, class);
     }
 }
 
-// Begins to read the stack of a page at a slot, where there are such a page and such a slot.
+// Begins to read the stack of a page at a slot, if both exist.
 fn begin(states: &mut PageStates, page: u64, slot: u32) {
     if page < states.len() && slot < 48 {
         states.begin_reading(page, Some(slot), true);
     }
 }
 
-// The first whole page of those below `end`, or of all where there are fewer.
+// The first whole page of those below `end`, or of all if there are fewer.
 fn first(states: &mut PageStates, end: u64) -> Option<u64> {
     let end = end.min(states.len());
     states.first_whole(end)
@@ -42,7 +42,7 @@ fn use_and_free(states: &mut PageStates, page: u64) -> Option<u32> {
     Some(slot)
 }
 
-// The first whole page while the next slot of this one is used, and once it is given back.
+// The first whole page while the next slot of this page is used, and after it is given back.
 fn looks(states: &mut PageStates, page: u64) -> Option<(Option<u64>, Option<u64>)> {
     let slot = states.next_slot(page)?;
     let end = states.len();
@@ -127,7 +127,7 @@ fn the_first_whole_page_is_found_though_it_was_none_before(rt: HostRuntime) {
         agree(&rt, states.next_slot(page), Some(0));
     }
     agree(&rt, first(&mut states, 16), None);
-    // A slot that comes to a page of which another is out does not make it whole.
+    // A slot that comes back to a page with another slot out does not make the page whole.
     agree(&rt, use_and_free(&mut states, 9), Some(1));
     agree(&rt, first(&mut states, 16), None);
     give(&mut states, 9, 6);

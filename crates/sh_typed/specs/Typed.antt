@@ -15,7 +15,7 @@ abbrev pub record_in : {R : Type 0} → ℕ → (List ℕ → Option R) → List
 record_in kind record_of [] = None
 record_in kind record_of (word ∷ words) = if word == kind then record_of words else None
 
--- the book once the pass got the key and read its value, which is now that of each get of the key
+-- the book once the pass got the key and read its value, which each get of the key then has
 abbrev pub with_got : Setting → ℕ → List ℕ → List LogEntry → List LogEntry
 with_got s key value book = map (filled key value) book ++ Known (Got s.pass key value) ∷ []
 
@@ -29,8 +29,8 @@ abbrev pub FetchLeaves : Setting → ℕ → List LogEntry → Result (Hold × L
 FetchLeaves s key book (Ok (hold, value)) after = (hold.key ≡ key) × GotValue s key value book after
 FetchLeaves s key book (Err refusal) after = GetLeaves s key book (Err refusal) after
 
--- a get of a record: the record is what the got value is read as. Where the value is read as none, the hold is released
--- again; where memory for that is refused, it stays
+-- A get of a record: the record is what the got value is read as. If the value is not read as a record, the hold is
+-- released again; if memory for that is refused, the hold stays.
 abbrev pub RecordLeaves : {R : Type 0} → (List ℕ → Option R) → Setting → ℕ → List LogEntry → Result (Hold × R) Refusal
     → List LogEntry → Type 0
 RecordLeaves read s key book (Ok (hold, found)) after =
@@ -41,16 +41,16 @@ RecordLeaves read s key book (Err Memory) after =
     (after ≡ book) ⊎ ((value : List ℕ) × GotValue s key value book after × (read value ≡ None))
 RecordLeaves read s key book (Err refusal) after = GetLeaves s key book (Err refusal) after
 
--- ---- which of the store's answers led to it
+-- ---- which of the store's results led to it
 
--- a get and its read, as the store answers them: both, or the get's refusal
+-- a get and its read, with the store's results: both, or the get's refusal
 abbrev pub Fetches : {S : Type 0} → (gets : S → ℕ → Result Hold Refusal → S → Type 0)
     → (reads : S → ℕ → Result (List ℕ) Refusal → S → Type 0) → S → ℕ → Result (Hold × List ℕ) Refusal → S → Type 0
 Fetches gets reads old key (Ok (hold, value)) new = (got : _) × gets old key (Ok hold) got
     × reads got hold.key (Ok value) new
 Fetches gets reads old key (Err refusal) new = gets old key (Err refusal) new
 
--- the store gave a hold and a value that is read as none, and answers the release of that hold so
+-- the store gave a hold and a value that is read as no record, and this is the result of releasing that hold
 pub record Returns {S R : Type 0} (read : List ℕ → Option R) (gets : S → ℕ → Result Hold Refusal → S → Type 0)
     (reads : S → ℕ → Result (List ℕ) Refusal → S → Type 0) (releases : S → ℕ → Result (Unit {0}) Refusal → S → Type 0)
     (old : S) (key : ℕ) (answer : Result (Unit {0}) Refusal) (new : S) : Type 0 where
@@ -61,8 +61,8 @@ pub record Returns {S R : Type 0} (read : List ℕ → Option R) (gets : S → �
   pub none : read value ≡ None
   pub released : releases held hold.key answer new
 
--- a get of a record: the store's hold with the record that its value is read as; `WrongKind` where it is read as none
--- and the store took the hold back; else the store's refusal of the get, or of the release, which is for memory
+-- A get of a record: the store's hold with the record that its value is read as. `WrongKind` if it is read as none and
+-- the store took the hold back. Otherwise the store's refusal of the get, or its refusal of the release for memory.
 abbrev pub FetchesRecord : {S R : Type 0} → (List ℕ → Option R) → (gets : S → ℕ → Result Hold Refusal → S → Type 0)
     → (reads : S → ℕ → Result (List ℕ) Refusal → S → Type 0) →
     (releases : S → ℕ → Result (Unit {0}) Refusal → S → Type 0)

@@ -21,7 +21,7 @@ fn fetch<S: Lookup>(store: &mut S, key: u64) -> Result<(Hold, Value), Refusal>
     }
 }
 
-// Gets a key and reads its value as a record. Where it is none, the hold is released again.
+// Gets a key and reads its value as a record. If it is none, the hold is released again.
 pub(crate) fn fetch_record<S: Lookup, R: Record>(
     store: &mut S,
     key: u64,

@@ -12,7 +12,7 @@ pub(crate) fn stored_value<R: Record>(stored: &R) -> Value
     Value::prefixed(R::KIND, &stored.encode())
 }
 
-// The record that a value is, if it is one of this kind.
+// The record that a value is, if it is a record of this kind.
 pub(crate) fn stored_record<R: Record>(value: &Value) -> Option<R>
     ensures { result ≡ record_in R.KIND R.record_of value.now }
 {

@@ -14,9 +14,9 @@ use std::marker::{Model, PhantomData};
 
 /// The records of one type in a store: each is stored as its kind and then its words.
 ///
-/// Any caller that looks keys up may get, remove and release them, as a pass does: `Typed::<_, (u64, u64)>::new(pass)`.
-/// Only over a store can they be inserted. A contract sees the store itself. Another kind of record may be under other
-/// keys of it.
+/// Any implementation of `Lookup` may get, remove and release them, as a pass does: `Typed::<_, (u64,
+/// u64)>::new(pass)`. Only a store can insert them. A contract sees the store itself. Other keys of the store may have
+/// records of another kind.
 #[derive(Drop)]
 pub struct Typed<S: Lookup, R: Record> {
     store: S,
@@ -46,11 +46,11 @@ impl<S: Lookup, R: Record> Typed<S, R> {
         store
     }
 
-    /// Takes a hold on a key, and answers it with the record. Refused as the store refuses a get, and as `WrongKind`
-    /// where the key's value is of another kind or does not decode: then the hold is released again. Where that release
-    /// is refused for memory, this is refused as `Memory`, and the hold stays.
+    /// Takes a hold on a key, and returns it with the record. Refused as the store refuses a get, and as `WrongKind` if
+    /// the key's value is of another kind or does not decode: then the hold is released again. If that release is
+    /// refused for memory, this is refused as `Memory`, and the hold stays.
     ///
-    /// A record whose insert stands in the book is given back, or the get is refused as the store refuses a get.
+    /// A record whose insert is in the book is given back, or the get is refused as the store refuses a get.
     pub fn get(&mut self, key: u64) -> Result<(Hold, R), Refusal>
         ensures leaves { RecordLeaves (record_in R.KIND R.record_of) (S.setting self.old) key (S.book self.old) result
             (S.book self.new) }
@@ -75,8 +75,8 @@ impl<S: Lookup, R: Record> Typed<S, R> {
         self.store.remove(key)
     }
 
-    /// Gives one hold on a key back, as the store does. Refused as `NotHeld`, exactly where the caller has no hold on
-    /// the key, or `Memory`.
+    /// Gives one hold on a key back, as the store does. Refused as `NotHeld`, exactly if the caller has no hold on the
+    /// key, or as `Memory`.
     pub fn release(&mut self, hold: Hold) -> Result<(), Refusal>
         ensures leaves { ReleaseLeaves (S.setting self.old) hold.key (S.book self.old) result (S.book self.new) }
         ensures stands { IsBook (S.setting self.new) (S.book self.new) }
@@ -88,7 +88,7 @@ impl<S: Lookup, R: Record> Typed<S, R> {
 }
 
 impl<S: Store, R: Record> Typed<S, R> {
-    /// Stores a record under a new key, and answers the key. Refused as `Full` or `Memory`.
+    /// Stores a record under a new key, and returns the key. Refused as `Full` or `Memory`.
     ///
     /// What is stored is read as the record again.
     pub fn insert(&mut self, stored: &R) -> Result<u64, Refusal>

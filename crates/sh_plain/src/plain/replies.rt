@@ -1,4 +1,4 @@
-//! What the plain store answers to each call, and which entry each adds.
+//! What the plain store returns for each call, and which entry each call adds.
 ghost use Rattle.std.specs.Prelude.{◌≡◌};
 ghost use Rattle.sh_history.specs.History.{present_value};
 
@@ -48,7 +48,7 @@ impl<L: KeyLayout> PlainStore<L> {
         self.get_key(key)
     }
 
-    // A get of a key, where the pass has room for a hold.
+    // A get of a key, if the pass has room for a hold.
     fn get_key(&mut self, key: u64) -> Result<Hold, Refusal>
         ensures { Replied (got_reply L.layout self.old key (present_value self.old.entries key)) self.old result
             self.new }

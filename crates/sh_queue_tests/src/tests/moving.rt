@@ -7,7 +7,7 @@ use sh_value::Refusal;
 use std::process::Abort;
 use std::test::Fail;
 
-// The next segment is opened, and this is its first page.
+// Opens the next segment, and checks its first page.
 fn opens(rt: &impl Abort, queues: &mut Queues, first: u32)
     requires { queues.old.unopened ≢ 0 }
     ensures { queues.new ≡ one_more_segment queues.old }
@@ -68,7 +68,7 @@ fn blank_pages_are_used_lowest_first(rt: HostRuntime) {
     agree(&rt, queues.opened(), 16);
 }
 
-// No page is opened, once more where memory was refused.
+// Queues with no opened page, asked for once more if memory was refused.
 fn new_with_memory(rt: &HostRuntime, segments: u32) -> Result<Queues, Refusal>
     requires { segments ≤ 2 ^ 21 }
     ensures { IfOk result (λ queues. queues ≡ none_opened segments) }
@@ -79,7 +79,7 @@ fn new_with_memory(rt: &HostRuntime, segments: u32) -> Result<Queues, Refusal>
     }
 }
 
-// The next segment is opened, once more where memory was refused: then no page moved, and none was opened.
+// Opens the next segment, once more if memory was refused: then no page moved, and none was opened.
 fn opens_with_memory(rt: &impl Abort, queues: &mut Queues, first: u32)
     requires { queues.old.unopened ≢ 0 }
     ensures { queues.new ≡ one_more_segment queues.old }
@@ -115,7 +115,7 @@ fn a_segment_refused_for_memory_changes_nothing(rt: HostRuntime) -> Result<(), F
     Ok(())
 }
 
-// As many segments as a heap may have are opened one after the other, and each page has its place.
+// The test opens as many segments as a heap may have, one after the other, and each page has its place.
 #[test]
 fn all_segments_are_opened(rt: HostRuntime) {
     let mut queues = Queues::new(rt.alloc(), 256).expect(&rt, "there is memory");

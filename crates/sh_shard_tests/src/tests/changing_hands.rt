@@ -39,7 +39,7 @@ fn find_and_hold(rt: &impl Abort, shard: &mut Shard<'_, Tiny>, one: &mut Pass<'_
     done(rt, shard.release(hold));
 }
 
-// What the first owner left there, live and empty, the second one finds: what was put last is taken first.
+// The second owner finds what the first one left in the shard, values and free slots: the slot put last is taken first.
 #[test]
 fn values_stay_when_their_shard_changes_hands(rt: HostRuntime) {
     let (heap, seats) = opened::<Tiny>(&rt, rt.alloc(), 1, 1, 2);
@@ -60,7 +60,7 @@ fn a_shard_has_eight_pages_to_prepare(rt: HostRuntime) {
     agree(&rt, prepared(&mut shard, 3), Err(Refusal::Full));
 }
 
-// Leaving waits for another who put a slot and has yet to tie it.
+// Leaving waits for another pass that put a slot and has yet to tie it.
 #[test]
 fn leave_waits_for_a_tie(rt: HostRuntime) {
     let (heap, seats) = opened::<Tiny>(&rt, rt.alloc(), 1, 1, 2);

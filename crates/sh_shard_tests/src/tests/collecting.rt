@@ -27,7 +27,7 @@ fn remove_words(rt: &impl Abort, other: &mut Pass<'_, Tiny>) {
     }
 }
 
-// The slots that another pass freed are on the stacks of pages of another class, at which an insert does not look.
+// The slots that another pass freed are on the stacks of pages of another class, which an insert does not look at.
 #[test]
 fn collected_pages_take_values_of_another_length(rt: HostRuntime) {
     let (heap, seats) = opened::<Tiny>(&rt, rt.alloc(), 1, 1, 2);

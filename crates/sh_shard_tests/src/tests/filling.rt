@@ -1,4 +1,4 @@
-//! A shard that is filled, and what comes back of it.
+//! A shard that is filled, and what comes back to it.
 use super::steps::{ended, stopped_at};
 use super::*;
 use sh_key::Tiny;
@@ -31,7 +31,7 @@ fn a_second_segment_is_filled(rt: HostRuntime) {
     use_one_again(&rt, &mut shard);
 }
 
-// Two owners of full shards, of which each removes one key of the other's: each puts one value then.
+// Two owners of full shards, each of which removes one key of the other's: each then puts one value.
 fn free_for_each_other(rt: &impl Abort, first: &mut Shard<'_, Tiny>, second: &mut Shard<'_, Tiny>) {
     owner_removes(rt, first, &[5_185]);
     owner_removes(rt, second, &[4_226]);
@@ -39,7 +39,7 @@ fn free_for_each_other(rt: &impl Abort, first: &mut Shard<'_, Tiny>, second: &mu
     put_sixteen(rt, second, Ok(9_281));
 }
 
-// Two owners of full shards, of which each removes one key of its own and puts one value then.
+// Two owners of full shards, each of which removes one of its own keys and then puts one value.
 fn free_for_themselves(rt: &impl Abort, first: &mut Shard<'_, Tiny>, second: &mut Shard<'_, Tiny>) {
     owner_removes(rt, second, &[9_281]);
     owner_removes(rt, first, &[4_096]);
@@ -64,8 +64,8 @@ fn two_owners_remove_each_others_keys(rt: HostRuntime) {
     free_for_themselves(&rt, &mut first, &mut second);
 }
 
-// Of a full shard the owner and another hold one key each, which the other of the two removes. They read what they
-// hold and release it, and so bring one slot back each.
+// The owner and another pass hold one key each of a full shard, and each removes the other's key. They read what they
+// hold and release it, and so bring back one slot each.
 fn hold_and_bring_back(rt: &impl Abort, shard: &mut Shard<'_, Tiny>, other: &mut Pass<'_, Tiny>) {
     let theirs = other.get(4_096).expect(rt, "a hold");
     let mine = shard.get(4_546).expect(rt, "a hold");
@@ -81,7 +81,7 @@ fn hold_and_bring_back(rt: &impl Abort, shard: &mut Shard<'_, Tiny>, other: &mut
     put_sixteen(rt, shard, Ok(8_642));
 }
 
-// The slot of a removed key comes back once the last hold goes, whoever has it.
+// The slot of a removed key comes back once the last hold is released, by any pass.
 #[test]
 fn the_last_hold_brings_a_slot_back(rt: HostRuntime) {
     let (heap, seats) = opened::<Tiny>(&rt, rt.alloc(), 1, 1, 2);
@@ -153,8 +153,8 @@ fn use_page_again(rt: &impl Abort, shard: &mut Shard<'_, Tiny>) {
     }
 }
 
-// A page all of whose slots came back takes another class: its first keys go on from their generations, and the others
-// begin.
+// A page that got all its slots back takes another class: its first keys continue from their generations, and the
+// others begin.
 #[test]
 fn a_wholly_empty_page_changes_its_class(rt: HostRuntime) {
     let (heap, seats) = opened::<Tiny>(&rt, rt.alloc(), 1, 1, 1);
@@ -165,7 +165,7 @@ fn a_wholly_empty_page_changes_its_class(rt: HostRuntime) {
     put_sixteen(&rt, &mut shard, Err(Refusal::Full));
 }
 
-// Empties the first page of a full shard, whose first slot is used three times before.
+// Empties the first page of a full shard, whose first slot was used three times before.
 fn retire_and_empty(rt: &impl Abort, shard: &mut Shard<'_, Tiny>) {
     for key in [4_096, 8_192] {
         done(rt, shard.remove(key));
@@ -174,7 +174,7 @@ fn retire_and_empty(rt: &impl Abort, shard: &mut Shard<'_, Tiny>) {
     owner_removes(rt, shard, &[12_288, 4_097, 4_098]);
 }
 
-// A retired slot is nobody's, so its page keeps its class.
+// A retired slot has no owner, so its page keeps its class.
 #[test]
 fn a_page_with_a_retired_slot_keeps_its_class(rt: HostRuntime) {
     let (heap, seats) = opened::<Tiny>(&rt, rt.alloc(), 1, 1, 1);

@@ -12,7 +12,7 @@ fn guarded(rt: &impl Abort, taken: Result<Guard<Tiny>, Refusal>) -> Guard<Tiny> 
     }
 }
 
-// A read by the guard into a value that has other words gives it these.
+// A read by the guard into a value that has other words replaces them by these.
 fn read_by(rt: &impl Abort, pass: &mut Pass<'_, Tiny>, guard: &Guard<Tiny>, words: &[u64]) {
     let mut into = value(rt, &[1, 1, 1]);
     done(rt, pass.read_guard(guard, &mut into));
@@ -26,7 +26,7 @@ fn not_read_by(rt: &impl Abort, pass: &mut Pass<'_, Tiny>, guard: &Guard<Tiny>) 
     agree(rt, into.words(), [5].as_slice());
 }
 
-// Another reads by a guard on the key before and after its removal, and releases it.
+// Another pass reads by a guard on the key before and after its removal, and releases it.
 fn read_and_release(rt: &impl Abort, shard: &mut Shard<'_, Tiny>, other: &mut Pass<'_, Tiny>) {
     let guard = guarded(rt, other.get_guard(4_096));
     agree(rt, guard.key(), 4_096);
@@ -37,7 +37,7 @@ fn read_and_release(rt: &impl Abort, shard: &mut Shard<'_, Tiny>, other: &mut Pa
     done(rt, other.release_guard(guard));
 }
 
-// A guard reads what its key has, also once the key is removed, and is released once.
+// A guard reads the value of its key, also once the key is removed, and is released once.
 #[test]
 fn a_guard_reads_and_is_released(rt: HostRuntime) {
     let (heap, seats) = opened::<Tiny>(&rt, rt.alloc(), 1, 1, 2);
@@ -79,7 +79,7 @@ fn an_owner_reads_by_a_guard(rt: HostRuntime) {
     agree(&rt, into.words(), [9].as_slice());
 }
 
-// Another takes a guard on the key, and gives its hold back by a plain release.
+// Another pass takes a guard on the key, and gives its hold back by a plain release.
 fn release_plainly(rt: &impl Abort, other: &mut Pass<'_, Tiny>) {
     let guard = guarded(rt, other.get_guard(4_096));
     done(rt, other.release(guard.hold()));
@@ -104,7 +104,7 @@ fn guard_elsewhere(rt: &impl Abort, alloc: Global) -> Guard<Tiny> {
     guarded(rt, shard.get_guard(5_120))
 }
 
-// The guard reads nothing before the pass holds its key, and then what the key has here.
+// The guard reads nothing before the pass holds its key, and afterwards reads the value of the key in this heap.
 fn hold_and_read(rt: &impl Abort, other: &mut Pass<'_, Tiny>, guard: Guard<Tiny>) {
     not_read_by(rt, other, &guard);
     agree(rt, other.get(5_120), Ok(Hold { key: 5_120 }));
@@ -112,7 +112,7 @@ fn hold_and_read(rt: &impl Abort, other: &mut Pass<'_, Tiny>, guard: Guard<Tiny>
     done(rt, other.release_guard(guard));
 }
 
-// In a heap of another shape a key stands elsewhere: a guard from there does what its plain hold does here.
+// In a heap of another shape a key is in another place: a guard from there does what its plain hold does here.
 #[test]
 fn a_guard_of_another_heap_is_its_key(rt: HostRuntime) {
     let guard = guard_elsewhere(&rt, rt.alloc());

@@ -1,9 +1,9 @@
-//! The largest shard, of which each page is used.
+//! The largest shard, each page of which is used.
 use super::*;
 use sh_key::Wide;
 
-// 128 segments are opened one after the other, and each of 1,024 pages has three values of 16 words. The first keys of
-// two pages are 64 apart.
+// The test opens 128 segments, one after the other, and each of 1,024 pages has three values of 16 words. The first
+// keys of two pages are 64 apart.
 #[test]
 fn the_largest_shard_is_filled(rt: HostRuntime) {
     let (heap, seats) = opened::<Wide>(&rt, rt.alloc(), 1, 128, 1);

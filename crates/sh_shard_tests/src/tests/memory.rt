@@ -1,9 +1,9 @@
-//! Refused memory: what stands after it, and that the same call with memory then answers.
+//! Refused memory: what holds after it, and that the same call with memory then succeeds.
 use super::*;
 use sh_key::Tiny;
 
-// The shard, and how often memory was refused before it. After a refusal the shard is nobody's and the pass has come
-// back.
+// The shard, and how often memory was refused before it. After a refusal nobody owns the shard, and the pass is
+// returned.
 fn adopted_at_last<'a>(
     rt: &impl Abort,
     alloc: Global,
@@ -19,7 +19,7 @@ fn adopted_at_last<'a>(
     }
 }
 
-// A shard whose adoption was refused may be adopted by another, and by the same pass.
+// A shard whose adoption was refused may be adopted by another pass, and by the same pass.
 #[test]
 fn an_adoption_refused_for_memory_leaves_the_shard(rt: HostRuntime) {
     let (heap, seats) = opened::<Tiny>(&rt, rt.alloc(), 1, 1, 2);
@@ -32,8 +32,8 @@ fn an_adoption_refused_for_memory_leaves_the_shard(rt: HostRuntime) {
     put_sixteen(&rt, &mut shard, Ok(4_098));
 }
 
-// Inserts the words under this key, where another finds them. How often memory was refused before it, when the other
-// found nothing.
+// Inserts the words under this key, and another pass finds them. Returns how often memory was refused before; each time
+// the other pass found nothing.
 fn inserted_at_last(
     rt: &impl Abort,
     shard: &mut Shard<'_, Tiny>,
@@ -64,8 +64,8 @@ fn insert_more(rt: &impl Abort, shard: &mut Shard<'_, Tiny>, words: &Value) {
     }
 }
 
-// Where a segment is refused, an insert changes nothing, and the same insert with memory answers the first key of the
-// segment. Another adopts both segments then.
+// If a segment is refused, an insert changes nothing, and the same insert with memory returns the first key of the
+// segment. Another pass then adopts both segments.
 #[test]
 fn an_insert_refused_for_memory_changes_nothing(rt: HostRuntime) {
     let (heap, seats) = opened::<Tiny>(&rt, rt.alloc(), 1, 2, 2);

@@ -1,9 +1,9 @@
-//! In which order slots and pages are used.
+//! The order in which slots and pages are used.
 use super::filling::fill;
 use super::*;
 use sh_key::Tiny;
 
-// Of a page the slot that its owner freed last is used first, and of two full pages the one that came back first.
+// In a page, the slot that its owner freed last is used first. Of two full pages, the one that came back first is.
 #[test]
 fn what_the_owner_freed_last_is_used_first(rt: HostRuntime) {
     let (heap, seats) = opened::<Tiny>(&rt, rt.alloc(), 1, 1, 1);
@@ -14,7 +14,7 @@ fn what_the_owner_freed_last_is_used_first(rt: HostRuntime) {
     put_sixteen(&rt, &mut shard, Err(Refusal::Full));
 }
 
-// Of two full pages of which another freed slots the one that rang last comes back first, with the slot that was put
+// If another pass frees slots of two full pages, the page that rang last comes back first, with the slot that was put
 // last.
 #[test]
 fn what_another_freed_last_is_used_first(rt: HostRuntime) {
@@ -26,7 +26,7 @@ fn what_another_freed_last_is_used_first(rt: HostRuntime) {
     put_sixteen(&rt, &mut shard, Err(Refusal::Full));
 }
 
-// What another freed in a full page is used before a blank page, and after the slots of the front page.
+// A slot that another pass freed in a full page is used before a blank page, and after the slots of the front page.
 #[test]
 fn freed_slots_are_used_before_blank_pages(rt: HostRuntime) {
     let (heap, seats) = opened::<Tiny>(&rt, rt.alloc(), 1, 1, 2);
@@ -46,7 +46,7 @@ fn fill_with_two_classes(rt: &impl Abort, shard: &mut Shard<'_, Tiny>) {
     }
 }
 
-// Another removes a value of each class, and the owner puts one of each class.
+// Another pass removes a value of each class, and the owner puts one of each class.
 fn use_each_class(rt: &impl Abort, shard: &mut Shard<'_, Tiny>, other: &mut Pass<'_, Tiny>) {
     other_removes(rt, other, &[4_143]);
     put_sixteen(rt, shard, Err(Refusal::Full));

@@ -4,8 +4,8 @@ use sh_key::Tiny;
 use sh_typed::Typed;
 use sh_value::Hold;
 
-// A record is stored as its kind, which is here how many words it has, and its words. To a view of another kind it is
-// refused, and the hold goes back.
+// A record is stored as its kind, which is here its number of words, and its words. A view of another kind refuses it,
+// and the hold is released.
 #[test]
 fn typed_records_live_in_a_shard(rt: HostRuntime) {
     let (heap, seats) = opened::<Tiny>(&rt, rt.alloc(), 1, 1, 1);

@@ -1,4 +1,4 @@
-//! What single calls answer.
+//! The results of single calls.
 use super::*;
 use sh_key::{Tiny, Wide};
 use sh_plain::Store;
@@ -61,7 +61,7 @@ fn a_removed_key_stays_gone(rt: HostRuntime) {
     let _pass = left(&rt, shard);
 }
 
-// A value stays for the one who holds it, while others find nothing.
+// A value stays readable for the pass that holds it, while others find nothing.
 #[test]
 fn a_held_value_outlives_its_removal(rt: HostRuntime) {
     let (heap, seats) = opened::<Tiny>(&rt, rt.alloc(), 1, 1, 2);
@@ -91,7 +91,7 @@ fn numbers_that_are_no_keys(rt: HostRuntime) {
     }
 }
 
-// Takes holds on the key while they are given, and then gives them back and one more.
+// Takes all holds on the key that are granted, and then gives back those and one more.
 fn hold_and_release<L: KeyLayout>(
     rt: &impl Abort,
     shard: &mut Shard<'_, L>,

@@ -1,11 +1,11 @@
-//! Passes that do some of the steps of a removal by hand.
+//! Passes that do some of the steps of a removal one by one.
 use super::agree;
 use sh_key::KeyLayout;
 use sh_pass::{Busy, Pass};
 use sh_step::Action;
 use std::process::Abort;
 
-// The steps by which a key is removed whose slot is the first that is put on an armed page.
+// The steps that remove a key whose slot is the first that is put on an armed page.
 fn removing(key: u64) -> [Action; 8] {
     [
         Action::EnterRemove(key),
@@ -19,7 +19,7 @@ fn removing(key: u64) -> [Action; 8] {
     ]
 }
 
-// The pass again, whose steps are done.
+// The pass, whose steps are done.
 pub(super) fn ended<'a, L: KeyLayout>(rt: &impl Abort, busy: Busy<'a, L>) -> Pass<'a, L> {
     let Ok(pass) = busy.end() else {
         panic!(rt; "its steps are not done")
@@ -34,7 +34,7 @@ pub(super) fn act_each<L: KeyLayout>(rt: &impl Abort, busy: &mut Busy<'_, L>, ac
     }
 }
 
-// The pass, after it did the first so many of the steps.
+// The pass, after it did the first steps, this many.
 pub(super) fn stopped_at<'a, L: KeyLayout>(
     rt: &impl Abort,
     pass: Pass<'a, L>,

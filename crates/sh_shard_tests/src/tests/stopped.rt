@@ -6,7 +6,7 @@ use sh_key::Tiny;
 use sh_pass::Busy;
 use sh_step::Action;
 
-// Inserts until the shard is full, and answers how many went in.
+// Inserts until the shard is full, and returns the number of inserts that succeeded.
 fn put_until_full(rt: &impl Abort, shard: &mut Shard<'_, Tiny>) -> u32 {
     for count in 0..25u32 {
         if let Err(why) = put(shard, &sixteen(rt)) {
@@ -17,7 +17,7 @@ fn put_until_full(rt: &impl Abort, shard: &mut Shard<'_, Tiny>) -> u32 {
     25
 }
 
-// Leaves, or answers the shard where that waits.
+// Leaves, or returns the shard if leaving waits.
 fn waits<'a>(rt: &impl Abort, shard: Shard<'a, Tiny>) -> Option<Shard<'a, Tiny>> {
     match shard.leave() {
         Ok(_) => None,
@@ -28,7 +28,7 @@ fn waits<'a>(rt: &impl Abort, shard: Shard<'a, Tiny>) -> Option<Shard<'a, Tiny>>
     }
 }
 
-// Another stops after so many steps of a removal from a page that is not armed.
+// Another pass stops after this many steps of a removal from a page that is not armed.
 fn stopped_unarmed(rt: &impl Abort, alloc: Global, steps: usize, more: u32, waiting: bool) {
     let (heap, seats) = opened::<Tiny>(rt, alloc, 1, 1, 2);
     let (mut shard, other) = owner_and_other(rt, alloc, &heap, seats);
@@ -47,8 +47,8 @@ fn a_caller_stops_at_a_page_that_is_not_armed(rt: HostRuntime) {
     stopped_unarmed(&rt, rt.alloc(), 6, 22, false);
 }
 
-// Another stops after so many steps of a removal from a shard that is full. Answers what an insert is answered then,
-// and what a second one is where leaving waits.
+// Another pass stops after this many steps of a removal from a shard that is full. Returns the result of an insert
+// then, and that of a second insert if leaving waits.
 fn stopped_armed(
     rt: &impl Abort,
     alloc: Global,
@@ -85,8 +85,8 @@ fn a_caller_stops_at_a_page_that_is_armed(rt: HostRuntime) {
     agree(&rt, stopped_armed(&rt, rt.alloc(), 8), (Ok(8_192), None));
 }
 
-// A page that its owner freed a slot of stands in the queue of its class and is armed still. A search takes its stack,
-// so what another put there is found before that one rings.
+// A page with a slot that its owner freed is in the queue of its class and is still armed. A search takes its stack, so
+// the owner finds what another pass put there before that pass rings.
 #[test]
 fn an_armed_page_in_the_queue_of_its_class_is_taken(rt: HostRuntime) {
     let (heap, seats) = opened::<Tiny>(&rt, rt.alloc(), 1, 1, 2);
@@ -98,7 +98,7 @@ fn an_armed_page_in_the_queue_of_its_class_is_taken(rt: HostRuntime) {
     put_sixteen(&rt, &mut shard, Ok(8_193));
 }
 
-// The pass goes on with its removal, and finishes it. The page is not armed, so it rings nobody.
+// The pass continues its removal, and finishes it. The page is not armed, so it rings nobody.
 fn finish(rt: &impl Abort, busy: &mut Busy<'_, Tiny>) {
     let actions = [
         Action::Mark,
@@ -111,7 +111,7 @@ fn finish(rt: &impl Abort, busy: &mut Busy<'_, Tiny>) {
     agree(rt, busy.act(&Action::Ring), false);
 }
 
-// Another enters the slot of a key, the owner removes the key, and the other goes on.
+// Another pass enters the slot of a key, the owner removes the key, and the other pass continues.
 fn both_remove(rt: &impl Abort, shard: &mut Shard<'_, Tiny>, busy: &mut Busy<'_, Tiny>) {
     act_each(rt, busy, &[Action::EnterRemove(4_096)]);
     done(rt, shard.remove(4_096));
@@ -119,8 +119,8 @@ fn both_remove(rt: &impl Abort, shard: &mut Shard<'_, Tiny>, busy: &mut Busy<'_,
     finish(rt, busy);
 }
 
-// Two remove a key at the same time: both enter its slot, the owner marks it first, and the other, who marks it too, is
-// the one who finishes it.
+// Two passes remove a key at the same time. Both enter its slot, and the owner marks it first. The other pass, which
+// marks it too, is the one that finishes it.
 #[test]
 fn of_two_removers_the_last_one_finishes(rt: HostRuntime) {
     let (heap, seats) = opened::<Tiny>(&rt, rt.alloc(), 1, 1, 2);

@@ -5,7 +5,7 @@ use std::thread::join;
 
 const BATCH: usize = 12;
 
-// Stores so many values, of sixteen words that begin with these numbers, and answers their keys.
+// Stores a batch of values, of sixteen words that begin with these numbers, and returns their keys.
 fn put_batch(rt: &impl Abort, shard: &mut Shard<'_, Wide>, round: u64) -> [u64; BATCH] {
     let mut keys = [0; BATCH];
     for i in 0..BATCH {
@@ -21,7 +21,7 @@ fn put_batch(rt: &impl Abort, shard: &mut Shard<'_, Wide>, round: u64) -> [u64; 
     keys
 }
 
-// Gets, reads, removes and releases a key: whether it all went as it should.
+// Gets, reads, removes and releases a key. Returns whether all of it went as it should.
 fn use_up(pass: &mut Pass<'_, Wide>, key: u64, round: u64, i: u64) -> Result<bool, Refusal> {
     let hold = pass.get(key)?;
     let found = pass.read(hold)?;
@@ -31,7 +31,7 @@ fn use_up(pass: &mut Pass<'_, Wide>, key: u64, round: u64, i: u64) -> Result<boo
     Ok(gone && found.words().starts_with(&[round, i, 3, 4]) && found.words().len() == 16)
 }
 
-// How many of the keys went as they should.
+// The number of keys that went as they should.
 fn use_batch(pass: &mut Pass<'_, Wide>, keys: &[u64; BATCH], round: u64) -> u32 {
     let mut good = 0u32;
     for i in 0..BATCH {
@@ -42,7 +42,7 @@ fn use_batch(pass: &mut Pass<'_, Wide>, keys: &[u64; BATCH], round: u64) -> u32 
     good
 }
 
-// Stores and removes values of the owner's own: how many went in and out.
+// Stores and removes values of the owner's own. Returns how many were stored and removed.
 fn put_and_remove(shard: &mut Shard<'_, Wide>, value: &Value) -> u32 {
     let mut good = 0u32;
     for _ in 0..BATCH {
@@ -55,8 +55,8 @@ fn put_and_remove(shard: &mut Shard<'_, Wide>, value: &Value) -> u32 {
     good
 }
 
-// In each round the other removes what the owner stored, while the owner stores and removes more. All that was removed
-// can be used in the next round, as the two batches are all that the shard has room for.
+// In each round the other pass removes what the owner stored, while the owner stores and removes more. All that was
+// removed can be used in the next round, as the shard has room for exactly two batches.
 #[test]
 fn an_owner_and_another_step_at_the_same_time(rt: HostRuntime) {
     let (heap, seats) = opened::<Wide>(&rt, rt.alloc(), 1, 1, 2);

@@ -1,4 +1,4 @@
-//! The words of a heap of which all passes met.
+//! The words of a heap all of whose passes met.
 ghost use Rattle.std.specs.Prelude.{◌<◌};
 ghost use Rattle.sh_shape.specs.Places.{all_pages};
 
@@ -44,7 +44,7 @@ fn retire_first(rt: &impl Abort, shard: &mut Shard<'_, Tiny>) {
     }
 }
 
-// After its third generation, the last of the layout, a slot is retired: its state word says so, and no owner puts it
+// After its third generation, the last of the layout, a slot is retired. Its state word says so, and no owner puts it
 // on the page's stack, whose head stays empty. The slots beside it are live, in their first generation.
 #[test]
 fn a_retired_slot_has_its_word(rt: HostRuntime) {

@@ -13,8 +13,8 @@ use sh_lists::PageLists;
 use sh_shape::classes;
 
 impl PageStates {
-    /// Takes the next slot of the page to use: the front of `free`, or where that is empty, of `local`, which then
-    /// becomes `free`. None, with nothing changed, where both are empty.
+    /// Takes the next slot of the page to use: the front of `free`. If that is empty, it is the front of `local`, which
+    /// then becomes `free`. None, with nothing changed, if both are empty.
     #[inline(always)]
     pub fn next_slot(&mut self, page: u64) -> Option<u32>
         ensures used { IfSome result (λ slot. UsesNext page slot self.old self.new) }
@@ -28,7 +28,7 @@ impl PageStates {
         self.written[page as usize].lists.next_slot()
     }
 
-    /// Puts a slot that stands in neither list of the page in front of `local`.
+    /// Puts a slot that is in neither list of the page in front of `local`.
     #[inline(always)]
     pub fn push_local(&mut self, page: u64, slot: u32)
         requires inside { page < length self.old }
@@ -42,7 +42,7 @@ impl PageStates {
         self.bound = bound_with(state, page, self.bound);
     }
 
-    /// Puts a slot that stands in neither list of the page behind `free`, and says where reading goes on.
+    /// Puts a slot that is in neither list of the page behind `free`, and sets the slot at which reading continues.
     pub fn add_read(&mut self, page: u64, slot: u32, cursor: Option<u32>)
         requires inside { page < length self.old }
         requires small { slot < slot_places }
@@ -57,7 +57,7 @@ impl PageStates {
         self.bound = bound_with(state, page, self.bound);
     }
 
-    /// Says where reading the page's stack begins, once it was taken, and whether the page is armed.
+    /// Sets the slot at which reading the page's stack begins, after a take, and whether the page is armed.
     pub fn begin_reading(&mut self, page: u64, cursor: Option<u32>, armed: bool)
         requires inside { page < length self.old }
         requires cursor { IfSome cursor (λ slot. slot < slot_places) }
@@ -72,7 +72,7 @@ impl PageStates {
         state.armed = armed;
     }
 
-    /// Says that the page is not armed.
+    /// Notes that the page is not armed.
     pub fn disarm(&mut self, page: u64)
         requires { page < length self.old }
         ensures { self.new ≡ slice_set self.old page (record (state_at self.old page) { armed = false }) }
@@ -100,7 +100,7 @@ impl PageStates {
         self.bound = bound_with(state, page, self.bound);
     }
 
-    /// Says which class word a page has that was blank: 0 where it is blank, and else one more than its class.
+    /// Sets the class word of a page that was blank: 0 if it is blank, and otherwise one more than its class.
     #[inline(always)]
     pub fn set_word(&mut self, page: u64, class_word: u64)
         requires inside { page < length self.old }
@@ -111,7 +111,7 @@ impl PageStates {
         if class_word == 0 {
             return;
         }
-        // In ascending order, as an adopt goes, a state is written once.
+        // In ascending order, as in an adopt, a state is written once.
         if page == self.written.len() as u64 {
             self.written.push_reserved(PageState {
                 lists: PageLists::bare(),
@@ -139,8 +139,8 @@ fn bound_with(state: &PageState, page: u64, bound: u64) -> u64
     }
 }
 
-// Writes the states of the pages up to this one, of which those that were not written are blank. It stands apart from
-// what seldom needs it.
+// Writes the states of the pages up to this one; those that were not written are blank. It is a separate function,
+// because its callers seldom need it.
 #[cold]
 #[inline(never)]
 fn write_more(written: &mut Vec<PageState>, page: u64)
@@ -158,7 +158,7 @@ fn write_more(written: &mut Vec<PageState>, page: u64)
     }
 }
 
-// The same, for pages of which most are written.
+// The same, for pages most of which are written.
 #[inline(always)]
 fn write_up_to(written: &mut Vec<PageState>, page: u64)
     requires { page < vec_capacity written.old }

@@ -2,12 +2,12 @@ use super::*;
 use std::fmt::Debug;
 use std::process::Abort;
 
-// What was found is what is wanted. It is a function, since each assertion that is written out is proved anew.
+// Fails unless the two are equal. It is a function because each assertion that is written out is proved anew.
 fn agree<T: PartialEq + Debug + Drop>(rt: &impl Abort, found: T, wanted: T) {
     assert_eq!(rt; found, wanted);
 }
 
-// The first whole page, and how many pages the search looks at: those from the bound on, up to the page that it finds.
+// The first whole page, and the number of pages that the search looks at: from the bound to the page that it finds.
 fn searched(states: &mut PageStates) -> (Option<u64>, u64) {
     let began = states.bound;
     let end = states.len();
@@ -34,7 +34,7 @@ fn a_search_begins_where_the_last_one_ended(rt: HostRuntime) {
     for page in 0..100u64 {
         give(&mut states, page);
     }
-    // Each search looks at the page that the last one found, of which a slot is out now, and at the next page.
+    // Each search looks at the page that the last one found, which has a slot out now, and at the next page.
     agree(&rt, searched(&mut states), (Some(0), 1));
     agree(&rt, searched(&mut states), (Some(0), 1));
     for page in 0..99u64 {
@@ -44,7 +44,7 @@ fn a_search_begins_where_the_last_one_ended(rt: HostRuntime) {
     agree(&rt, states.next_slot(99), Some(0));
     agree(&rt, searched(&mut states), (None, 1));
     agree(&rt, searched(&mut states), (None, 0));
-    // A page that becomes whole is where the next search begins.
+    // The next search begins at a page that becomes whole.
     give(&mut states, 40);
     agree(&rt, searched(&mut states), (Some(40), 1));
     agree(&rt, states.next_slot(40), Some(0));

@@ -12,12 +12,12 @@ use std::fmt::Debug;
 use std::process::Abort;
 use std::test::Fail;
 
-// What was found is what is wanted. It is a function, since each assertion that is written out is proved anew.
+// Fails unless the two are equal. It is a function because each assertion that is written out is proved anew.
 fn agree<T: PartialEq + Debug + Drop>(rt: &impl Abort, found: T, wanted: T) {
     assert_eq!(rt; found, wanted);
 }
 
-// It is so.
+// Fails unless this is true.
 fn holds(rt: &impl Abort, it: bool) {
     assert!(rt; it);
 }
@@ -114,7 +114,7 @@ fn a_record_is_given_back(rt: HostRuntime) -> Result<(), Fail> {
     Ok(())
 }
 
-// Four holds fill a key, so that a further hold would show that one of them stayed.
+// Four holds fill a key, so a further hold would show that one of them stayed.
 #[test]
 fn another_kind_is_refused_and_not_held(rt: HostRuntime) -> Result<(), Fail> {
     let mut counts = Typed::<_, Count>::new(store_with_a_point(rt.alloc(), &rt));
@@ -155,7 +155,7 @@ fn idle_lender(words: &[u64], rt: &impl Abort) -> Lender {
     }
 }
 
-// What the lender refuses the view refuses in the same way.
+// The view refuses what the lender refuses, in the same way.
 #[test]
 fn the_stores_own_refusals_are_answered(rt: HostRuntime) {
     let point = Point { x: 5, y: 6 };
@@ -182,7 +182,7 @@ fn the_stores_own_refusals_are_answered(rt: HostRuntime) {
     agree(&rt, points.release(hold), Err(Refusal::NotHeld));
 }
 
-// The hold on another kind goes back, or stays where memory for that is refused.
+// The hold on a record of another kind is released, or stays if memory for that is refused.
 #[test]
 fn a_hold_on_another_kind_goes_back_where_it_can(rt: HostRuntime) {
     let mut counts = Typed::<_, Count>::new(idle_lender(&[1, 5, 6], &rt));

@@ -1,4 +1,4 @@
-//! A store beside the plain one: it knows one pass alone, and what it gives is open until it is read.
+//! A second store beside the plain one: it knows one pass alone, and a value that it gives is open until it is read.
 ghost use Rattle.std.specs.Prelude.{◌≡◌, ◌==◌, if◌then◌else◌, [], ◌∷◌, Ok, Err};
 ghost use Rattle.sh_value.specs.declared.refusal.Refusal.TheVariants.{Full, Memory, HoldsFull, BadKey, NotHeld};
 ghost use Rattle.sh_history.specs.declared.entry.Entry.TheVariants.{Got, Released};
@@ -9,7 +9,7 @@ ghost use Rattle.sh_typed.specs.declared.typed.tests.lender.Stage.TheVariants.{I
 use sh_plain::{Lookup, Store};
 use sh_value::{Hold, Refusal, Value};
 
-// How far the lender came: no hold is taken yet; the hold's value was not read; it was read; the hold was given back.
+// The stage of the lender: no hold is taken yet; the hold's value was not read; it was read; the hold was given back.
 #[derive(Clone, Copy, Debug, PartialEq, Eq)]
 pub enum Stage {
     Idle,
@@ -22,8 +22,8 @@ pub enum Stage {
 pub const LENT_KEY: u64 = 4096;
 
 // A store whose callers are pass 1 of 2. Pass 0 stored this value under its one key, which is not in its book. It gives
-// one hold, and takes it back once the value was read. What it cannot give it refuses for memory, or where there is
-// memory because it has no more.
+// one hold, and takes it back once the value was read. It refuses a hold that it cannot give for memory, or as
+// `HoldsFull` if there is memory.
 #[derive(Drop)]
 pub struct Lender {
     pub value: Value,
