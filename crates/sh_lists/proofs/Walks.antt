@@ -1,4 +1,4 @@
--- Lists that are threaded through an array: what a write of one link does to them.
+-- Lists that are threaded through an array, and what a write of one link does to them.
 use Rattle.std.proofs.Common.{◌≡◌, ◌≢◌, ℕ, zero, suc, ◌+◌, ◌-◌, ◌<◌, ◌≤◌, List, [], ◌∷◌, ◌++◌, Option, None, length}
 use Rattle.std.proofs.Common.{get_or, set, sym, refl, ap, ◌∙◌, subst, arith, append_assoc, append-nil, length-append}
 use Rattle.std.proofs.Common.{add-one}
@@ -151,7 +151,7 @@ popped next ff (suc n) fe local le some h =
     let parts = popped_suc next ff n fe local le (suc n - 1) (omega arith) h in
     record { threaded = parts.0; front = parts.1; apart = parts.2; small = parts.3 }
 
--- one more slot stands in front of `local`
+-- one more slot is in front of `local`
 put_local
     : (next : List ℕ) (ff fc fe lf lc le x : ℕ) (cursor : Option ℕ)
     → length next ≡ 48 → 0 < lc → Threaded (walk next ff fc) fe (walk next lf lc) le
@@ -173,7 +173,7 @@ put_local next ff fc fe lf lc le x cursor size some h small apart =
       local_ends = EndsIn-front x local le more h.local_ends;
     })
 
--- one more slot stands behind `free`
+-- one more slot is behind `free`
 behind
     : (free local : List ℕ) (fe le x : ℕ)
     → Threaded free fe local le → x < 48 → Misses x (free ++ local) → Threaded (free ++ x ∷ []) x local le
@@ -210,7 +210,7 @@ put_behind next ff (suc n) fe lf lc le x cursor size some h small apart =
     (walk-set_other next lf lc fe x (Misses-last ff (walk next (get_or next ff 0) n) local fe h.free_ends h.distinct))
     (behind free local fe le x h small apart)
 
--- ---- the same of the lists that a contract sees
+-- ---- the same for the lists that a contract sees
 
 -- `local` gets its first slot
 pub pushes_first

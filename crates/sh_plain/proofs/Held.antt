@@ -13,7 +13,7 @@ use Rattle.sh_plain.specs.declared.index.Held.{Held}
 use Rattle.sh_plain.specs.Plain.{Plain, IsSound, plain_book, plain_setting}
 use Rattle.sh_plain.specs.Store.{IsBook}
 
--- the book of a sound store stands in a legal history, which it is itself
+-- the book of a sound store is in a legal history, which is the book itself
 pub book_stands : (layout : Layout) (issued : List Issued) (holds : List Held) (entries : List Entry) (pass passes : ℕ)
     (s : Plain)
     → IsSound layout entries pass passes issued holds
@@ -29,7 +29,7 @@ module _ (passes guard_max : ℕ) (entries : List Entry) (pass key : ℕ) (legal
       let some = issued_when_got passes guard_max pass key [] entries legal (omega (arith, h)) in
       let is = some.1 in cc
 
-  -- who got a key holds it
+  -- a pass that got a key holds it
   pub got_is_held : (value : List ℕ) → 0 < logged_holds_by (map Known (entries ++ Got pass key value ∷ [])) pass key
   got_is_held value =
       let yes : is_got_by pass key (Got pass key value) ≡ true = rw (eq-eqb pass pass refl, eq-eqb key key refl) refl in

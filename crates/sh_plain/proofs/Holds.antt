@@ -12,7 +12,7 @@ use Rattle.sh_plain.specs.declared.index.Issued.{Issued}
 use Rattle.sh_plain.specs.declared.index.Held.{Held}
 use Rattle.sh_plain.specs.Index.{is_hold_by, is_hold_of, is_hold_on, IsIndex}
 
--- where none is found, there is none
+-- if none is found, there is none
 found_none : (n m : ℕ) (b : Bool) → nat_lt n m ≡ b → cond b (Some n) None ≡ None → m ≤ n
 found_none n m false is none = ltb-false n m is
 found_none n m true is none = absurd (let no_some : ⊥ = cc in no_some)
@@ -69,7 +69,7 @@ module _ (first : ℕ) (entries : List Entry) (issued : List Issued) (holds : Li
     λ h. refl,
   )
 
-  -- a hold of the pass on the key is found exactly where the entries leave it one
+  -- a hold of the pass on the key is found exactly if the entries leave it one
   pub hold_is_found : (pass key : ℕ) → IsSome (position (is_hold_by pass key) holds) ↔ (0 < holds_by entries pass key)
   hold_is_found pass key = found_by pass key (position (is_hold_by pass key) holds) refl
 

@@ -1,4 +1,4 @@
--- The index says what the entries say, also once an entry is added.
+-- The index says what the entries say, also after an entry is added.
 use Rattle.std.proofs.Common.{◌≡◌, ◌≢◌, ℕ, ◌+◌, ◌-◌, ◌<◌, ◌≤◌, Bool, true, false, cond, List, [], ◌∷◌, ◌++◌, Option}
 use Rattle.std.proofs.Common.{Some, None, refl, sym, ◌∙◌, ap, arith, rules, length, get_or, set}
 use Rattle.std.specs.Prelude.{◌==◌, ◌||◌, count_by}

@@ -47,7 +47,7 @@ module _ (first : ℕ) (issued : List Issued) where
       let at = some_issued (slice_get issued (key - first)) found.1 in
       (ltb-false key first found.0, slice_get_within issued (key - first) at.0 at.1)
 
-  -- an issued key by its place
+  -- an issued key, by its place in the list
   pub at_place : (issued : List Issued) (key : ℕ) → first ≤ key → issued_at first issued key
       ≡ slice_get issued (key - first)
   at_place issued key le = let not_below : nat_lt key first ≡ false = search rules in rw not_below refl

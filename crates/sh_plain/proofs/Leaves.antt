@@ -17,7 +17,7 @@ use Rattle.sh_plain.specs.Plain.{read_answer, with_added, plain_book, plain_sett
 use Rattle.sh_plain.specs.Store.{GetLeaves, ReadLeaves, RemoveLeaves}
 use Rattle.sh_plain.proofs.Held.{held_has_value, got_is_held}
 
--- a call leaves the setting
+-- a call leaves the setting as it is
 added_setting : (layout : Layout) (s : Plain) (adds : Option Entry) → plain_setting layout (with_added s adds)
     ≡ plain_setting layout s
 added_setting layout s None = refl

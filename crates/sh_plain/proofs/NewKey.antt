@@ -28,7 +28,7 @@ module _ (layout : Layout) (issued : List Issued) (holds : List Held) (s : Plain
         (let same = sound.counted in omega arith);
   }
 
-  -- an insert that answers a key answers a new one
+  -- an insert that returns a key returns a new one
   pub new_key : (value : List ℕ) (result : Result ℕ Refusal) (t : Plain)
       → Replied (insert_reply layout s value) s result t
       → IfOk result (IsNewKey layout s.entries)

@@ -22,7 +22,7 @@ module _ (layout : Layout) (entries : List Entry) (pass passes : ℕ) (issued : 
   pub fresh : (key : ℕ) → first_key layout + length issued ≤ key → value_of entries key ≡ None
   fresh key past = sound.index.values key ∙ ap issued_value (past_is_not_issued (first_key layout) issued key past)
 
-  -- by an entry that may follow and is no insert, with what the index then says
+  -- by an entry that may follow and is no insert, with what the index says afterwards
   sound_more : (e : Entry) (issued' : List Issued) (holds' : List Held)
       → Allowed passes layout.guard_max entries e → is_insert e ≡ false → length issued' ≡ length issued
       → IsIndex (first_key layout) (entries ++ e ∷ []) issued' holds'
@@ -41,7 +41,7 @@ module _ (layout : Layout) (entries : List Entry) (pass passes : ℕ) (issued : 
   no_insert (Insert p k v) unindexed = absurd unindexed
   no_insert _ unindexed = refl
 
-  -- by an entry of which the index says nothing, or by none
+  -- by an entry that leaves the index as it is, or by none
   pub sound_noted : (b : Bool) (after : List Entry) (e : Entry)
       → Allowed passes layout.guard_max entries e → IsUnindexed e → after ≡ cond b (entries ++ e ∷ []) entries
       → IsSound layout after pass passes issued holds

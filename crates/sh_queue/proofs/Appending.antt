@@ -8,7 +8,7 @@ use Rattle.sh_queue.specs.Numbers.{has_number, put_before}
 use Rattle.sh_queue.specs.Chain.{ChainNumbers}
 use Rattle.sh_queue.proofs.PutBefore.{put_before-nil, put_before-push, has_number-put_before_other}
 
--- the numbers up to x are put in, and those from x on are not
+-- the numbers below x are put in, and those from x on are not
 pub record Appending (first count x : ℕ) (old now : ChainNumbers) : Type 0 where
   pub puts : now ≡ record old { numbers = put_before 10 (upward first (x - first)) old.numbers }
   pub here : has_number 10 now.numbers ≡ true
@@ -25,7 +25,7 @@ appending_none first count v here apart distinct =
     sym (ap (λ n. put_before 10 (upward first n) v.numbers) none ∙ put_before-nil 10 v.numbers) in
     record { puts = λ i. record { numbers = is i; size = v.size }; here = here; apart = apart; distinct = distinct }
 
--- the number that stands last is not put in
+-- the last number is not put in
 outside
     : (first count : ℕ) (numbers : List ℕ)
     → has_number 10 numbers ≡ true → ((k : ℕ) → first ≤ k → k < first + count → has_number k numbers ≡ false)

@@ -1,4 +1,4 @@
--- What stands in each queue of an owner's pages after a move, for those who move pages.
+-- The pages of each queue after a move, in the form that callers that move pages need.
 use Rattle.std.proofs.Common.{◌≡◌, ◌≢◌, ℕ, ◌+◌, ◌<◌, ◌≤◌, ◌⊎◌, ⊎_elim, inl, inr, true, List, [], ◌∷◌, ◌++◌, map}
 use Rattle.std.proofs.Common.{length, sym, ap, ◌∙◌, arith}
 use Rattle.std.proofs.lemmas.Bool.{cases_eq, cases_lt, or_cases}
@@ -59,7 +59,7 @@ module _ (c p : ℕ) (q : PageQueues) where
   class_queue-among_full_front rest is = class_queue-among_full c ∙ ap (without_number p) is
       ∙ without_number-same p rest
 
-  -- what stands in a class after a move stood there, or is the page, in its class
+  -- a page in a class after a move was there before, or is the moved page in its new class
   pub has_number-at_front : (d r : ℕ) → c < length q.classes → has_number r (class_queue (at_front c p q) d) ≡ true
       → (has_number r (class_queue q d) ≡ true) ⊎ ((d ≡ c) × (r ≡ p))
   has_number-at_front d r inside here = ⊎_elim
@@ -89,7 +89,7 @@ module _ (c p : ℕ) (q : PageQueues) where
   has_number-among_full d r here = has_number-from_without r p (class_queue q d)
       (sym (ap (has_number r) (class_queue-among_full d)) ∙ here)
 
--- the blank pages once a segment is opened: a page stood there, or is one of the 8
+-- the blank pages once a segment is opened: a page was there before, or is one of the 8
 pub has_number-one_more_segment : (r : ℕ) (q : PageQueues) → has_number r (one_more_segment q).blank ≡ true
     → (has_number r q.blank ≡ true) ⊎ ((q.opened ≤ r) × (r < q.opened + 8))
 has_number-one_more_segment r q here =

@@ -34,7 +34,7 @@ filing_shows_none w opened unopened notes marked none =
 
 -- ---- the next page
 
--- page n stands last in queue t, and the other queues are as they were
+-- page n is last in queue t, and the other queues are as they were
 record Filed (w w' : List ℕ) (t n : ℕ) : Type 0 where
   target : pages_behind t w' ≡ pages_behind t w ++ n ∷ []
   others : (k : ℕ) → k < 11 → k ≢ t → pages_behind k w' ≡ pages_behind k w
@@ -186,7 +186,7 @@ filed_next
 filed_next None w w' n unopened h class few new distinct = filed_blank w w' n unopened h few new distinct
 filed_next (Some c) w w' n unopened h class few new distinct = filed_class w w' c n unopened h class few new distinct
 
--- what the filing of a page leaves
+-- what filing a page leaves
 pub record LeavesFiled (w : List ℕ) (size filed unopened : ℕ) (notes : List Bool) (v : FilingQueues) : Type 0 where
   pub kept : KeepsFiling w size filed unopened notes
   pub shows : filing_shown w filed unopened notes ≡ v
@@ -226,7 +226,7 @@ leaves_filed w w' size size' filed unopened notes class v is h left few_class ne
           (λ i. record { queues = shown i; pages = length notes });
     }
 
--- ---- what the queues are once a page is filed, for those who file pages
+-- ---- the queues after a page is filed, in the form that callers need
 
 pub next_filed-opened : (class : Option ℕ) (q : PageQueues) → (next_filed class q).opened ≡ q.opened + 1
 next_filed-opened None q = refl

@@ -1,4 +1,4 @@
--- What the calls that look at the queues answer.
+-- The results of the calls that look at the queues.
 use Rattle.std.proofs.Common.{◌≡◌, ℕ, ◌+◌, ◌<◌, ◌≤◌, Bool, true, List, [], ◌∷◌, ◌++◌, sym, refl, ap, ◌∙◌, subst, arith}
 use Rattle.std.proofs.Common.{add-one, Option, Some, None, append-nil}
 use Rattle.std.specs.Prelude.{nat_lt, slice_get, IfSome}
@@ -73,7 +73,7 @@ lowest_blank xs answer rises is =
     IfSome-from answer (λ page. (other : ℕ) → has_number other xs ≡ true → page ≤ other)
     (λ p some other here. lowest p other 0 xs rises (sym is ∙ some) here)
 
--- ---- each page stands in one queue
+-- ---- each page is in one queue
 
 all_pages-shown
     : (w : List ℕ) (size opened unopened : ℕ) (notes : List Bool)

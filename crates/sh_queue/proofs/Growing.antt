@@ -32,7 +32,7 @@ lengthened
 lengthened (Ok _) old new n longer same = (replicate n 0, longer, omega (arith, length-replicate {A = ℕ} n 0))
 lengthened (Err _) old new n longer same = ([], same ∙ sym (append-nil old), omega arith)
 
--- links of 0 are added behind, fewer of `next` where memory was refused
+-- links of 0 are added behind, fewer to `next` if memory was refused
 pub grows
     : {A E : Type 0} (r : Result A E) (next prev next' prev' : List ℕ) (count size : ℕ)
     → Links next prev (walk next (get_or next 0 0) count) → prev' ≡ prev ++ replicate (size - length prev) 0

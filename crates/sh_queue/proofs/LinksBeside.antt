@@ -29,7 +29,7 @@ Linked-set_prev next prev k v a (b ∷ rest) misses linked = (
   Linked-set_prev next prev k v b rest misses.1 linked.2,
 )
 
--- ---- what stands beside a number
+-- ---- the numbers beside a number
 
 -- the link of s names the number behind it
 pub next_is

@@ -1,4 +1,4 @@
--- The marks and the pages in a chain's numbers, and the queue that stands behind a mark.
+-- The marks and the pages in a chain's numbers, and the queue behind a mark.
 use Rattle.std.proofs.Common.{◌≡◌, ◌≢◌, ℕ, zero, suc, ◌-◌, ◌<◌, ◌≤◌, ⊎_elim, true, false, cond, List, [], ◌∷◌, sym}
 use Rattle.std.proofs.Common.{refl, ap, ◌∙◌, subst, arith, eq-eqb, ne_eqb, Some, None}
 use Rattle.std.specs.Prelude.{nat_lt}
@@ -32,7 +32,7 @@ page_of-page x page = ap (λ b. cond b None (Some (x - 11))) (le-ltb x 11 page)
 pub page_of-mark : (x : ℕ) → x < 11 → page_numbered x ≡ None
 page_of-mark x mark = ap (λ b. cond b None (Some (x - 11))) (lt-ltb x 11 mark)
 
--- the first number, where the marks are those from j on: it is j, or a page
+-- the first number, if the marks are those from j on: it is j, or a page
 pub data Heads (j n x : ℕ) (xs : List ℕ) : Type 0 where
   marked : (m : ℕ) → n ≡ suc m → x < 11 → x ≡ j → marks xs ≡ upward (suc j) m → Heads j n x xs
   paged : 11 ≤ x → marks xs ≡ upward j n → Heads j n x xs
@@ -50,7 +50,7 @@ heads x xs j n is = ⊎_elim
     (λ (page : 11 ≤ x). paged page (sym (marks-page x xs page) ∙ is))
     (cases_lt x 11)
 
--- a mark stands in the chain
+-- a mark is in the chain
 has_number-marks : (c : ℕ) (xs : List ℕ) → has_number c (marks xs) ≡ true → has_number c xs ≡ true
 has_number-marks c [] here = absurd (false≢true here)
 has_number-marks c (x ∷ xs) here =

@@ -45,7 +45,7 @@ queues_from-without (suc n) k p w w' others =
     ∙ ap (λ xs. without_number p (pages_behind k w) ∷ xs) (queues_from-without n (suc k) p w w'
     (λ i from upto. others i (omega arith) (omega arith)))
 
--- and one of them becomes another
+-- the same page is taken out, and one queue becomes another
 queues_from-set
     : (n k p c t : ℕ) (new w w' : List ℕ)
     → t ≡ k + c → c < n → pages_behind t w' ≡ new
@@ -68,7 +68,7 @@ class_is c w inside = get_or-queues_from 8 0 c w inside ∙ ap (λ m. pages_behi
 
 -- ---- a page is moved
 
--- page p stands in queue t, which is this one now, and the other queues are as they were without it
+-- page p is in queue t, which is now this list, and the other queues are as they were without it
 pub record Moved (w w' : List ℕ) (t p : ℕ) (new : List ℕ) : Type 0 where
   pub target : pages_behind t w' ≡ new
   pub others : (k : ℕ) → k < 11 → k ≢ t → pages_behind k w' ≡ without_number p (pages_behind k w)
@@ -198,7 +198,7 @@ kept_moved w w' new t p size size' opened unopened notes notes' h m distinct inn
   noted = noted;
 }
 
--- what a call leaves: this is true of the new chain, and it says this of the queues
+-- what a call leaves: this holds for the new chain, and the chain says this of the queues
 pub record Leaves (w : List ℕ) (size opened unopened : ℕ) (notes : List Bool) (v : PageQueues) : Type 0 where
   pub kept : KeepsQueues w size opened unopened notes
   pub shows : queues_shown w opened unopened ≡ v
@@ -312,7 +312,7 @@ leaves_full w w' p size size' opened unopened notes v is h old new distinct size
     } in
     subst P is at old
 
--- ---- the same for whatever class the page is put into
+-- ---- the same for every class that the page is put into
 
 -- each mark is there once the page is taken out
 pub mark_is_there

@@ -1,4 +1,4 @@
--- What stands in a list of numbers, and what stands at its ends.
+-- The numbers of a list, and those at its ends.
 use Rattle.std.proofs.Common.{◌≡◌, ◌≢◌, ℕ, zero, suc, ◌+◌, ◌<◌, ◌≤◌, ◌⊎◌, ⊎_elim, Bool, true, false, ◌||◌, ◌==◌, List}
 use Rattle.std.proofs.Common.{[], ◌∷◌, ◌++◌, sym, refl, ap, ◌∙◌, subst, arith, inl, inr, Option, Some, None, eq-eqb}
 use Rattle.std.proofs.Common.{ne_eqb}
@@ -22,7 +22,7 @@ has_number-else k y ys other = ap (λ b. b || has_number k ys) (ne_eqb y k other
 pub has_number-rest : (k y : ℕ) (ys : List ℕ) → y ≢ k → has_number k (y ∷ ys) ≡ true → has_number k ys ≡ true
 has_number-rest k y ys other here = sym (has_number-else k y ys other) ∙ here
 
--- a number of the list differs from one that is not
+-- a number of the list differs from a number that is not in the list
 pub differs : (a k : ℕ) (xs : List ℕ) → Misses a xs → has_number k xs ≡ true → a ≢ k
 differs a k [] misses here same = false≢true here
 differs a k (y ∷ ys) misses here same = ⊎_elim

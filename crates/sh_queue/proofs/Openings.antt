@@ -19,7 +19,7 @@ use Rattle.sh_queue.proofs.PagePutIn.{marks-put_before}
 use Rattle.sh_queue.proofs.QueuedPages.{has_number-queue}
 use Rattle.sh_queue.proofs.Moves.{Leaves}
 
--- n pages, from this one on, stand behind the blank ones
+-- n pages, from this one on, are put behind the blank ones
 record Opened (w w' : List ℕ) (first n : ℕ) : Type 0 where
   blank : pages_behind 9 w' ≡ pages_behind 9 w ++ upward first n
   others : (k : ℕ) → k < 11 → k ≢ 9 → pages_behind k w' ≡ pages_behind k w
@@ -97,7 +97,7 @@ get_or-replicate_same zero i = refl
 get_or-replicate_same (suc n) zero = refl
 get_or-replicate_same (suc n) (suc i) = get_or-replicate_same n i
 
--- a note that is added says no
+-- an added note is false
 get_or-more : (notes : List Bool) (n i : ℕ) → get_or (notes ++ replicate n false) i false ≡ get_or notes i false
 get_or-more [] n i = get_or-replicate_same n i
 get_or-more (b ∷ notes) n zero = refl
@@ -115,7 +115,7 @@ pub class_queues_same : (w w' : List ℕ) → ((i : ℕ) → i < 8 → pages_beh
 unfolding class_queues
 class_queues_same w w' others = classes_same 8 0 w w' (λ i upto. others i (omega arith))
 
--- where no more than the next segment was asked for
+-- if no more than the next segment was asked for
 pub lean_after : (size grown after opened : ℕ) → size ≤ 19 + opened → grown ≤ max size (11 + (opened + 8))
     → after ≡ grown → after ≤ 19 + (opened + 8)
 lean_after size grown after opened lean asked is = omega arith
@@ -173,7 +173,7 @@ pub shows_none : (segments : ℕ) → queues_shown (upward 0 11) 0 segments ≡ 
 unfolding class_queues
 shows_none segments = refl
 
--- the pages that come next do not stand in the chain
+-- the pages that come next are not in the chain
 pub next_are_new
     : (w : List ℕ) (size opened unopened : ℕ) (notes : List Bool)
     → KeepsQueues w size opened unopened notes → (k : ℕ) → 11 + opened ≤ k → has_number k w ≡ false

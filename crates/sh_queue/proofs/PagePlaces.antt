@@ -1,4 +1,5 @@
--- Where a page stands, where each opened page stands once: in no two queues, and an opened page in one.
+-- The place of a page, if each opened page is in the queues once: no page is in two queues, and an opened page is in
+-- one.
 use Rattle.std.proofs.Common.{◌≡◌, ◌≢◌, ℕ, ◌+◌, ◌<◌, ◌≤◌, ◌⊎◌, inl, inr, Bool, true, false, List, [], ◌∷◌, length}
 use Rattle.std.proofs.Common.{refl, arith}
 use Rattle.std.specs.List.{concat}
@@ -11,7 +12,7 @@ use Rattle.sh_queue.proofs.Times.{times, times-none, times-some, has_number-from
 use Rattle.sh_queue.proofs.Times.{Distinct-from_times, times-le_concat, times-two_le_concat, has_number-one_of}
 use Rattle.sh_queue.proofs.StandOnce.{times-all, times-opened}
 
--- what stands in a list is below n
+-- the numbers of a list are below n
 AllBelow-from_has : (n : ℕ) (xs : List ℕ) → ((k : ℕ) → has_number k xs ≡ true → k < n) → AllBelow n xs
 AllBelow-from_has n [] below = tt
 AllBelow-from_has n (x ∷ xs) below = (
@@ -20,7 +21,7 @@ AllBelow-from_has n (x ∷ xs) below = (
       (λ k here. below k (has_number-there k x xs here)),
 )
 
--- a page stands once at most, in whatever queues
+-- a page occurs at most once in all queues
 times-few : (k : ℕ) (q : PageQueues) → EachOnce q → times k (concat q.classes) + (times k q.full + times k q.blank) ≤ 1
 times-few k q once = let all = times-all k q in let few = times-le (queued_pages q) once.once k in omega arith
 
@@ -96,7 +97,7 @@ module _ (p : ℕ) (q : PageQueues) (once : EachOnce q) where
         inl (found.0, omega (arith, found.1), found.2)
 
 module _ (q : PageQueues) (once : EachOnce q) where
-  -- no page stands twice in a queue
+  -- no page occurs twice in a queue
   pub class_distinct : (c : ℕ) → Distinct (class_queue q c)
   class_distinct c = Distinct-from_times (class_queue q c)
       (λ k. let few = times-few k q once in let among = times-le_concat k c q.classes in omega arith)

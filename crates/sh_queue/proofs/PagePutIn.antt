@@ -79,7 +79,7 @@ marks-put_after s p (x ∷ xs) =
     ] in
     ap (λ ys. cond (nat_lt x 11) (x ∷ ys) ys) rest
 
--- ---- a page is put in ahead of a mark, where the marks rise by one
+-- ---- a page is put in ahead of a mark, if the marks rise by one
 
 -- not ahead of the next mark
 pub run-put_before_other

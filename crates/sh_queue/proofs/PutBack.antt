@@ -1,4 +1,4 @@
--- What stands in a list of numbers once one was taken out and put in again, in front or behind.
+-- The numbers of a list once one was taken out and put in again, in front or behind.
 use Rattle.std.proofs.Common.{◌≡◌, ◌≢◌, ℕ, ◌<◌, ◌⊎◌, ⊎_elim, inl, inr, true, false, ◌||◌, ◌==◌, List, [], ◌∷◌, ◌++◌}
 use Rattle.std.proofs.Common.{sym, ap, ◌∙◌, subst, arith}
 use Rattle.std.proofs.lemmas.Bool.{cases_eq, or_cases, false≢true}
@@ -8,7 +8,7 @@ use Rattle.sh_queue.proofs.Without.{without_number-same, without_number-missing}
 use Rattle.sh_queue.proofs.Times.{times, times-some, has_number-from_times, hasnt-from_times, times-without_other}
 use Rattle.sh_queue.proofs.Times.{times-without_same}
 
--- what stands there without p stood there before
+-- a number of the list without p was there before
 pub has_number-from_without : (r p : ℕ) (xs : List ℕ) → has_number r (without_number p xs) ≡ true → has_number r xs
     ≡ true
 has_number-from_without r p xs here = has_number-from_times r xs (⊎_elim
@@ -21,7 +21,7 @@ has_number-from_without r p xs here = has_number-from_times r xs (⊎_elim
     let some = times-some r (without_number p xs) here in let same = times-without_other r p xs other in omega arith)
     (cases_eq p r))
 
--- what is the only number is this one
+-- a number of a list of one number is that number
 pub has_number-only : (r p : ℕ) → has_number r (p ∷ []) ≡ true → r ≡ p
 has_number-only r p here = ⊎_elim
     (λ (is : p ≡ r). sym is)
@@ -48,6 +48,6 @@ has_number-in_back r p xs here = ⊎_elim
     (or_cases (has_number r (without_number p xs)) (has_number r (p ∷ []))
     (sym (has_number-append r (without_number p xs) (p ∷ [])) ∙ here))
 
--- a list in which p does not stand is the same without it
+-- a list that does not have p is the same without it
 pub without_number-hasnt : (p : ℕ) (xs : List ℕ) → has_number p xs ≡ false → without_number p xs ≡ xs
 without_number-hasnt p xs none = without_number-missing p xs (Misses-from_has p xs none)

@@ -1,4 +1,4 @@
--- What stands in a list of numbers once one was put in ahead of another, which is behind the number that stands ahead.
+-- The numbers of a list once one was put in ahead of another, which puts it behind the number ahead of that other.
 use Rattle.std.proofs.Common.{◌≡◌, ◌≢◌, ℕ, ⊎_elim, true, false, cond, ◌||◌, ◌==◌, List, [], ◌∷◌, ◌++◌, sym, refl, ap}
 use Rattle.std.proofs.Common.{◌∙◌, subst, append_assoc, eq-eqb, ne_eqb}
 use Rattle.std.proofs.lemmas.Bool.{cases_eq, false≢true}

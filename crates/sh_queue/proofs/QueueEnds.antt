@@ -1,4 +1,4 @@
--- The front page and the last page of a queue stand beside the marks in the chain.
+-- The front page and the last page of a queue are beside the marks in the chain.
 use Rattle.std.proofs.Common.{◌≡◌, ◌≢◌, ℕ, zero, suc, ◌+◌, ◌-◌, ◌<◌, ◌≤◌, ⊎_elim, true, false, cond, ◌==◌, List, []}
 use Rattle.std.proofs.Common.{◌∷◌, get_or, sym, refl, ap, ◌∙◌, subst, arith, eq-eqb, ne_eqb, Some, None}
 use Rattle.std.specs.Prelude.{nat_lt, slice_get}

@@ -1,4 +1,4 @@
--- The pages of a chain are those of its queues one after the other, and none stands twice.
+-- The pages of a chain are those of its queues one after the other, and none occurs twice.
 use Rattle.std.proofs.Common.{◌≡◌, ◌≢◌, ℕ, zero, suc, ◌+◌, ◌-◌, ◌<◌, ◌≤◌, ◌⊎◌, ⊎_elim, inl, inr, true, false, cond}
 use Rattle.std.proofs.Common.{◌||◌, ◌==◌, List, [], ◌∷◌, ◌++◌, sym, refl, ap, ◌∙◌, subst, arith, eq-eqb}
 use Rattle.std.specs.Prelude.{nat_lt}
@@ -89,7 +89,7 @@ has_number-pages p (x ∷ xs) = ⊎_elim
     (cases_eq (x - 11) p))
     (cases_lt x 11)
 
--- the queues of other marks stand behind the first number
+-- the queues of other marks are behind the first number
 queues_from-skip : (n k x : ℕ) (xs : List ℕ) → (x < k) ⊎ (k + n ≤ x) → queues_from n k (x ∷ xs) ≡ queues_from n k xs
 queues_from-skip zero k x xs outside = refl
 queues_from-skip (suc n) k x xs outside =

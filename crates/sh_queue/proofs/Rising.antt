@@ -1,4 +1,4 @@
--- Rising numbers rise still once one was taken out or higher ones were added, and the first is the lowest.
+-- Rising numbers still rise once one was taken out or higher ones were added, and the first is the lowest.
 use Rattle.std.proofs.Common.{◌≡◌, ◌≢◌, ℕ, zero, suc, ◌<◌, ◌≤◌, ⊎_elim, true, false, cond, ◌==◌, List, [], ◌∷◌, ◌++◌}
 use Rattle.std.proofs.Common.{arith, Some}
 use Rattle.std.specs.Prelude.{slice_get}

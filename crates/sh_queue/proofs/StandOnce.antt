@@ -1,4 +1,4 @@
--- Each opened page stands in one of the queues, once, and does so still after each move.
+-- Each opened page is in one of the queues, once, and still is after each move.
 use Rattle.std.proofs.Common.{◌≡◌, ◌≢◌, ℕ, ◌+◌, ◌<◌, ◌≤◌, ⊎_elim, inl, inr, Bool, true, false, List, [], ◌∷◌, ◌++◌}
 use Rattle.std.proofs.Common.{map, length, sym, refl, ap, ◌∙◌, subst, arith}
 use Rattle.std.specs.List.{concat}
@@ -14,9 +14,9 @@ use Rattle.sh_queue.proofs.Times.{has_number-from_times, times-le, Distinct-from
 use Rattle.sh_queue.proofs.Times.{times-upward_outside, times-without_other, times-without_same}
 use Rattle.sh_queue.proofs.Times.{times-concat_without_other, times-concat_without_same, times-concat_set}
 
--- ---- each page stands once
+-- ---- each page is in the queues once
 
--- how often a page stands in the queues
+-- the number of times that a page is in the queues
 pub times-all : (k : ℕ) (q : PageQueues) → times k (queued_pages q) ≡ times k (concat q.classes) +
     (times k q.full + times k q.blank)
 times-all k q = times-append k (concat q.classes) (q.full ++ q.blank)
@@ -57,7 +57,7 @@ EachOnce-from_times q classes inside outside = record {
       in absurd (omega arith))
       (cases_lt page q.opened)
 
--- the page stands once, and every other as often as before
+-- this page is in the queues once, and every other page as often as before
 EachOnce-moved : (p : ℕ) (q q' : PageQueues) → EachOnce q → p < q.opened → q'.opened ≡ q.opened → length q'.classes ≡ 8
     → times p (queued_pages q') ≡ 1 → ((k : ℕ) → p ≢ k → times k (queued_pages q') ≡ times k (queued_pages q))
     → EachOnce q'
@@ -110,7 +110,7 @@ EachOnce-class c p pages q once class inside is =
         let put = replaced k in
         times-all k new ∙ omega arith
 
--- ---- each page still stands once after a move
+-- ---- each page is still in the queues once after a move
 
 pub EachOnce-at_front : (c p : ℕ) (q : PageQueues) → EachOnce q → c < 8 → p < q.opened → EachOnce (at_front c p q)
 EachOnce-at_front c p q once class inside = EachOnce-class c p (p ∷ without_number p (class_queue q c)) q once class

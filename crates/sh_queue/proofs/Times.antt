@@ -1,4 +1,4 @@
--- How often a number stands in a list, which says of lists that differ in their order alone what they share.
+-- How often a number occurs in a list, and so what lists share that differ only in their order.
 use Rattle.std.proofs.Common.{◌≡◌, ◌≢◌, ℕ, zero, suc, ◌+◌, ◌-◌, ◌<◌, ◌≤◌, ◌⊎◌, ⊎_elim, Bool, true, false, cond, ◌||◌}
 use Rattle.std.proofs.Common.{◌==◌, List, [], ◌∷◌, ◌++◌, map, length, get_or, set, sym, refl, ap, ◌∙◌, subst, arith}
 use Rattle.std.proofs.Common.{eq-eqb, ne_eqb}
@@ -10,7 +10,7 @@ use Rattle.sh_queue.specs.Numbers.{has_number, without_number}
 use Rattle.sh_queue.proofs.Numbers.{has_number-from_Misses, Misses-from_has, has_number-upward}
 use Rattle.sh_queue.proofs.Without.{without_number-else}
 
--- how often k stands in the list
+-- how often k occurs in the list
 abbrev pub times : ℕ → List ℕ → ℕ
 times k [] = 0
 times k (x ∷ xs) = cond (x == k) 1 0 + times k xs
@@ -25,7 +25,7 @@ pub times-append : (k : ℕ) (xs ys : List ℕ) → times k (xs ++ ys) ≡ times
 times-append k [] ys = omega arith
 times-append k (x ∷ xs) ys = let rest = times-append k xs ys in omega arith
 
--- ---- whether it stands there at all
+-- ---- whether it occurs in the list
 
 pub times-none : (k : ℕ) (xs : List ℕ) → has_number k xs ≡ false → times k xs ≡ 0
 times-none k [] none = refl
@@ -128,7 +128,7 @@ times-concat_without_other k x (xs ∷ xss) other =
     ∙ ap (λ n. times k xs + n) (times-concat_without_other k x xss other)
     ∙ sym (times-append k xs (concat xss))
 
--- a number that stands once is gone
+-- a number that occurs at most once is gone once it is taken out
 pub times-concat_without_same : (x : ℕ) (xss : List (List ℕ)) → times x (concat xss) ≤ 1
     → times x (concat (map (without_number x) xss)) ≡ 0
 times-concat_without_same x [] few = refl
@@ -149,14 +149,14 @@ times-concat_set k (suc c) (xs ∷ xss) ys inside =
     let new = times-append k xs (concat (set xss c ys)) in
     let rest = times-concat_set k c xss ys (omega arith) in omega arith
 
--- what stands in one of the lists stands in all together
+-- a number occurs in one of the lists at most as often as in all of them together
 pub times-le_concat : (k c : ℕ) (xss : List (List ℕ)) → times k (get_or xss c []) ≤ times k (concat xss)
 times-le_concat k c [] = omega arith
 times-le_concat k zero (xs ∷ xss) = let all = times-append k xs (concat xss) in omega arith
 times-le_concat k (suc c) (xs ∷ xss) =
     let all = times-append k xs (concat xss) in let rest = times-le_concat k c xss in omega arith
 
--- and so what stands in two of them
+-- the same for two of the lists together
 pub times-two_le_concat : (k c d : ℕ) (xss : List (List ℕ)) → c ≢ d
     → times k (get_or xss c []) + times k (get_or xss d []) ≤ times k (concat xss)
 times-two_le_concat k c d [] other = omega arith
@@ -169,7 +169,7 @@ times-two_le_concat k (suc c) (suc d) (xs ∷ xss) other =
     let all = times-append k xs (concat xss) in
     let rest = times-two_le_concat k c d xss (λ same. other (ap suc same)) in omega arith
 
--- what stands in all together stands in one of them
+-- a number of all the lists together is in one of them
 pub has_number-one_of : (k : ℕ) (xss : List (List ℕ)) → 0 < times k (concat xss) → (c : ℕ) × (c < length xss)
     × (has_number k (get_or xss c []) ≡ true)
 has_number-one_of k [] some = absurd (omega arith)

@@ -1,4 +1,4 @@
--- What stands in a list of numbers once one was taken out.
+-- The numbers of a list once one was taken out.
 use Rattle.std.proofs.Common.{◌≡◌, ◌≢◌, ℕ, ◌+◌, ⊎_elim, true, false, cond, ◌||◌, ◌==◌, List, [], ◌∷◌, length, sym}
 use Rattle.std.proofs.Common.{refl, ap, ◌∙◌, subst, arith, eq-eqb, ne_eqb}
 use Rattle.std.proofs.lemmas.Bool.{cases_eq, false≢true}

@@ -25,7 +25,7 @@ collecting_reads p o n b = record { through = through_reads p o n b; arm = b.arm
 
 -- ---- the bell is followed
 
--- after so many pages were read from the bell
+-- after this number of pages was read from the bell
 pub record Following (turn : ℕ) (o n : Paged) : Type 0 where
   pub collects : Collecting o n
   pub takes : n.bell.takes ≡ o.bell.takes
@@ -63,7 +63,7 @@ followed_to turn o n m f b = record {
 pub never_past : {A : Type 0} (turn : ℕ) (o n : Paged) → Following turn o n → o.count + 1 ≤ turn → A
 never_past turn o n f l = let k = f.few in absurd (omega arith)
 
--- ---- the bell is taken where it is at its end
+-- ---- the bell is taken when it is at its end
 
 emptied_first : (c : Option ℕ) (a b m n : ℕ) → CursorStands c → MatchOption c (Unit {0}) (λ _. m < n)
     → MatchOption c (a < b) (λ _. m < n)

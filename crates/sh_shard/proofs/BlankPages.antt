@@ -1,4 +1,4 @@
--- Which pages are blank, and that a page which was given a class has a slot.
+-- Which pages are blank, and why a page that was given a class has a slot.
 use Rattle.std.proofs.Common.{◌≡◌, ℕ, zero, suc, ◌+◌, ◌<◌, ◌≤◌, ◌⊎◌, inl, inr, true, Some, None, List, [], ◌∷◌}
 use Rattle.std.proofs.Common.{slice_get, refl, ap, ◌∙◌, sym, subst, arith}
 use Rattle.std.proofs.lemmas.Bool.{false≢true}
@@ -13,7 +13,7 @@ use Rattle.sh_shard.specs.Pages.{Paged, page_at, seen_class, NothingMine, Wholly
 use Rattle.sh_shard.specs.Shards.{Sharded, SortedPages, IsBlank, NoneOpenedBlank, IsLowest}
 use Rattle.sh_shard.proofs.ClassWords.{word_of}
 
--- an opened page that is blank stands among the blank ones
+-- an opened page that is blank is among the blank pages of the queues
 pub blank_stands : (n : Sharded) → SortedPages n.pages n.queues → EachOnce n.queues → (p : ℕ) → p < n.queues.opened
     → IsBlank (page_at n.pages p) → has_number p n.queues.blank ≡ true
 blank_stands n k once p l is = stands (opened_somewhere p n.queues once l)
@@ -27,7 +27,7 @@ blank_stands n k once p l is = stands (opened_somewhere p n.queues once l)
         ≡ 0 = word_of (page_at n.pages p) 0 is in absurd (omega arith)
     stands (inr (inr t)) = t
 
--- no opened page is blank, once none stands among the blank ones
+-- no opened page is blank once no page is among the blank ones
 pub none_opened_blank : (n : Sharded) → SortedPages n.pages n.queues → EachOnce n.queues
     → slice_get n.queues.blank 0 ≡ None → NoneOpenedBlank n
 none_opened_blank n k once front p l is = go n.queues.blank front (blank_stands n k once p l is)
@@ -36,12 +36,12 @@ none_opened_blank n k once front p l is = go n.queues.blank front (blank_stands 
     go [] e here = false≢true here
     go (x ∷ xs) e here = let z : Some x ≡ None = e in cc
 
--- no page is blank, once no opened one is and no segment is unopened
+-- no page is blank once no opened page is blank and every segment is opened
 pub none_blank : (n : Sharded) → SortedPages n.pages n.queues → n.queues.unopened ≡ 0 → NoneOpenedBlank n → (p : ℕ)
     → p < n.pages.count → ¬ IsBlank (page_at n.pages p)
 none_blank n k none opened p l is = opened p (let a = k.all in omega arith) is
 
--- the lowest of the pages that stand among the blank ones is the lowest blank page
+-- the lowest page among the blank ones is the lowest blank page
 pub lowest_blank : (n : Sharded) → SortedPages n.pages n.queues → EachOnce n.queues → (p : ℕ) → p < n.queues.opened
     → IsBlank (page_at n.pages p) → ((q : ℕ) → has_number q n.queues.blank ≡ true → p ≤ q) → IsLowest IsBlank p n.pages
 lowest_blank n k once p inside here lowest = record {
@@ -68,7 +68,7 @@ pub some_given : {A : Type 0} (p c : ℕ) (o n : Paged) → c < 8 → GivesClass
 some_given p c o n l g none = absurd (false≢true (sym (none 0) ∙
     (ap (λ (z : SeenPage). z.mine 0) g.here ∙ slots_some c l)))
 
--- a page of the class with nothing left is not wholly its owner's
+-- a page of the class with nothing left does not have all its slots with its owner
 pub not_whole : (c p : ℕ) (n : Paged) → c < 8 → NothingMine (page_at n p) → (page_at n p).class ≡ Some (c + 1)
     → ¬ WhollyMine (page_at n p)
 not_whole c p n class none is w =

@@ -28,7 +28,7 @@ is_book layout o s = record { history = s.history; legal = s.tale.legal; agrees 
 same_none : (o : Sharded) → SameTale o.pages.owner.view o.pages.owner.view
 same_none o = (aside_none o.pages.owner).same
 
--- ---- whose calls follow
+-- ---- the pass whose calls follow
 
 pub insert_same : (layout : Layout) (c : ℕ) (value : List ℕ) (o n : Sharded) (r : Result ℕ Refusal)
     → InsertServes layout c value o r n → SameTale o.pages.owner.view n.pages.owner.view
@@ -66,7 +66,7 @@ prepare_same c o n (Err refusal.Waiting) k = absurd k
 prepare_same c o n (Err refusal.BadShape) k = absurd k
 prepare_same c o n (Err refusal.WrongKind) k = absurd k
 
--- ---- whose shard it is
+-- ---- the owner of the shard
 
 pub insert_shard : (layout : Layout) (c : ℕ) (value : List ℕ) (o n : Sharded) (r : Result ℕ Refusal)
     → InsertServes layout c value o r n → n.pages.shard ≡ o.pages.shard
@@ -102,7 +102,7 @@ prepare_shard c o n (Err refusal.Waiting) k = absurd k
 prepare_shard c o n (Err refusal.BadShape) k = absurd k
 prepare_shard c o n (Err refusal.WrongKind) k = absurd k
 
--- ---- what the book gains
+-- ---- what is added to the book
 
 pub insert_leaves : (layout : Layout) (c : ℕ) (value : List ℕ) (o n : Sharded) (r : Result ℕ Refusal)
     → InsertServes layout c value o r n

@@ -55,17 +55,17 @@ rings_then j k l o m n g h e = rings_sum _ _ _ _ _ _ j k l g h e
 
 -- ---- work as a whole
 
--- at most 48 slots came to a page
+-- a page gained at most 48 slots
 pub slots_most : (k l p : ℕ) (o n : Paged) → StepsForSlots k p o n → 48 + k ≤ l → StepsAtMost l o.owner n.owner
 slots_most k l p o n g e = slots_few _ _ _ _ k l g (own_few (page_at n p)) e
 
--- none is left of them
+-- the page has no slot of its owner's left
 pub slots_gone : (k p : ℕ) (o n : Paged) → StepsForSlots k p o n → NothingMine (page_at n p)
     → StepsAtMost k o.owner n.owner
 slots_gone k p o n g none = gone _ _ _ _ k g (none_own (page_at n p) none) where
   gone : (a b x y k : ℕ) → b + x ≤ a + y + k → y ≡ 0 → b ≤ a + k
   gone a b x y k g h = omega arith
 
--- at most as many pages as the shard has are armed no longer
+-- at most as many pages as the shard has are no longer armed
 pub rings_most : (k : ℕ) (o n : Paged) → StepsForRings k o n → StepsAtMost (o.count + k) o.owner n.owner
 rings_most k o n g = rings_few _ _ _ _ k o.count g (armed_few o)

@@ -6,7 +6,7 @@ use Rattle.sh_shard.specs.Pages.{seen_class}
 pub word_of : (g : SeenPage) (word : ℕ) → g.class ≡ Some word → seen_class g ≡ word
 word_of g word is = ap (λ (o : Option ℕ). elim o as (λ _. ℕ) [ Some m ↦ m | None ↦ 0 ]) is
 
--- a page with a class word above 0 has it
+-- a page with a class word above 0 has this class word
 pub classed_is : (g : SeenPage) → 0 < seen_class g → g.class ≡ Some (seen_class g)
 classed_is g some = go g.class refl some where
   go : (o : Option ℕ) → g.class ≡ o → 0 < seen_class g → g.class ≡ Some (seen_class g)

@@ -1,4 +1,4 @@
--- A slot that came to be the owner's stands in its page's lists.
+-- A slot that the owner gained is in its page's lists.
 use Rattle.std.proofs.Common.{◌≡◌, ◌≢◌, ℕ, suc, ◌+◌, ◌*◌, ◌^◌, ◌<◌, ◌≤◌, ⊎_elim, Option, Some, None, IfSome, List}
 use Rattle.std.proofs.Common.{length, get_or, set, refl, ap, ◌∙◌, sym, subst, arith}
 use Rattle.std.proofs.lemmas.Bool.{cases_eq}
@@ -56,7 +56,7 @@ may_come {layout} {v} {shard} {rings} {states} (Some x) w k s =
           ((k.pages y.page l).mine x.slot ∙ (ap (λ z. (seen_page v z).mine x.slot) (sym at) ∙ s.4)),
     )
 
--- what is kept is known still
+-- what is kept is still known
 pub record KeptAfter (layout : Layout) (v w : Caller) (shard : ℕ) (rings : Option ℕ) (old new : List PageState)
     (page : Option ℕ) : Type 0 where
   pub keeps : KeepsPages layout w shard rings new

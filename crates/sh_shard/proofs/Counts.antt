@@ -33,7 +33,7 @@ count_all f (suc n) h =
     let r = count_all f n (λ s l. h s (omega arith)) in
     let e : if1 (f n) ≡ 1 = ap if1 (h n (omega arith)) in omega arith
 
--- ---- two tests that differ at p alone
+-- ---- two tests that differ at p only
 
 -- p is not below the bound
 count_apart : (f g : ℕ → Bool) (p n : ℕ) → n ≤ p → ((q : ℕ) → q ≢ p → g q ≡ f q) → count_below g n ≡ count_below f n
@@ -42,7 +42,7 @@ count_apart f g p (suc n) l same =
     let x : if1 (g n) ≡ if1 (f n) = ap if1 (same n (λ e. absurd (omega arith))) in
     let z = count_apart f g p n (omega arith) same in omega arith
 
--- p is below it, and passes the first test alone
+-- p is below the bound, and passes the first test only
 pub count_less : (f g : ℕ → Bool) (p n : ℕ) → p < n → f p ≡ true → g p ≡ false → ((q : ℕ) → q ≢ p → g q ≡ f q)
     → count_below g n + 1 ≡ count_below f n
 count_less f g p zero l a b same = absurd (omega arith)
@@ -57,7 +57,7 @@ count_less f g p (suc n) l a b same = go (λ k. count_less f g p n k a b same) (
       let x : if1 (g n) ≡ if1 (f n) = ap if1 (same n ne) in
       let z = rest (lt_of_le_of_ne (omega arith) (λ e. ne (sym e))) in omega arith
 
--- p passes either, both or none
+-- p passes either test, both or none
 pub count_one_more : (f g : ℕ → Bool) (p n : ℕ) → ((q : ℕ) → q ≢ p → g q ≡ f q) → count_below g n
     ≤ suc (count_below f n)
 count_one_more f g p zero same = omega arith
@@ -72,7 +72,7 @@ count_one_more f g p (suc n) same = go (count_one_more f g p n same) (cases_eq n
   go rest (inr ne) =
       let x : if1 (g n) ≡ if1 (f n) = ap if1 (same n ne) in omega arith
 
--- s passes too
+-- s also passes
 pub count_more : (f : ℕ → Bool) (s n : ℕ) → s < n → f s ≡ false → count_below (λ t. (t == s) || f t) n
     ≡ count_below f n + 1
 count_more f s n l none = sym (count_less (λ t. (t == s) || f t) f s n l
@@ -98,7 +98,7 @@ armed_alike o n count pages = ap (λ k. count_below (λ p. (page_at n p).armed) 
     ∙ count_alike (λ p. (page_at o p).armed) (λ p. (page_at n p).armed) o.count
     (λ q. ap (λ (g : SeenPage). g.armed) (pages q))
 
--- a page that is read from the bell is armed no longer
+-- a page that is read from the bell is no longer armed
 pub armed_less : (p : ℕ) (n m : Paged) → BellReads p n m → armed_pages m + 1 ≡ armed_pages n
 armed_less p n m b =
     let size : m.count ≡ n.count = b.count in

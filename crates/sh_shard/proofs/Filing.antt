@@ -14,7 +14,7 @@ use Rattle.sh_shard.specs.Shards.{FullPage}
 use Rattle.sh_shard.specs.Filing.{ReturnsRising}
 use Rattle.sh_shard.specs.Returning.{ReturnsPage, ReturnedBelow}
 
--- a number above all stands behind them
+-- a number above all others goes behind them
 pub rises_append : (low k : ℕ) (xs : List ℕ) → RisesFrom low xs → low ≤ k
     → ((p : ℕ) → has_number p xs ≡ true → p < k) → RisesFrom low (xs ++ k ∷ [])
 rises_append low k [] r l below = (l, tt)
@@ -28,14 +28,14 @@ either : (a b : Bool) → a || b ≡ true → (a ≡ true) ⊎ (b ≡ true)
 either true b e = inl refl
 either false b e = inr e
 
--- what stands there with k behind stood there, or is k
+-- a number in the list with k at its end was there before, or is k
 pub is_behind : (p k : ℕ) (xs : List ℕ) → has_number p (xs ++ k ∷ []) ≡ true → (has_number p xs ≡ true) ⊎ (p ≡ k)
 is_behind p k xs here = ⊎_elim
     (λ (h : has_number p xs ≡ true). inl h)
     (λ (h : has_number p (k ∷ []) ≡ true). inr (has_number-only p k h))
     (either (has_number p xs) (has_number p (k ∷ [])) (sym (has_number-append p xs (k ∷ [])) ∙ here))
 
--- and is below the next number
+-- the number is also below the next one
 pub below_append : (k : ℕ) (xs : List ℕ) → ((p : ℕ) → has_number p xs ≡ true → p < k) → (p : ℕ)
     → has_number p (xs ++ k ∷ []) ≡ true → p < k + 1
 below_append k xs below p here = ⊎_elim
@@ -43,7 +43,7 @@ below_append k xs below p here = ⊎_elim
     (λ (h : p ≡ k). omega arith)
     (is_behind p k xs here)
 
--- ---- the queue of each class once page k went to the back of class d, and stood in no class
+-- ---- the queue of each class after page k, which was in no class, went to the back of class d
 
 module _ (d k : ℕ) (q : PageQueues) (inside : d < length q.classes)
     (none : (c : ℕ) → has_number k (class_queue q c) ≡ false) where
@@ -55,7 +55,7 @@ module _ (d k : ℕ) (q : PageQueues) (inside : d < length q.classes)
   back_other c other = class_queue-at_back_other d k q c other
       ∙ without_number-hasnt k (class_queue q c) (none c)
 
--- a full page stands in no class
+-- a full page is in no class
 full_apart : (k : ℕ) (q : PageQueues) → EachOnce q → has_number k q.full ≡ true → (c : ℕ)
     → has_number k (class_queue q c) ≡ false
 full_apart k q once full c = go (has_number k (class_queue q c)) refl where

@@ -1,4 +1,4 @@
--- Pages come back from the full queue, and the pages of a shard that is adopted come to their queues.
+-- Pages come back from the full queue, and the pages of an adopted shard are put into their queues.
 use Rattle.std.proofs.Common.{◌≡◌, ◌≢◌, ℕ, ◌+◌, ◌-◌, ◌<◌, ◌⊎◌, inl, inr, ⊎_elim, Bool, true, false, Option, Some, None}
 use Rattle.std.proofs.Common.{MatchOption, IfSome, [], ◌∷◌, ◌++◌, refl, ap, ◌∙◌, sym, subst, arith}
 use Rattle.std.proofs.lemmas.Bool.{cases_eq, false≢true}
@@ -18,7 +18,7 @@ use Rattle.sh_shard.proofs.Sorting.{stands_at_back}
 use Rattle.sh_shard.proofs.Filing.{rises_append, below_append, is_behind}
 use Rattle.sh_shard.proofs.ClassWords.{classed_is}
 
--- ---- what holds where pages may stand in the full queue that are not full
+-- ---- what holds when the full queue may have pages that are not full
 
 pub but_none : (v : Paged) (q : PageQueues) (named : ℕ → Type 0) → SortedBut named v q
     → ((p : ℕ) → has_number p q.full ≡ true → ¬ named p) → SortedPages v q
@@ -59,7 +59,7 @@ but_classes v w q s count class named others = record {
   blank = λ p here. class p ∙ s.blank p here;
 }
 
--- a slot came to be the owner's
+-- the owner gained a slot
 pub but_came : (came : Option ℕ) (v w : Paged) (q : PageQueues) → SortedPages v q → SlotComes came v w
     → SortedBut (λ p. came ≡ Some p) w q
 but_came came v w q s k = but_classes v w q s k.count (class came k) (λ p. came ≡ Some p) (λ p none. k.others p none)
@@ -72,7 +72,7 @@ but_came came v w q s k = but_classes v w q s k.count (class came k) (λ p. came
         (λ (other : r ≢ p). ap (λ (g : SeenPage). g.class) (k.others p (λ e. other (let z : r ≡ p = cc in z))))
         (cases_eq r p)
 
--- page p was looked at, and went back where it was not full
+-- page p was looked at, and moved back to its class if it was not full
 module _ (v : Paged) (q q' : PageQueues) (p : ℕ) (named named' : ℕ → Type 0) (s : SortedBut named v q)
     (once : EachOnce q) (fewer : (r : ℕ) → ¬ named' r → r ≢ p → ¬ named r) where
   stayed : q' ≡ q → (has_number p q.full ≡ false) ⊎ FullPage (page_at v p) → SortedBut named' v q'
@@ -131,7 +131,7 @@ module _ (v : Paged) (q q' : PageQueues) (p : ℕ) (named named' : ℕ → Type 
       class))
       why
 
--- a page of the full queue has its word
+-- a page of the full queue has its class word
 pub full_classed : (v : Paged) (q : PageQueues) (p : ℕ) (named : ℕ → Type 0) → SortedBut named v q → (page_at v p).class
     ≡ Some (seen_class (page_at v p)) ⊎ (has_number p q.full ≡ false)
 full_classed v q p named s = go (has_number p q.full) refl where
@@ -147,7 +147,7 @@ returns_opened p v q q' k = ⊎_elim
     (λ (z : PageQueues). z.opened) h.1)
     k
 
--- ---- the pages of a shard that is adopted
+-- ---- the pages of an adopted shard
 
 filed_blank : (v : Paged) (q : PageQueues) → FiledPages v q → (page_at v q.opened).class ≡ Some 0
     → FiledPages v (next_filed None q)

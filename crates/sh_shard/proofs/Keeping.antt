@@ -1,4 +1,4 @@
--- What is kept of the pages stays what is known of them, step by step.
+-- What is kept of the pages agrees with what is known, step by step.
 use Rattle.std.proofs.Common.{◌≡◌, ◌≢◌, ℕ, zero, suc, ◌+◌, ◌-◌, ◌*◌, ◌/◌, ◌<◌, ◌==◌, ⊎_elim, Bool, true, false, cond}
 use Rattle.std.proofs.Common.{Option, Some, None, List, [], ◌++◌, length, get_or, set, IfSome, refl, ap, ◌∙◌, sym}
 use Rattle.std.proofs.Common.{subst, arith, append-nil, add_left_cancel}
@@ -109,7 +109,7 @@ pub may_touch : {layout : Layout} {v : Caller} {shard : ℕ} {rings : Option ℕ
     → KeepsPages layout v shard rings states → p < length states → MayTouch v (shard_page shard p)
 may_touch p k l = record { idle = k.idle; owned = k.owned; page = let f = k.few in omega arith }
 
--- what stands where the cursor is followed
+-- what holds when the cursor is followed
 pub record Ready (st : PageState) (s : ℕ) : Type 0 where
   pub small : s < 48
   pub apart : Misses s (st.lists.free ++ st.lists.local)
@@ -154,7 +154,7 @@ home_div : (plan : Plan) (q : ℕ) → home plan q ≡ q / plan.pages
 unfolding home
 home_div plan q = refl
 
--- the page at the bell's cursor is armed, and of the shard
+-- the page at the bell's cursor is armed, and in the shard
 pub record AtBell (v : Caller) (shard p : ℕ) (states : List PageState) : Type 0 where
   pub inside : p < length states
   pub armed : (page_of v shard p).armed ≡ true
@@ -185,7 +185,7 @@ at_bell {layout} {v} {shard} {rings} {states} p k is =
       cursor = cursor;
     }
 
--- the page that was read from the bell is no longer armed, and the bell goes on
+-- the page that was read from the bell is no longer armed, and the bell's cursor moves on
 pub keeps_bell : {layout : Layout} {v w : Caller} {shard : ℕ} {rings : Option ℕ} {states : List PageState}
     {es : List LogEntry} {m : ℕ} {g : SeenPage} (p n : ℕ) (rings' : Option ℕ) (st : PageState)
     → KeepsPages layout v shard rings states → OwnerActs Idle es m v w
@@ -233,14 +233,14 @@ slots_below c s some l =
       go true e = absurd (some (let z : c ≡ 0 = grind (arith, nat_tests) in z))
       go false e = refl
 
--- a slot of its own is one of the page's class
+-- a slot of the owner's is one of the page's class
 pub below_class : {layout : Layout} {v : Caller} {shard : ℕ} {rings : Option ℕ} {states : List PageState} (p : ℕ)
     (st : PageState) → KeepsPages layout v shard rings states → KeepsPage st (page_of v shard p)
     → (st.class_word ≡ 0 → ⊥) → (s : ℕ) → (page_of v shard p).mine s ≡ true → s < slots (st.class_word - 1)
 below_class {v = v} {shard = shard} p st k a some s h = slots_below st.class_word s some
     (k.stands.owner.mine_below (record { page = heap_page v (shard_page shard p); slot = s }) st.class_word h a.class)
 
--- ---- a shard of which nothing is left
+-- ---- a shard in which nothing is left
 
 place_of : {layout : Layout} {v : Caller} {shard : ℕ} {rings : Option ℕ} {states : List PageState}
     → KeepsPages layout v shard rings states → (q : ℕ) → own (plan_of layout v.view.shape) (own_body v) q ≡ true
@@ -311,7 +311,7 @@ two_acts {u} {v} g h idle = record {
 pub page_then : {u v w : Caller} {q : ℕ} {g : SeenPage} → OnPage q g u v → SamePages v w → OnPage q g u w
 page_then {q = q} on same = record { here = same q ∙ on.here; others = λ r ne. same r ∙ on.others r ne }
 
--- of a blank page nothing is its owner's
+-- the owner has nothing in a blank page
 pub blank_nothing : {layout : Layout} {v : Caller} {shard : ℕ} {rings : Option ℕ} {states : List PageState} (p : ℕ)
     → KeepsPages layout v shard rings states → p < length states → (page_of v shard p).class ≡ Some 0
     → HasNothing (page_of v shard p)

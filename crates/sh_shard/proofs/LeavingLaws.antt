@@ -1,4 +1,4 @@
--- A shard is left once all its pages are at rest, or waits, and in how many steps.
+-- A shard is left once all its pages are at rest; otherwise leaving waits. The number of steps of both.
 use Rattle.std.proofs.Common.{◌≡◌, ◌≢◌, ℕ, ◌+◌, ◌*◌, ◌<◌, ◌≤◌, ◌⊎◌, inl, inr, ⊎_elim, true, Option, Some, None}
 use Rattle.std.proofs.Common.{MatchOption, ap, ◌∙◌, sym, subst, arith}
 use Rattle.std.proofs.lemmas.Bool.{cases_eq, cases_lt}
@@ -14,7 +14,7 @@ use Rattle.sh_shard.proofs.Sides.{aside_then}
 use Rattle.sh_shard.proofs.Bounding.{rings_most}
 use Rattle.sh_shard.proofs.BellEmptying.{collecting_more}
 
--- all pages are at rest, where those up to a blank one are
+-- all pages are at rest if those up to a blank one are
 pub all_rest : (opened page : ℕ) (v : Paged) → ((p : ℕ) → p < page → AtRest (page_at v p)) → BlankFrom opened v
     → BlankHasNothing v → opened ≤ page → (p : ℕ) → p < v.count → AtRest (page_at v p)
 all_rest opened page v rest blank none l p k = ⊎_elim
@@ -27,7 +27,7 @@ pub rests_more : (v : Paged) (page : ℕ) → ((p : ℕ) → p < page → AtRest
 rests_more v page h e p l = ⊎_elim (λ (is : p ≡ page). subst (λ z. AtRest (page_at v z)) (sym is) e)
     (λ (ne : p ≢ page). h p (lt_of_le_of_ne (let z = l in omega arith) ne)) (cases_eq p page)
 
--- ---- why it waits
+-- ---- why leaving waits
 
 met_since : (c : Option ℕ) (a m n : ℕ) → CursorStands c → a ≤ m → MatchOption c (Unit {0}) (λ _. m < n) → a < n
 met_since None a m n s l h = absurd s
@@ -99,7 +99,7 @@ pub leaves : (o m n t : Paged) (w : Caller) → Collecting o m → PagesEmptied 
 leaves o m n t w g e b h = left_after o t w (aside_then g.through.aside (aside_then e.collects.through.aside b.aside))
     (b.log ∙ (e.collects.through.log ∙ g.through.log)) h
 
--- all steps of a leave, and of one that waits
+-- all steps of a leave, and of a leave that waits
 pub leaves_in : (o m n t : Paged) (w : Caller) → Collecting o m → StepsForRings 3 o m → PagesEmptied m n
     → PutsAllBack n t → StepsAtMost 1 t.owner w → StepsAtMost (leave_steps o.count) o.owner w
 leaves_in o m n t w c g e b h =

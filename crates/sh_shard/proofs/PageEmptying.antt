@@ -88,7 +88,7 @@ emptying_more page o n m f e = record {
       (omega arith);
 }
 
--- a page of which the owner has nothing is empty
+-- a page in which the owner has nothing is empty
 empty_page : (g h : SeenPage) → HasNothing h → PageEmptied g h
 empty_page g h none = record {
   waits = subst (λ (z : Option ℕ). MatchOption z (Unit {0}) (λ _. g.met < h.met)) (sym none.cursor) tt;

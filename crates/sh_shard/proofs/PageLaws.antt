@@ -1,4 +1,4 @@
--- A page whose lists or whose notes change is kept as the owner sees it.
+-- What is kept of a page agrees with what its owner knows after its lists or its notes change.
 use Rattle.std.proofs.Common.{◌≡◌, ℕ, zero, suc, ◌+◌, ◌<◌, ◌==◌, ◌&&◌, ◌||◌, Bool, true, false, cond, Option, Some}
 use Rattle.std.proofs.Common.{None, List, [], ◌∷◌, ◌++◌, refl, ap, ◌∙◌, sym, subst, arith, append-nil}
 use Rattle.std.specs.Prelude.{nat_lt, nat_le, not}
@@ -49,7 +49,7 @@ kept_armed st g n l c a some e f = record {
   unread = λ z. let k = class_kept st g a in absurd (omega arith);
 }
 
--- ---- slots that come to the lists
+-- ---- slots that are added to the lists
 
 or_swap : (a b c : Bool) → ((a || (b || false)) || c) ≡ (b || (a || c))
 or_swap true true c = refl
@@ -105,7 +105,7 @@ kept_met st g s n a e =
       unread = a.unread;
     })
 
--- a slot that came stands in front of `local`
+-- a slot that the owner gained is in front of `local`
 pub kept_with : (st : PageState) (g : SeenPage) (s : ℕ) (l : Lists) → KeepsPage st g → l
     ≡ record st.lists { local = s ∷ st.lists.local } → KeepsPage
     (record { lists = l; class_word = st.class_word; armed = st.armed }) (page_with g s)

@@ -24,7 +24,7 @@ tried p value r o m₁ m₂ m₃ m₄ n first g second h = go r (subst (λ (z : 
       go None g h e = subst (λ (z : Paged). WorksOn p o z × PageDone o z p) (sym e.0) (done_of p o m₂ m₄ g h e.1)
       go (Some key) g h e = inserts_after p key value o m₄ n (works_more p o m₂ m₄ g.works h.works) e
 
--- how many steps a try takes
+-- the number of steps of a try
 pub tried_steps : (p w : ℕ) (r : Option ℕ) (o m₁ m₂ m₃ m₄ n : Paged) → m₁ ≡ o → CollectsPage p m₁ m₂ → m₃ ≡ m₂
     → GuardsPage p m₃ m₄
     → MatchOption r ((n ≡ m₄) × NothingMine (page_at m₄ p)) (λ _. TakesSteps (w + 2) m₄ n)

@@ -1,4 +1,4 @@
--- A page is given another class, and an insert goes there.
+-- A page is given another class, and an insert goes to that page.
 use Rattle.std.proofs.Common.{◌≡◌, ◌≢◌, ℕ, suc, ◌+◌, ◌*◌, ◌<◌, ◌≤◌, ◌⊎◌, inl, inr, ⊎_elim, Bool, true, false}
 use Rattle.std.proofs.Common.{Option, Some, None, MatchOption, IfSome, List, ◌∷◌, length, slice_get, refl, ap, ◌∙◌}
 use Rattle.std.proofs.Common.{sym, subst, arith}
@@ -33,7 +33,7 @@ use Rattle.sh_shard.proofs.BlankPages.{some_given, not_whole}
 
 -- ---- a page
 
--- a page of another class, or of none, stands not in the queue of the class
+-- a page of another class, or of none, is not in the queue of the class
 not_in_class : (v : Paged) (q : PageQueues) (c p : ℕ) → SortedPages v q → (page_at v p).class ≢ Some (c + 1)
     → has_number p (class_queue q c) ≡ false
 not_in_class v q c p sorted other = go (has_number p (class_queue q c)) refl where
@@ -114,7 +114,7 @@ pub segment_refused : (c : ℕ) (o n : Sharded) (r : Refusal) → r ≡ refusal.
     → PrepareServes c o (Err r) n
 segment_refused c o n r is same needs = subst (λ z. PrepareServes c o (Err z) n) (sym is) (same, needs)
 
--- no page that is not opened is spare
+-- no page of an unopened segment is spare
 pub none_spare : (c opened : ℕ) (o : Sharded) → SortedPages o.pages o.queues → opened ≡ o.queues.opened
     → ((p : ℕ) → p < opened → ¬ IsSpare c (page_at o.pages p)) → NoneSpare c o.pages
 none_spare c opened o sorted is none p inside spare = ⊎_elim
@@ -277,7 +277,7 @@ pub prepared_has_slot : {A : Type 0} (c p : ℕ) (o n : Sharded) → c < 8 → P
 prepared_has_slot c p o n class k none = some_given p c o.pages n.pages class k.gives
     (none p (ap (λ xs. slice_get xs 0) k.front))
 
--- ---- how many steps that takes
+-- ---- the number of steps of a prepare and of an insert
 
 pub prepare_in : (c : ℕ) (o n : Sharded) (r : Result ℕ Refusal) → PrepareServes c o r n → PrepareIsBounded o n
 prepare_in c o n (Ok p) k = let a = k.gives.steps in omega arith

@@ -33,7 +33,7 @@ puts_one o n p s aside bell log shard count steps here others mine small = recor
   others = others;
 }
 
--- so many slots of page p were put back
+-- this number of slots of page p was put back
 pub record Putting (turn p : ℕ) (o n : Paged) : Type 0 where
   pub aside : Aside o.owner n.owner
   pub bell : n.bell ≡ o.bell

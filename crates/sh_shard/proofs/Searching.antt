@@ -40,7 +40,7 @@ done_here p o n m s d = record {
   waits = waits_since (page_at m p).cursor _ _ _ _ (s.through.met p) d.waits;
 }
 
--- a page that nothing touched since stays done
+-- a page that nothing has touched since is still done
 pub done_still : (o n m : Paged) (r : ℕ) → page_at m r ≡ page_at n r → PageDone o n r → PageDone o m r
 done_still o n m r e h =
     let P : SeenPage → Type 0 = λ g. ((x : ℕ) → g.mine x ≡ false) × MatchOption g.cursor (g.armed ≡ true)
@@ -54,9 +54,9 @@ done_kept p o n m r s w d h = ⊎_elim
     (λ (ne : r ≢ p). done_still o n m r (w.others r ne) h)
     (cases_eq r p)
 
--- ---- the queue of the class after a page went
+-- ---- the queue of the class after a page went to the back or to the full queue
 
--- the page that stood last is not among those ahead of it
+-- the page that was last is not among those ahead of it
 last_in : (x last : ℕ) (xs : List ℕ) → xs ≢ [] → last_or (Some x) xs ≡ Some last → (last_or None xs ≡ Some last)
     × (has_number last xs ≡ true)
 last_in x last [] ne e = absurd (ne refl)
@@ -96,7 +96,7 @@ pub settled_opened : (c p : ℕ) (o n : Sharded) → Settles c p o n → n.queue
 settled_opened c p o n s = ⊎_elim (λ (b : n.queues ≡ at_back c p o.queues). ap (λ (q : PageQueues). q.opened) b)
     (λ (b : n.queues ≡ among_full p o.queues). ap (λ (q : PageQueues). q.opened) b) s.queues
 
--- what stands in the class then stood there before
+-- every page in the class then was there before
 settled_stood : (c p : ℕ) (n m z : Sharded) → EachOnce n.queues → c < 8 → m.queues ≡ n.queues
     → has_number p (class_queue n.queues c) ≡ true → Settles c p m z → Stood c n z
 settled_stood c p n m z once l same here st r h = ⊎_elim
@@ -115,7 +115,7 @@ settled_stood c p n m z once l same here st r h = ⊎_elim
     inside = let e : length m.queues.classes ≡ length n.queues.classes = ap (λ (k : PageQueues). length k.classes) same
         in let f = once.classes in omega arith
 
--- what waits after one more page was tried
+-- the pages that wait after one more page was tried
 pub record Turned (c last : ℕ) (o z : Sharded) (p : ℕ) (ys : List ℕ) : Type 0 where
   pub since : WorkedSince o.pages z.pages
   pub opened : z.queues.opened ≡ o.queues.opened
@@ -219,7 +219,7 @@ ended c p turn last o n m z s e once l same w d st four sorted is =
           ∙ h);
     }
 
--- a search does not run out of turns, nor of pages
+-- a search runs out neither of turns nor of pages
 pub out_of_turns : {A : Type 0} (c turn last k : ℕ) (o n : Sharded) → Searching c turn last o n → n.queues.opened ≡ k
     → k ≤ turn → A
 out_of_turns {A} c turn last k o n s e l = go s.rest refl s.ends where

@@ -1,4 +1,4 @@
--- What an owner's work leaves aside, over one piece of work after another.
+-- What an owner's work leaves as it was, over one piece of work after another.
 use Rattle.std.proofs.Common.{refl, ◌∙◌}
 use Rattle.sh_pass.specs.Passes.{Caller}
 use Rattle.sh_pass.specs.Owners.{Aside}

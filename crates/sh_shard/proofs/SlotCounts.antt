@@ -1,4 +1,4 @@
--- How many pages and slots are counted.
+-- The numbers of pages and slots that are counted.
 use Rattle.std.proofs.Common.{◌≡◌, ℕ, zero, suc, ◌+◌, ◌-◌, ◌*◌, ◌<◌, ◌≤◌, true, false, List, [], ◌∷◌, ◌++◌, length}
 use Rattle.std.proofs.Common.{refl, sym, ap, ap₂, ◌∙◌, arith}
 use Rattle.std.proofs.lemmas.List.{length-append}
@@ -33,7 +33,7 @@ counted (x ∷ xs) n d b =
     let m = count_less (λ s. has_number s (x ∷ xs)) (λ s. has_number s xs) x n b.0 (has_number-here x xs)
     (has_number-from_Misses x xs d.0) (λ s ne. sym (has_number-else s x xs (λ e. ne (sym e)))) in omega arith
 
--- the slots of a page's lists are all that are its owner's, and no more than its class has
+-- the slots of a page's lists are exactly its owner's, and at most as many as its class has
 pub record Owned (st : PageState) (g : SeenPage) : Type 0 where
   pub own : own_slots g ≡ length st.lists.free + length st.lists.local
   pub few : length st.lists.free + length st.lists.local ≤ slots (st.class_word - 1)

@@ -1,4 +1,4 @@
--- Each page stands where it belongs, after each move and after work on a page.
+-- Each page is where it belongs, after each move and after work on a page.
 use Rattle.std.proofs.Common.{◌≡◌, ◌≢◌, ℕ, zero, suc, ◌+◌, ◌<◌, ◌≤◌, ◌||◌, ⊎_elim, Bool, true, false, Option, Some}
 use Rattle.std.proofs.Common.{None, MatchOption, List, [], ◌∷◌, length, refl, ap, ◌∙◌, sym, subst, arith}
 use Rattle.std.proofs.lemmas.Bool.{cases_eq, false≢true}
@@ -72,7 +72,7 @@ module _ (v : Paged) (q : PageQueues) (sorted : SortedPages v q) (once : EachOnc
     blank = λ r here. sorted.blank r (has_number-from_without r p q.blank here);
   })
 
-  -- a page that was given a class stands in front of that class
+  -- a page that was given a class is in front of that class
   pub sorted_given : (w : Paged) (q' : PageQueues) (c p : ℕ) → c < 8 → p < q.opened → GivesClass p c v w → q'
       ≡ at_front c p q → SortedPages w q'
   sorted_given w q' c p class inside given moved = subst (SortedPages w) (sym moved) (record {
@@ -120,7 +120,7 @@ module _ (v : Paged) (q : PageQueues) (sorted : SortedPages v q) (once : EachOnc
 
   -- ---- work on a page
 
-  -- a page of a class may come to be otherwise, in its class
+  -- a page of a class may change, and stays in its class
   pub sorted_on : (w : Paged) (c p : ℕ) → has_number p (class_queue q c) ≡ true → w.count ≡ v.count → p < q.opened
       → (page_at w p).class ≡ (page_at v p).class
       → ((r : ℕ) → r ≢ p → page_at w r ≡ page_at v r) → SortedPages w q
@@ -150,7 +150,7 @@ module _ (v : Paged) (q : PageQueues) (sorted : SortedPages v q) (once : EachOnc
       → PageInserts p value key v w → SortedPages w q
   sorted_inserts w c p key value here k = sorted_on w c p here k.count (class_inside c p here) k.class k.others
 
-  -- a page that was tried in vain is full where it has no cursor
+  -- a page that was tried in vain is full if it has no cursor
   pub full_page : (c p : ℕ) → c < 8 → has_number p (class_queue q c) ≡ true → NothingMine (page_at v p)
       → (page_at v p).cursor ≡ None
       → MatchOption (page_at v p).cursor ((page_at v p).armed ≡ true) (λ _. Unit {0}) → FullPage (page_at v p)
@@ -163,7 +163,7 @@ module _ (v : Paged) (q : PageQueues) (sorted : SortedPages v q) (once : EachOnc
         mine = nothing;
       }
 
--- ---- a page that came to be otherwise, where it stands or at the back of its class
+-- ---- a page that changed, where it was or at the back of its class
 
 -- at the back of a class a page is neither full nor blank
 pub stands_at_back : (q : PageQueues) (p d : ℕ) → EachOnce q → d < 8 → p < q.opened
@@ -173,7 +173,7 @@ stands_at_back q p d once few inside = class_apart p (at_back d p q) (EachOnce-a
     ∙ (has_number-append p (without_number p (class_queue q d)) (p ∷ [])
     ∙ or_right (has_number p (without_number p (class_queue q d))) (has_number-here p [])))
 
--- page p alone came to be otherwise, in its class
+-- only page p changed, and it kept its class
 pub record Alters (p : ℕ) (v w : Paged) : Type 0 where
   pub count : w.count ≡ v.count
   pub class : (r : ℕ) → (page_at w r).class ≡ (page_at v r).class
@@ -191,7 +191,7 @@ alters_reads p v w b = record {
 }
 
 module _ (v w : Paged) (q : PageQueues) (p : ℕ) (sorted : SortedPages v q) (alters : Alters p v w) where
-  -- it was not full
+  -- the page was not full
   pub sorted_altered : has_number p q.full ≡ false → SortedPages w q
   sorted_altered none = record {
     all = sorted.all ∙ sym alters.count;
@@ -202,7 +202,7 @@ module _ (v w : Paged) (q : PageQueues) (p : ℕ) (sorted : SortedPages v q) (al
     blank = λ r here. alters.class r ∙ sorted.blank r here;
   }
 
-  -- it was full, and goes to the back of its class
+  -- the page was full, and goes to the back of its class
   pub sorted_returned : (q' : PageQueues) (word d : ℕ) → EachOnce q → p < q.opened → (page_at w p).class ≡ Some word
       → d + 1 ≡ word → d < 8 → q' ≡ at_back d p q → SortedPages w q'
   sorted_returned q' word d once inside class next few moved = subst (SortedPages w) (sym moved) (record {

@@ -1,4 +1,4 @@
--- A value was added: what it says of the work before, and in how many steps it came there.
+-- A value was added: what follows for the work before, and the number of steps that led there.
 use Rattle.std.proofs.Common.{◌≡◌, ℕ, suc, ◌+◌, ◌*◌, ◌<◌, ◌≤◌, ◌⊎◌, inl, true, Some, List, [], ◌∷◌, ◌++◌, length}
 use Rattle.std.proofs.Common.{slice_get, ap, ◌∙◌, sym, arith}
 use Rattle.std.specs.Prelude.{Ok}
@@ -62,7 +62,7 @@ found layout c p key turn last value o n m s sorted here inside names i same = r
   };
 }
 
--- how many steps that takes
+-- the number of steps
 pub found_in : (c p turn last w : ℕ) (o n m : Sharded) → Searching c turn last o n → SortedPages n.pages n.queues
     → slice_get (class_queue n.queues c) 0 ≡ Some p
     → StepsAtMost (w + 54) n.pages.owner m.pages.owner

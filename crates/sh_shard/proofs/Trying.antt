@@ -91,7 +91,7 @@ tried_in_two : (a b c d k l j : ℕ) → b ≤ a + 4 * k → c ≤ b + (l + 3) �
     → d ≤ a + (9 * k + 3)
 tried_in_two a b c d k l j x y z e f = omega arith
 
--- no page of the class was read: what the first search found still holds
+-- no page of the class was read: the result of the first search still holds
 pub tried_once : (c : ℕ) (o n m : Sharded) → Searched c o n → SortedPages n.pages n.queues → RingsOut c false n m
     → Tried c o m
 tried_once c o n m s k r = record {
@@ -104,7 +104,7 @@ tried_once c o n m s k r = record {
       (r.pages refl p (k.classes c p there)) (s.done p there);
 }
 
--- one was: the second search decides
+-- a page of the class was read: the second search decides
 pub tried_twice : (c : ℕ) (read : Bool) (o n m z : Sharded) → Searched c o n → RingsOut c read n m → Searched c m z
     → Tried c o z
 tried_twice c read o n m z s r t =
@@ -126,7 +126,7 @@ pub looked_once : (layout : Layout) (c key : ℕ) (value : List ℕ) (o n : Shar
 looked_once layout c key value o n s = stored layout c s.page key value o n s.stores s.inside s.opened
     (inl s.here)
 
--- the second search found one, which stood in the queue or was read from the bell
+-- the second search found a page, which was in the queue or was read from the bell
 found_again : (layout : Layout) (c key : ℕ) (value : List ℕ) (read : Bool) (o n m z : Sharded) → Searched c o n
     → SortedPages n.pages n.queues → EachOnce n.queues → RingsOut c read n m → StoresInQueue layout c key value m z
     → InsertServes layout c value o (Ok key) z
@@ -166,7 +166,7 @@ looked_again layout c value read o n m z None s sorted once k t = tried_twice c 
 looked_again layout c value read o n m z (Some key) s sorted once k t = found_again layout c key value read o n m z s
     sorted once k t
 
--- how many steps that takes
+-- the number of steps
 found_in_two : (a b c d k l j w : ℕ) → b ≤ a + 4 * k → c ≤ b + (l + 3) → d ≤ c + (4 * j + w + 50) → l ≡ k → j ≡ l
     → d ≤ a + (9 * k + w + 53)
 found_in_two a b c d k l j w x y z e f = omega arith

@@ -5,7 +5,7 @@ pub waits_at : (c : Option ℕ) (a b : ℕ) → a < b → MatchOption c (Unit {0
 waits_at None a b l = tt
 waits_at (Some s) a b l = l
 
--- and more than earlier
+-- it also met more of them than at an earlier time
 pub waits_since : (c : Option ℕ) (A : Type 0) (a b d : ℕ) → a ≤ b → MatchOption c A (λ _. b < d)
     → MatchOption c A (λ _. a < d)
 waits_since None A a b d l h = h

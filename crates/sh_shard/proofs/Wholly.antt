@@ -1,4 +1,4 @@
--- How many slots the lists of a page have, and whether these are all of its class.
+-- The number of slots in the lists of a page, and whether these are all slots of its class.
 use Rattle.std.proofs.Common.{◌≡◌, ℕ, suc, ◌+◌, ◌-◌, ◌<◌, ◌≤◌, Bool, true, false, Option, Some, None, IfSome}
 use Rattle.std.proofs.Common.{MatchOption, MatchBool, List, [], ◌∷◌, ◌++◌, length, refl, ap, ◌∙◌, sym, subst, arith}
 use Rattle.std.specs.Prelude.{nat_lt}
@@ -77,7 +77,7 @@ wholly st g a once few w = record {
       (λ s h. subst (λ c. s < slots c) (sym is)
       (few (λ z. let h = w.classed in absurd (omega arith)) s (sym (a.mine s) ∙ h)))
 
--- and only such a page is wholly its owner's
+-- only such a page has all its slots with its owner
 pub has_all : (st : PageState) (g : SeenPage) → KeepsPage st g → WhollyMine g → WholeState st
 has_all st g a w = record {
   class = w.class;
@@ -87,7 +87,7 @@ has_all st g a w = record {
       let n = length-append st.lists.free st.lists.local in omega arith;
 }
 
--- whether they have as many as the class has
+-- a page is wholly its owner's exactly if its lists have all slots of its class
 pub tells_whole : {layout : Layout} {v : Caller} {shard : ℕ} {rings : Option ℕ} {states : List PageState} (p : ℕ)
     (b : Bool) → KeepsPages layout v shard rings states → p < length states → SlotsOnce (state_at states p).lists
     → MatchBool b (WholeState (state_at states p)) (¬ WholeState (state_at states p))
@@ -103,7 +103,7 @@ none_wholly : {layout : Layout} {v : Caller} {shard : ℕ} {rings : Option ℕ} 
 none_wholly {v = v} {shard = shard} {states = states} n k l none p below w = none p below
     (has_all (state_at states p) (page_of v shard p) (k.pages p (omega arith)) w)
 
--- which is the first that has
+-- the first page whose lists have all slots of its class
 pub tells_first : {layout : Layout} {v : Caller} {shard : ℕ} {rings : Option ℕ} {states : List PageState} (n : ℕ)
     (r : Option ℕ) → KeepsPages layout v shard rings states → n ≤ length states
     → IfSome r (λ p. SlotsOnce (state_at states p).lists)

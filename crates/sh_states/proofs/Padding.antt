@@ -50,7 +50,7 @@ pub padded_length : (n : ℕ) (xs : List PageState) → length xs ≤ n → leng
 padded_length n xs l = length-append xs (replicate (n - length xs) blank_state)
     ∙ (ap (λ k. length xs + k) (length-replicate (n - length xs) blank_state) ∙ omega arith)
 
--- how many are written once this page is
+-- the number of written states once that of this page is written
 pub padded_up_to : (p : ℕ) (xs : List PageState) → p < length (padded (p + 1) xs)
 padded_up_to p xs =
     let a = length-append xs (replicate (p + 1 - length xs) blank_state) in
@@ -69,13 +69,13 @@ padded_more n m xs l k =
 
 -- ---- a state that is written, and the states up to its page before it
 
--- what was written of the page, and what is kept and shown once `new` is
+-- what was written of the page, and what is kept and shown once `new` is written
 pub record Writes (xs ys v : List PageState) (count bound page : ℕ) (old new : PageState) : Type 0 where
   pub was : old ≡ state_at v page
   pub keeps : KeepsStates (set ys page new) count bound
   pub shows : padded count (set ys page new) ≡ set v page new
 
--- what is found there
+-- the state that is found there
 pub record Found (xs ys v : List PageState) (count page : ℕ) (old : PageState) : Type 0 where
   pub inside : page < count
   pub reached : page < length ys
@@ -138,7 +138,7 @@ writes xs ys v count before bound page old new view k f is lower none few = reco
   other p e = get_or-set_other ys page p new blank_state e
       ∙ (ap (λ zs. state_at zs p) is ∙ padded_at (page + 1) xs p)
 
--- a page that got no slot and no class is whole only where it was
+-- a page that gained no slot and no class is whole only if it was whole before
 pub still_not_whole : {xs ys v : List PageState} {count bound page : ℕ} {old : PageState} (new : PageState)
     → KeepsStates xs count bound → Found xs ys v count page old → new.class_word ≡ old.class_word
     → kept_slots new ≤ kept_slots old → page < bound → ¬ WholeState new
@@ -168,7 +168,7 @@ uses_next xs v count page slot old lists view l e front apart = record {
   was : old ≡ state_at v page
   was = get_or_read xs page old l e blank_state ∙ (sym (padded_at count xs page) ∙ ap (λ zs. state_at zs page) view)
 
--- ---- a blank page that has a class by its word
+-- ---- a blank page that is given a class word
 
 slots_some : (c : ℕ) → c < 8 → 0 < slots c
 slots_some zero l = omega arith
@@ -181,7 +181,7 @@ slots_some (suc (suc (suc (suc (suc (suc zero)))))) l = omega arith
 slots_some (suc (suc (suc (suc (suc (suc (suc zero))))))) l = omega arith
 slots_some (suc (suc (suc (suc (suc (suc (suc (suc c)))))))) l = absurd (omega arith)
 
--- no slot of it is its owner's, so it is not whole
+-- none of its slots is its owner's, so it is not whole
 abbrev pub worded : ℕ → PageState
 worded n = record { lists = bare_lists; class_word = n; armed = false }
 
@@ -191,7 +191,7 @@ worded_not_whole n l w =
     let all = w.all in
     let some = slots_some w.class (omega arith) in absurd (omega arith)
 
--- it is written behind those that are
+-- the state is written behind those that are written
 pub word_behind : (xs v : List PageState) (count bound page n : ℕ) → padded count xs ≡ v → KeepsStates xs count bound
     → page < length v → page ≡ length xs → n ≤ 8
     → KeepsStates (xs ++ worded n ∷ []) count bound × (padded count (xs ++ worded n ∷ []) ≡ set v page (worded n))

@@ -14,7 +14,7 @@ use Rattle.sh_history.proofs.LogLaws.{count_by-cons}
 use Rattle.sh_plain.specs.Store.{Setting, ReadLeaves}
 use Rattle.sh_typed.specs.Typed.{GotValue}
 
--- a read of what is held is not refused
+-- a read of a held key is not refused
 pub read_not_refused : (s : Setting) (key : ℕ) (book after : List LogEntry) (refusal : Refusal)
     → ReadLeaves s key book (Err refusal) after → 0 < logged_holds_by book s.pass key → ⊥
 read_not_refused s key book after NotHeld leaves held = let none = leaves.0 in omega arith

@@ -1,4 +1,4 @@
--- A record whose insert stands in the book is given back.
+-- A record whose insert is in the book is given back.
 use Rattle.std.proofs.Common.{◌≡◌, ℕ, List, [], ◌∷◌, ◌++◌, Option, Some, None, refl, sym, ◌∙◌, ap, subst, arith, Ok}
 use Rattle.std.proofs.Common.{Err, Result, map, append_assoc, inr, suc, take, drop, drop-cons}
 use Rattle.std.specs.List.{Contains}
@@ -17,7 +17,7 @@ use Rattle.sh_history.proofs.Standing.{splits_at}
 use Rattle.sh_plain.specs.Store.{Setting, IsBook, ReleaseLeaves}
 use Rattle.sh_typed.specs.Typed.{GotValue, GivesBack, RecordLeaves}
 
--- an entry that is known stays where a value is read and entries come behind
+-- an entry that is known stays when a value is read and entries are added behind
 pub kept : (key : ℕ) (value : List ℕ) (book more front rest : List LogEntry) (e : Entry) → book ≡ front
     ++ Known e ∷ rest
     → map (filled key value) book ++ more ≡ map (filled key value) front
@@ -26,7 +26,7 @@ kept key value book more front rest e is =
     rw is (ap (λ l. l ++ more) (map-append (filled key value) front (Known e ∷ rest))
     ∙ append_assoc (map (filled key value) front) (Known e ∷ map (filled key value) rest) more)
 
--- where a got value was read, a release of its hold is refused for memory alone
+-- if a got value was read, a release of its hold is refused for memory only
 pub refused_for_memory : (s t : Setting) (key k : ℕ) (value : List ℕ) (start book after : List LogEntry)
     (refusal : Refusal)
     → t ≡ s → k ≡ key → GotValue s key value start book → ReleaseLeaves t k book (Err refusal) after → refusal ≡ Memory
@@ -36,7 +36,7 @@ refused_for_memory s t key k value start book after NotHeld same same_key got le
     let held = got.held in absurd (omega arith)
 refused_for_memory s t key k value start book after _ same same_key got leaves = absurd leaves
 
--- what a get of a record leaves, whatever reads the value
+-- what a get of a record leaves, for every way to read the value
 module _ {R : Type 0} (read : List ℕ → Option R) where
   pub release_refused : (s t : Setting) (key k : ℕ) (value : List ℕ) (start book after : List LogEntry)
       (refusal : Refusal)

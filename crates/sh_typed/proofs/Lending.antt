@@ -1,4 +1,4 @@
--- The books of a store of one key that another pass inserted, of which this pass knows its own get.
+-- The books of a store of one key that another pass inserted. This pass knows its own get of the key.
 use Rattle.std.proofs.Common.{◌≡◌, ℕ, List, [], ◌∷◌, ◌++◌, ◌<◌, refl, sym, arith}
 use Rattle.std.specs.Prelude.{◌==◌}
 use Rattle.sh_history.specs.declared.entry.Entry.TheVariants.{Insert, Got, Released}
@@ -35,7 +35,7 @@ returned_stands value = record {
   agrees = (refl, (refl, tt));
 }
 
--- what stands at each stage
+-- what holds at each stage
 pub ruleset stages_stand = (idle_stands, lent_stands, read_stands, returned_stands)
 
 -- giving the key leaves its get, with a value that is open
