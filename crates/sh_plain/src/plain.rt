@@ -17,7 +17,7 @@ use std::marker::{Model, PhantomData};
 
 /// A store that keeps the entries of all its passes, and computes the result of each call from them.
 ///
-/// It also keeps what the entries say of each key, and the holds that they leave, so no call goes through the entries:
+/// It also keeps what the entries say of each key, and the holds that they leave. So no call goes through the entries:
 /// there are at most 16 holds a pass.
 ///
 /// It knows no shape: a number is refused as `BadKey` exactly if it is no key of the layout. Its n-th insert, from 0,

@@ -86,8 +86,8 @@ next_filed (Some c) q = with_class c (class_queue q c ++ q.opened ∷ []) (recor
 
 -- ---- how one chain of numbers holds the queues
 
--- The numbers below 11 are marks: 0 to 7 are ahead of the queues of the classes, 8 ahead of the full queue, 9 ahead of
--- the blank pages, 10 at the end. Page p is the number 11 + p.
+-- The numbers below 11 are marks. 0 to 7 are ahead of the queues of the classes, 8 is ahead of the full queue, 9 ahead
+-- of the blank pages, and 10 at the end. Page p is the number 11 + p.
 
 -- the mark behind the blank pages, and the one behind the pages of a class
 abbrev pub mark_behind : Option ℕ → ℕ

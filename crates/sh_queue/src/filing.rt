@@ -19,7 +19,7 @@ use std::marker::Model;
 #[derive(Drop)]
 pub struct Filing {
     chain: Chain,
-    // For each page to file, that it is not in the full queue.
+    // A note for each page to file that it is not in the full queue.
     full: Vec<bool>,
     filed: u32,
     unopened: u32,

@@ -32,8 +32,8 @@ pub record Searched (c : ℕ) (o n : Sharded) : Type 0 where
   pub done : (p : ℕ) → has_number p (class_queue n.queues c) ≡ true → PageDone o.pages n.pages p
   pub steps : StepsAtMost (4 * o.pages.count) o.pages.owner n.pages.owner
 
--- after this number of turns: `rest` is yet to be tried, and ends in the page that was last when the search began; the
--- pages that were tried wait behind it
+-- After this number of turns, `rest` is yet to be tried, and ends in the page that was last when the search began. The
+-- pages that were tried wait behind it.
 pub record Searching (c turn last : ℕ) (o n : Sharded) : Type 0 where
   pub since : WorkedSince o.pages n.pages
   pub opened : n.queues.opened ≡ o.queues.opened

@@ -200,8 +200,8 @@ DoneIn n o (Err _) m = ⊥
 
 -- ---- adopting and leaving a shard
 
--- shard k is the pass's own, and its pages that have a class are in their queues; or no shard has this number, or it
--- has an owner, or memory was refused
+-- Shard k is the pass's own, and its pages that have a class are in their queues. Or no shard has this number, or it
+-- has an owner, or memory was refused.
 abbrev pub AdoptServes : ℕ → Caller → Result Sharded (Caller × Refusal) → Type 0
 AdoptServes k v (Ok n) = (k < v.view.shape.shards) × AdoptsShard v k n.pages × OpensClassed n.pages n.queues
     × FilesRising n.queues

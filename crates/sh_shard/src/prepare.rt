@@ -15,9 +15,9 @@ use sh_value::Refusal;
 impl<L: KeyLayout, H: KeepsHeap<L>> Shard<L, H> {
     /// Gives a page the class, from 0 to 7, puts it in front of the class's queue, and returns it. It is the lowest
     /// blank page of the opened segments. If there is none, it is the lowest page of another class all of whose slots
-    /// are the owner's; and if there is none either, the first page of the next segment, which is opened. Refused, with
-    /// nothing changed, as `Full` exactly if there is no such page, and as `Memory` if the segment's growth is refused.
-    /// It takes one step at most.
+    /// are the owner's. If there is none either, it opens the next segment and gives the class to its first page.
+    /// Refused, with nothing changed, as `Full` exactly if there is no such page, and as `Memory` if the segment's
+    /// growth is refused. It takes one step at most.
     pub fn prepare(&mut self, class: u32) -> Result<u32, Refusal>
         requires { class < 8 }
         ensures serves { PrepareServes class self.old result self.new }

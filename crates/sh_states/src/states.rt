@@ -26,8 +26,8 @@ pub struct PageState {
 
 /// What an owner keeps of each page of its shard. At first all pages are blank.
 ///
-/// Only `new` asks for memory, once, with room for all of them. A state is written there when its page, or one behind
-/// it, is used: so a system that gives memory as it is written gives it for the pages in use.
+/// Only `new` asks for memory, once, with room for all of them. A state is written when its page, or one behind it, is
+/// used. So a system that gives memory as it is written gives it for the pages in use.
 #[derive(Drop)]
 pub struct PageStates {
     // The states of the first pages. The pages behind them are blank.

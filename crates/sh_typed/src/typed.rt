@@ -14,9 +14,9 @@ use std::marker::{Model, PhantomData};
 
 /// The records of one type in a store: each is stored as its kind and then its words.
 ///
-/// Any implementation of `Lookup` may get, remove and release them, as a pass does: `Typed::<_, (u64,
-/// u64)>::new(pass)`. Only a store can insert them. A contract sees the store itself. Other keys of the store may have
-/// records of another kind.
+/// Any implementation of `Lookup` may get, remove and release them, as a pass does:
+/// `Typed::<_, (u64, u64)>::new(pass)`. Only a store can insert them. A contract sees the store itself. Other keys of
+/// the store may have records of another kind.
 #[derive(Drop)]
 pub struct Typed<S: Lookup, R: Record> {
     store: S,
