@@ -91,8 +91,7 @@ abbrev pub with_added : Plain → Option Entry → Plain
 with_added s None = s
 with_added s (Some entry) = record s { entries = s.entries ++ entry ∷ [] }
 
--- the call returned this result and added its entry; or it had an entry to add, its memory was refused, and nothing
--- changed
+-- the call had this result and added its entry; or its memory for an entry was refused, and nothing changed
 abbrev pub Replied : {A : Type 0} → PlainReply A → Plain → Result A Refusal → Plain → Type 0
 Replied reply old (Ok x) new = (reply.answer ≡ Ok x) × (new ≡ with_added old reply.adds)
 Replied reply old (Err refusal.Memory) new = IsSome reply.adds × (new ≡ old)

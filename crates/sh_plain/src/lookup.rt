@@ -44,7 +44,7 @@ pub trait Lookup {
         ensures same { setting self.new ≡ setting self.old }
         ensures exact { reads self.old hold.key result self.new };
 
-    /// Removes a key: no later get finds it, and its value stays until the last hold goes. Refused as `BadKey`,
+    /// Removes a key: no later get finds it, and its value stays until the last hold is released. Refused as `BadKey`,
     /// `Memory` or `Gone`.
     fn remove(&mut self, key: u64) -> Result<(), Refusal>
         ensures leaves { RemoveLeaves (setting self.old) key (book self.old) result (book self.new) }

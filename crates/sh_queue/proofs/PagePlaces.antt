@@ -1,5 +1,4 @@
--- The place of a page, if each opened page is in the queues once: no page is in two queues, and an opened page is in
--- one.
+-- The place of a page, if each opened page is in the queues once: each opened page is in exactly one queue.
 use Rattle.std.proofs.Common.{◌≡◌, ◌≢◌, ℕ, ◌+◌, ◌<◌, ◌≤◌, ◌⊎◌, inl, inr, Bool, true, false, List, [], ◌∷◌, length}
 use Rattle.std.proofs.Common.{refl, arith}
 use Rattle.std.specs.List.{concat}

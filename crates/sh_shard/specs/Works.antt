@@ -16,7 +16,7 @@ pub record WorksThroughout (o n : Paged) : Type 0 where
   pub bell_takes : o.bell.takes ≤ n.bell.takes
   pub bell_met : o.bell.met ≤ n.bell.met
 
--- the bell was taken and followed to its end, or a link of it was not written, in this work
+-- the bell was taken and followed to its end, or one of its links was not written, in this work
 abbrev pub BellDone : Paged → Paged → Type 0
 BellDone o n = MatchOption n.bell.cursor (o.bell.takes < n.bell.takes) (λ _. o.bell.met < n.bell.met)
 

@@ -11,9 +11,10 @@ use sh_pass::pass::Pass;
 use sh_value::Refusal;
 
 impl<L: KeyLayout, H: KeepsHeap<L>> Shard<L, H> {
-    /// Leaves the shard: collects what others freed, puts back all slots that the owner has for the next owner, and
-    /// returns the pass. Refused as `Waiting`, with the shard, if another caller has begun a free in it that is yet to
-    /// end. Then nothing is put back, and the shard works as before. It takes at most 148 steps for each page, and 4.
+    /// Leaves the shard: collects what others freed, puts all slots that the owner has on their pages for the next
+    /// owner, and returns the pass. Refused as `Waiting`, with the shard, if another caller has begun a free in it that
+    /// is yet to end. Then nothing is put back, and the shard works as before. It takes at most 148 steps for each page
+    /// of the shard, and 4.
     pub fn leave(self) -> Result<Pass<L, H>, (Self, Refusal)>
         ensures serves { LeaveServes self result }
         ensures bounded { LeaveIsBounded self result }

@@ -28,8 +28,7 @@ impl<L: KeyLayout, H: KeepsHeap<L>> Shard<L, H> {
         self.insert_slowly(c, value)
     }
 
-    // The same if the front page has no slot: tries the pages of the class, the bell, and then another page for the
-    // class.
+    // The same if the front page has no slot: tries the class's pages, the bell, and then another page for the class.
     fn insert_slowly(&mut self, c: u32, value: &Value) -> Result<u64, Refusal>
         requires class { c < 8 }
         requires fits { length value.now ≤ width c }

@@ -90,7 +90,7 @@ impl<S: Lookup, R: Record> Typed<S, R> {
 impl<S: Store, R: Record> Typed<S, R> {
     /// Stores a record under a new key, and returns the key. Refused as `Full` or `Memory`.
     ///
-    /// What is stored is read as the record again.
+    /// The stored value reads as the same record.
     pub fn insert(&mut self, stored: &R) -> Result<u64, Refusal>
         ensures leaves { InsertLeaves (S.setting self.old) (R.KIND ∷ R.words stored.now) (S.book self.old) result
             (S.book self.new) }

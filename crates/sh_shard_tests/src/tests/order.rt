@@ -3,8 +3,7 @@ use super::filling::fill;
 use super::*;
 use sh_key::Tiny;
 
-// In a page, the slot that its owner freed last is used first. Of two full pages, the one that came back
-// first is used first.
+// The slot of a page that its owner freed last is used first, and so is the full page that came back first.
 #[test]
 fn what_the_owner_freed_last_is_used_first(rt: HostRuntime) {
     let (heap, seats) = opened::<Tiny>(&rt, rt.alloc(), 1, 1, 1);
