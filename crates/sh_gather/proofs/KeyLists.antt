@@ -31,7 +31,8 @@ named_generation shards pages p n h = go (nat_lt p.shard shards && nat_lt p.page
       in ap (λ (x : Name). x.generation) (sym z)
   go false e = absurd (let z : None ≡ Some n = e in cc)
 
-pub last_generation : (layout : Layout) (shards pages k : ℕ) (n : Name) → (keys_of layout shards pages).unpack k ≡ Some n
+pub last_generation : (layout : Layout) (shards pages k : ℕ) (n : Name) → (keys_of layout shards pages).unpack k
+    ≡ Some n
     → n.generation ≤ (keys_of layout shards pages).gen_max
 unfolding keys_of
 last_generation layout shards pages k n h = go (unpacked layout k) refl h where

@@ -19,7 +19,7 @@ use Rattle.sh_pass.proofs.HeldLaws.{some_times, no_times}
 log_same : (v w : Caller) → w ≡ v → w.view.own.log ≡ v.view.own.log
 log_same v w e = ap (λ (z : Caller). z.view.own.log) e
 
--- a key among the holds is held, as the log tells too
+-- a key among the holds is held, as the log says too
 held_now : (layout : Layout) (v : View) (key : ℕ) → ViewStands layout v → has (λ k. k == key) v.own.body.holds ≡ true
     → 0 < logged_holds_by v.own.log v.pass key
 held_now layout v key s here = let a = some_times key v.own.body.holds here in let b = s.holds key in omega arith

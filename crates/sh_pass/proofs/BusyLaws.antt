@@ -1,4 +1,4 @@
--- Steps by hand: where a condition fails, and what a step leaves.
+-- Single steps of a pass: when a condition fails, and what a step leaves.
 use Rattle.std.proofs.Common.{◌≡◌, ◌≢◌, ℕ, ◌<◌, ◌≤◌, ◌==◌, ◌&&◌, Bool, true, false, List, length, Option, Some, None}
 use Rattle.std.proofs.Common.{refl, ap, ◌∙◌, sym, subst, arith}
 use Rattle.std.proofs.lemmas.Bool.{false≢true}
@@ -35,9 +35,9 @@ use Rattle.sh_table.specs.Views.{names}
 use Rattle.sh_pass.specs.Busy.{Acts, IsBusy, is_by_hand}
 use Rattle.sh_pass.specs.Passes.{HoldsKept}
 
--- ---- where the condition fails
+-- ---- a condition that fails
 
--- what has a condition that fails is not there, nor is what stands behind a name
+-- if the condition fails, the option is empty, and so is one that depends on a name
 none_unless : {A : Type 0} (b : Bool) (a : A) → (b ≡ true → ⊥) → then_some b a ≡ None
 none_unless true a fails = absurd (fails refl)
 none_unless false a fails = refl

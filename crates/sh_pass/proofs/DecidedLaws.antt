@@ -96,13 +96,13 @@ entry_then k x b live xs ys d after = (
   subst (λ l. AfterEntry x b l ys) (sym d.2) after,
 )
 
--- where the word that was found is not live
+-- if the word that was found is not live
 pub removal_vain : {c : Body} {es : List LogEntry} {j : ℕ} (v w u : View) (k : ℕ) (x : Name)
     → Stepped (EntryTells k x false) v w → Grows c es j w u → Stepped (EntryOrMarkDecides k x false) v u
 removal_vain v w u k x s g = stepped_then v w u (EntryTells k x false) (λ ys. Unit {0}) (EntryOrMarkDecides k x false) s
     (g.steps, g.trail, tt) (λ xs ys d e. entry_then k x false false xs ys d refl)
 
--- and where it is
+-- and if it is live
 pub removal_marked : {c : Body} {es : List LogEntry} {j : ℕ} (v w u z : View) (k : ℕ) (x : Name) (b : Bool)
     → Stepped (EntryTells k x true) v w → Stepped (MarkDecides x b) w u → Grows c es j u z
     → Stepped (EntryOrMarkDecides k x b) v z

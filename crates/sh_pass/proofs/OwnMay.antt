@@ -1,4 +1,4 @@
--- Where an owner may step: the conditions of its actions, by what it knows of its pages.
+-- When an owner may step: the conditions of its actions, by what it knows of its pages.
 use Rattle.std.proofs.Common.{◌≡◌, ℕ, zero, suc, ◌+◌, ◌-◌, ◌*◌, ◌<◌, ◌≤◌, ◌==◌, ◌&&◌, inl, inr, Bool, true, false, Some}
 use Rattle.std.proofs.Common.{None, length, List, [], refl, ap, ◌∙◌, sym, subst, arith}
 use Rattle.std.proofs.lemmas.Nat.{div-mul-add}

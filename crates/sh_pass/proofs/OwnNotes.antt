@@ -176,7 +176,7 @@ pub noted_else : (q r n : ℕ) (xs : List (ℕ × ℕ)) → r ≢ q → noted r 
 unfolding noted
 noted_else q r n xs ne = ap (λ b. cond b (Some n) (noted r xs)) (ne_eqb q r (λ e. ne (sym e)))
 
--- ---- lists in which nothing stands
+-- ---- lists that note nothing
 
 pub none_mine : (xs : List Spot) → ((x : Spot) → has (same_spot x) xs ≡ false) → xs ≡ []
 unfolding has

@@ -1,5 +1,5 @@
--- What an owner's steps on no page and no bell leave of what it knows: those of a value in its hand, and those by which
--- it comes to own a shard or gives one up.
+-- What an owner's steps on no page and no bell leave of what it knows: those of a value in its hand, and those that
+-- adopt a shard or give one up.
 use Rattle.std.proofs.Common.{◌≡◌, ℕ, zero, suc, ◌+◌, ◌≤◌, append-nil, ◌==◌, Bool, false, cond, Some, None, List, []}
 use Rattle.std.proofs.Common.{◌∷◌, length, refl, ap, ◌∙◌, arith, ne_eqb}
 use Rattle.std.proofs.lemmas.List.{length-append}
@@ -64,7 +64,7 @@ module _ (layout : Layout) (v w : Caller) where
         still layout action.Tie m 0 v w d b refl puts_slot refl,
       )
 
-  -- a step by which it comes to own a shard, or gives one up
+  -- a step that adopts a shard, or gives one up
   tries : (a : Action) (m : Move) (n : ℕ) (d : OwnerDid layout a m n v w) (b : Body) → (row_by layout v.view m).part n
       ≡ b → b.holds ≡ (own_body v).holds → b.hand ≡ Idle → key_read a ≡ None
       → logged_of v.view.pass ((row_by layout v.view m).reply n) ≡ [] → OwnerTries v w

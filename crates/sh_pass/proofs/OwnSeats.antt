@@ -32,7 +32,7 @@ pub stood : {layout : Layout} {heap : Heap} {t : Seat (Unit {0}) View} (v : Call
     → IsSeat layout heap t → ViewStands layout v.view
 stood {layout} v is s = subst (λ (z : Caller). ViewStands layout z.view) is s.stands
 
--- a seat of the heap, where that is what the heap has inside
+-- a seat of the heap, if the heap has that inside
 pub seat_at : {layout : Layout} {inside heap : Heap} {t : Seat (Unit {0}) View} → inside ≡ heap → IsSeat layout heap t
     → IsSeat layout inside t
 seat_at {layout} {t = t} is s = subst (λ h. IsSeat layout h t) (sym is) s

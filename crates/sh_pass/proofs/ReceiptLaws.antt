@@ -1,4 +1,4 @@
--- What a pass is answered after it heeded a receipt.
+-- What the results of a pass are after it heeded a receipt.
 use Rattle.std.proofs.Common.{◌≡◌, ℕ, ◌++◌, ◌∷◌, [], List, refl, ap, sym, ◌∙◌, subst, arith, map, Result, Ok, Err}
 use Rattle.std.specs.List.{Contains}
 use Rattle.std.proofs.lemmas.List.Elements.{Contains-append_left, Contains-append_right, Contains-push}
@@ -19,7 +19,7 @@ use Rattle.sh_pass.specs.Passes.{Caller, GetDoes, RemoveDoes}
 use Rattle.sh_pass.specs.Growing.{SameTale}
 use Rattle.sh_pass.specs.Receipts.{receipt_by, heeded, FindsNone}
 
--- all that a pass was answered
+-- all results of a pass
 abbrev pub heard_of : Caller → Heard
 heard_of o = record { pass = o.view.pass; log = o.view.own.log }
 

@@ -1,4 +1,4 @@
--- Passes that step by hand: one event a call.
+-- Passes that are driven step by step: each call does one event.
 use Rattle.std.specs.Prelude.{◌≡◌, ◌≢◌, ℕ, Bool, true, false, List, Some, None, Result, Ok, Err}
 use Rattle.atomic_table.specs.declared.shared.Seat.{Seat}
 use Rattle.sh_key.specs.Layout.{Layout}
@@ -19,13 +19,13 @@ use Rattle.sh_table.specs.Steps.{MayDo, did, row_by}
 use Rattle.sh_pass.specs.Growing.{is_of_call}
 use Rattle.sh_pass.specs.Passes.{Caller, HoldsKept, IsTally}
 
--- the kinds of step that a pass does by hand: all that its calls are made of, but reads
+-- the kinds of step that such a pass does: all that its calls consist of, except reads
 abbrev pub is_by_hand : ActionKind → Bool
 is_by_hand kind.Read = false
 is_by_hand x = is_of_call x
 
--- The call answers whether the action is of such a kind and its condition holds. Then it was that one event, for the
--- word that it found, and its row meets that word where it answers it; and else nothing
+-- The call returns whether the action is of such a kind and its condition holds. If so, it was that one event, for the
+-- word that it found; if the row's operation returns that word, the word fits the row. If not, nothing changed.
 abbrev pub Acts : Layout → Action → View → Bool → View → Type 0
 Acts layout x v true w = (is_by_hand (kind_of_action x) ≡ true) ×
     ((m : Move) × (n : ℕ) × MayDo layout v x m × (w ≡ did layout x m v n)
@@ -34,7 +34,7 @@ Acts layout x v true w = (is_by_hand (kind_of_action x) ≡ true) ×
 Acts layout x v false w = (is_by_hand (kind_of_action x) ≡ true → row (plan_of layout v.shape) v.own.body x ≡ None)
     × (w ≡ v)
 
--- the pass comes back exactly where its hand is idle, and in either case as it was
+-- the pass comes back if its hand is idle, and the busy pass otherwise; both are as the busy pass was
 abbrev pub Ends : Caller → Result Caller Caller → Type 0
 Ends v (Ok w) = (v.view.own.body.hand ≡ Idle) × (w ≡ v)
 Ends v (Err w) = (v.view.own.body.hand ≢ Idle) × (w ≡ v)

@@ -47,8 +47,8 @@ abbrev pub AfterEntry : Name → (removed live : Bool) → List Footstep → Typ
 AfterEntry name removed true rest = MarkDecides name removed rest
 AfterEntry name removed false rest = removed ≡ false
 
--- it is entered to remove the key: where the word found there is not live, this pass did not remove the key, and else
--- the mark decides
+-- the slot is entered to remove the key: if the word found there is not live, this pass did not remove the key;
+-- otherwise the mark decides
 abbrev pub EntryOrMarkDecides : ℕ → Name → Bool → List Footstep → Type 0
 EntryOrMarkDecides key name removed new = (b : Begins (action.EnterRemove key) name new)
     × AfterEntry name removed (live_at name.generation b.found) b.rest
@@ -59,12 +59,12 @@ EntryOrMarkDecides key name removed new = (b : Begins (action.EnterRemove key) n
 abbrev pub DecidedByEntry : Plan → ℕ → GetAnswer → List Footstep → Type 0
 DecidedByEntry plan key a new = (name : Name) × (place_named plan key ≡ Some name) × EntryDecides plan key name a new
 
--- a get that succeeds has done nothing else
+-- a get that succeeds has done only this one step
 abbrev pub InOneStep : Plan → ℕ → List Footstep → Type 0
 InOneStep plan key new = DecidedByEntry plan key answer.Got new × (length new ≡ 1)
 
--- A removal is decided by the word that it found as it entered the slot of its key, where that is not live, and else by
--- the one that its mark found there
+-- A removal is decided by the word that it found as it entered the slot of its key, if that word is not live, and
+-- otherwise by the word that its mark found there
 abbrev pub RemovalDecided : Plan → ℕ → Bool → List Footstep → Type 0
 RemovalDecided plan key removed new = (name : Name) × (place_named plan key ≡ Some name)
     × EntryOrMarkDecides key name removed new

@@ -8,7 +8,7 @@ use Rattle.sh_pass.specs.Passes.{Caller}
 abbrev pub caller_book : Caller → List LogEntry
 caller_book v = v.view.own.log
 
--- it answers for its pass alone
+-- its book is for its pass alone
 abbrev pub caller_setting : Layout → Caller → Setting
 caller_setting layout c =
     let v = c.view in

@@ -109,13 +109,13 @@ pub record HasNothing (g : SeenPage) : Type 0 where
 abbrev pub MayGive : SeenPage → Type 0
 MayGive g = (g.class ≡ Some 0) ⊎ ((c : ℕ) × (g.class ≡ Some (suc c)) × ((s : ℕ) → s < slots c → g.mine s ≡ true))
 
--- ---- what a step makes of them
+-- ---- pages and bells after a step
 
 -- the page after its stack was taken, whose head was found so
 abbrev pub page_taken : SeenPage → ℕ → SeenPage
 page_taken g n = record g { cursor = top_item (top_of n); armed = cond (is_armed n) false g.armed; takes = g.takes + 1 }
 
--- the same where it was armed
+-- the same after it was armed
 abbrev pub page_armed : SeenPage → ℕ → SeenPage
 page_armed g n = record g { cursor = top_item (top_of n); armed = true; takes = g.takes + 1 }
 
@@ -128,7 +128,7 @@ page_followed g s n = cond (n == 0) (record g { met = g.met + 1 })
 abbrev pub page_without : SeenPage → ℕ → SeenPage
 page_without g s = record g { mine = λ t. g.mine t && not (t == s) }
 
--- slot s came to be its own
+-- slot s became its own
 abbrev pub page_with : SeenPage → ℕ → SeenPage
 page_with g s = record g { mine = λ t. (t == s) || g.mine t }
 
@@ -183,7 +183,7 @@ NonePut v w = puts w.view.own.trail ≡ puts v.view.own.trail
 abbrev pub NoneArmed : Caller → Caller → Type 0
 NoneArmed v w = arms w.view.own.trail ≡ arms v.view.own.trail
 
--- in n steps the hand came to be so and these entries joined the log
+-- after n steps the hand is this, and these entries joined the log
 pub record OwnerActs (begun : Hand) (es : List LogEntry) (n : ℕ) (v w : Caller) : Type 0 where
   pub aside : Aside v w
   pub hand : (own_body w).hand ≡ begun
@@ -194,11 +194,11 @@ pub record OwnerActs (begun : Hand) (es : List LogEntry) (n : ℕ) (v w : Caller
 abbrev pub SameBells : Layout → Caller → Caller → Type 0
 SameBells layout v w = (n : ℕ) → seen_bell layout w n ≡ seen_bell layout v n
 
--- the bell of shard n came to be so
+-- the bell of shard n is now this
 abbrev pub OnBell : Layout → ℕ → SeenBell → Caller → Caller → Type 0
 OnBell layout n b v w = seen_bell layout w n ≡ b
 
--- page q came to be so, and no other changed
+-- page q is now this, and no other page changed
 pub record OnPage (q : ℕ) (g : SeenPage) (v w : Caller) : Type 0 where
   pub here : seen_page w q ≡ g
   pub others : (r : ℕ) → r ≢ q → seen_page w r ≡ seen_page v r
@@ -222,7 +222,7 @@ pub record Adopted (n : ℕ) (v w : Caller) : Type 0 where
   pub pages : (q : ℕ) → seen_page w q ≡ record (seen_page v q)
       { mine = λ s. false; cursor = None; armed = false; class = None }
 
--- an adopt of shard n that found this word: the shard is its own where the word was 0, and else it met an owner
+-- an adopt of shard n that found this word: the shard is its own if the word was 0, and otherwise it met an owner
 abbrev pub OwnerAdopts : Layout → ℕ → ℕ → Caller → Caller → Type 0
 OwnerAdopts layout n zero v w = Adopted n v w
 OwnerAdopts layout n (suc m) v w = ((own_body w).owned ≡ None) × SamePages v w
@@ -238,7 +238,7 @@ pub record Left (v w : Caller) : Type 0 where
   pub log : w.view.own.log ≡ v.view.own.log
   pub steps : length w.view.own.trail ≡ length v.view.own.trail + 1
 
--- the key under which the slot's value is published, where its state was found so
+-- the key under which the slot's value is published, if its state was found to be n
 abbrev pub published : Layout → Caller → Spot → ℕ → ℕ
 published layout v x n = (plan_of layout v.view.shape).keys.pack (published_name x n)
 
@@ -253,14 +253,13 @@ IsKeyOn layout v q key = (x : Name) × (place_named (plan_of layout v.view.shape
 
 -- ---- calls
 
--- this slot came to be its own, of a page of its shard, or none did and its pages are as before
+-- this slot, of a page of its shard, became its own; or none did and its pages are as before
 abbrev pub SlotCame : Option Spot → Caller → Caller → Type 0
 SlotCame None v w = SamePages v w
 SlotCame (Some x) v w = (y : PageName) × MayTouch v y × (x.page ≡ heap_page v y) × (x.slot < slot_places)
     × ((seen_page v x.page).mine x.slot ≡ false) × OnPage x.page (page_with (seen_page v x.page) x.slot) v w
 
--- A call is over, and this slot came to be its own, or none did: shard, bells and tale are as before, and nothing was
--- armed
+-- A call is over, and this slot became its own, or none did. Shard, bells and tale are as before, and nothing was armed
 pub record CallLeaves (layout : Layout) (came : Option Spot) (v w : Caller) : Type 0 where
   pub idle : (own_body w).hand ≡ Idle
   pub same : SameTale v.view w.view

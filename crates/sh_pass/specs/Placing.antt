@@ -1,4 +1,4 @@
--- Where a key has its place.
+-- The place of a key.
 use Rattle.std.specs.Prelude.{◌≡◌, ◌≢◌, ℕ, Some, None}
 use Rattle.sh_key.specs.Layout.{Layout}
 use Rattle.sh_shape.specs.Shape.{Numbers}
@@ -7,7 +7,7 @@ use Rattle.sh_slots.specs.declared.hand.Name.{Name}
 use Rattle.sh_step.specs.Moves.{place_named}
 use Rattle.sh_step.specs.Plans.{plan_of}
 
--- where a shard has so many pages the key names this, if it names anything
+-- if a shard has that number of pages, the key names this, if it names anything
 abbrev pub IsPlacedBy : Layout → (pages key : ℕ) → Name → Type 0
 IsPlacedBy layout pages key name = (s : Numbers) → pages_of s ≡ pages → place_named (plan_of layout s) key ≢ None
     → place_named (plan_of layout s) key ≡ Some name

@@ -8,5 +8,5 @@ pub type Pass<'a, L> = pass::Pass<L, &'a Heap<L>>;
 /// A pass that may own a shard, on a heap that it borrows.
 pub type Owner<'a, L> = owner::Owner<L, &'a Heap<L>>;
 
-/// A pass that steps by hand, on a heap that it borrows.
+/// A pass that is driven step by step, on a heap that it borrows.
 pub type Busy<'a, L> = busy::Busy<L, &'a Heap<L>>;

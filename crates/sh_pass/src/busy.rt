@@ -1,4 +1,4 @@
-//! Passes that step by hand.
+//! Passes that the caller drives step by step.
 ghost use Rattle.std.specs.Prelude.{◌≡◌};
 ghost use Rattle.sh_table.specs.Tales.{ViewStands};
 ghost use Rattle.sh_pass.specs.Busy.{Acts, Ends};
@@ -40,7 +40,7 @@ impl<L: KeyLayout, H: KeepsHeap<L>> Model for Busy<L, H> {
 }
 
 impl<L: KeyLayout, H: KeepsHeap<L>> Pass<L, H> {
-    /// The pass, to step by hand.
+    /// The pass, to be driven step by step.
     pub fn begin(self) -> Busy<L, H>
         ensures { result ≡ self }
     {
@@ -65,8 +65,8 @@ impl<L: KeyLayout, H: KeepsHeap<L>> Pass<L, H> {
 }
 
 impl<L: KeyLayout, H: KeepsHeap<L>> Busy<L, H> {
-    /// Does one step: true exactly where the action is of one of the kinds Enter, Mark, Drop, Finish, Put, Tie, Ring
-    /// and RingTie, and its condition holds. Else it does nothing.
+    /// Does one step: true if the action is of one of the kinds Enter, Mark, Drop, Finish, Put, Tie, Ring and RingTie,
+    /// and its condition holds. Otherwise it does nothing and returns false.
     pub fn act(&mut self, action: &Action) -> bool
         ensures acts { Acts L.layout action.now self.old.view result self.new.view }
         ensures same { self.new.heap ≡ self.old.heap }
@@ -76,7 +76,7 @@ impl<L: KeyLayout, H: KeepsHeap<L>> Busy<L, H> {
         self.state.act(&heap.table, action)
     }
 
-    /// The pass again, exactly where it has begun nothing that it has yet to end.
+    /// The pass again, if it has nothing begun. Otherwise the busy pass comes back as it was.
     pub fn end(self) -> Result<Pass<L, H>, Busy<L, H>>
         ensures { Ends self result }
     {

@@ -1,5 +1,5 @@
-// The steps of a pass that steps by hand, one function for each form of action. Each answers whether the condition of
-// its action holds, and does the step just there.
+// The steps of a pass that is driven step by step, one function for each form of action. Each returns whether the
+// condition of its action holds, and does the step only then.
 ghost use Rattle.std.specs.Prelude.{◌≡◌};
 ghost use Rattle.sh_step.specs.declared.action.Action.TheVariants as action;
 ghost use Rattle.sh_pass.specs.Busy.{Acts, IsBusy};
@@ -15,7 +15,7 @@ use sh_step::operands::{gen_max, guard_max, place_of_key};
 use sh_table::{HeapTable, Token};
 use sh_value::HOLDS_MAX;
 
-/// What is kept of a pass that steps by hand.
+/// What is kept of a pass that is driven step by step.
 #[derive(Drop)]
 pub(crate) struct BusyState {
     pub(crate) seat: Token,
@@ -199,7 +199,7 @@ impl BusyState {
         true
     }
 
-    /// Does the step of the action where it is one of these and its condition holds: whether it did.
+    /// Does the step of the action if it is one of these and its condition holds. Returns whether it did.
     pub(crate) fn act<L: KeyLayout>(&mut self, table: &HeapTable<L>, action: &Action) -> bool
         requires { IsBusy L.layout table.now self.old.seat self.old.held.items self.old.named self.old.hand }
         ensures busy { IsBusy L.layout table.now self.new.seat self.new.held.items self.new.named self.new.hand }

@@ -1,4 +1,5 @@
-// The calls of a pass, whether it owns a shard or not. Each answers also the slot of its shard that came to be its own.
+// The calls of a pass, whether it owns a shard or not. Each also returns the slot of its shard that became its own, if
+// any.
 ghost use Rattle.std.specs.Prelude.{◌≡◌, None};
 ghost use Rattle.sh_slots.specs.declared.hand.Hand.TheVariants.{Idle};
 ghost use Rattle.sh_table.specs.Seats.{IsSeat};
@@ -17,7 +18,7 @@ use sh_step::operands::place_of_key;
 use sh_table::{HeapTable, Token};
 use sh_value::{HOLDS_MAX, Hold, Refusal, Value};
 
-/// Takes a hold on a key, and answers it with the key's place.
+/// Takes a hold on a key, and returns it with the key's place.
 #[inline(always)]
 pub(crate) fn get_guard_of<L: KeyLayout>(
     table: &HeapTable<L>,
@@ -132,8 +133,8 @@ pub(crate) fn release_key<L: KeyLayout, K: Holding<L>>(
     (Ok(()), slot)
 }
 
-/// Reads the value of a key that the pass holds into a value of the caller's, in place of what that was: a value that
-/// is answered is copied by each call on its way.
+/// Reads the value of a key that the pass holds into a value of the caller's, replacing what that was. A value that is
+/// returned would be copied by each call on its way.
 #[inline(always)]
 pub(crate) fn read_key<L: KeyLayout, K: Holding<L>>(
     table: &HeapTable<L>,

@@ -23,7 +23,7 @@ use std::marker::{Model, PhantomData};
 pub struct Guard<L: KeyLayout> {
     key: u64,
     name: Name,
-    // How many pages a shard has where the key has this place.
+    // The number of pages of a shard for which the key has this place.
     pages: u32,
     layout: PhantomData<L>,
 }
@@ -62,7 +62,7 @@ impl<L: KeyLayout> Guard<L> {
         self.key
     }
 
-    /// The plain hold that it stands for.
+    /// The plain hold of the same key.
     pub fn hold(&self) -> Hold
         ensures { result ≡ self.now }
     {

@@ -8,8 +8,9 @@ use sh_key::KeyLayout;
 use sh_table::heard_comes_first;
 use sh_value::{Hold, Refusal};
 
-/// Removes a key by one pass, and then gets it by another, which heeds a receipt of the removal. A removal that is
-/// refused, as `BadKey` or `Gone`, ends it. Else that get does not find the key: it is refused, and not as `Crowded`.
+/// Removes a key by one pass, and then gets it by another, which heeds a receipt of the removal. If the removal is
+/// refused, as `BadKey` or `Gone`, the call ends there. Otherwise the get does not find the key: it is refused, and not
+/// as `Crowded`.
 pub fn remove_then_get<L: KeyLayout, H: KeepsHeap<L>>(
     one: &mut Pass<L, H>,
     other: &mut Pass<L, H>,

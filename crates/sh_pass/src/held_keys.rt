@@ -1,4 +1,4 @@
-//! The keys that a pass holds: each stands there once for each hold on it, in any order.
+//! The keys that a pass holds: each is listed once for each hold on it, in any order.
 ghost use Rattle.std.specs.Prelude.{◌≡◌, ◌==◌, ◌-◌, ◌↔◌, IsTrue, true, Some, position, slice_get, length};
 ghost use Rattle.sh_step.specs.Collections.{has, without};
 ghost use Rattle.sh_pass.specs.Passes.{HoldsKept};
@@ -6,14 +6,14 @@ ghost use Rattle.sh_pass.specs.Passes.{HoldsKept};
 use arrayvec::ArrayVec;
 use sh_value::HOLDS_MAX;
 
-/// Where the key stands first.
+/// The first place of the key.
 pub(crate) fn find(held: &[u64], key: u64) -> Option<usize>
     ensures { result ≡ position (λ k. k == key) held.now }
 {
     held.iter().position(|k| *k == key)
 }
 
-// The same, apart from the calls that seldom come to it.
+// The same, as a separate function for calls that are rarely made.
 #[cold]
 #[inline(never)]
 fn find_behind(held: &[u64], key: u64) -> Option<usize>
@@ -32,7 +32,7 @@ fn is_last(held: &[u64], key: u64) -> bool
     }
 }
 
-/// Whether the key stands there. Mostly it is the last one, which is looked at first.
+/// Whether the key is in the list. Mostly it is the last one, which is looked at first.
 pub(crate) fn is_held(held: &[u64], key: u64) -> bool
     ensures { result ≡ has (λ k. k == key) held.now }
 {

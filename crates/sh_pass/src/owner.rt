@@ -21,8 +21,8 @@ use std::marker::{Model, PhantomData};
 
 /// A pass that may own a shard: what its shard is made with.
 ///
-/// Each of its steps is one step of the core, has that step's condition, and answers the word that it found; for a
-/// store it answers nothing. A contract sees which heap it is of and what it knows, as of a `Pass`.
+/// Each of its steps is one step of the core, has that step's condition, and returns the word that it found; a store
+/// returns nothing. A contract sees which heap it is of and what it knows, as of a `Pass`.
 ///
 /// One that is dropped leaves its shard taken for good, with the slots that are its own, what it has begun, and its
 /// holds. So it is best made to leave, and given back by `into_pass`.
@@ -100,7 +100,7 @@ impl<L: KeyLayout, H: KeepsHeap<L>> Owner<L, H> {
         }
     }
 
-    /// The shape of the heap, as the owner knows it. All that it knows stands.
+    /// The shape of the heap, as the owner knows it. All that it knows holds.
     pub fn shape(&self) -> &Shape
         ensures is { result.now ≡ self.now.heap.shape }
         ensures same { self.now.view.shape ≡ self.now.heap.shape }
@@ -140,7 +140,7 @@ impl<L: KeyLayout, H: KeepsHeap<L>> Owner<L, H> {
         u64::from(shape.page_number(name.shard as u32, name.page as u32))
     }
 
-    /// Becomes the owner of the shard, where it finds 0.
+    /// Becomes the owner of the shard if it finds 0.
     pub fn adopt(&mut self, shard: u64) -> u64
         requires idle { (own_body self.old).hand ≡ Idle }
         requires left { (own_body self.old).owned ≡ None }

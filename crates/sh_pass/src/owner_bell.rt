@@ -12,7 +12,7 @@ use sh_key::KeyLayout;
 use sh_step::PageName;
 
 impl<L: KeyLayout, H: KeepsHeap<L>> Owner<L, H> {
-    /// Takes what was put on the shard's bell. Answers the bell word that it found.
+    /// Takes what was put on the shard's bell. Returns the bell word that it found.
     pub fn take_bell(&mut self, shard: u64) -> u64
         requires idle { (own_body self.old).hand ≡ Idle }
         requires owned { (own_body self.old).owned ≡ Some shard }
@@ -29,7 +29,7 @@ impl<L: KeyLayout, H: KeepsHeap<L>> Owner<L, H> {
         heap.table.take_bell(&mut self.seat, shard)
     }
 
-    /// Reads the link of the page at the bell's cursor, and answers it.
+    /// Reads the link of the page at the bell's cursor, and returns it.
     pub fn follow_bell(&mut self, name: PageName) -> u64
         requires touch { MayTouch self.old name }
         requires cursor { (seen_bell L.layout self.old name.shard).cursor ≡ Some (heap_page self.old name) }

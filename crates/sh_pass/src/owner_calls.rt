@@ -1,4 +1,4 @@
-//! The calls of an owner: those of a pass, each with the slot of its shard that came to be its own.
+//! The calls of an owner: those of a pass, each with the slot of its shard that became its own, if any.
 ghost use Rattle.std.specs.Prelude.{◌≡◌, None};
 ghost use Rattle.sh_slots.specs.declared.hand.Hand.TheVariants.{Idle};
 ghost use Rattle.sh_table.specs.Tales.{ViewStands};
@@ -15,8 +15,8 @@ use sh_value::{Hold, Refusal, Value};
 
 impl<L: KeyLayout, H: KeepsHeap<L>> Owner<L, H> {
     /// Takes a hold on a key, so that its value stays readable. Refused as `BadKey`, `HoldsFull`, `Gone` or `Crowded`,
-    /// tried in that order, as the get of a `Pass` is. Where a get that is refused comes to be the last on a removed
-    /// key, the slot is its own.
+    /// tried in that order, as the get of a `Pass` is. If a refused get is the last to leave a removed key, the slot
+    /// becomes its own.
     pub fn get(&mut self, key: u64) -> (Result<Hold, Refusal>, Option<Spot>)
         requires idle { (own_body self.old).hand ≡ Idle }
         ensures does { GetDoes L.layout key self.old result.0 self.new }
@@ -51,7 +51,7 @@ impl<L: KeyLayout, H: KeepsHeap<L>> Owner<L, H> {
         remove_key(&heap.table, &mut self.seat, key, self.owned)
     }
 
-    /// Gives one hold on a key back. Refused as `NotHeld`, exactly where the pass has no hold on the key.
+    /// Gives one hold on a key back. Refused as `NotHeld` exactly if the pass has no hold on the key.
     pub fn release(&mut self, hold: Hold) -> (Result<(), Refusal>, Option<Spot>)
         requires idle { (own_body self.old).hand ≡ Idle }
         ensures does { ReleaseDoes L.layout hold.key self.old result.0 self.new }
@@ -86,22 +86,22 @@ impl<L: KeyLayout, H: KeepsHeap<L>> Owner<L, H> {
         )
     }
 
-    /// The value of a key that the pass holds. Refused as `NotHeld`, exactly where it has no hold on the key.
+    /// The value of a key that the pass holds. Refused as `NotHeld` exactly if it has no hold on the key.
     pub fn read(&mut self, hold: Hold) -> Result<Value, Refusal>
         requires idle { (own_body self.old).hand ≡ Idle }
         ensures does { ReadDoes hold.key self.old result self.new }
         ensures leaves { CallLeaves L.layout None self.old self.new }
         ensures stands { ViewStands L.layout self.new.view }
     {
-        // (It has one word, as most values have: to read such a one into it is one store.)
+        // (The initial value has one word, as most values have: reading a value of one word into it is one store.)
         let mut value = Value::from(0);
         self.read_into(hold, &mut value)?;
         Ok(value)
     }
 
-    /// Reads the value of a key that the owner holds into a value of the caller's, in place of what that was, so that
-    /// it is copied nowhere. Refused as `NotHeld`, exactly where the owner has no hold on the key: then the caller's
-    /// value stays as it was.
+    /// Reads the value of a key that the owner holds into a value of the caller's, replacing what that was, so that it
+    /// is copied nowhere. Refused as `NotHeld` exactly if the owner has no hold on the key: then the caller's value
+    /// stays as it was.
     #[inline(always)]
     pub fn read_into(&mut self, hold: Hold, value: &mut Value) -> Result<(), Refusal>
         requires idle { (own_body self.old).hand ≡ Idle }

@@ -14,7 +14,7 @@ use sh_key::KeyLayout;
 use sh_step::PageName;
 
 impl<L: KeyLayout, H: KeepsHeap<L>> Owner<L, H> {
-    /// Reads the class word of the page: 0 where the page is blank, and else one more than its class.
+    /// Reads the class word of the page: 0 if the page is blank, and otherwise one more than its class.
     pub fn read_page(&mut self, name: PageName) -> u64
         requires touch { MayTouch self.old name }
         ensures does { OwnerDid L.layout (action.ReadPage name) (move.ReadPage (heap_page self.old name)) result
@@ -49,7 +49,7 @@ impl<L: KeyLayout, H: KeepsHeap<L>> Owner<L, H> {
         heap.table.set_class(&mut self.seat, name, page, class);
     }
 
-    /// Takes what was put on the page. Answers the head word that it found.
+    /// Takes what was put on the page. Returns the head word that it found.
     pub fn take(&mut self, name: PageName) -> u64
         requires touch { MayTouch self.old name }
         requires classed { 0 < class_word_noted (own_body self.old) (heap_page self.old name) }
@@ -68,7 +68,7 @@ impl<L: KeyLayout, H: KeepsHeap<L>> Owner<L, H> {
         heap.table.take(&mut self.seat, name, page)
     }
 
-    /// Asks for a ring at the next put on the page, and takes what was put there. Answers the head word that it found.
+    /// Asks for a ring at the next put on the page, and takes what was put there. Returns the head word that it found.
     pub fn arm(&mut self, name: PageName) -> u64
         requires touch { MayTouch self.old name }
         requires classed { 0 < class_word_noted (own_body self.old) (heap_page self.old name) }
@@ -87,7 +87,7 @@ impl<L: KeyLayout, H: KeepsHeap<L>> Owner<L, H> {
         heap.table.arm(&mut self.seat, name, page)
     }
 
-    /// Reads the link of the slot at the page's cursor, and answers it.
+    /// Reads the link of the slot at the page's cursor, and returns it.
     pub fn follow(&mut self, name: PageName, slot: u64) -> u64
         requires touch { MayTouch self.old name }
         requires cursor { (seen_page self.old (heap_page self.old name)).cursor ≡ Some slot }

@@ -46,7 +46,7 @@ fn key_on_page<L: KeyLayout>(shape: &Shape, name: PageName, stored: Name) -> u64
 }
 
 impl<L: KeyLayout, H: KeepsHeap<L>> Owner<L, H> {
-    /// Stores the length of the value, as it begins to fill a slot of its own. Answers the slot's place over the whole
+    /// Stores the length of the value, as it begins to fill a slot of its own. Returns the slot's place over the whole
     /// heap.
     pub fn fill_slot(&mut self, name: PageName, slot: u64, value: &Value) -> Spot
         requires touch { MayTouch self.old name }
@@ -77,8 +77,8 @@ impl<L: KeyLayout, H: KeepsHeap<L>> Owner<L, H> {
         spot
     }
 
-    /// Stores the value's word of this number, from 0, in a page of this class word, where the slot's first word is
-    /// known.
+    /// Stores the value's word of this number, from 0, in a page of this class word. The caller knows the slot's first
+    /// word.
     pub fn fill(&mut self, spot: Spot, value: &Value, i: u64, class_word: u64, first: u64)
         requires hand { (own_body self.old).hand ≡ Filling spot value.now i }
         requires left { i < length value.now }
@@ -95,7 +95,7 @@ impl<L: KeyLayout, H: KeepsHeap<L>> Owner<L, H> {
             .fill(&mut self.seat, spot, value, i, class_word, first);
     }
 
-    /// Makes the filled slot present. Answers the state word that it found.
+    /// Makes the filled slot present. Returns the state word that it found.
     pub fn publish(&mut self, spot: Spot, value: &Value) -> u64
         requires hand { (own_body self.old).hand ≡ Filling spot value.now (length value.now) }
         ensures does { OwnerDid L.layout action.Publish (move.Publish spot value.now) result self.old self.new }
@@ -110,7 +110,7 @@ impl<L: KeyLayout, H: KeepsHeap<L>> Owner<L, H> {
     }
 
     /// Stores the value in a slot of its own, in a page of this class word: its length, each word, and then the slot is
-    /// made present. Answers the key under which it is.
+    /// made present. Returns the key of the value.
     pub fn insert_at(&mut self, name: PageName, slot: u64, value: &Value, class_word: u64) -> u64
         requires touch { MayTouch self.old name }
         requires mine { (seen_page self.old (heap_page self.old name)).mine slot ≡ true }
@@ -138,7 +138,7 @@ impl<L: KeyLayout, H: KeepsHeap<L>> Owner<L, H> {
         key_on_page::<L>(heap.table.shape(), name, stored)
     }
 
-    /// Puts a slot of its own on its page's stack. Answers the head word that it found.
+    /// Puts a slot of its own on its page's stack. Returns the head word that it found.
     pub fn put_slot(&mut self, name: PageName, slot: u64) -> u64
         requires touch { MayTouch self.old name }
         requires mine { (seen_page self.old (heap_page self.old name)).mine slot ≡ true }

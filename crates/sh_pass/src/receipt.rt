@@ -1,5 +1,5 @@
-//! Receipts: what one pass gives and another heeds, so that all that the first was answered happens before what the
-//! other is answered from then on.
+//! Receipts: one pass gives a receipt and another heeds it. Then all results of the first, up to the receipt, happen
+//! before all later results of the other.
 ghost use Rattle.std.specs.Prelude.{◌≡◌};
 ghost use Rattle.sh_table.specs.Tales.{ViewStands};
 ghost use Rattle.sh_pass.specs.Receipts.{receipt_by, heeded};
@@ -13,15 +13,15 @@ use sh_key::KeyLayout;
 use sh_table::Token;
 use std::marker::Model;
 
-/// A witness of what happened before: it tells all that a pass was answered until it gave the receipt, and all that the
-/// pass had heard of others.
+/// A witness of what happened before: it covers all results of a pass until it gave the receipt, and all that the pass
+/// had heard of others.
 ///
-/// It has no bytes, and may go to another thread in any way. It stays true whatever anybody does, and one that is
-/// dropped is no loss. A contract sees which heap it is of and what it tells.
+/// It has no bytes, and may go to another thread in any way. It stays true whatever other threads do, and dropping it
+/// loses nothing. A contract sees which heap it is of and what it covers.
 ///
 /// ```text
 /// let key = owner.insert(value)?;  let receipt = owner.receipt();  // both are sent to another thread
-/// pass.heed(receipt);  pass.get(key)                               // there: Gone only where the key was removed
+/// pass.heed(receipt);  pass.get(key)                               // there: Gone only if the key was removed
 /// ```
 #[derive(Drop)]
 pub struct Receipt {
@@ -40,7 +40,7 @@ impl Model for Receipt {
 }
 
 impl Receipt {
-    /// A second receipt that tells the same, for one more pass to heed: one load.
+    /// A second receipt that covers the same, for one more pass to heed: one load.
     pub fn copy<L: KeyLayout>(&mut self, heap: &Heap<L>) -> Receipt
         requires { self.old.heap ≡ heap.now }
         ensures same { self.new ≡ self.old }
@@ -53,7 +53,7 @@ impl Receipt {
 }
 
 impl<L: KeyLayout> PassState<L> {
-    /// A receipt of all that the pass was answered, and of all that it heard of others: one load.
+    /// A receipt of all results of the pass, and of all that it heard of others: one load.
     pub fn receipt(&mut self, heap: &Heap<L>) -> Receipt
         requires { self.old.heap ≡ heap.now }
         ensures same { self.new ≡ self.old }
@@ -64,7 +64,7 @@ impl<L: KeyLayout> PassState<L> {
         }
     }
 
-    /// Everything that the receipt covers happens before what the pass is answered from now on: two loads.
+    /// Everything that the receipt covers happens before all later results of the pass: two loads.
     pub fn heed(&mut self, heap: &Heap<L>, receipt: Receipt)
         requires own { self.old.heap ≡ heap.now }
         requires receipt { receipt.heap ≡ heap.now }
@@ -77,7 +77,7 @@ impl<L: KeyLayout> PassState<L> {
 }
 
 impl<L: KeyLayout, H: KeepsHeap<L>> Pass<L, H> {
-    /// A receipt of all that the pass was answered, and of all that it heard of others: one load.
+    /// A receipt of all results of the pass, and of all that it heard of others: one load.
     pub fn receipt(&mut self) -> Receipt
         ensures same { self.new ≡ self.old }
         ensures tells { result ≡ receipt_by self.old }
@@ -85,7 +85,7 @@ impl<L: KeyLayout, H: KeepsHeap<L>> Pass<L, H> {
         self.state.receipt(self.heap.kept())
     }
 
-    /// Everything that the receipt covers happens before what the pass is answered from now on: two loads.
+    /// Everything that the receipt covers happens before all later results of the pass: two loads.
     pub fn heed(&mut self, receipt: Receipt)
         requires { receipt.heap ≡ self.old.heap }
         ensures heeds { self.new ≡ heeded self.old receipt }
@@ -96,7 +96,7 @@ impl<L: KeyLayout, H: KeepsHeap<L>> Pass<L, H> {
 }
 
 impl<L: KeyLayout, H: KeepsHeap<L>> Owner<L, H> {
-    /// A receipt of all that the owner was answered, and of all that it heard of others: one load.
+    /// A receipt of all results of the owner, and of all that it heard of others: one load.
     pub fn receipt(&mut self) -> Receipt
         ensures same { self.new ≡ self.old }
         ensures tells { result ≡ receipt_by self.old }
@@ -107,7 +107,7 @@ impl<L: KeyLayout, H: KeepsHeap<L>> Owner<L, H> {
         }
     }
 
-    /// Everything that the receipt covers happens before what the owner is answered from now on: two loads.
+    /// Everything that the receipt covers happens before all later results of the owner: two loads.
     pub fn heed(&mut self, receipt: Receipt)
         requires { receipt.heap ≡ self.old.heap }
         ensures heeds { self.new ≡ heeded self.old receipt }

@@ -40,7 +40,7 @@ impl<L: KeyLayout> Model for PassState<L> {
 
 impl<L: KeyLayout> PassState<L> {
     /// The shape of the heap, as the pass knows it. Between its calls a pass has begun nothing, it owns no shard, and
-    /// all that it knows stands.
+    /// all that it knows holds.
     pub fn shape<'h>(&self, heap: &'h Heap<L>) -> &'h Shape
         requires { self.now.heap ≡ heap.now }
         ensures is { result.now ≡ heap.now.shape }
@@ -89,7 +89,7 @@ impl<L: KeyLayout> PassState<L> {
         remove_key(&heap.table, &mut self.seat, key, None).0
     }
 
-    /// Gives one hold on a key back. Refused as `NotHeld`, exactly where the pass has no hold on the key.
+    /// Gives one hold on a key back. Refused as `NotHeld` exactly if the pass has no hold on the key.
     #[inline(always)]
     pub fn release(&mut self, heap: &Heap<L>, hold: Hold) -> Result<(), Refusal>
         requires { self.old.heap ≡ heap.now }
@@ -113,7 +113,7 @@ impl<L: KeyLayout> PassState<L> {
         release_key(&heap.table, &mut self.seat, &mut self.held, &guard, None).0
     }
 
-    /// The value of a key that the pass holds. Refused as `NotHeld`, exactly where it has no hold on the key.
+    /// The value of a key that the pass holds. Refused as `NotHeld` exactly if it has no hold on the key.
     pub fn read(&mut self, heap: &Heap<L>, hold: Hold) -> Result<Value, Refusal>
         requires { self.old.heap ≡ heap.now }
         ensures does { ReadDoes hold.key self.old result self.new }
@@ -121,14 +121,14 @@ impl<L: KeyLayout> PassState<L> {
         ensures same { self.new.heap ≡ self.old.heap }
         ensures idle { self.new.view.own.body.hand ≡ Idle }
     {
-        // (It has one word, as most values have: to read such a one into it is one store.)
+        // (The initial value has one word, as most values have: reading a value of one word into it is one store.)
         let mut value = Value::from(0);
         self.read_into(heap, hold, &mut value)?;
         Ok(value)
     }
 
-    /// Reads the value of a key that the pass holds into a value of the caller's, in place of what that was. Refused as
-    /// `NotHeld`, exactly where it has no hold on the key: then the caller's value stays as it was.
+    /// Reads the value of a key that the pass holds into a value of the caller's, replacing what that was. Refused as
+    /// `NotHeld` exactly if it has no hold on the key: then the caller's value stays as it was.
     #[inline(always)]
     pub fn read_into(
         &mut self,

@@ -25,7 +25,8 @@ use Rattle.sh_readers.proofs.Holding.{without_first}
 -- a get, a read, a removal that was lost or won, and a release
 reads_first : (k : ℕ) (value : List ℕ) (E : ℕ → Entry) (First Mid Last : List Footstep → Type 0) (v a b c d : Caller)
     → ((p : ℕ) → AllHaveValue k value (Known (E p) ∷ []))
-    → CallAdds (Unread v.view.pass k ∷ []) (k ∷ holds v) 1 First v a → CallReads k value a b → CallAdds (Known (E b.view.pass) ∷ []) (holds b) 8 Mid b c
+    → CallAdds (Unread v.view.pass k ∷ []) (k ∷ holds v) 1 First v a → CallReads k value a b
+    → CallAdds (Known (E b.view.pass) ∷ []) (holds b) 8 Mid b c
     → CallAdds (Known (entry.Released c.view.pass k) ∷ []) (without (λ n. n == k) (holds c)) 6 Last c d
     → ReadsAndAdds k value
     (Known (entry.Got v.view.pass k value) ∷ Known (E v.view.pass) ∷ Known (entry.Released v.view.pass k) ∷ [])

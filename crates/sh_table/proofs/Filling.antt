@@ -1,5 +1,6 @@
 -- A slot that a pass is filling has no present bit, so that an addition sets it.
-use Rattle.std.proofs.Common.{◌≡◌, ℕ, ◌+◌, ◌%◌, ◌^◌, ◌<◌, ◌≤◌, ◌&&◌, Bool, true, false, List, Some, None, Option, length}
+use Rattle.std.proofs.Common.{◌≡◌, ℕ, ◌+◌, ◌%◌, ◌^◌, ◌<◌, ◌≤◌, ◌&&◌, Bool, true, false, List, Some, None,
+    Option, length}
 use Rattle.std.proofs.Common.{refl, ap, sym, subst, ◌∙◌, arith, slice_get}
 use Rattle.std.specs.Bool.{then_some}
 use Rattle.std.specs.Prelude.{bit_or, not, nat_le, nat_lt, option_map}

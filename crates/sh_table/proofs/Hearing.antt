@@ -39,7 +39,7 @@ heard_before log o b = let f = first_stays b.0 b.1 o.heard b.4 in
     (f.0, f.1, ap (by o.heard.pass) b.2 ∙ f.2, f.3)
 
 module _ (log : List Entry) where
-  -- all that a view can tell
+  -- all that a view can report
   pub can_tell : (v : View) → IsLogOf v.pass v.own log → Each (λ (t : Told). IsLogOf t.pass t.own log) v.told
       → Each (Before log) v.orders → Each (HasFirst log) (heard_in v)
   can_tell v own told orders = (
@@ -51,7 +51,7 @@ module _ (log : List Entry) where
         (each_map _ _ (λ (o : Order) (b : Before log o). heard_before log o b) v.orders orders)),
   )
 
-  -- what stands by now stands before all that comes
+  -- what is in the log now comes before all later entries
   stands_by_now : (v : View) → IsLogOf v.pass v.own log → (h : Heard) → HasFirst log h → Before log (order_of v h)
   stands_by_now v own h f = (log, [], sym (append-nil log), sym (zip_length Agrees v.own.log (by v.pass log) own), f)
 

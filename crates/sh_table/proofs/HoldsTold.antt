@@ -19,7 +19,7 @@ use Rattle.sh_core.proofs.Sums.ListCounts.{some_has, times_off, times_cons, time
 use Rattle.sh_core.proofs.Sums.Totals.{total_append}
 use Rattle.sh_table.specs.Tales.{by}
 
--- ---- what a log tells of its entries
+-- ---- what a log says of its entries
 
 same_got : (a k : ℕ) (x : LogEntry) (e : Entry) → Agrees x e → is_logged_got_by a k x ≡ is_got_by a k e
 same_got a k (Known f) e h = ap (is_got_by a k) (sym h)
@@ -92,7 +92,7 @@ holds_told a k held log es agrees counts =
     (λ i. got i - gone i) ∙ (ap (λ n. n - released_count_by es a k) counts
     ∙ add-sub_cancel_left (released_count_by es a k) held)
 
--- ---- and so many there are in all
+-- ---- and the number of all holds
 
 pub one_shorter : (k : ℕ) (xs : List ℕ) → has (λ x. x == k) xs ≡ true
     → length (without (λ x. x == k) xs) + 1 ≡ length xs

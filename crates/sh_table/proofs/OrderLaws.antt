@@ -1,4 +1,4 @@
--- What was heard stands before what its carrier is answered from then on.
+-- What a carrier heard comes before all its later results.
 use Rattle.std.proofs.Common.{◌≡◌, ℕ, suc, ◌+◌, ◌≤◌, ◌==◌, Bool, true, false, cond, List, [], ◌∷◌}
 use Rattle.std.proofs.Common.{◌++◌, length, refl, ap, sym, ◌∙◌, subst, arith, append_assoc, ⊎_elim, None, Some}
 use Rattle.std.specs.List.{AllZip, Contains}
@@ -42,7 +42,7 @@ zip_cut R (z ∷ zs) x rest [] h = absurd h
 zip_cut {B = B} R (z ∷ zs) x rest (y ∷ ys) h = let c = zip_cut R zs x rest ys h.1 in
     (y ∷ c.0, c.1, c.2, ap (λ (l : List B). y ∷ l) c.3, c.4, ap suc c.5)
 
--- what stands past the first list stands in the second
+-- what is past the first list is in the second
 past : {A : Type 0} (xs ys front : List A) (x : A) (rest : List A) → xs ++ ys ≡ front ++ x ∷ rest
     → length xs ≤ length front → (fore : List A) × (ys ≡ fore ++ x ∷ rest)
 past [] ys front x rest e l = (front, e)
@@ -50,7 +50,7 @@ past (z ∷ zs) ys [] x rest e l = absurd (omega (arith, l))
 past (z ∷ zs) ys (f ∷ fs) x rest e l = let t : zs ++ ys ≡ fs ++ x ∷ rest = cc in
     past zs ys fs x rest t (omega (arith, l))
 
--- an entry of one pass stands in the whole
+-- an entry of one pass is in the whole
 by_cut : (a : ℕ) (es front : List Entry) (x : Entry) (rest : List Entry) → by a es ≡ front ++ x ∷ rest
     → (fore : List Entry) × (aft : List Entry) × (es ≡ fore ++ x ∷ aft) × (by a fore ≡ front)
 by_cut a [] [] x rest e = absurd (let z : [] ≡ x ∷ rest = e in cc)
@@ -79,7 +79,7 @@ by_cut a (y ∷ ys) front x rest e = go (pass_of y == a) refl front (by_cut a ys
     ap (λ b. cond b (y ∷ by a r.0) (by a r.0)) is ∙ r.3,
   )
 
--- an entry that was heard of stands among the first
+-- an entry that was heard of is among the first
 heard_stands_early : (early : List Entry) (h : Heard) (e : Entry) → HasFirst early h → Contains h.log (Known e)
     → (fore : List Entry) × (aft : List Entry) × (early ≡ fore ++ e ∷ aft)
 heard_stands_early early h e f c =
@@ -124,7 +124,7 @@ heard_first layout v history tale h x a =
       omega (arith, before, all, behind, joined, those, same),
     )
 
--- the entry was allowed after what stands before it, which is legal too
+-- the entry was allowed after those before it, which are legal too
 allowed_there : (layout : Layout) (v : View) (history early late : List Entry) (e : Entry) → IsTale layout v history
     → history ≡ early ++ e ∷ late → Legal v.shape.passes layout.guard_max early
     × Allowed v.shape.passes layout.guard_max early e

@@ -1,4 +1,4 @@
--- What it gives to heed a receipt: all that was heard stands before what its carrier is answered from then on.
+-- What heeding a receipt gives: all that was heard comes before all later results of its carrier.
 use Rattle.std.specs.Prelude.{◌≡◌, ℕ, ◌≤◌, List, [], ◌∷◌, ◌++◌, length}
 use Rattle.std.specs.List.{Contains}
 use Rattle.sh_history.specs.declared.entry.Entry.{Entry}
@@ -14,7 +14,7 @@ use Rattle.sh_table.specs.declared.view.Told.{Told}
 use Rattle.sh_table.specs.declared.view.View.{View}
 use Rattle.sh_table.specs.Tales.{by, HasFirst, IsTale}
 
--- the pass of the view was answered x after it had heard this of another pass
+-- the pass of the view got the result x after it had heard this of another pass
 pub record AnsweredAfter (v : View) (h : Heard) (x : LogEntry) : Type 0 where
   pub order : Order
   pub stands : Contains v.orders order
@@ -40,7 +40,7 @@ HeardComesFirst = (layout : Layout) (v : View) (history : List Entry) → IsTale
     → (early : List Entry) × StandsAfter history early x × HasFirst early h
     × (length (by v.pass early) ≡ length answered.before)
 
--- who is told Gone of a key whose insert it heard of is told so after a removal
+-- if a pass heard of a key's insert and then gets Gone for the key, a removal of the key came before
 abbrev pub GoneIsRemoved : Type 0
 GoneIsRemoved = (layout : Layout) (v : View) (history : List Entry) → IsTale layout v history
     → (h : Heard) (a p k : ℕ) (value : List ℕ) → Contains h.log (Known (Insert p k value))
@@ -56,7 +56,7 @@ SaysThere k (Known (Removed p j)) = j ≡ k
 SaysThere k (Known _) = ⊥
 SaysThere k (Unread p j) = j ≡ k
 
--- who heard of the removal of a key is not told any more that it is there
+-- a pass that heard of a key's removal gets no later result that says the key is there
 abbrev pub RemovedIsGone : Type 0
 RemovedIsGone = (layout : Layout) (v : View) (history : List Entry) → IsTale layout v history
     → (h : Heard) (p k : ℕ) → Contains h.log (Known (Removed p k))

@@ -7,10 +7,10 @@ pub fn plans_are_lawful()
     ensures { PlansAreLawful }
 {}
 
-/// In each history of a tale all that a receipt covers happens before whatever the pass was answered after it heeded
-/// the receipt. So a get or remove of a key whose insert was heard of is answered Gone only after a removal of the key.
-/// After a removal was heard of, no get of the key is answered with a hold or Crowded, and no remove succeeds. A pass
-/// that was taken in was heard of whole, so nothing of it comes later.
+/// In each history of a tale, all that a receipt covers happens before each result that the pass got after it heeded
+/// the receipt. So if a key's insert was heard of, a get or remove of the key returns Gone only after a removal of the
+/// key. After a removal was heard of, no get of the key returns a hold or Crowded, and no remove succeeds. A pass that
+/// was taken in was heard of whole, so no entry of that pass comes later.
 pub fn heard_comes_first()
     ensures first { HeardComesFirst }
     ensures gone { GoneIsRemoved }

@@ -7,7 +7,8 @@ use Rattle.sh_pass.proofs.OwnOtherSteps.{fill_does}
 use Rattle.sh_pass.proofs.owner.Owner.fill.Goals as goal
 
 pub fill-requires-clause-can : goal.fill-requires-clause-can
-fill-requires-clause-can g c = can c.args.self.now action.Fill (move.Fill c.args.spot c.args.value.now c.args.i c.args.class_word)
+fill-requires-clause-can g c = can c.args.self.now action.Fill
+    (move.Fill c.args.spot c.args.value.now c.args.i c.args.class_word)
     c.self.view_is (seat_at (c.heap.view_is ∙ c.kept-heap.ensures) c.self.invariant.seat)
     (may_fill g.L.KeyLayout.layout c.args.self.now c.args.spot c.args.value.now c.args.i c.args.class_word
     c.requires.hand c.requires.left c.requires.class)
