@@ -15,7 +15,7 @@ use Rattle.sh_core.specs.Lists.{mine_at, in_hand}
 use Rattle.sh_accounts.specs.declared.kinds.SlotKind.TheVariants.{Live, Marked, Retired, Mine, Hand, Queued}
 use Rattle.sh_accounts.specs.Kinds.{is, slot_kind_by, empty_kind, has_in_hand}
 
--- where one item passes, the sum of what those that pass give is not 0; where none passes, it is
+-- if one item passes, the sum of what those that pass give is not 0; if none passes, it is 0
 any_some : {A : Type 0} (t : A → Bool) (f : A → ℕ) → ((x : A) → t x ≡ true → 0 < f x) → (xs : List A) → list_any t xs
     ≡ true → 0 < total f xs
 unfolding total

@@ -59,7 +59,7 @@ names_none n e = go (n == 0) refl e where
   go true is e = grind (arith, nat_tests)
   go false is e = absurd (let z : None ≡ Some (n - 1) = e in cc)
 
--- what is kept stands for the world, and all that holds of runs holds of it
+-- what is kept represents the world, and all that holds of runs holds of this world
 module _ (plan : Plan) (k : KeptWorld) (w : World) (l : PutLists) (stands : StandsFor k w) (kinds : KindsAddUp w l)
     (q : ℕ) (there : q < all_pages k.shape) where
   class_is : class_word k q ≡ w.words.class_at q

@@ -41,7 +41,7 @@ no_slots class = record { class = class; live = 0; marked = 0; retired = 0; mine
 abbrev pub FillPage : Accounts → Type 0
 FillPage a = elim (a.class) [ Some c ↦ (c < class_count) × (all_slots a ≡ slots c) | None ↦ a ≡ no_slots None ]
 
--- what is kept of a word, 0 where there is none
+-- what is kept of a word, 0 if there is none
 abbrev pub kept_word : KeptWorld → Place → ℕ
 kept_word k p = get_or k.words (number k.shape p) 0
 
@@ -49,7 +49,7 @@ kept_word k p = get_or k.words (number k.shape p) 0
 abbrev pub class_word : KeptWorld → ℕ → ℕ
 class_word k q = kept_word k (Class q)
 
--- what a slot is, where it is one of its page's class
+-- what a slot is, if it is one of its page's class
 abbrev pub kind_in : KeptWorld → Spot → SlotKind
 kind_in k x = slot_kind_by (kind_of (fields_of (kept_word k (State x.page x.slot)))) k.parts x
 

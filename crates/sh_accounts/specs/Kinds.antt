@@ -16,7 +16,7 @@ use Rattle.sh_accounts.specs.declared.kinds.SlotKind.TheVariants.{Live, Marked, 
 abbrev pub has_in_hand : Spot → Body → Bool
 has_in_hand x p = elim (p.hand) [ ToPut y ↦ same_spot x y | Filling y v n ↦ same_spot x y | _ ↦ false ]
 
--- an empty slot is with a pass, or else queued
+-- an empty slot is with a pass, or otherwise queued
 unfoldable pub empty_kind : List Body → Spot → SlotKind
 empty_kind ps x = cond (list_any (λ p. has (same_spot x) p.mine) ps) Mine
     (cond (list_any (has_in_hand x) ps) Hand Queued)

@@ -53,7 +53,7 @@ fn is_in_a_hand(parts: &[Part], spot: Spot) -> bool
     parts.iter().any(|part| is_in_hand(part, spot))
 }
 
-// What an empty slot of a page's class is. Where no pass has it, it is queued: no list says so.
+// What an empty slot of a page's class is. If no pass has it, it is queued: no list says so.
 #[tactic(auto, unfolding(crate::specs::Kinds::empty_kind))]
 fn empty_kind(parts: &[Part], spot: Spot) -> SlotKind
     ensures { result ≡ empty_kind parts.now spot }

@@ -96,10 +96,10 @@ fn count_slots<L: KeyLayout>(world: &World<L>, shard: u32, page: u32, class: u32
     accounts
 }
 
-/// The accounts of a shard's page: its class, and how many of the slots of the class are of each kind. None where the
+/// The accounts of a shard's page: its class, and how many of the slots of the class are of each kind. `None` if the
 /// heap has no such page.
 ///
-/// They are the page's after every list of events that leads to this world.
+/// They hold after every list of events that leads to this world.
 pub fn page<L: KeyLayout>(world: &World<L>, shard: u32, page: u32) -> Option<Accounts>
     ensures there { MatchOption result (¬ ShapeHasPage world.now.shape shard page)
         (λ accounts. ShapeHasPage world.now.shape shard page) }

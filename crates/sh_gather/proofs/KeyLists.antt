@@ -1,4 +1,4 @@
--- Each key of a page stands once among the page's keys, and no other key does.
+-- Each key of a page is listed once among the page's keys, and no other key is.
 use Rattle.std.proofs.Common.{◌≡◌, ℕ, zero, suc, ◌+◌, ◌*◌, ◌<◌, ◌≤◌, ◌==◌, ◌&&◌, Bool, true, false, cond, sym, refl, ap}
 use Rattle.std.proofs.Common.{◌∙◌, subst, arith, Option, Some, None, eqb-true}
 use Rattle.std.specs.Prelude.{nat_lt, not}
@@ -44,7 +44,7 @@ last_generation layout shards pages k n h = go (unpacked layout k) refl h where
 
 module _ (plan : Plan) (laws : Lawful plan) (ranges : (k : ℕ) (n : Name) → plan.keys.unpack k ≡ Some n
     → n.generation ≤ plan.keys.gen_max) (q : ℕ) (page : q < heap_pages plan) (k : ℕ) where
-  -- whatever stands there
+  -- what any listed key names
   in_slot : (t m : ℕ) → t < 48 → m ≤ plan.keys.gen_max → 0 < times k (keys_of_slot plan (spot q t) m) → (n : Name)
       × (plan.keys.unpack k ≡ Some n) × (n.page ≡ q) × (n.slot < 48)
   unfolding total keys_of_slot

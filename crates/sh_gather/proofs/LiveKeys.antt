@@ -1,4 +1,4 @@
--- What the state word of a slot says of the keys that name it, where all passes met.
+-- What the state word of a slot says of the keys that name it, once all passes met.
 use Rattle.std.proofs.Common.{◌≡◌, ◌≢◌, ℕ, ◌*◌, ◌<◌, ◌≤◌, ◌/◌, ◌%◌, ◌&&◌, Bool, true, false, List, sym, ap, ◌∙◌}
 use Rattle.std.proofs.Common.{subst, refl}
 use Rattle.std.proofs.Common.{arith, Some, ◌++◌}
@@ -90,7 +90,7 @@ module _ (layout : Layout) (v : View) (q s word : ℕ) (core : Core) (gathered :
   agree : (history : List Entry) → IsHistory layout u history → (k : ℕ) → is_live_key history k ≡ is_live_key w.log k
   agree history h k = same_live_key layout u gathered.whole history w.log h first.2 k
 
-  -- that of the present generation is live where the word says so, and no other is
+  -- the key of the present generation is live if the word says so, and no other is
   now : is_live_key w.log (key_in seen.generation) ≡ (seen.present && not seen.marked)
   now =
       let at = live_now the_plan w l law (refined layout u core gathered known first.0)
@@ -106,9 +106,10 @@ module _ (layout : Layout) (v : View) (q s word : ℕ) (core : Core) (gathered :
       (λ (f : Fields). n.generation ≢ f.generation) (sym here) ne in
       let at = live_other the_plan w l law (refined layout u core gathered known first.0)
       (rests layout u core gathered known first.0 first.1) (spot q s) page slot n.generation (law.begins k n e) top
-      apart in none_is (is_live_key w.log k) (ap (λ (j : ℕ). if1 (is_live_key w.log j)) (keyed k n e is_page is_slot) ∙ at)
+      apart in none_is (is_live_key w.log k)
+      (ap (λ (j : ℕ). if1 (is_live_key w.log j)) (keyed k n e is_page is_slot) ∙ at)
 
-  -- where the word says so, no key of the slot is live
+  -- if the word says so, no key of the slot is live
   pub none_there : (seen.present && not seen.marked) ≡ false → (history : List Entry) (k : ℕ) (n : Name)
       → IsHistory layout u history → the_plan.keys.unpack k ≡ Some n → n.page ≡ q → n.slot ≡ s
       → is_live_key history k ≡ false
@@ -117,7 +118,7 @@ module _ (layout : Layout) (v : View) (q s word : ℕ) (core : Core) (gathered :
       ∙ (now ∙ off))
       (λ (ne : n.generation ≢ seen.generation). other k n e is_page is_slot ne)
 
-  -- else one is, and it is the only one
+  -- otherwise one is live, and it is the only one
   pub one_there : (seen.present && not seen.marked) ≡ true → (history : List Entry) → IsHistory layout u history
       → is_live_key history (the_plan.keys.pack (name_at (spot q s) seen.generation)) ≡ true
   one_there on history h = agree history h (key_in seen.generation) ∙ (now ∙ on)

@@ -37,7 +37,7 @@ shape_met : (v : View) (ps : List Caller) → (met_view v ps).shape ≡ v.shape
 shape_met v [] = refl
 shape_met v (p ∷ ps) = shape_met (joined_view v p.view) ps
 
--- where the tales of all name each pass, so does that of the last in the end
+-- if the tales of all passes together name each pass, so does that of the last pass after it took in the others
 pub all_met : (heap : Heap) (others : List Caller) (last : Caller) → last.view.shape ≡ heap.shape
     → AreAll heap (others ++ last ∷ []) → IsWhole (met_view last.view others)
 all_met heap others last shape all a l =

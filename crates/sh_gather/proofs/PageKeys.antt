@@ -1,4 +1,4 @@
--- What the log says of a slot's keys is what its state word says, where no pass has anything in hand or of its own.
+-- What the log says of a slot's keys is what its state word says, if no pass has anything in hand or of its own.
 use Rattle.std.proofs.Common.{◌≡◌, ◌≢◌, ℕ, zero, suc, ◌<◌, ◌≤◌, ◌==◌, ◌&&◌, ◌||◌, Bool, true, false, List, [], ◌∷◌, sym}
 use Rattle.std.proofs.Common.{refl, ap, ◌∙◌, arith, Option, Some, None, slice_get, eqb-true}
 use Rattle.std.specs.Prelude.{not, nat_lt, IsSome, is_some}
@@ -32,7 +32,7 @@ unfolding total
 total_zero f [] h = refl
 total_zero f (p ∷ ps) h = let here = h 0 p refl in let rest = total_zero f ps (λ a q e. h (suc a) q e) in omega arith
 
--- ---- over the keys of a slot, where all but one generation give nothing
+-- ---- sums over the keys of a slot, if all but one generation give 0
 
 module _ (plan : Plan) (x : Spot) (f : ℕ → ℕ) (g v : ℕ) (here : f (plan.keys.pack (name_at x g)) ≡ v)
     (other : (h : ℕ) → 0 < h → h ≤ plan.keys.gen_max → h ≢ g → f (plan.keys.pack (name_at x h)) ≡ 0) where
@@ -109,7 +109,7 @@ module _ (plan : Plan) (w : World) (l : PutLists) (laws : Lawful plan) (core : R
       ∙ (sym s.generation ∙ ap (λ (f : Fields). f.generation) here) in
       ap (λ (b : Bool). b && (g == st.generation)) present ∙ same_is g st.generation generation
 
-  -- so where the slot has no value of the key, nobody holds it
+  -- so if the slot has no value of the key, nobody holds it
   none_held : (g : ℕ) → 0 < g → g ≤ plan.keys.gen_max → current st (Some (name_at x g)) ≡ false → holds_on w.log (key g)
       ≡ 0
   none_held g some le not_now =
@@ -163,7 +163,7 @@ module _ (plan : Plan) (w : World) (l : PutLists) (laws : Lawful plan) (core : R
   pub range : (0 < st.generation) × (st.generation ≤ plan.keys.gen_max)
   range = core.generations x
 
-  -- of the present generation: removed where it is marked, issued where it is present or marked
+  -- of the present generation: removed if the slot is marked, issued if it is present or marked
   now_removed : is_removed w.log (key st.generation) ≡ st.marked
   now_removed = (told st.generation range.0 range.1).removed refl
 
@@ -173,7 +173,7 @@ module _ (plan : Plan) (w : World) (l : PutLists) (laws : Lawful plan) (core : R
     go true e = value_is (value_of w.log (key st.generation)) _ ((told st.generation range.0 range.1).issued refl e)
     go false e = none_is (value_of w.log (key st.generation)) ((told st.generation range.0 range.1).empty refl e)
 
-  -- of another generation: never held; removed where it came before, neither issued nor removed where it comes after
+  -- of another generation: never held; removed if it is an earlier one, neither issued nor removed if it is a later one
   not_current : (g : ℕ) → g ≢ st.generation → current st (Some (name_at x g)) ≡ false
   not_current g ne = go st.present where
     go : (b : Bool) → (b && (g == st.generation)) ≡ false

@@ -1,5 +1,5 @@
--- The accounts of a page where no pass has anything in hand or of its own: its keys count its slots, and its stack is
--- all that is queued.
+-- The accounts of a page, if no pass has anything in hand or of its own: its keys count its slots, and its stack is all
+-- that is queued.
 use Rattle.std.proofs.Common.{◌≡◌, ◌≢◌, ℕ, zero, suc, ◌+◌, ◌-◌, ◌/◌, ◌<◌, ◌≤◌, ◌==◌, ◌&&◌, Bool, true, false, List, []}
 use Rattle.std.proofs.Common.{◌∷◌, length, drop, sym, refl, ap, ◌∙◌, subst, arith, Option, Some, None}
 use Rattle.std.specs.Prelude.{not, nat_lt, count_by}
@@ -130,7 +130,7 @@ module _ (plan : Plan) (w : World) (l : PutLists) (laws : Lawful plan) (core : R
   no_chain : l.chain q ≡ []
   no_chain = no_first (l.chain q) (λ s. let c = core.linked.0.cursors q s in let z = none_at_cursor s in omega arith)
 
-  -- what stands past the class
+  -- what holds of a slot past the class
   past : (t : ℕ) → slots_under (w.words.class_at q) ≤ t → (live (state_of w (spot q t)) ≡ 0)
       × (marked (state_of w (spot q t)) ≡ 0) × (retired (state_of w (spot q t)) ≡ 0) × (times t (l.stack q) ≡ 0)
   past t le =

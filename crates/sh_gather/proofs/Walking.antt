@@ -177,7 +177,7 @@ walks_on : (v : View) (q from : ℕ) (slots : List ℕ) (s next : ℕ) → IsNot
 walks_on v q from [] s next n k = (k, (next, n, refl))
 walks_on v q from (r ∷ rest) s next n k = (k.0, (k.1.0, k.1.1, walks_on v q k.1.0 rest s next n k.1.2))
 
--- so many slots were walked, from the head word to the slot that this number names
+-- n slots were walked, from the head word to the slot that `top` names
 abbrev pub HasWalked : View → (q n top : ℕ) → Type 0
 HasWalked v q n t = (slots : List ℕ) × (head : ℕ) × IsNoted v (Head q) head × WalksDown v q (head / 2) slots t
     × (n ≡ length slots)

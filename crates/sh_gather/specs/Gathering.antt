@@ -36,7 +36,7 @@ abbrev pub IsGatheredFrom : List Caller → View → Type 0
 IsGatheredFrom ps v = (others : List Caller) × ((last : Caller) × (ps ≡ others ++ last ∷ [])
     × (v ≡ met_view last.view others))
 
--- some words more were noted, and nothing else is new: the tale is as it was
+-- some words more were noted, and the rest is unchanged: the tale is as it was
 abbrev pub NotedMore : View → View → Type 0
 NotedMore v w = (more : List (Place × ℕ)) × (w ≡ record v { noted = v.noted ++ more })
 
@@ -90,7 +90,7 @@ with_state a st = record {
 abbrev pub states_counted : Accounts → ℕ
 states_counted a = a.live + a.marked + a.retired
 
--- no slot is counted as anything else
+-- no slot is counted in another way
 pub record StatesAlone (c : Option ℕ) (a : Accounts) : Type 0 where
   pub class : a.class ≡ c
   pub mine : a.mine ≡ 0

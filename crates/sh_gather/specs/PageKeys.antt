@@ -39,7 +39,7 @@ is_marked_key history k = is_removed history k && nat_lt 0 (holds_on history k)
 abbrev pub is_retired_key : Plan → List Entry → ℕ → Bool
 is_retired_key plan history k = is_removed history k && is_last_key plan k && (holds_on history k == 0)
 
--- each key that names a slot of page q stands once among the page's keys, and whatever stands there is such a key
+-- each key that names a slot of page q is listed once among the page's keys, and each listed key is such a key
 abbrev pub PageKeysOnce : Plan → Type 0
 PageKeysOnce plan = (q k : ℕ) → q < heap_pages plan →
     ((n : Name) → plan.keys.unpack k ≡ Some n → n.page ≡ q → n.slot < slot_places → times k (page_keys plan q) ≡ 1)

@@ -1,4 +1,4 @@
-// The accounts of a page of a heap of which all passes met, from the words of the page, which stand still.
+// The accounts of a page of a heap of which all passes met, from the words of the page, which no longer change.
 ghost use Rattle.std.specs.Prelude.{◌≡◌, ℕ, ◌+◌, ◌<◌, ◌≤◌, List, length, IfSome, MatchOption};
 ghost use Rattle.sh_word.specs.Fields.{fields_of};
 ghost use Rattle.sh_shape.specs.Classes.{class_count};
@@ -60,7 +60,7 @@ fn count_one(accounts: &mut Accounts, word: u64)
     }
 }
 
-// Counts the first so many slots of a page, each by its state word.
+// Counts the first `count` slots of a page, each by its state word.
 fn count_states<L: KeyLayout, H: KeepsHeap<L>>(
     pass: &mut Pass<L, H>,
     page: u64,
@@ -87,8 +87,8 @@ fn count_states<L: KeyLayout, H: KeepsHeap<L>>(
     accounts
 }
 
-// Walks the stack of a page, from its head word to the end, and counts its slots. Each slot of a page stands there once
-// at most, so as many links are enough as it has places.
+// Walks the stack of a page, from its head word to the end, and counts its slots. Each slot of a page is on the stack
+// at most once, so there are at most as many links to follow as the page has places.
 fn walk<L: KeyLayout, H: KeepsHeap<L>>(pass: &mut Pass<L, H>, page: u64) -> u32
     requires page { page < all_pages pass.old.heap.shape }
     requires gathered { IsGathered pass.old.view }
@@ -111,7 +111,7 @@ fn walk<L: KeyLayout, H: KeepsHeap<L>>(pass: &mut Pass<L, H>, page: u64) -> u32
     SLOT_PLACES
 }
 
-// The accounts of a shard's page. None where the heap has no such page.
+// The accounts of a shard's page. `None` if the heap has no such page.
 pub(crate) fn accounts<L: KeyLayout, H: KeepsHeap<L>>(
     pass: &mut Pass<L, H>,
     shard: u32,

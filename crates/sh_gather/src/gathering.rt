@@ -12,8 +12,8 @@ use sh_pass::pass::Pass;
 use sh_pass::{Heap, KeepsHeap, are_all, merge};
 
 /// Two passes of one heap meet: returns the first one, which now carries both tales. So one legal history has the
-/// entries of all passes that either names. All that the second carried happens before what the first is answered from
-/// now on. The holds of the second stay in their slots for good.
+/// entries of all passes that either names. All that the second carried happens before all later results of the first.
+/// The holds of the second stay in their slots for good.
 pub fn join<L: KeyLayout, H: KeepsHeap<L>>(one: Pass<L, H>, other: Pass<L, H>) -> Pass<L, H>
     requires { other.heap ≡ one.heap }
     ensures heap { result.heap ≡ one.heap }
@@ -23,7 +23,7 @@ pub fn join<L: KeyLayout, H: KeepsHeap<L>>(one: Pass<L, H>, other: Pass<L, H>) -
     merge(one, other)
 }
 
-/// The heap as a whole, exactly where the tales of all its passes are joined in this one; else the pass comes back.
+/// The heap as a whole, if the tales of all its passes are joined in this one; otherwise the pass comes back.
 pub fn whole<L: KeyLayout, H: KeepsHeap<L>>(pass: Pass<L, H>) -> Result<Whole<L, H>, Pass<L, H>>
     ensures { MatchResult result
         (λ whole. (whole ≡ pass) × IsWhole pass.view)
@@ -36,9 +36,9 @@ pub fn whole<L: KeyLayout, H: KeepsHeap<L>>(pass: Pass<L, H>) -> Result<Whole<L,
     }
 }
 
-/// The heap as a whole, where the tales of these passes together name all its passes; else the passes come back as they
-/// were, and so does an empty list. The last one takes in the others, in order. Their holds stay in their slots for
-/// good.
+/// The heap as a whole, if the tales of these passes together name all its passes. Otherwise the passes come back as
+/// they were, and so does an empty list. The last one takes in the others, in order. Their holds stay in their slots
+/// for good.
 pub fn gather<L: KeyLayout, H: KeepsHeap<L>>(
     heap: &Heap<L>,
     passes: Vec<Pass<L, H>>,

@@ -1,4 +1,4 @@
-// The keys of a heap of which all passes met, from the state words of its slots, which stand still.
+// The keys of a heap of which all passes met, from the state words of its slots, which no longer change.
 ghost use Rattle.std.specs.Prelude.{◌≡◌, ◌<◌};
 ghost use Rattle.sh_gather.specs.Gathering.{NotedMore};
 ghost use Rattle.sh_gather.specs.LiveKeys.{AreLiveAt, all_places};
@@ -13,11 +13,11 @@ use sh_step::operands::key_of_name;
 use sh_word::State;
 
 impl<L: KeyLayout, H: KeepsHeap<L>> Whole<L, H> {
-    /// The live key whose slot is at this place: one word is looked at. A heap has 48 places for each page, in the
+    /// The live key whose slot is at this place, found by loading one word. A heap has 48 places for each page, in the
     /// order of its pages over the whole heap. Each live key is at one of them, and no two are at the same.
     ///
-    /// `None` if no key of this place is live. Take any history of what the passes were answered: a key is live if it
-    /// was inserted and not removed.
+    /// `None` if no key of this place is live. In any history of the passes' results, a key is live if it was inserted
+    /// and not removed.
     pub fn key_at(&mut self, place: u64) -> Option<u64>
         requires { place < all_places self.old.heap.shape }
         ensures heap { self.new.heap ≡ self.old.heap }

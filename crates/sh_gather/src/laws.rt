@@ -7,7 +7,7 @@ ghost use Rattle.sh_gather.specs.PageKeys.{PageKeysAreAll};
 use sh_core::refines_map;
 use sh_table::plans_are_lawful;
 
-/// Each key that names a slot of the page stands once among the page's keys, and whatever stands there is such a key.
+/// Each key that names a slot of the page is listed once among the page's keys, and each listed key is such a key.
 pub fn page_keys_are_all()
     ensures { PageKeysAreAll }
 {

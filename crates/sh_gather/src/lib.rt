@@ -1,5 +1,5 @@
-//! Passes that meet: what one of them can tell for all, and the heap as a whole once one can tell for every pass, with
-//! the accounts of its pages.
+//! Passes that meet: what one of them can report for all, and the heap as a whole once one can report for every pass,
+//! with the accounts of its pages.
 #![tactic(auto)]
 
 mod accounts;

@@ -14,7 +14,7 @@ use sh_pass::pass::Pass;
 use sh_shape::Shape;
 use std::marker::Model;
 
-/// The heap as the pass sees it that carries the tales of all passes. No other pass steps any more, so nothing changes.
+/// The heap as seen by the pass that carries the tales of all passes. No other pass steps any more, so nothing changes.
 #[derive(Drop)]
 pub struct Whole<L: KeyLayout, H: KeepsHeap<L>> {
     pub(crate) pass: Pass<L, H>,
@@ -32,7 +32,7 @@ impl<L: KeyLayout, H: KeepsHeap<L>> Model for Whole<L, H> {
 }
 
 impl<L: KeyLayout, H: KeepsHeap<L>> Whole<L, H> {
-    /// The shape of the heap. The pass that carries the tales owns no shard, and all that it knows stands.
+    /// The shape of the heap. The pass that carries the tales owns no shard, and all that it knows holds.
     pub fn shape(&self) -> &Shape
         ensures is { result.now ≡ self.now.heap.shape }
         ensures rest { IsAtRest self.now }
@@ -41,7 +41,7 @@ impl<L: KeyLayout, H: KeepsHeap<L>> Whole<L, H> {
         self.pass.shape()
     }
 
-    /// The pass that carries the tales, to go on with. It is whole for good, since nobody else has a pass; what it
+    /// The pass that carries the tales, for further use. It is whole for good, since nobody else has a pass. What it
     /// noted holds until its next step.
     pub fn into_pass(self) -> Pass<L, H>
         ensures { result ≡ self }
@@ -51,12 +51,12 @@ impl<L: KeyLayout, H: KeepsHeap<L>> Whole<L, H> {
     }
 
     /// The accounts of a shard's page: its class, and how many of the slots of the class are live, marked, retired and
-    /// queued. Words of the page are looked at, 98 at most, and what is queued is found by walking its stack. None
-    /// where the heap has no such page.
+    /// queued. The call loads at most 98 words of the page, and finds the queued slots by walking the page's stack.
+    /// `None` if the heap has no such page.
     ///
-    /// No slot is an owner's or in a hand, since all passes met. Take any history of what the passes were answered.
-    /// Live are the page's keys that were inserted and not removed. Marked are those that were removed and are still
-    /// held. Retired are those that were removed in the last generation of their slots and are not held.
+    /// No slot is an owner's or in a hand, since all passes met. In any history of the passes' results, the counts are
+    /// these. Live are the page's keys that were inserted and not removed. Marked are those that were removed and are
+    /// still held. Retired are those that were removed in the last generation of their slots and are not held.
     pub fn accounts(&mut self, shard: u32, page: u32) -> Option<Accounts>
         ensures heap { self.new.heap ≡ self.old.heap }
         ensures tale { NotedMore self.old.view self.new.view }

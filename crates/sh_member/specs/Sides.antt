@@ -93,7 +93,7 @@ SideLeaves (Shard o) (Err why) Moving = ⊥
 SideLeaves (Pass v) answer new = (answer ≡ Err refusal.NoShard) × (new ≡ Pass v)
 SideLeaves Moving answer new = ⊥
 
--- its pass, where it owns no shard; else it comes back
+-- its pass, if it owns no shard; otherwise it comes back
 abbrev pub SideGivesPass : SeenSide → Result Caller SeenSide → Type 0
 SideGivesPass (Pass v) (Ok w) = w ≡ v
 SideGivesPass (Pass v) (Err m) = ⊥
@@ -115,13 +115,13 @@ IsOfHeap (Pass v) heap = heap ≡ v.heap
 IsOfHeap (Shard o) heap = heap ≡ o.pages.owner.heap
 IsOfHeap Moving heap = ⊥
 
--- a receipt of all that it was answered
+-- a receipt of all its results
 abbrev pub IsReceiptBy : SeenSide → Caller → Type 0
 IsReceiptBy (Pass v) r = r ≡ receipt_by v
 IsReceiptBy (Shard o) r = r ≡ receipt_by o.pages.owner
 IsReceiptBy Moving r = ⊥
 
--- it heeded the receipt, is else as it was, and stays what it is
+-- it heeded the receipt, is otherwise as it was, and stays a pass or an owner as before
 abbrev pub SideHeeds : Layout → Caller → SeenSide → SeenSide → Type 0
 SideHeeds layout r (Pass v) (Pass w) = (w ≡ heeded v r) × ViewStands layout w.view
 SideHeeds layout r (Pass v) (Shard n) = ⊥

@@ -52,7 +52,7 @@ impl<L: KeyLayout, H: KeepsHeap<L>> Member<L, H> {
         }
     }
 
-    /// The same into a value of the caller's, which is as it was where it is refused.
+    /// The same into a value of the caller's. A refusal leaves that value as it was.
     pub fn read_into(&mut self, hold: Hold, value: &mut Value) -> Result<(), Refusal>
         ensures { SideDoes L.layout (λ v answer w. ReadIntoDoes hold.key v value.old answer value.new w) self.old result
             self.new }
@@ -68,13 +68,13 @@ impl<L: KeyLayout, H: KeepsHeap<L>> Member<L, H> {
     pub fn fetch(&mut self, key: u64) -> Result<Value, Refusal>
         ensures { SideDoes L.layout (FetchDoes L.layout key) self.old result self.new }
     {
-        // (It has one word, as most values have: to read such a one into it is one store.)
+        // (The initial value has one word, as most values have: reading a value of one word into it is one store.)
         let mut value = Value::from(0);
         self.fetch_into(key, &mut value)?;
         Ok(value)
     }
 
-    /// The same into a value of the caller's, which is as it was where it is refused.
+    /// The same into a value of the caller's. A refusal leaves that value as it was.
     pub fn fetch_into(&mut self, key: u64, value: &mut Value) -> Result<(), Refusal>
         ensures { SideDoes L.layout (λ v answer w. FetchIntoDoes L.layout key v value.old answer value.new w) self.old
             result self.new }
@@ -109,7 +109,7 @@ impl<L: KeyLayout, H: KeepsHeap<L>> Member<L, H> {
         }
     }
 
-    /// Stores a value under a new key in the shard that it owns. Refused as `NoShard` where it owns none, and else as
+    /// Stores a value under a new key in the shard that it owns. Refused as `NoShard` if it owns none, and otherwise as
     /// `Full` or `Memory`.
     pub fn insert(&mut self, value: &Value) -> Result<u64, Refusal>
         ensures { SideInserts L.layout value.now self.old result self.new }
@@ -121,8 +121,8 @@ impl<L: KeyLayout, H: KeepsHeap<L>> Member<L, H> {
         }
     }
 
-    /// Gives a page of the shard that it owns to class `class`, from 0 to 7, and answers the page. Refused as `NoShard`
-    /// where it owns none, and else as `Full` or `Memory`.
+    /// Gives a page of the shard that it owns to class `class`, from 0 to 7, and returns the page. Refused as `NoShard`
+    /// if it owns none, and otherwise as `Full` or `Memory`.
     pub fn prepare(&mut self, class: u32) -> Result<u32, Refusal>
         requires { class < 8 }
         ensures { SidePrepares L.layout class self.old result self.new }
@@ -134,7 +134,7 @@ impl<L: KeyLayout, H: KeepsHeap<L>> Member<L, H> {
         }
     }
 
-    /// Collects what others freed in the shard that it owns. Refused as `NoShard` where it owns none.
+    /// Collects what others freed in the shard that it owns. Refused as `NoShard` if it owns none.
     pub fn collect(&mut self) -> Result<(), Refusal>
         ensures { SideCollects L.layout self.old result self.new }
     {

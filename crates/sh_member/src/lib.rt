@@ -1,7 +1,7 @@
 //! A pass that may own a shard, in one place.
 //!
-//! Where a pass is a `Pass` or the owner of a `Shard` by its type, a member is either, and says which: it adopts and
-//! leaves where it stands. That is what a handle needs which others hold by its address.
+//! By its type, a pass is either a `Pass` or the owner of a `Shard`. A member may be either at run time, and says
+//! which: it adopts and leaves in place. A handle needs that if others hold it by its address.
 #![tactic(auto)]
 
 mod calls;

@@ -12,8 +12,8 @@ use std::alloc::Global;
 use std::mem::replace;
 
 impl<L: KeyLayout, H: KeepsHeap<L>> Member<L, H> {
-    /// Makes it the owner of shard `n`. Refused as `Taken` where it owns one already or another pass owns that one, as
-    /// `NoShard` where there is none, and as `Memory`.
+    /// Makes it the owner of shard `n`. Refused as `Taken` if it owns one already or another pass owns that one, as
+    /// `NoShard` if there is no such shard, and as `Memory`.
     pub fn adopt(&mut self, alloc: Global, n: u64) -> Result<(), Refusal>
         ensures { SideAdopts n self.old result self.new }
     {
@@ -36,8 +36,8 @@ impl<L: KeyLayout, H: KeepsHeap<L>> Member<L, H> {
         }
     }
 
-    /// Leaves the shard that it owns. Refused as `NoShard` where it owns none, and as `Waiting` where another caller
-    /// has begun a free there that is yet to end.
+    /// Leaves the shard that it owns. Refused as `NoShard` if it owns none, and as `Waiting` if another caller has
+    /// begun a free there that is yet to end.
     pub fn leave(&mut self) -> Result<(), Refusal>
         ensures { SideLeaves self.old result self.new }
     {
@@ -71,7 +71,7 @@ impl<L: KeyLayout, H: KeepsHeap<L>> Member<L, H> {
         }
     }
 
-    /// The pass, where it owns no shard; else it comes back.
+    /// The pass, if it owns no shard; otherwise the member comes back.
     pub fn into_pass(self) -> Result<Pass<L, H>, Self>
         ensures { SideGivesPass self result }
     {

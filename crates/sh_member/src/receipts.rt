@@ -7,7 +7,7 @@ use sh_key::KeyLayout;
 use sh_pass::{KeepsHeap, Receipt};
 
 impl<L: KeyLayout, H: KeepsHeap<L>> Member<L, H> {
-    /// A receipt of all that it was answered, and of all that it heard of others: one load.
+    /// A receipt of all its results, and of all that it heard of others: one load.
     pub fn receipt(&mut self) -> Receipt
         ensures same { self.new ≡ self.old }
         ensures tells { IsReceiptBy self.old result }
@@ -19,7 +19,7 @@ impl<L: KeyLayout, H: KeepsHeap<L>> Member<L, H> {
         }
     }
 
-    /// Everything that the receipt covers happens before what it is answered from now on: two loads.
+    /// Everything that the receipt covers happens before all its later results: two loads.
     pub fn heed(&mut self, receipt: Receipt)
         requires { IsOfHeap self.old receipt.heap }
         ensures { SideHeeds L.layout receipt self.old self.new }

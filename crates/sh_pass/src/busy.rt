@@ -1,4 +1,4 @@
-//! Passes that the caller drives step by step.
+//! Passes that step by hand: the caller drives each step.
 ghost use Rattle.std.specs.Prelude.{◌≡◌};
 ghost use Rattle.sh_table.specs.Tales.{ViewStands};
 ghost use Rattle.sh_pass.specs.Busy.{Acts, Ends};

@@ -8,8 +8,8 @@ use Rattle.sh_pass.specs.Owners.{SeenPage, MayTouch, heap_page, own_body, seen_p
 abbrev pub page_at : Caller → PageName → SeenPage
 page_at v x = seen_page v (heap_page v x)
 
--- The page has class 7, this slot to follow next or none, and is armed or not; the bell's cursor stands at it or
--- nowhere
+-- The page has class 7, this slot to follow next or none, and is armed or not. The bell's cursor is at the page, or
+-- there is none
 pub record IsAt (v : Caller) (x : PageName) (slot : Option ℕ) (armed rung : Bool) : Type 0 where
   pub touch : MayTouch v x
   pub class : (page_at v x).class ≡ Some 8

@@ -1,5 +1,5 @@
-//! What no clause says: that a heap opens, what gets of numbers that were never issued are answered, that passes step
-//! at the same time, and which words stand in the heap.
+//! What no clause says: that a heap opens, what gets of numbers that were never issued return, that passes step at the
+//! same time, and which words are in the heap.
 ghost use Rattle.std.specs.Prelude.{◌≡◌};
 
 mod by_hand;
@@ -93,7 +93,7 @@ fn act_each(rt: &impl Abort, busy: &mut Busy<'_, Tiny>, actions: &[Action]) {
     }
 }
 
-// How many of the numbers from the first on are answered Gone.
+// The number of gets that return `Gone`, among `count` numbers from the first on.
 fn gone_among<L: KeyLayout>(pass: &mut Pass<'_, L>, first: u64, count: u64) -> u32 {
     let mut gone = 0u32;
     for i in 0..count {
@@ -163,7 +163,7 @@ fn two_threads_step_on_one_heap(rt: HostRuntime) {
     agree(&rt, seen_too, 9_600);
 }
 
-// A heap of two passes, opened once more where memory was refused.
+// A heap of two passes, opened by a second call if the first was refused memory.
 fn opened_with_memory(rt: &impl Abort, alloc: Global) -> (Heap<Tiny>, Seats<Tiny>)
     ensures { result.1 ≡ result.0 }
 {
@@ -194,7 +194,7 @@ fn the_largest_heap_opens(rt: HostRuntime) {
     ends_there(&rt, &mut one);
 }
 
-// How many were dealt, none where they were refused.
+// The number that were dealt, 0 if they were refused.
 fn how_many<T: Drop, E: Drop>(dealt: Result<Vec<T>, E>) -> usize {
     match dealt {
         Ok(all) => all.len(),
@@ -202,7 +202,7 @@ fn how_many<T: Drop, E: Drop>(dealt: Result<Vec<T>, E>) -> usize {
     }
 }
 
-// Two passes are dealt, by the second call where the first was refused memory.
+// Two passes are dealt, by a second call if the first was refused memory.
 fn two_passes_come(rt: &impl Abort, alloc: Global, heap: &Heap<Tiny>, seats: Seats<Tiny>)
     requires { seats ≡ heap.now }
 {
@@ -228,7 +228,7 @@ fn two_states_come(rt: &impl Abort, alloc: Global, heap: &Heap<Tiny>, seats: Sea
     }
 }
 
-// Refused memory: nothing is opened, or the seats come back, and the same call then answers.
+// If memory is refused, nothing is opened, or the seats come back, and the same call then succeeds.
 #[test]
 fn refused_memory_gives_the_seats_back(rt: HostRuntime) {
     let (heap, seats) = opened_with_memory(&rt, rt.alloc());

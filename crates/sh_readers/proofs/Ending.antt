@@ -1,4 +1,4 @@
--- What is left where a get, a read and a release follow one another.
+-- What is left after a get, a read and a release in a row.
 use Rattle.std.proofs.Common.{◌≡◌, ℕ, ◌+◌, ◌≤◌, Bool, true, cond, List, [], ◌∷◌, ◌++◌, map, length, refl, sym, ◌∙◌, ap}
 use Rattle.std.proofs.Common.{subst, arith, eq-eqb, append_assoc, inr, Option, Some, None, IsSome}
 use Rattle.std.specs.Prelude.{◌==◌, Ok, Err, false}

@@ -1,4 +1,4 @@
--- What a reader is answered after it heeded a receipt of an insert.
+-- What the results of a reader are after it heeded a receipt of an insert.
 use Rattle.std.proofs.Common.{◌≡◌, ℕ, ◌++◌, ◌∷◌, [], List, refl, ap, sym, ◌∙◌, subst, arith, map, Result, Ok, Err}
 use Rattle.std.specs.List.{Contains}
 use Rattle.std.proofs.lemmas.List.{map-append}
@@ -28,7 +28,7 @@ contains_map f xs x c =
     subst (λ (l : List _). Contains l (f x)) (sym is) (Contains-append_right (map f s.0) (f x ∷ map f s.1) (f x)
     (Contains-append_left (f x ∷ []) (map f s.1) (f x) (Contains-push [] (f x))))
 
--- a receipt of who was just answered the key for an insert
+-- a receipt of a pass whose last result is the key of an insert
 pub tells_own : (key : ℕ) (value : List ℕ) (v w : Caller) → w.view.own.log
     ≡ v.view.own.log ++ Known (entry.Insert v.view.pass key value) ∷ [] → TellsOfInsert key (receipt_by w)
 tells_own key value v w log =
@@ -42,7 +42,7 @@ tells_own key value v w log =
       insert = subst (λ (l : List LogEntry). Contains l it) (sym log) (Contains-push v.view.own.log it);
     }
 
--- heeding a receipt orders all that it tells of
+-- heeding a receipt orders all that it covers
 order_added : (r v : Caller) (h : Heard) → Contains (heard_in r.view) h
     → Contains (heeded v r).view.orders (order_of v.view h)
 order_added r v h among =

@@ -1,4 +1,4 @@
--- What is left where a get, a read, a removal and a release follow one another.
+-- What is left after a get, a read, a removal and a release in a row.
 use Rattle.std.proofs.Common.{◌≡◌, ℕ, ◌+◌, ◌≤◌, true, false, List, [], ◌∷◌, ◌++◌, map, length, sym, ◌∙◌, ap}
 use Rattle.std.proofs.Common.{subst, arith, append_assoc, inl, inr, None}
 use Rattle.std.specs.Prelude.{◌==◌, Result, Ok, Err}
@@ -107,7 +107,7 @@ ends_late layout k hold value refusal.BadKey v a b c d got read removed released
     absurd (no_key (place_named (plan_of layout v.heap.shape) k) got.1 none)
 ends_late layout k hold value _ v a b c d got read removed released = absurd removed
 
--- so ends a take of a value that fits, however the removal was answered
+-- so ends a take of a value that fits, for each result of the removal
 pub take_ends : (layout : Layout) (k most : ℕ) (hold : Hold) (value : List ℕ) (removal : Result (Unit {0}) Refusal)
     (v a b c d : Caller) → length value ≤ most → GetDoes layout k v (Ok hold) a → ReadDoes hold.key a (Ok value) b
     → RemoveDoes layout k b removal c → ReleaseDoes layout hold.key c (Ok tt) d

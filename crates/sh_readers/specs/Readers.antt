@@ -12,7 +12,7 @@ use Rattle.sh_table.specs.Tales.{ViewStands}
 use Rattle.sh_pass.specs.Growing.{SameTale}
 use Rattle.sh_pass.specs.Passes.{Caller, holds, GetDoes, IsKeyOfHeap}
 
--- heap and shard are as before, nothing is begun, and all that is known stands
+-- heap and shard are as before, nothing is begun, and all that is known holds
 pub record Remains (layout : Layout) (v w : Caller) : Type 0 where
   pub heap : w.heap ≡ v.heap
   pub shard : w.view.own.body.owned ≡ v.view.own.body.owned
@@ -66,7 +66,7 @@ TakeDoes layout key v (Ok value) w =
 TakeDoes layout key v (Err refusal.Gone) w = GetDoes layout key v (Err refusal.Gone) w ⊎ ComesLate layout key v w
 TakeDoes layout key v (Err why) w = GetDoes layout key v (Err why) w
 
--- a take of a value that has at most so many words; a longer one is fetched, and its key is not removed
+-- a take of a value that has at most `most` words; a longer one is fetched, and its key is not removed
 abbrev pub TakeFitsDoes : Layout → (key most : ℕ) → Caller → Result (List ℕ) Refusal → Caller → Type 0
 TakeFitsDoes layout key most v (Ok value) w = ((length value ≤ most) × TakeDoes layout key v (Ok value) w)
     ⊎ ((most < length value) × FetchDoes layout key v (Ok value) w)

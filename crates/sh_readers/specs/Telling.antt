@@ -15,7 +15,7 @@ use Rattle.sh_table.specs.Views.{heard_in}
 use Rattle.sh_pass.specs.Passes.{Caller}
 use Rattle.sh_readers.specs.declared.telling.ToldKey.{ToldKey}
 
--- the receipt tells of an insert that was answered this key
+-- the receipt covers an insert that returned this key
 pub record TellsOfInsert (key : ℕ) (receipt : Caller) : Type 0 where
   pub heard : Heard
   pub among : Contains (heard_in receipt.view) heard
@@ -23,18 +23,18 @@ pub record TellsOfInsert (key : ℕ) (receipt : Caller) : Type 0 where
   pub value : List ℕ
   pub insert : Contains heard.log (Known (Insert pass key value))
 
--- in each history of its tale the pass is answered Gone of the key after someone removed the key
+-- in each history of its tale the pass gets Gone for the key after a removal of the key
 abbrev pub GoneAfterRemoval : Layout → ℕ → Caller → Type 0
 GoneAfterRemoval layout key v = (history : List Entry) → IsTale layout v.view history
     → (early : List Entry) × StandsAfter history early (Known (Gone v.view.pass key)) × HasRemoval early key
 
--- where this was answered last, the key is Gone only if someone removed it
+-- if this was the last result, the key is Gone only if it was removed
 abbrev pub GoneIfRemoved : {T : Type 0} → Layout → ℕ → Result T Refusal → Caller → Type 0
 GoneIfRemoved layout key (Err refusal.Gone) v = GoneAfterRemoval layout key v
 GoneIfRemoved layout key (Err _) v = Unit {0}
 GoneIfRemoved layout key (Ok _) v = Unit {0}
 
--- the key that was answered with its receipt
+-- the key that was returned with its receipt
 abbrev pub key_told : Result ToldKey Refusal → Result ℕ Refusal
 key_told (Ok told) = Ok told.key
 key_told (Err refusal) = Err refusal

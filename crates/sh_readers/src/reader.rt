@@ -12,7 +12,7 @@ use crate::taking_into::take_into;
 use sh_pass::Receipt;
 use sh_value::{Hold, Refusal, Value};
 
-/// Who may look keys up: a pass, or a shard by its owner's pass.
+/// A caller that may look keys up: a pass, or a shard by its owner's pass.
 ///
 /// ```text
 /// let value = pass.fetch(key)?;   // read, and held no longer
@@ -20,7 +20,7 @@ use sh_value::{Hold, Refusal, Value};
 /// ```
 ///
 /// The first seven calls are those of `Pass` and of `Shard`, with the same contracts. `fetch` and `take` end what they
-/// begin: whatever they answer, they leave the holds as they were.
+/// begin: whatever they return, they leave the holds as they were.
 pub trait Reader {
     // How keys are numbered.
     ghost layout: { Layout };
@@ -34,13 +34,13 @@ pub trait Reader {
         ensures does { GetDoes layout key (caller self.old) result (caller self.new) }
         ensures remains { Remains layout (caller self.old) (caller self.new) };
 
-    /// The value of a key that is held. Refused as `NotHeld`, exactly where there is no hold on the key.
+    /// The value of a key that is held. Refused as `NotHeld` exactly if there is no hold on the key.
     fn read(&mut self, hold: Hold) -> Result<Value, Refusal>
         ensures does { ReadDoes hold.key (caller self.old) result (caller self.new) }
         ensures remains { Remains layout (caller self.old) (caller self.new) };
 
-    /// The same into a value of the caller's, in place of what that was, so that it is copied nowhere. A refusal leaves
-    /// that as it was.
+    /// The same into a value of the caller's, replacing what that was, so that it is copied nowhere. A refusal leaves
+    /// the caller's value as it was.
     fn read_into(&mut self, hold: Hold, value: &mut Value) -> Result<(), Refusal>
         ensures does { ReadIntoDoes hold.key (caller self.old) value.old result value.new (caller self.new) }
         ensures remains { Remains layout (caller self.old) (caller self.new) };
@@ -51,25 +51,25 @@ pub trait Reader {
         ensures does { RemoveDoes layout key (caller self.old) result (caller self.new) }
         ensures remains { Remains layout (caller self.old) (caller self.new) };
 
-    /// Gives one hold on a key back. Refused as `NotHeld`, exactly where there is none on the key.
+    /// Gives one hold on a key back. Refused as `NotHeld` exactly if there is none on the key.
     fn release(&mut self, hold: Hold) -> Result<(), Refusal>
         ensures does { ReleaseDoes layout hold.key (caller self.old) result (caller self.new) }
         ensures remains { Remains layout (caller self.old) (caller self.new) };
 
-    /// A receipt of all that it was answered, and of all that it heard of others: one load.
+    /// A receipt of all results of the caller, and of all that it heard of others: one load.
     fn receipt(&mut self) -> Receipt
         ensures same { caller self.new ≡ caller self.old }
         ensures tells { result ≡ receipt_by (caller self.old) }
         ensures remains { Remains layout (caller self.old) (caller self.new) };
 
-    /// Everything that the receipt covers happens before what the caller is answered from now on: two loads.
+    /// Everything that the receipt covers happens before all later results of the caller: two loads.
     fn heed(&mut self, receipt: Receipt)
         requires { receipt.heap ≡ (caller self.old).heap }
         ensures heeds { caller self.new ≡ heeded (caller self.old) receipt }
         ensures remains { Remains layout (caller self.old) (caller self.new) };
 
     /// The value of a key: a get, a read and a release in one, in at most w + 9 steps for w words. Refused as a get is:
-    /// `BadKey`, `HoldsFull`, `Gone` or `Crowded`. No hold is left behind, whatever it answers.
+    /// `BadKey`, `HoldsFull`, `Gone` or `Crowded`. No hold is left behind, whatever it returns.
     final fn fetch(&mut self, key: u64) -> Result<Value, Refusal>
     where
         Self: Sized,
@@ -79,8 +79,8 @@ pub trait Reader {
         fetch(self, key)
     }
 
-    /// The same into a value of the caller's, in place of what that was, so that it is copied nowhere. A refusal leaves
-    /// that as it was.
+    /// The same into a value of the caller's, replacing what that was, so that it is copied nowhere. A refusal leaves
+    /// the caller's value as it was.
     final fn fetch_into(&mut self, key: u64, value: &mut Value) -> Result<(), Refusal>
     where
         Self: Sized,
@@ -90,9 +90,9 @@ pub trait Reader {
         fetch_into(self, key, value)
     }
 
-    /// What a call gives for the value of a key, as `pass.with(key, |value| value.words().len())`: a fetch whose value
-    /// need not be kept. Refused as a get is: `BadKey`, `HoldsFull`, `Gone` or `Crowded`, and then nothing is called.
-    /// No hold is left behind, and there is none while the call runs.
+    /// What a call returns for the value of a key, as `pass.with(key, |value| value.words().len())`: a fetch whose
+    /// value need not be kept. Refused as a get is: `BadKey`, `HoldsFull`, `Gone` or `Crowded`, and then nothing is
+    /// called. No hold is left behind, and there is none while the call runs.
     final fn with<T, F: FnOnce(&Value) -> T>(&mut self, key: u64, call: F) -> Result<T, Refusal>
     where
         Self: Sized,
@@ -104,9 +104,10 @@ pub trait Reader {
         with(self, key, call)
     }
 
-    /// The value of a key, which this call removes, in at most w + 17 steps for w words. Of all that take one key, one
-    /// alone gets the value. Refused as a get is: `BadKey`, `HoldsFull`, `Gone` or `Crowded`, and as `Gone` too where
-    /// another removed the key between the get and the removal. No hold is left behind, whatever it answers.
+    /// The value of a key, which this call removes, in at most w + 17 steps for w words. Of all calls that take one
+    /// key, only one gets the value. Refused as a get is: `BadKey`, `HoldsFull`, `Gone` or `Crowded`, and also as
+    /// `Gone` if another caller removed the key between the get and the removal. No hold is left behind, whatever it
+    /// returns.
     final fn take(&mut self, key: u64) -> Result<Value, Refusal>
     where
         Self: Sized,
@@ -115,9 +116,9 @@ pub trait Reader {
     {
         take(self, key)
     }
-    /// The same into a value of the caller's, in place of what that was, where it has at most `most` words. A longer
-    /// value is read into it too, but its key is not removed. Refused as `take` is. No hold is left behind, whatever it
-    /// answers.
+    /// The same into a value of the caller's, replacing what that was, if it has at most `most` words. A longer value
+    /// is read into it too, but its key is not removed. Refused as `take` is. No hold is left behind, whatever it
+    /// returns.
     final fn take_into(&mut self, key: u64, most: usize, value: &mut Value) -> Result<(), Refusal>
     where
         Self: Sized,

@@ -4,8 +4,8 @@ ghost use Rattle.sh_readers.specs.Readers.{Remains, TakeDoes};
 use crate::reader::Reader;
 use sh_value::{Refusal, Value};
 
-/// The value of a key that this call removes. Refused as a get is, and as `Gone` where another removed it first. No
-/// hold is left behind, whatever it answers.
+/// The value of a key that this call removes. Refused as a get is, and as `Gone` if another caller removed it first. No
+/// hold is left behind, whatever it returns.
 #[tactic(auto, using(crate::proofs::Holding::has_first, crate::proofs::Holding::without_first))]
 pub fn take<R: Reader>(reader: &mut R, key: u64) -> Result<Value, Refusal>
     ensures does { TakeDoes R.layout key (R.caller reader.old) result (R.caller reader.new) }

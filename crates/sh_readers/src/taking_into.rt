@@ -1,11 +1,11 @@
-//! A get, a read, a removal and a release in one, where the value fits.
+//! A get, a read, a removal and a release in one, if the value fits.
 ghost use Rattle.sh_readers.specs.Readers.{Remains, TakeIntoDoes};
 
 use crate::reader::Reader;
 use sh_value::{Refusal, Value};
 
-/// The value of a key that this call removes, in place of what the caller's value was. A value of more than `most` words
-/// goes there too, but its key is not removed. Refused as `take` is. No hold is left behind, whatever it answers.
+/// The value of a key that this call removes, replacing what the caller's value was. A value of more than `most` words
+/// goes there too, but its key is not removed. Refused as `take` is. No hold is left behind, whatever it returns.
 #[tactic(auto, using(crate::proofs::Holding::has_first, crate::proofs::Holding::without_first))]
 pub fn take_into<R: Reader>(
     reader: &mut R,

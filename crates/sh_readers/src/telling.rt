@@ -12,18 +12,18 @@ use sh_shard::shard::Shard;
 use sh_table::heard_comes_first;
 use sh_value::{Refusal, Value};
 
-/// A key, and a receipt that tells of its insert: what is sent to another thread.
+/// A key, and a receipt that covers its insert, to be sent to another thread.
 #[derive(Drop)]
 pub struct ToldKey {
     pub key: u64,
     pub receipt: Receipt,
 }
 
-/// Stores a value, and answers its key with a receipt of the insert. Refused as an insert is: `Full` or `Memory`.
+/// Stores a value, and returns its key with a receipt of the insert. Refused as an insert is: `Full` or `Memory`.
 ///
 /// ```text
 /// let told = insert_told(&mut owner, &value)?;    // goes to another thread, in any way
-/// let value = fetch_told(&mut pass, told)?;       // there: `Gone` only where someone removed the key
+/// let value = fetch_told(&mut pass, told)?;       // there: `Gone` only if the key was removed
 /// ```
 pub fn insert_told<L: KeyLayout, H: KeepsHeap<L>>(
     owner: &mut Shard<L, H>,
@@ -42,8 +42,8 @@ pub fn insert_told<L: KeyLayout, H: KeepsHeap<L>>(
     })
 }
 
-/// The value of a key that came with a receipt: the reader heeds the receipt and fetches the key. Where the receipt
-/// tells of the insert, it is answered `Gone` only if someone removed the key. Refused as a fetch is.
+/// The value of a key that came with a receipt: the reader heeds the receipt and fetches the key. If the receipt covers
+/// the insert, it returns `Gone` only if the key was removed. Refused as a fetch is.
 pub fn fetch_told<R: Reader>(reader: &mut R, told: ToldKey) -> Result<Value, Refusal>
     requires { told.receipt.heap ≡ (R.caller reader.old).heap }
     ensures does { FetchDoes R.layout told.key (heeded (R.caller reader.old) told.receipt) result

@@ -1,4 +1,4 @@
-//! What the shape of a heap says of its keys, and what it gives to heed a receipt.
+//! What the shape of a heap says of its keys, and what heeding a receipt gives.
 ghost use Rattle.sh_table.specs.Orders.{HeardComesFirst, GoneIsRemoved, RemovedIsGone, NothingComesLater};
 ghost use Rattle.sh_table.specs.Reached.{PlansAreLawful};
 

@@ -1,4 +1,4 @@
--- A page more was told.
+-- The accounts of one page more.
 use Rattle.std.proofs.Common.{◌≡◌, ℕ, ◌+◌, ◌-◌, ◌*◌, ◌<◌, ◌≤◌, ◌⊎◌, ⊎_elim, inl, inr, List, [], ◌∷◌, ◌++◌}
 use Rattle.std.proofs.Common.{length, get_or, Option, Some, None, refl, sym, ap, ◌∙◌, subst, arith, append_assoc}
 use Rattle.std.proofs.Common.{append-nil, length-append}
@@ -34,7 +34,7 @@ noted_on u v w one two = (
       (sym one.1) (ap (λ (l : List (Place × ℕ)). record u { noted = l }) (append_assoc u.noted one.0 two.0)),
 )
 
--- ---- an item that stands in a list with one more
+-- ---- an item of a list with one more
 
 last_or_before : {X : Type 0} (xs : List X) (y : X) (i : ℕ) (x : X) → slice_get (xs ++ y ∷ []) i ≡ Some x
     → ((slice_get xs i ≡ Some x) ⊎ ((i ≡ length xs) × (x ≡ y)))

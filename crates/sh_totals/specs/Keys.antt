@@ -9,7 +9,7 @@ use Rattle.sh_totals.specs.declared.keys.NextKey.{NextKey}
 abbrev pub NoneLiveBetween : Layout → Caller → (from before : ℕ) → Type 0
 NoneLiveBetween layout c from before = (n : ℕ) → from ≤ n → n < before → NoneLiveAt layout c.view n
 
--- the key is live, at the first place from this one on where one is; the number is that of the place behind
+-- the key is live, at the first such place from this one on; the returned number is that of the next place
 pub record IsFirstKey (layout : Layout) (c : Caller) (from : ℕ) (next : NextKey) : Type 0 where
   pub place : ℕ
   pub behind : next.behind ≡ place + 1

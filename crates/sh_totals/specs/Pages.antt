@@ -12,7 +12,7 @@ pub record IsPage (layout : Layout) (c : Caller) (i : ℕ) (p : PageAccounts) : 
   pub number : page_number c.heap.shape p.shard p.page ≡ i
   pub are : AreWholeAccounts layout c.view i p.accounts
 
--- the same at some moment between two, in which words were looked at and nothing else changed
+-- the same at some moment between the two callers, with only words noted in between
 pub record ToldBetween (layout : Layout) (old new : Caller) (i : ℕ) (p : PageAccounts) : Type 0 where
   pub moment : Caller
   pub heap : moment.heap ≡ old.heap

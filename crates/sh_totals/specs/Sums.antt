@@ -3,7 +3,7 @@ use Rattle.std.specs.Prelude.{ℕ, ◌+◌, ◌-◌, ◌≤◌, List, Some, None
 use Rattle.sh_totals.specs.declared.pages.PageAccounts.{PageAccounts}
 use Rattle.sh_totals.specs.declared.totals.Totals.{Totals}
 
--- 1 where the page has a class, and else 0
+-- 1 if the page has a class, and 0 otherwise
 abbrev pub used : PageAccounts → ℕ
 used p = elim (p.accounts.class) [ Some c ↦ 1 | None ↦ 0 ]
 

@@ -9,17 +9,17 @@ use sh_key::KeyLayout;
 use sh_pass::KeepsHeap;
 use sh_shape::SLOT_PLACES;
 
-/// A live key, and where to go on.
+/// A live key, and the place at which to continue.
 #[derive(Clone, Copy, Debug, PartialEq, Eq)]
 pub struct NextKey {
     /// The key.
     pub key: u64,
-    /// The place behind that of its slot: the next call goes on there.
+    /// The place after that of its slot: the next call continues there.
     pub behind: u64,
 }
 
 /// The first live key from a place on: a heap has 48 places for each page, in the order of its pages. `None` if no key
-/// from there on is live. So a loop that begins at place 0, and goes on behind each key, gets each live key once, in
+/// from there on is live. So a loop that begins at place 0, and continues after each key, gets each live key once, in
 /// the order of their places.
 ///
 /// ```text

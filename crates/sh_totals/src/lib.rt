@@ -1,5 +1,5 @@
-//! What stands on the pages of a heap of which all passes met: the accounts of each page, one after the other, and
-//! their sums; and the live keys.
+//! What is on the pages of a heap of which all passes met: the accounts of each page, one after the other, and their
+//! sums; and the live keys.
 #![tactic(auto)]
 
 pub mod keys;

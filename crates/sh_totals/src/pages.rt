@@ -52,8 +52,8 @@ pub fn page_accounts<L: KeyLayout, H: KeepsHeap<L>>(
     }
 }
 
-/// The accounts of all pages of the heap, in the order of their numbers, to go over them: `for page in &all`. Refused
-/// where there is no memory for the list.
+/// The accounts of all pages of the heap, in the order of their numbers, for a loop: `for page in &all`. Refused if
+/// there is no memory for the list.
 pub fn all_accounts<L: KeyLayout, H: KeepsHeap<L>>(
     alloc: Global,
     whole: &mut Whole<L, H>,

@@ -12,12 +12,12 @@ use sh_gather::view::Whole;
 use sh_key::KeyLayout;
 use sh_pass::KeepsHeap;
 
-/// How many slots of each kind the pages of a heap have together.
+/// The number of slots of each kind on all pages of a heap.
 ///
-/// There are none that are an owner's or in a hand, since all passes met.
+/// No slot is an owner's or in a hand, since all passes met.
 #[derive(Clone, Copy, Debug, PartialEq, Eq)]
 pub struct Totals {
-    /// Slots with a value that can be got: so many keys are in the map.
+    /// Slots with a value that can be got, which is the number of keys in the map.
     pub live: u32,
     /// Slots with a value that was removed and is still held.
     pub marked: u32,

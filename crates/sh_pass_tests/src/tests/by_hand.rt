@@ -1,4 +1,4 @@
-//! Steps by hand on keys that were never issued: what each answers, and that a pass comes back just where it has begun
+//! Steps by hand on keys that were never issued: what each returns, and that a pass comes back exactly if it has begun
 //! nothing.
 use super::*;
 use sh_step::SlotName;

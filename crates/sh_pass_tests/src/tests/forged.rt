@@ -1,5 +1,5 @@
-//! Keys that nobody was answered, on a fresh heap: every number around every edge of a layout. It is gone where it is a
-//! key of the heap, which is reckoned here from the number's digits, and else a bad key.
+//! Keys that no call returned, on a fresh heap: every number around every edge of a layout. It is `Gone` if it is a key
+//! of the heap, which the test computes from the number's digits, and otherwise `BadKey`.
 use super::*;
 use sh_key::Tagged;
 
@@ -84,7 +84,7 @@ fn is_refused<L: KeyLayout>(
     agree_at(rt, number, pass.remove(number), Err(refusal));
 }
 
-/// Gets and removes so many numbers from the first on, and answers how many of them are keys.
+/// Gets and removes `count` numbers from the first on, and returns how many of them are keys.
 fn keys_among<L: KeyLayout + Written>(
     rt: &impl Abort,
     pass: &mut Pass<'_, L>,
@@ -108,7 +108,7 @@ fn keys_among<L: KeyLayout + Written>(
     keys
 }
 
-/// Of these numbers so many are keys: from the first, how many, the keys.
+/// Each try is a first number, how many numbers to try, and how many of them are keys.
 fn has_keys<L: KeyLayout + Written>(
     rt: &impl Abort,
     pass: &mut Pass<'_, L>,
@@ -119,7 +119,7 @@ fn has_keys<L: KeyLayout + Written>(
     }
 }
 
-/// On a heap of this many shards and segments, of these numbers so many are keys: from the first, how many, the keys.
+/// The same on a new heap of this many shards and segments.
 fn expect<L: KeyLayout + Written>(
     rt: &impl Abort,
     alloc: Global,
@@ -140,7 +140,7 @@ fn forged_keys_of_tiny(rt: HostRuntime) {
     expect::<Tiny>(&rt, rt.alloc(), 3, 2, &[(0, 20_001, 6_912)]);
 }
 
-/// A hundred thousand numbers around an edge, of which so many are keys.
+/// A hundred thousand numbers around an edge, of which `keys` are keys.
 const fn around(edge: u64, keys: u64) -> (u64, u64, u64) {
     (edge.wrapping_sub(50_000), 100_000, keys)
 }

@@ -1,5 +1,5 @@
 //! The words of the running heap, as they were worked out by hand: of a page from which another pass removes a value in
-//! eight steps, and of a slot whose last generation is over. An owner's steps answer the words that they find; and once
+//! eight steps, and of a slot whose last generation is over. An owner's steps return the words that they find; and once
 //! all passes met, each word can be loaded.
 ghost use Rattle.std.specs.Prelude.{◌≡◌, ◌<◌, None, Some, true, false, cond};
 ghost use Rattle.sh_bell.specs.Bell.{is_armed, top_of};
@@ -151,7 +151,7 @@ fn find_slot_1(rt: &impl Abort, owner: &mut Owner<'_, Tiny>, page: PageName)
     follow(rt, owner, page, 1, 1);
 }
 
-// The head of an armed page is 1. Where another removes the value in slot 1 of page 0, the head becomes 4, the slot's
+// The head of an armed page is 1. If another pass removes the value in slot 1 of page 0, the head becomes 4, the slot's
 // link 1, the bell 1 and the page's link 1.
 #[test]
 fn another_removes_from_an_armed_page(rt: HostRuntime) {

@@ -4,7 +4,7 @@ use Rattle.sh_gather.specs.Histories.{Sure}
 use Rattle.sh_gather.specs.Gathering.{IsGathered, NotedMore, CountedTo, StatesAlone}
 use Rattle.sh_gather.proofs.accounts.count_states.Given as goal
 
--- so many slots were counted, after every list of events that leads here
+-- the first `slot` slots were counted, after every list of events that leads here
 abbrev pub invariant-loop-slot : goal.invariant-loop-slot
 invariant-loop-slot g l =
     (l.pass.heap ≡ l.fn.pass.heap) × IsGathered l.pass.view × Known g.L.KeyLayout.layout l.pass.view

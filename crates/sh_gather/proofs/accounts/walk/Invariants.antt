@@ -5,7 +5,7 @@ use Rattle.sh_gather.specs.Gathering.{IsGathered, NotedMore, WalkedTo}
 use Rattle.sh_gather.proofs.Walking.{HasWalked}
 use Rattle.sh_gather.proofs.accounts.walk.Given as goal
 
--- so many slots of the stack were walked, after every list of events that leads here, and what is noted shows it
+-- `queued` slots of the stack were walked, after every list of events that leads here, and the notes show it
 abbrev pub invariant-loop-queued : goal.invariant-loop-queued
 invariant-loop-queued g l =
     (l.pass.heap ≡ l.fn.pass.heap) × IsGathered l.pass.view × Known g.L.KeyLayout.layout l.pass.view

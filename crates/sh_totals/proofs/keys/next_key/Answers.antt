@@ -55,8 +55,8 @@ returns-in-Some-clause-next g c =
       inside = subst (λ (h : Heap). c.loop-place.place < all_pages h.shape * 48) (sym (e.heap ∙ i.0))
           (subst (λ (m : ℕ). c.loop-place.place < m) i.2 c.loop-place-test.true);
       live = c.in-Some.ensures.key;
-      before = none_noted g.L.KeyLayout.layout c.loop-place.whole c.key_at.new.self c.args.from c.loop-place.place e.tale
-          i.4;
+      before = none_noted g.L.KeyLayout.layout c.loop-place.whole c.key_at.new.self c.args.from c.loop-place.place
+          e.tale i.4;
     }
 
 pub returns-clause-next : goal.returns-clause-next
