@@ -24,7 +24,7 @@ use Rattle.sh_accounts.specs.Kinds.{is, slot_kind_by}
 abbrev pub ShapeHasPage : Numbers → (shard page : ℕ) → Type 0
 ShapeHasPage shape shard page = (shard < shape.shards) × (page < pages_of shape)
 
--- they are those of page q over the whole heap, after whatever list of events led to what is kept
+-- they are those of page q over the whole heap, after each list of events that leads to what is kept
 abbrev pub AreAccounts : Layout → KeptWorld → ℕ → Accounts → Type 0
 AreAccounts layout k q a = (es : List Event) → StandsFor k (run (plan_of layout k.shape) es)
     → a ≡ accounts (run (plan_of layout k.shape) es) (lists_of (plan_of layout k.shape) es) q

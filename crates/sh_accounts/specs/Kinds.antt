@@ -37,7 +37,7 @@ is Hand Hand = true
 is Queued Queued = true
 is _ _ = false
 
--- the accounts with one slot of this kind more
+-- the accounts with one slot more, of this kind
 abbrev pub with_one : Accounts → SlotKind → Accounts
 with_one a kind = record {
   class = a.class;

@@ -1,4 +1,4 @@
-//! Tests of accounts: pages of a fresh heap, and what the state word of a slot says that it is.
+//! Tests of accounts: pages of a fresh heap, and what a slot is by its state word.
 #![tactic(auto)]
 
 #[cfg(test)]

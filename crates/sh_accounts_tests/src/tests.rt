@@ -20,7 +20,8 @@ const BLANK: Accounts = Accounts {
     queued: 0,
 };
 
-// What was found is what is wanted. It is a function, since each assertion that is written out is proved anew.
+// Asserts that the found value is the wanted one. It is a function, since each assertion in the text is proved
+// separately.
 fn agree<T: PartialEq + Debug + Drop>(rt: &impl Abort, found: T, wanted: T) {
     assert_eq!(rt; found, wanted);
 }
@@ -44,7 +45,7 @@ fn page_that_is_not_there_has_no_accounts(rt: HostRuntime) -> Result<(), Fail> {
     Ok(())
 }
 
-// What no pass has is queued.
+// An empty slot that no pass has is queued.
 #[test]
 fn state_words_say_what_slots_are(rt: HostRuntime) -> Result<(), Fail> {
     let shape = Shape::new(1, 1, 3).expect(&rt, "one shard of one segment is a shape");

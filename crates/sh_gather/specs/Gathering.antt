@@ -45,7 +45,7 @@ abbrev pub NotesKeepHistories : Type 0
 NotesKeepHistories = (layout : Layout) (v w : View) (history : List Entry) → NotedMore v w
     → IsHistory layout v history → IsHistory layout w history
 
--- how many of the keys of page q are live, marked and retired by the history is what the accounts say
+-- the accounts say how many of the keys of page q are live, marked and retired by the history
 pub record CountsKeys (plan : Plan) (q : ℕ) (a : Accounts) (history : List Entry) : Type 0 where
   pub live : a.live ≡ count_by (is_live_key history) (page_keys plan q)
   pub marked : a.marked ≡ count_by (is_marked_key history) (page_keys plan q)
@@ -63,7 +63,7 @@ pub record AreWholeAccounts (layout : Layout) (v : View) (q : ℕ) (a : Accounts
   -- the slots of the page's class, and a page without a class has no slots at all
   pub walked : (slots : List ℕ) × IsWholeStack v q slots × (a.queued ≡ length slots)
   pub fill : FillPage a
-  -- every history of the tale counts the page's keys so
+  -- every history of the tale gives the same counts of the page's keys
   pub counts : (history : List Entry) → IsHistory layout v history → CountsKeys (plan_of layout v.shape) q a history
 
 -- ---- how they are found

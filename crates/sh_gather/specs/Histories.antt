@@ -14,9 +14,10 @@ use Rattle.sh_table.specs.Tales.{IsTale}
 use Rattle.sh_table.specs.Reached.{HasOwn}
 
 -- A legal history with the log of each pass of the tale, in the order of the joins. Entries of passes outside the heap
--- are left out, since a tale says nothing of a pass that it does not name, and whether a history is legal does not
--- depend on which numbers its passes have. With them even a tale that names all passes of the heap would have histories
--- in which a pass that does not exist inserts and removes keys, and by these no number of keys is the same
+-- are left out, since a tale says nothing of a pass that it does not name. Which numbers its passes have does not
+-- decide whether a history is legal. So with such entries even a tale that names all passes of the heap would have
+-- histories in which a pass that does not exist inserts and removes keys. The number of keys would then differ between
+-- histories
 pub record IsHistory (layout : Layout) (v : View) (history : List Entry) : Type 0 where
   pub tale : IsTale layout v history
   pub ours : All (λ e. pass_of e < v.shape.passes) history

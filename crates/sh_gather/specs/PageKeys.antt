@@ -22,7 +22,7 @@ unfoldable pub keys_of_slots : Plan → List Spot → List ℕ
 keys_of_slots plan [] = []
 keys_of_slots plan (x ∷ xs) = keys_of_slot plan x plan.keys.gen_max ++ keys_of_slots plan xs
 
--- the keys of page q: of each slot that it has a place for one of each generation
+-- the keys of page q: one of each generation, for each slot that it has a place for
 abbrev pub page_keys : Plan → ℕ → List ℕ
 page_keys plan q = keys_of_slots plan (spots q 0 slot_places)
 

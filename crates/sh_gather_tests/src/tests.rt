@@ -19,12 +19,13 @@ const BLANK: Accounts = Accounts {
     queued: 0,
 };
 
-// What was found is what is wanted. It is a function, since each assertion that is written out is proved anew.
+// Asserts that the found value is the wanted one. It is a function, since each assertion in the text is proved
+// separately.
 fn agree<T: PartialEq + Debug + Drop>(rt: &impl Abort, found: T, wanted: T) {
     assert_eq!(rt; found, wanted);
 }
 
-// Of three passes two are joined, and then all.
+// Joins two of three passes, and then all three.
 fn whole_needs_all<L: KeyLayout>(rt: &impl Abort, alloc: Global) {
     let shape = Shape::new(1, 1, 3).expect(rt, "a shape");
     let (heap, seats) = Heap::<L>::open(alloc, shape).expect(rt, "a heap");
@@ -68,7 +69,7 @@ fn pages_are_blank<L: KeyLayout>(rt: &impl Abort, alloc: Global, key: u64) {
     };
     blank_in_each_shard(rt, &mut all);
     none_past_the_last(rt, &mut all);
-    // What was noted before changes no answer.
+    // Words that were noted before change no result.
     blank_in_each_shard(rt, &mut all);
 }
 

@@ -35,7 +35,7 @@ is_settled (Pass v) = true
 is_settled (Shard o) = true
 is_settled Moving = false
 
--- a call by which it stays what it is: a pass does as `does` says, and so does the owner of a shard, which it stays
+-- a call that keeps the kind: a pass does as `does` says, and so does the owner of a shard, which it stays
 abbrev pub SideDoes : {A : Type 0} → Layout → (Caller → Result A Refusal → Caller → Type 0) → SeenSide
     → Result A Refusal → SeenSide → Type 0
 SideDoes layout does (Pass v) answer (Pass w) = does v answer w

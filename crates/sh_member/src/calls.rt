@@ -12,7 +12,7 @@ use sh_readers::Reader;
 use sh_shard::shard::Shard;
 use sh_value::{Hold, Refusal, Value};
 
-// The same by the owner of a shard, which it stays.
+// The same by the owner of a shard, which stays the owner.
 fn fetch_by_owner<L: KeyLayout, H: KeepsHeap<L>>(
     owner: &mut Shard<L, H>,
     key: u64,
@@ -22,7 +22,7 @@ fn fetch_by_owner<L: KeyLayout, H: KeepsHeap<L>>(
         owner.new.pages.owner }
     ensures stays { StaysOwner L.layout owner.old owner.new }
 {
-    // (that the shard is the owner's is known of it before and after)
+    // (that the shard is the owner's is known before and after)
     let _known = owner.shape();
     let answer = owner.fetch_into(key, value);
     let _known = owner.shape();

@@ -20,8 +20,8 @@ impl<L: KeyLayout, H: KeepsHeap<L>> Member<L, H> {
         }
     }
 
-    /// How many slots of the other pages of its shard are not free for it. No more values are in the shard. Refused as
-    /// `NoShard` if it owns none. It takes no step.
+    /// How many slots of the other pages of its shard are not free for it. The shard has at most that many values.
+    /// Refused as `NoShard` if it owns none. It takes no step.
     pub fn slots_out(&self) -> Result<u64, Refusal>
         ensures { SideCounts slots_out self.now result self.now }
     {

@@ -10,7 +10,7 @@ use sh_readers::Reader;
 use sh_shard::shard::Shard;
 use sh_value::{Refusal, Value};
 
-// The same by the owner of a shard, which it stays.
+// The same by the owner of a shard, which stays the owner.
 fn take_by_owner<L: KeyLayout, H: KeepsHeap<L>>(
     owner: &mut Shard<L, H>,
     key: u64,
@@ -20,7 +20,7 @@ fn take_by_owner<L: KeyLayout, H: KeepsHeap<L>>(
     ensures does { TakeIntoDoes L.layout key most owner.old.pages.owner result value.new owner.new.pages.owner }
     ensures stays { StaysOwner L.layout owner.old owner.new }
 {
-    // (that the shard is the owner's is known of it before and after)
+    // (that the shard is the owner's is known before and after)
     let _known = owner.shape();
     let answer = owner.take_into(key, most, value);
     let _known = owner.shape();

@@ -1,4 +1,4 @@
--- Passes that are driven step by step: each call does one event.
+-- Passes that step by hand: each call does one event.
 use Rattle.std.specs.Prelude.{◌≡◌, ◌≢◌, ℕ, Bool, true, false, List, Some, None, Result, Ok, Err}
 use Rattle.atomic_table.specs.declared.shared.Seat.{Seat}
 use Rattle.sh_key.specs.Layout.{Layout}

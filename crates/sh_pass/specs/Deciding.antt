@@ -12,7 +12,7 @@ use Rattle.sh_step.specs.Moves.{place_named}
 use Rattle.sh_step.specs.Plans.{Plan}
 use Rattle.sh_table.specs.declared.view.View.{View}
 
--- what the pass did between two views is so
+-- IsSo holds of the steps that the pass did between two views
 abbrev pub Stepped : (List Footstep → Type 0) → View → View → Type 0
 Stepped IsSo v w = (new : List Footstep) × (w.own.trail ≡ v.own.trail ++ new) × IsSo new
 
@@ -28,16 +28,16 @@ pub record Begins (x : Action) (name : Name) (new : List Footstep) : Type 0 wher
 
 -- ---- of the slot of this name
 
--- it is entered to get the key, and the word found there decides the answer
+-- the slot is entered to get the key, and the word found there decides the answer
 abbrev pub EntryDecides : Plan → ℕ → Name → GetAnswer → List Footstep → Type 0
 EntryDecides plan key name a new = (b : Begins (action.EnterGet key) name new)
     × (answer_to_get name.generation plan.keys.guard_max b.found ≡ a)
 
--- it is marked, and the word found there decides whether this pass removed the key
+-- the slot is marked, and the word found there decides whether this pass removed the key
 abbrev pub MarkDecides : Name → Bool → List Footstep → Type 0
 MarkDecides name removed new = (b : Begins action.Mark name new) × (removed ≡ is_first_mark b.found)
 
--- it is entered to remove the key, in one step: whether the word found there is live
+-- the slot is entered to remove the key, in one step: whether the word found there is live
 abbrev pub EntryTells : ℕ → Name → Bool → List Footstep → Type 0
 EntryTells key name live new = (n : ℕ) × (new ≡ step_at_slot (action.EnterRemove key) name n ∷ [])
     × (live_at name.generation n ≡ live)

@@ -1,4 +1,4 @@
--- A pass as what looks keys up: its book is its log.
+-- A pass that looks keys up: its book is its log.
 use Rattle.std.specs.Prelude.{◌==◌, List}
 use Rattle.sh_history.specs.declared.log.LogEntry.{LogEntry}
 use Rattle.sh_key.specs.Layout.{Layout}

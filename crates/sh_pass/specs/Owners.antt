@@ -111,7 +111,7 @@ MayGive g = (g.class ≡ Some 0) ⊎ ((c : ℕ) × (g.class ≡ Some (suc c)) ×
 
 -- ---- pages and bells after a step
 
--- the page after its stack was taken, whose head was found so
+-- the page after its stack was taken and its head was found to be n
 abbrev pub page_taken : SeenPage → ℕ → SeenPage
 page_taken g n = record g { cursor = top_item (top_of n); armed = cond (is_armed n) false g.armed; takes = g.takes + 1 }
 
@@ -119,7 +119,7 @@ page_taken g n = record g { cursor = top_item (top_of n); armed = cond (is_armed
 abbrev pub page_armed : SeenPage → ℕ → SeenPage
 page_armed g n = record g { cursor = top_item (top_of n); armed = true; takes = g.takes + 1 }
 
--- after the link of slot s was found so
+-- after the link of slot s was found to be n
 abbrev pub page_followed : SeenPage → ℕ → ℕ → SeenPage
 page_followed g s n = cond (n == 0) (record g { met = g.met + 1 })
     (record g { mine = λ t. (t == s) || g.mine t; cursor = link_item n })
@@ -136,11 +136,11 @@ page_with g s = record g { mine = λ t. (t == s) || g.mine t }
 abbrev pub page_given : SeenPage → ℕ → SeenPage
 page_given g c = record g { class = Some (c + 1); mine = λ s. nat_lt s (slots c) }
 
--- its class word was found so
+-- after its class word was found to be n
 abbrev pub page_noted : SeenPage → ℕ → SeenPage
 page_noted g n = record g { class = Some n }
 
--- after the link of the page on the bell was found so
+-- after the link of the page on the bell was found to be n
 abbrev pub page_rung : SeenPage → ℕ → SeenPage
 page_rung g n = cond (n == 0) g (record g { armed = false })
 
@@ -148,11 +148,11 @@ page_rung g n = cond (n == 0) g (record g { armed = false })
 abbrev pub page_on_bell : Caller → (n k word : ℕ) → Option ℕ
 page_on_bell v n k word = cond (nat_lt word k) None (Some (heap_page v (record { shard = n; page = word - k })))
 
--- the bell of shard n after it was taken, and found so
+-- the bell of shard n after it was taken, and found to be this word
 abbrev pub bell_taken : Caller → (n word : ℕ) → SeenBell → SeenBell
 bell_taken v n word b = record b { cursor = page_on_bell v n 1 word; takes = b.takes + 1 }
 
--- after the link of the page at its cursor was found so
+-- after the link of the page at its cursor was found to be this word
 abbrev pub bell_followed : Caller → (n word : ℕ) → SeenBell → SeenBell
 bell_followed v n word b = cond (word == 0) (record b { met = b.met + 1 })
     (record b { cursor = page_on_bell v n 2 word })
@@ -206,7 +206,7 @@ pub record OnPage (q : ℕ) (g : SeenPage) (v w : Caller) : Type 0 where
 abbrev pub SamePages : Caller → Caller → Type 0
 SamePages v w = (q : ℕ) → seen_page w q ≡ seen_page v q
 
--- one step leaves all but the shard that the pass owns, and what it knows of it
+-- one step leaves all as it was except the shard that the pass owns, and what it knows of the shard
 pub record OwnerTries (v w : Caller) : Type 0 where
   pub heap : w.heap ≡ v.heap
   pub same : SameTale v.view w.view

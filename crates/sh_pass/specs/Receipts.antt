@@ -15,13 +15,13 @@ receipt_by v = record { heap = v.heap; view = receipt_of v.view }
 abbrev pub heeded : Caller → Caller → Caller
 heeded v r = record { heap = v.heap; view = heeded_view v.view r.view }
 
--- a get did not find its key: it took no hold, and was not refused for the holds that there are
+-- a get did not find its key: it took no hold, and was not refused for the number of holds
 abbrev pub FindsNone : Result Hold Refusal → Type 0
 FindsNone (Ok _) = ⊥
 FindsNone (Err refusal.Crowded) = ⊥
 FindsNone (Err _) = Unit {0}
 
--- a removal that is refused ends it
+-- if the removal is refused, the call ends there
 pub record RemovalRefused (layout : Layout) (key : ℕ) (one other : Caller) (answer : Result Hold Refusal)
     (one' other' : Caller) : Type 0 where
   pub why : Refusal

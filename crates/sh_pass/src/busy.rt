@@ -16,10 +16,10 @@ use std::marker::{Model, PhantomData};
 ///
 /// A contract sees which heap it is of and what it knows, as of a `Pass`.
 ///
-/// One that is dropped leaves for good what it has begun, beside its holds. Its count on a slot stays, so that the slot
-/// is never used again. A slot in its hand is on no stack. An owner that follows a stack comes no further than to a
-/// slot that it put and did not tie, and its leave is refused as `Waiting`. Of a page for which it was to ring, the
-/// owner never hears. So it is best stepped on until `end` gives the pass back.
+/// A busy pass that is dropped leaves for good what it has begun, and its holds. Its count on a slot stays, so that the
+/// slot is never used again. A slot in its hand is on no stack. An owner that follows a stack stops at a slot that the
+/// pass put and did not tie, and its leave is refused as `Waiting`. If the pass was to ring for a page, the owner never
+/// hears of that page. So continue its steps until `end` gives the pass back.
 #[derive(Drop)]
 pub struct Busy<L: KeyLayout, H: KeepsHeap<L>> {
     heap: H,

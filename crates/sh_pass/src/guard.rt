@@ -14,11 +14,11 @@ use std::marker::{Model, PhantomData};
 ///
 /// It is for a caller that uses a value more than once. `get_guard` of a pass or of a shard returns it, and
 /// `read_guard` and `release_guard` take it. It is the same hold as the plain `Hold` of its key: a contract sees no
-/// more of it, `hold` returns that, and the two kinds may be mixed. A guard releases nothing when it is dropped: it
-/// does not know the pass that holds. (So a name says what it guards: the place.)
+/// more of a guard, `hold` returns the plain one, and the two kinds may be mixed. A guard releases nothing when it is
+/// dropped: it does not know the pass that holds. (So the name says what it guards: the place.)
 ///
-/// The place goes by how many pages a shard of the heap has. A guard from a heap whose shards have another number of
-/// pages does what its plain hold would do.
+/// The place depends on the number of pages of a shard. A guard from a heap whose shards have another number of pages
+/// does what its plain hold would do.
 #[derive(Drop)]
 pub struct Guard<L: KeyLayout> {
     key: u64,

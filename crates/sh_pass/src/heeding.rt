@@ -1,4 +1,4 @@
-//! What it is worth to heed a receipt.
+//! What heeding a receipt guarantees.
 ghost use Rattle.std.specs.Prelude.{◌≡◌, ◌⊎◌};
 ghost use Rattle.sh_pass.specs.Receipts.{RemovalRefused, GetsAfterRemoval};
 

@@ -39,7 +39,7 @@ pub(crate) fn is_held(held: &[u64], key: u64) -> bool
     is_last(held, key) || find_behind(held, key).is_some()
 }
 
-/// Takes one hold on the key away, which is there.
+/// Removes one hold on the key from the list, which has one.
 pub(crate) fn let_go(held: &mut ArrayVec<u64, HOLDS_MAX>, key: u64)
     requires { has (λ k. k == key) held.old.items ≡ true }
     ensures { HoldsKept held.new.items (without (λ k. k == key) held.old.items) }
@@ -47,7 +47,7 @@ pub(crate) fn let_go(held: &mut ArrayVec<u64, HOLDS_MAX>, key: u64)
     if is_last(held.as_slice(), key) {
         held.pop();
     } else if let Some(at) = find_behind(held.as_slice(), key) {
-        // Their order means nothing, so none but the last one moves.
+        // Their order means nothing, so only the last one moves.
         held.swap_remove(at);
     }
 }

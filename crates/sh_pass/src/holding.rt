@@ -1,4 +1,4 @@
-//! Holds, by whatever a caller has of them.
+//! The two kinds of hold: a plain one, and one that keeps the place.
 ghost use Rattle.std.specs.Prelude.{◌≡◌, ◌≢◌, ℕ, Some, None};
 ghost use Rattle.sh_step.specs.Moves.{place_named};
 ghost use Rattle.sh_step.specs.Plans.{plan_of};
@@ -8,7 +8,7 @@ use sh_shape::Shape;
 use sh_slots::Name;
 use sh_value::Hold;
 
-/// What a caller has of a hold: its key, and a way to the place of the key's slot.
+/// A hold as a caller has it: its key, and a way to the place of the key's slot.
 pub(crate) trait Holding<L: KeyLayout> {
     ghost key_of: { Self → ℕ };
 
@@ -36,7 +36,7 @@ impl<L: KeyLayout> Holding<L> for Hold {
     }
 }
 
-/// What a key names in a shape that has its place: so nothing of that is tested again.
+/// What a key names in a shape that has its place. The caller knows that it has, so nothing is tested again.
 #[inline(always)]
 pub(crate) fn place_of_held<L: KeyLayout>(shape: &Shape, key: u64) -> Name
     requires { place_named (plan_of L.layout shape.now) key ≢ None }

@@ -1,4 +1,4 @@
-//! Who keeps a heap: one who borrows it, or one who has a share of it.
+//! Types that keep a heap: by a borrow, or by a share.
 ghost use Rattle.std.specs.Prelude.{◌≡◌};
 
 use crate::heap::Heap;
@@ -6,7 +6,7 @@ use sh_key::KeyLayout;
 use std::alloc::Global;
 use std::sync::Arc;
 
-/// One who keeps a heap, and lends it.
+/// A type that keeps a heap, and lends it.
 pub trait KeepsHeap<L: KeyLayout>: Drop {
     ghost use Rattle.sh_table.specs.Seats.{Heap};
 

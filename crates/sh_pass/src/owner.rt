@@ -24,8 +24,8 @@ use std::marker::{Model, PhantomData};
 /// Each of its steps is one step of the core, has that step's condition, and returns the word that it found; a store
 /// returns nothing. A contract sees which heap it is of and what it knows, as of a `Pass`.
 ///
-/// One that is dropped leaves its shard taken for good, with the slots that are its own, what it has begun, and its
-/// holds. So it is best made to leave, and given back by `into_pass`.
+/// An owner that is dropped leaves its shard taken for good, with the slots that are its own, what it has begun, and
+/// its holds. So let it leave, and turn it back into a pass by `into_pass`.
 #[derive(Drop)]
 pub struct Owner<L: KeyLayout, H: KeepsHeap<L>> {
     pub(crate) heap: H,
@@ -159,7 +159,7 @@ impl<L: KeyLayout, H: KeepsHeap<L>> Owner<L, H> {
         found
     }
 
-    /// Gives the shard up, of which it has nothing left.
+    /// Gives up the shard. The owner must have nothing left of it.
     pub fn leave(&mut self, shard: u64)
         requires idle { (own_body self.old).hand ≡ Idle }
         requires owned { (own_body self.old).owned ≡ Some shard }

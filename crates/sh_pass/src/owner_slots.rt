@@ -25,8 +25,8 @@ use sh_step::{PageName, SlotName};
 use sh_table::first_word;
 use sh_value::Value;
 
-// The key of a slot of the page of this name. (The parts of the name are at hand: to find them out of the page's number
-// over the whole heap takes a division.)
+// The key of a slot of the page of this name. (The caller has the parts of the name: computing them from the page's
+// number over the whole heap takes a division.)
 fn key_on_page<L: KeyLayout>(shape: &Shape, name: PageName, stored: Name) -> u64
     requires place { stored.page ≡ page_number shape.now name.shard name.page }
     requires shard { name.shard < shape.now.shards }
@@ -164,7 +164,7 @@ impl<L: KeyLayout, H: KeepsHeap<L>> Owner<L, H> {
         heap.table.put_slot(&mut self.seat, slot_name, spot)
     }
 
-    /// Stores the link of the slot that it put; whether the put found the page armed.
+    /// Stores the link of the slot that it put. `ring` says whether the put found the page armed.
     pub fn tie(&mut self, spot: Spot, link: u64, ring: bool)
         requires { (own_body self.old).hand ≡ Tying spot link ring }
         ensures does { OwnerDid L.layout action.Tie (move.Tie spot link ring) 0 self.old self.new }

@@ -1,4 +1,4 @@
-//! What a pass is, apart from the heap that it steps on.
+//! A pass without the heap that it steps on.
 ghost use Rattle.std.specs.Prelude.{◌≡◌};
 ghost use Rattle.sh_slots.specs.declared.hand.Hand.TheVariants.{Idle};
 ghost use Rattle.sh_table.specs.Tales.{ViewStands};
@@ -16,8 +16,8 @@ use std::marker::{Model, PhantomData};
 
 /// A pass without its heap: it has no lifetime, and each call is given the heap that it is of.
 ///
-/// A contract sees which heap that is and what the pass knows, as of a `Pass`. What is dropped with it is lost as with
-/// a `Pass`.
+/// A contract sees which heap that is and what the pass knows, as of a `Pass`. Dropping it loses what dropping a `Pass`
+/// loses.
 #[derive(Drop)]
 pub struct PassState<L: KeyLayout> {
     pub(crate) seat: Token,

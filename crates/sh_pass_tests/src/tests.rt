@@ -16,7 +16,8 @@ use std::fmt::Debug;
 use std::process::Abort;
 use std::thread::join;
 
-// What was found is what is wanted. It is a function, since each assertion that is written out is proved anew.
+// Asserts that the found value is the wanted one. It is a function, since each assertion in the text is proved
+// separately.
 fn agree<T: PartialEq + Debug + Drop>(rt: &impl Abort, found: T, wanted: T) {
     assert_eq!(rt; found, wanted);
 }
@@ -86,7 +87,7 @@ fn two_passes<'a, L: KeyLayout>(
     (one, other)
 }
 
-// The pass does these steps, none of which is skipped.
+// The pass does each of these steps.
 fn act_each(rt: &impl Abort, busy: &mut Busy<'_, Tiny>, actions: &[Action]) {
     for action in actions {
         agree(rt, busy.act(action), true);
@@ -115,7 +116,7 @@ fn never_issued(rt: &impl Abort, one: &mut Pass<'_, Tiny>) {
     agree(rt, one.read(Hold { key: 0 }).err(), Some(Refusal::NotHeld));
 }
 
-// To the pass the first key is gone, and it knows the heap whole or not.
+// The pass gets `Gone` for the first key, and knows the heap whole or not.
 fn first_is_gone(rt: &impl Abort, mut pass: Pass<'_, Tiny>, is_whole: bool) {
     agree(rt, pass.get(4_096), Err(Refusal::Gone));
     agree(rt, pass.is_whole(), is_whole);

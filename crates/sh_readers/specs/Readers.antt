@@ -1,4 +1,4 @@
--- What the calls do that end what they begin, and what stays over each call of a reader.
+-- What the calls do that end what they begin, and what each call of a reader leaves as it was.
 use Rattle.std.specs.Prelude.{◌≡◌, ℕ, ◌+◌, ◌<◌, ◌≤◌, ◌⊎◌, List, [], ◌∷◌, ◌++◌, map, length, Result, Ok, Err}
 use Rattle.sh_history.specs.declared.entry.Entry.TheVariants as entry
 use Rattle.sh_history.specs.declared.log.LogEntry.{LogEntry}
@@ -19,8 +19,8 @@ pub record Remains (layout : Layout) (v w : Caller) : Type 0 where
   pub idle : w.view.own.body.hand ≡ Idle
   pub stands : ViewStands layout w.view
 
--- the value of the key was read, which is then that of each get of the key, and these entries were added, in at most so
--- many steps; the holds are as they were
+-- the value of the key was read, which is then that of each get of the key, and these entries were added, in at most
+-- `most` steps; the holds are as they were
 pub record ReadsAndAdds (key : ℕ) (value : List ℕ) (es : List LogEntry) (most : ℕ) (v w : Caller) : Type 0 where
   pub same : SameTale v.view w.view
   pub log : w.view.own.log ≡ map (filled key value) v.view.own.log ++ es
@@ -39,13 +39,13 @@ FetchDoes layout key v (Ok value) w =
     (Known (entry.Got v.view.pass key value) ∷ Known (entry.Released v.view.pass key) ∷ []) (length value + 9) v w
 FetchDoes layout key v (Err why) w = GetDoes layout key v (Err why) w
 
--- the same of a fetch into a value of the caller's, in place of the one before; a refusal leaves that
+-- the same for a fetch into a value of the caller's, replacing the one before; a refusal leaves it
 abbrev pub FetchIntoDoes : Layout → ℕ → Caller → (before : List ℕ) → Result (Unit {0}) Refusal → (after : List ℕ)
     → Caller → Type 0
 FetchIntoDoes layout key v before (Ok _) after w = FetchDoes layout key v (Ok after) w
 FetchIntoDoes layout key v before (Err why) after w = FetchDoes layout key v (Err why) w × (after ≡ before)
 
--- a fetch whose value was given to a call that gave this, or that is refused as the get is
+-- a fetch whose value was passed to a call that returned this, or that is refused as the get is
 abbrev pub WithDoes : {T : Type 0} → (gives : List ℕ → T → Type 0) → Layout → ℕ → Caller → Result T Refusal → Caller
     → Type 0
 WithDoes gives layout key v (Ok given) w = (value : List ℕ) × FetchDoes layout key v (Ok value) w × gives value given

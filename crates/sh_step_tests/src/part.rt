@@ -62,7 +62,8 @@ fn an_entry_of_an_empty_slot_leaves_again(rt: HostRuntime) -> Result<(), Fail> {
     Ok(())
 }
 
-// Another pass came onto the slot: this one ends nothing. Then nobody is on it, and the shard is not this pass's own.
+// While another pass is on the slot, this one ends nothing. Once nobody is, it ends the generation of a slot that is
+// not its own.
 #[test]
 #[tactic(
     auto,
@@ -95,8 +96,8 @@ fn a_generation_ends_where_nobody_is_on_the_slot(rt: HostRuntime) -> Result<(), 
     Ok(())
 }
 
-// A page is given class 7, which has 3 slots. Says whether memory was there; a refusal leaves the part as it was, here
-// and below.
+// A page is given class 7, which has 3 slots. Returns whether there was memory; a refusal leaves the part as it was,
+// here and below.
 fn page_is_given_a_class(rt: &impl Abort, shape: &Shape, part: &mut Part) -> bool
     requires { shape.now ≡ record { shards = 1; segments = 1; passes = 1 } }
 {

@@ -13,12 +13,13 @@ use std::fmt::Debug;
 use std::process::Abort;
 use std::test::Fail;
 
-// What was found is what is wanted. It is a function, since each assertion that is written out is proved anew.
+// Asserts that the found value is the wanted one. It is a function, since each assertion in the text is proved
+// separately.
 pub(crate) fn agree<T: PartialEq + Debug + Drop>(rt: &impl Abort, found: T, wanted: T) {
     assert_eq!(rt; found, wanted);
 }
 
-// It is so.
+// Asserts that the condition holds.
 pub(crate) fn holds(rt: &impl Abort, it: bool) {
     assert!(rt; it);
 }

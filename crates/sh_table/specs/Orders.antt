@@ -32,7 +32,7 @@ pub record StandsAfter (history early : List Entry) (x : LogEntry) : Type 0 wher
   pub is : history ≡ early ++ entry ∷ late
   pub agrees : Agrees x entry
 
--- In each history of the tale all that was heard comes before it, and before no other entry that is only like it: the
+-- In each history of the tale all that was heard comes before this very entry, and not only before an equal one: the
 -- history has as many entries of the pass before it as the log has
 abbrev pub HeardComesFirst : Type 0
 HeardComesFirst = (layout : Layout) (v : View) (history : List Entry) → IsTale layout v history

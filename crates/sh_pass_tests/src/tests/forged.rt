@@ -68,12 +68,12 @@ fn is_key<L: Written>(number: u64, shards: u64, pages: u64) -> bool {
         && digits.slot < 48
 }
 
-/// What was found at the number is what is wanted.
+/// Asserts that the value found for the number is the wanted one.
 fn agree_at<T: PartialEq + Debug + Drop>(rt: &impl Abort, number: u64, found: T, wanted: T) {
     assert_eq!(rt; found, wanted, "{number}");
 }
 
-/// A get and a removal of the number are refused so.
+/// A get and a removal of the number are refused with this refusal.
 fn is_refused<L: KeyLayout>(
     rt: &impl Abort,
     pass: &mut Pass<'_, L>,
@@ -145,8 +145,9 @@ const fn around(edge: u64, keys: u64) -> (u64, u64, u64) {
     (edge.wrapping_sub(50_000), 100_000, keys)
 }
 
-// A heap of 3 shards has 16 pages of 48 slots in each, which are 768 keys in each generation. Of one generation to the
-// next it is 2^24, and of one shard to the next 2^16, so that the numbers around an edge reach one shard at most.
+// A heap of 3 shards has 16 pages of 48 slots in each, which are 768 keys in each generation. The distance from one
+// generation to the next is 2^24, and from one shard to the next 2^16, so that the numbers around an edge reach at most
+// one shard.
 #[test]
 fn forged_keys_of_wide(rt: HostRuntime) {
     let first = 16_777_216;
@@ -168,8 +169,8 @@ fn forged_keys_of_wide(rt: HostRuntime) {
     expect::<Wide>(&rt, rt.alloc(), 3, 2, &tries);
 }
 
-// Of one generation to the next it is 2^20, and of one shard to the next 2^14, so that the numbers around an edge reach
-// all 3 shards. No key has a bit from the 52nd on.
+// The distance from one generation to the next is 2^20, and from one shard to the next 2^14, so that the numbers around
+// an edge reach all 3 shards. No key has a bit from the 52nd on.
 #[test]
 fn forged_keys_of_tagged(rt: HostRuntime) {
     let first = 1_048_576;

@@ -56,7 +56,7 @@ fn fill(rt: &impl Abort, owner: &mut Owner<'_, Tiny>, page: PageName)
     agree(rt, owner.insert_at(page, 2, &value, 8), 4_098);
 }
 
-// Each of these does one step of the owner, which has to find this word.
+// Each of these does one step of the owner, and checks the word that the step finds.
 
 fn arm(rt: &impl Abort, owner: &mut Owner<'_, Tiny>, page: PageName, word: u64)
     requires { IsAt owner.old page None false false }
@@ -98,7 +98,7 @@ fn take_bell(rt: &impl Abort, owner: &mut Owner<'_, Tiny>, page: PageName)
     }
 }
 
-// And no other.
+// The bell names no other page.
 fn follow_bell(rt: &impl Abort, owner: &mut Owner<'_, Tiny>, page: PageName)
     requires { IsAt owner.old page None true true }
     ensures { IsAt owner.new page None false false }
