@@ -28,7 +28,7 @@ use Rattle.sh_accounts.specs.Kinds.{is, slot_kind_by}
 use Rattle.sh_accounts.specs.Accounts.{AreAccounts, FillPage, all_slots, no_slots, counted, kind_in, class_word}
 use Rattle.sh_accounts.proofs.OneByOne.{Once, once}
 
--- sums over the same slots of what is the same
+-- sums over the same slots of equal numbers are equal
 among_same : (q : ℕ) (f g : Spot → ℕ) (n : ℕ) → ((t : ℕ) → t < n → f (record { page = q; slot = t })
     ≡ g (record { page = q; slot = t })) → among q f n ≡ among q g n
 unfolding total spots
@@ -46,7 +46,7 @@ named_some : (n c : ℕ) → n ≡ c + 1 → class_named n ≡ Some c
 named_some n c e = let z : (n == 0) ≡ false = grind (arith, nat_tests) in let d : n - 1 ≡ c = omega arith
     in rw (z, d) refl
 
--- which class word names a class, and which none
+-- which class words name a class, and which do not
 names_some : (n c : ℕ) → Some c ≡ class_named n → n ≡ c + 1
 names_some n c e = go (n == 0) refl e where
   go : (b : Bool) → (n == 0) ≡ b → Some c ≡ cond b None (Some (n - 1)) → n ≡ c + 1
@@ -108,7 +108,7 @@ module _ (plan : Plan) (k : KeptWorld) (w : World) (l : PutLists) (stands : Stan
   unfolding accounts total spots
   blank_is e = rw e refl
 
--- a class word of a heap that was reached is small
+-- the class word of a page of a reachable heap is at most the number of classes
 pub class_small : (layout : Layout) (k : KeptWorld) (q : ℕ) → Always (λ plan w l. ClassesAreKnown plan w)
     → FromEvents layout k → q < all_pages k.shape → class_word k q ≤ class_count
 class_small layout k q classes reached there =

@@ -1,5 +1,5 @@
--- All histories of a tale that names all passes agree on what counts: whatever order they have, and whatever values are
--- open.
+-- All histories of a tale that names all passes agree on the counts, in whatever order they have the entries, and
+-- whatever values are open.
 use Rattle.std.proofs.Common.{◌≡◌, ◌≢◌, ℕ, zero, suc, ◌+◌, ◌-◌, ◌<◌, ◌==◌, ◌||◌, Bool, true, false, cond, List, [], ◌∷◌}
 use Rattle.std.proofs.Common.{sym, refl, ap, ◌∙◌, subst, eq-eqb, ne_eqb, arith, Some}
 use Rattle.std.specs.Prelude.{nat_lt, All, count_by, is_some}
@@ -53,7 +53,7 @@ one_log f blind (Unread p j ∷ log) (e ∷ es) (d ∷ ds) h k =
     let c = blind p j u.0 v.0 in
     let rest = one_log f blind log es ds h.1 k.1 in omega arith
 
--- ---- a sum over a history is the sum of those over the logs of its passes
+-- ---- a sum over a history is the sum over the logs of its passes
 
 sum_below : (ℕ → ℕ) → ℕ → ℕ
 sum_below f zero = 0
@@ -70,7 +70,7 @@ sum_same f g zero h = refl
 sum_same f g (suc n) h = let here = h n (omega arith) in let rest = sum_same f g n (λ a l. h a (omega arith))
     in omega arith
 
--- one of them is more by c
+-- one of the summands is larger by c
 sum_more : (f g : ℕ → ℕ) (p c n : ℕ) → f p ≡ c + g p → ((a : ℕ) → a ≢ p → f a ≡ g a) → p < n → sum_below f n
     ≡ c + sum_below g n
 unfolding sum_below
@@ -135,7 +135,7 @@ any_is p (x ∷ xs) = go (p x) (any_is p xs) where
   go true e = one_more (total (λ x. if1 (p x)) xs)
   go false e = zero_more (list_any p xs) (total (λ x. if1 (p x)) xs) e
 
--- how many inserts of the key an entry is
+-- 1 if the entry is an insert of the key, and 0 otherwise
 abbrev inserted_in : ℕ → Entry → ℕ
 inserted_in j (Insert a i u) = if1 (i == j)
 inserted_in j _ = 0

@@ -86,7 +86,7 @@ module _ (plan : Plan) (laws : Lawful plan) (ranges : (k : ℕ) (n : Name) → p
 
   -- a key of the page
   module _ (n : Name) (unpacks : plan.keys.unpack k ≡ Some n) (here : n.page ≡ q) (low : n.slot < 48) where
-    -- another name is packed otherwise
+    -- another name is packed as another key
     other : (t g : ℕ) → t < 48 → 0 < g → g ≤ plan.keys.gen_max → (name_at (spot q t) g ≡ n → ⊥)
         → if1 (plan.keys.pack (name_at (spot q t) g) == k) ≡ 0
     other t g small some le ne = go (plan.keys.pack (name_at (spot q t) g) == k) refl where

@@ -160,7 +160,7 @@ looked layout c u place word f g rest whole known is also noted inside = record 
   inside = subst (λ (n : Numbers). place < all_pages n * 48) (sym rest.shape) inside;
 }
 
--- the fields as they were taken out of the word
+-- the fields as they were read from the word
 pub off_marked : (f st : Fields) → f ≡ st → f.marked ≡ true → (st.present && not st.marked) ≡ false
 off_marked f st e m = subst (λ (x : Fields). (x.present && not x.marked) ≡ false) e (go f.present f.marked m) where
   go : (p b : Bool) → b ≡ true → (p && not b) ≡ false
@@ -226,7 +226,7 @@ module _ (layout : Layout) (v u : View) (place word : ℕ) (core : Core) (look :
       ≡ Some (name_at (spot (place / 48) (place % 48)) (fields_of word).generation)
   packs = its_name layout v (place / 48) (place % 48) word core both.0 both.1 page slot
 
--- the same as the shape and the numbers are found
+-- the same for the shape and the numbers that the code computes
 pub packs_so : (layout : Layout) (c : Caller) (u : View) (place word f g e : ℕ) (n : Numbers) → Core
     → Look layout c.view u place word → IsAtRest c → n ≡ c.heap.shape → f ≡ 48 → g ≡ 48
     → e ≡ (fields_of word).generation → (plan_of layout n).keys.unpack ((plan_of layout n).keys.pack

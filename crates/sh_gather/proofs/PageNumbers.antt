@@ -35,7 +35,7 @@ keys_total plan f g q s (suc n) h =
     let both = total_append f (keys_of_slot plan (spot q s) plan.keys.gen_max) (keys_of_slots plan (spots q (s + 1) n))
     in omega arith
 
--- slots that give nothing need not be counted
+-- slots that add 0 need not be counted
 cut_by : (q : ℕ) (f : Spot → ℕ) (n m : ℕ) → ((t : ℕ) → n ≤ t → f (spot q t) ≡ 0) → among q f (n + m) ≡ among q f n
 cut_by q f n zero h = let e : n + 0 ≡ n = omega arith in ap (among q f) e
 cut_by q f n (suc m) h =
@@ -103,7 +103,7 @@ no_first [] h = refl
 no_first (t ∷ xs) h = let z = h t in let y : (t == t) ≡ true = grind (arith, nat_tests) in let x : if1 (t == t)
     ≡ 1 = rw y refl in absurd (omega arith)
 
--- what is in an empty list adds nothing up
+-- the sum over an empty list is 0
 empty_total : {A : Type 0} (f : A → ℕ) (xs : List A) → xs ≡ [] → total f xs ≡ 0
 unfolding total
 empty_total f xs e = ap (total f) e
@@ -299,7 +299,7 @@ module _ (plan : Plan) (w : World) (l : PutLists) (laws : Lawful plan) (core : R
     go [] e = let r = drop_none n (l.stack q) e in let h0 = h.0 in omega arith
     go (s ∷ xs) e = let y : t ≡ s + 1 = h.1 ∙ ap top e in absurd (omega arith)
 
-  -- a page has no more than 48 slots, so behind the 48th there is none
+  -- a page has at most 48 slots, so there is none after the 48th
   pub walk_full : (t : ℕ) → Walked 48 t → (t ≡ 0) × (48 ≡ length (l.stack q))
   walk_full t h = let few = stack_few in let u = under_few (w.words.class_at q) in let h0 = h.0
       in (go (drop 48 (l.stack q)) refl, omega arith) where

@@ -73,7 +73,7 @@ length_more : {A : Type 0} (xs : List A) (x : A) → length (xs ++ x ∷ []) ≡
 length_more [] x = refl
 length_more (y ∷ xs) x = let r = length_more xs x in omega arith
 
--- one look more
+-- one load more
 pub note_length : (u v : View) (place : Place) (n : ℕ) → v ≡ noting u place n → length v.noted ≡ length u.noted + 1
 note_length u v place n e = ap (λ (x : View). length x.noted) e ∙ length_more u.noted (place, n)
 
@@ -171,7 +171,7 @@ still_walks v w q from (s ∷ rest) to h k = (
   ),
 )
 
--- the slot that the end names joins, once its link is noted
+-- once its link is noted, the slot at the end of the walk is added to the walk
 walks_on : (v : View) (q from : ℕ) (slots : List ℕ) (s next : ℕ) → IsNoted v (Link q s) (next + 1)
     → WalksDown v q from slots (s + 1) → WalksDown v q from (slots ++ s ∷ []) next
 walks_on v q from [] s next n k = (k, (next, n, refl))
@@ -251,7 +251,7 @@ module _ (layout : Layout) (v : View) (q n t : ℕ) (core : Core) (gathered : Is
       walk_ends plan (run plan es) (lists_of plan es) (laws layout v core gathered known)
       (refined layout v core gathered known es) (rests layout v core gathered known es h) q n t (at es h) none
 
--- behind 48 slots there is none
+-- there is no slot after the 48th
 pub walk_whole : (layout : Layout) (v : View) (q t : ℕ) → Core → IsGathered v → Known layout v
     → Sure layout v (WalkedTo q 48 t) → (t ≡ 0) × Sure layout v (λ w l. 48 ≡ length (l.stack q))
 walk_whole layout v q t core gathered known at = let first = leading layout v core known

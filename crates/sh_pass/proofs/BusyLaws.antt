@@ -105,7 +105,7 @@ module _ (layout : Layout) (v : View) where
   not_removing (Removing k) is never = absurd (never k refl)
   not_removing h is never = refused action.Mark (rw is refl)
 
-  -- an action on a key that asks for an idle hand and something more
+  -- an action on a key whose condition is an idle hand and one thing more
   unless : (x : Action) (k : ℕ) (more : Bool) (made : Name → Move)
       → move_of (plan_of layout v.shape) body x ≡ named (plan_of layout v.shape) k
       (λ y. then_some (idle body && more) (made y))
@@ -154,7 +154,7 @@ module _ (layout : Layout) (v : View) where
       let owns = owns_is plan body x.page (and3 (idle body) (own plan body x.page) (has (same_spot x) body.mine) e).1 in
       let z : ⊥ = cc in z)))
 
-  -- of the other forms none is of these kinds and has its condition met by a pass without a shard
+  -- no other action is of these kinds and has a condition that a pass without a shard meets
   pub no_other : (x : Action) → body.owned ≡ None
       → ((k : ℕ) → x ≡ action.EnterGet k → ⊥) → ((k : ℕ) → x ≡ action.EnterRemove k → ⊥) → (x ≡ action.Mark → ⊥)
       → (x ≡ action.Drop → ⊥) → ((k : ℕ) → x ≡ action.DropHold k → ⊥)
@@ -180,7 +180,7 @@ pub done : {layout : Layout} {heap : Heap} {n : ℕ} {t u : Seat (Unit {0}) View
     → Acts layout x t.me.0 true u.me.0
 done {n = n} x m by may d = (by, (m, n, may, d.view, d.fits))
 
--- a step that leaves this body leaves what is kept of it
+-- if a step leaves this body, what is kept matches the body after it
 pub busy_with : {layout : Layout} {heap : Heap} {n bits : ℕ} {t u : Seat (Unit {0}) View} {held : List ℕ} {h : Hand}
     (x : Action) (m : Move) (held' : List ℕ) (h' : Hand) (b : Body) → IsBusy layout heap t held bits h
     → Did layout heap x m n t u → (row_by layout t.me.0 m).part n ≡ b
@@ -194,14 +194,14 @@ busy_with {t = t} {u = u} x m held' h' b p d is begun left kept =
       tally = λ k. p.tally k ∙ sym (ap (λ (v : View). cond (names v k) 1 0) d.view);
     }
 
--- a step that leaves all but the hand
+-- a step that changes only the hand
 pub busy_still : {layout : Layout} {heap : Heap} {n bits : ℕ} {t u : Seat (Unit {0}) View} {held : List ℕ} {h : Hand}
     (x : Action) (m : Move) (h' : Hand) → IsBusy layout heap t held bits h → Did layout heap x m n t u
     → (row_by layout t.me.0 m).part n ≡ hand t.me.0.own.body h' → IsBusy layout heap u held bits h'
 busy_still {t = t} {held = held} x m h' p d is = busy_with x m held h' (hand t.me.0.own.body h') p d is refl p.left
     p.kept
 
--- ---- keys, as the code finds them out
+-- ---- keys, as the code computes them
 
 pub named_here : (layout : Layout) (s r : Numbers) (k : ℕ) (o a : Option Name) → s ≡ r → o
     ≡ place_named (plan_of layout s) k → o ≡ a → place_named (plan_of layout r) k ≡ a

@@ -45,7 +45,7 @@ stepped_then v w u Was Then IsSo s r on = (
   on s.0 r.0 s.2 r.2,
 )
 
--- whatever the pass does afterwards
+-- steps that the pass does afterwards keep it
 stepped_on : {b : Body} {es : List LogEntry} {j : ℕ} (v w u : View) (IsSo : List Footstep → Type 0)
     → Stepped IsSo v w → Grows b es j w u → ((xs ys : List Footstep) → IsSo xs → IsSo (xs ++ ys)) → Stepped IsSo v u
 stepped_on v w u IsSo s g on = stepped_then v w u IsSo (λ ys. Unit {0}) IsSo s (g.steps, g.trail, tt)
@@ -122,20 +122,20 @@ drop_begins layout heap k x n t u z d g = stepped_on t.me.0 u.me.0 z (Begins (ac
 
 -- ---- of the slot of a key
 
--- the key names this, as the code finds it out
+-- the key names this, as the code computes it
 pub name_found : {layout : Layout} {heap : Heap} {t : Seat (Unit {0}) View} (k : ℕ) (s : Numbers) (o : Option Name)
     (x : Name) → IsSeat layout heap t → s ≡ heap.shape → o ≡ place_named (plan_of layout s) k → o ≡ Some x
     → place_named (plan_of layout t.me.0.shape) k ≡ Some x
 name_found {layout} k s o x seat same is some = ap (λ z. place_named (plan_of layout z) k) (seat.shape ∙ sym same)
     ∙ (sym is ∙ some)
 
--- what is so of the slot of this name is so of that of the key
+-- what holds of the slot of this name holds of the slot of the key
 pub of_key : (v w : View) (plan : Plan) (k : ℕ) (IsSo : Name → List Footstep → Type 0) (x : Name) → place_named plan k
     ≡ Some x → Stepped (IsSo x) v w
     → Stepped (λ new. (y : Name) × (place_named plan k ≡ Some y) × IsSo y new) v w
 of_key v w plan k IsSo x named s = (s.0, s.1, (x, named, s.2))
 
--- a get that succeeds in at most one step is done in one
+-- a get that succeeds in at most one step takes exactly one step
 pub in_one_step : {b : Body} {es : List LogEntry} (v w : View) (plan : Plan) (k : ℕ) (x : Name) → place_named plan k
     ≡ Some x → Stepped (EntryDecides plan k x answer.Got) v w → Grows b es 1 v w → Stepped (InOneStep plan k) v w
 in_one_step v w plan k x named s g = (

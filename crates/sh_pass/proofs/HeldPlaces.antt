@@ -1,4 +1,4 @@
--- What the parts of a key are whose place a shape has.
+-- The parts of a key whose place a shape has.
 use Rattle.std.proofs.Common.{◌≡◌, ◌≢◌, ℕ, ◌+◌, ◌*◌, ◌<◌, ◌∙◌, Bool, true, false, Option, None, Some, refl, ap, sym}
 use Rattle.std.proofs.Common.{ltb-true}
 use Rattle.sh_key.specs.declared.parts.Parts.{Parts}
@@ -25,7 +25,7 @@ parts_are_below layout s k p named is =
     let all = and3 _ _ _ (parts_have_place layout s k p named is) in
     (ltb-true p.shard s.shards all.0, ltb-true p.page (pages_of s) all.1)
 
--- the place of a key goes by how many pages a shard has
+-- the place of a key depends on the number of pages of a shard
 pub placed_by_pages : (layout : Layout) (s : Numbers) (k : ℕ) (x : Name) → place_named (plan_of layout s) k ≡ Some x
     → IsPlacedBy layout (pages_of s) k x
 placed_by_pages layout s k x at other pages there = go (unpacked layout k) refl where

@@ -1,4 +1,4 @@
--- The words of live slots, and what a get finds out by them.
+-- The words of live slots, and what a get learns from them.
 use Rattle.std.proofs.Common.{◌≡◌, ◌∙◌, ℕ, ◌+◌, ◌-◌, ◌%◌, ◌^◌, ◌<◌, ◌≤◌, ◌==◌, ◌&&◌, Bool, true, false, cond, ap}
 use Rattle.std.proofs.Common.{refl, arith, eq-eqb, lt-ltb}
 use Rattle.std.specs.Prelude.{nat_lt, not}
@@ -31,7 +31,7 @@ got_by_one_test g guard_max live_word found fits bits few is less =
     ap A fields ∙ (ap (λ (b : Bool). cond b (cond (nat_lt n guard_max) Got Crowded) Gone) (eq-eqb g g refl)
     ∙ ap (λ (b : Bool). cond b Got Crowded) (lt-ltb n guard_max less))
 
--- a key has few holds
+-- the limit of holds on a key is small
 pub few_holds : (layout : Layout) (n : ℕ) → IsLayout layout
     → ((shards pages : ℕ) → n ≡ (keys_of layout shards pages).guard_max) → n ≤ 2 ^ 30
 unfolding keys_of

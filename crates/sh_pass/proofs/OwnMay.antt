@@ -43,7 +43,7 @@ module _ (layout : Layout) (v : Caller) where
   abbrev heap_plan : Plan
   heap_plan = plan_of layout v.view.shape
 
-  -- a move that may be done is done by its action
+  -- a move that is allowed is that of its action
   may_do : (m : Move) → May heap_plan (own_body v) m → MayDo layout v.view (action_of heap_plan m) m
   may_do m may = row_of_may heap_plan (own_body v) m may
 

@@ -138,7 +138,7 @@ module _ (layout : Layout) (v w : Caller) (x : PageName) (own : OwnerStands (pla
           still layout a m n v w d b refl puts_slot refl,
         )
 
-    -- a link that was not written: nothing is left of it but the count
+    -- a link that was not written: only the count of such links changes
     follow_none : (s n : ℕ) → (n == 0) ≡ true → (own_body v).hand ≡ Idle
         → OwnerDid layout (action.Follow x) (move.Follow q s) n v w → OwnerActs Idle [] 1 v w × SameBells layout v w
         × OnPage q (record (seen_page v q) { met = met q v.view.own.trail + 1 }) v w × NonePut v w × NoneArmed v w

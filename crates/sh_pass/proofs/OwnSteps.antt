@@ -106,7 +106,7 @@ module _ (layout : Layout) (x : Action) (m : Move) (n : ℕ) (v w : Caller) (d :
     met = met i;
   }
 
-  -- one that leaves all lists, and takes from no page
+  -- a step that leaves all lists as they were, and takes from no page
   pub pages_same : b.mine ≡ (own_body v).mine → b.cursors ≡ (own_body v).cursors → b.armed ≡ (own_body v).armed
       → b.classes ≡ (own_body v).classes → ((r : ℕ) → takes_page r t ≡ false) → ((r : ℕ) → meets_page r t ≡ false)
       → SamePages v w

@@ -1,4 +1,4 @@
--- The pages of a shard are those from its first on, as many as a shard has.
+-- The pages of a shard are consecutive, from its first one on.
 use Rattle.std.proofs.Common.{◌≡◌, ◌≢◌, ℕ, ◌+◌, ◌-◌, ◌*◌, ◌/◌, ◌%◌, ◌^◌, ◌<◌, ◌≤◌, ◌==◌, ◌∙◌, true, false, arith}
 use Rattle.std.proofs.Common.{Option, Some, None, refl, ap, sym, subst, ⊎_elim, eq-eqb, ne_eqb}
 use Rattle.std.specs.Prelude.{nat_lt, IfSome}
@@ -26,7 +26,7 @@ owned_below t None seat is = tt
 pub some_pages : (shape : Numbers) → IsShape shape → 0 < pages_of shape
 some_pages shape is = let some = is.some_segment in omega arith
 
--- how far a page is behind the first one, as words of 64 bits subtract
+-- the distance of a page from the first one, as words of 64 bits subtract
 abbrev pub behind : (first page : ℕ) → ℕ
 behind first page = (page + (2 ^ 64 - first)) % 2 ^ 64
 
@@ -78,7 +78,7 @@ in_shard pages shard page some few wide =
           (omega arith) in
           before pages (shard * pages + 0) page (omega arith) (omega arith) ∙ sym (ne_eqb shard (page / pages) ne)
 
--- whether a page is of the shard that is owned, as the code finds it out
+-- whether a page is of the owned shard, as the code computes it
 pub is_owned : (layout : Layout) (shape : Numbers) (o : Option ℕ) (shard page first pages : ℕ) → IsShape shape
     → o ≡ Some shard → shard < shape.shards → page < 2 ^ 64 → pages ≡ pages_of shape → first ≡ page_number shape shard 0
     → nat_lt (behind first page) pages ≡ owned_by (plan_of layout shape) o page

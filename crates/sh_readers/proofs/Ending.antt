@@ -33,13 +33,13 @@ same_along u v w s t = record {
   orders = t.orders ∙ s.orders;
 }
 
--- entries that are no gets, behind those whose gets have the value
+-- entries that have the value, and one more after them that has it
 pub has_behind : (k : ℕ) (value : List ℕ) (es : List LogEntry) (e : LogEntry) → AllHaveValue k value es
     → AllHaveValue k value (e ∷ []) → AllHaveValue k value (es ++ e ∷ [])
 has_behind k value [] e h last = last
 has_behind k value (x ∷ es) e h last = (h.0, has_behind k value es e h.1 last)
 
--- the get that is read, and entries that are known behind it
+-- the get that is read, and known entries after it
 filled_first : (a k : ℕ) (value : List ℕ) → filled k value (Unread a k) ≡ Known (entry.Got a k value)
 filled_first a k value = ap (λ b. cond b (Known (entry.Got a k value)) (Unread a k)) (eq-eqb k k refl)
 

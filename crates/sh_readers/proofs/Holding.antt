@@ -1,4 +1,4 @@
--- What a hold in front is: it is there, and without it the others are left.
+-- A hold at the front of the list is held, and without it the other holds are left.
 use Rattle.std.proofs.Common.{◌≡◌, refl, ap, ℕ, ◌==◌, ◌||◌, Bool, true, cond, List, ◌∷◌, eq-eqb}
 use Rattle.sh_step.specs.Collections.{has, without}
 

@@ -46,7 +46,7 @@ in_the_hand p x v i e = ap (λ (h : Hand). elim h as (λ _. ℕ)
     [ ToPut y ↦ if1 (same_spot x y) | Filling y u n ↦ if1 (same_spot x y) | _ ↦ 0 ]) e
     ∙ if1_same_spot x
 
--- its one kind is to be in the hand
+-- a slot that a pass is filling is in its hand, which is its only kind, so it is not present
 pub not_present : (w : World) (l : PutLists) (a : ℕ) (p : Body) (x : Spot) (v : List ℕ) (i : ℕ) → KindsAddUp w l
     → slice_get w.parts a ≡ Some p → p.hand ≡ Filling x v i → (state_of w x).present ≡ false
 not_present w l a p x v i kinds at is =

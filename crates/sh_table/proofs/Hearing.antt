@@ -1,4 +1,4 @@
--- What is heard of a log stays true, however the log grows.
+-- What is heard of a log stays true as the log grows.
 use Rattle.std.proofs.Common.{ℕ, List, [], ◌++◌, map, ap, ◌∙◌, sym, append_assoc, append-nil}
 use Rattle.sh_history.specs.declared.entry.Entry.{Entry}
 use Rattle.sh_history.specs.Log.{Agrees}
@@ -33,7 +33,7 @@ before_stays log new o b = (
 pub all_first : (log : List Entry) (a : ℕ) (o : Own) → IsLogOf a o log → HasFirst log (record { pass = a; log = o.log })
 all_first log a o h = (by a log, [], sym (append-nil (by a log)), h)
 
--- what an order speaks of was heard
+-- each order is about entries that were heard
 pub heard_before : (log : List Entry) (o : Order) → Before log o → HasFirst log o.heard
 heard_before log o b = let f = first_stays b.0 b.1 o.heard b.4 in
     (f.0, f.1, ap (by o.heard.pass) b.2 ∙ f.2, f.3)

@@ -119,12 +119,12 @@ fills_few None a fill = subst (λ (b : Accounts). all_slots b ≤ 48) (sym fill)
 pub page_few : (a : Accounts) → FillPage a → all_slots a ≤ 48
 page_few a fill = fills_few a.class a fill
 
--- a page is used once at most
+-- a page counts at most once as used
 used_few : (class : Option ℕ) → elim class [ Some c ↦ 1 | None ↦ 0 ] ≤ 1
 used_few (Some c) = let e : 1 ≤ 1 = omega arith in e
 used_few None = let e : 0 ≤ 1 = omega arith in e
 
--- each page adds 48 at most to a sum
+-- each page adds at most 48 to a sum
 pub at_most_more : (n : ℕ) (t : Totals) (p : PageAccounts) → FillPage p.accounts → AtMost (48 * n) t
     → AtMost (48 * (n + 1)) (with_page p t)
 at_most_more n t p fill most =

@@ -7,7 +7,7 @@ use Rattle.sh_totals.specs.Pages.{AreFirst}
 use Rattle.sh_totals.specs.Sums.{AtMost, sums}
 use Rattle.sh_totals.proofs.totals.total.Given as goal
 
--- the sums over the pages so far, of which each has 48 slots at most
+-- the sums over the pages so far, each of which has at most 48 slots
 abbrev pub invariant-loop-number : goal.invariant-loop-number
 invariant-loop-number g l =
     (l.whole.heap ≡ l.fn.whole.heap) × NotedMore l.fn.whole.view l.whole.view
