@@ -1,4 +1,4 @@
--- Several passes: which passes their tales name, and that the first passes of a heap are of it.
+-- Several passes: which passes their tales name, and that the first passes of a heap belong to it.
 use Rattle.std.proofs.Common.{◌≡◌, ℕ, ◌<◌, ◌||◌, ◌+◌, cond, zero, suc, List, [], ◌∷◌, ◌++◌, take, length, max, bit_or}
 use Rattle.std.proofs.Common.{refl, sym, ap, ◌∙◌, get_or}
 use Rattle.std.specs.Int.{bit_at}

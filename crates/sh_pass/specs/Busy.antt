@@ -19,13 +19,13 @@ use Rattle.sh_table.specs.Steps.{MayDo, did, row_by}
 use Rattle.sh_pass.specs.Growing.{is_of_call}
 use Rattle.sh_pass.specs.Passes.{Caller, HoldsKept, IsTally}
 
--- the kinds of step that such a pass does: all that its calls consist of, except reads
+-- the kinds of step that a busy pass does: all that the calls of a pass consist of, except reads
 abbrev pub is_by_hand : ActionKind → Bool
 is_by_hand kind.Read = false
 is_by_hand x = is_of_call x
 
--- The call returns whether the action is of such a kind and its condition holds. If so, it was that one event, for the
--- word that it found; if the row's operation returns that word, the word fits the row. If not, nothing changed.
+-- The call returns whether the action is of one of these kinds and its condition holds. If so, it was that one event,
+-- for the word that it found; if the row's operation returns that word, the word fits the row. If not, nothing changed.
 abbrev pub Acts : Layout → Action → View → Bool → View → Type 0
 Acts layout x v true w = (is_by_hand (kind_of_action x) ≡ true) ×
     ((m : Move) × (n : ℕ) × MayDo layout v x m × (w ≡ did layout x m v n)

@@ -62,7 +62,7 @@ RemovedIsGone = (layout : Layout) (v : View) (history : List Entry) → IsTale l
     → (h : Heard) (p k : ℕ) → Contains h.log (Known (Removed p k))
     → (x : LogEntry) → AnsweredAfter v h x → ¬ SaysThere k x
 
--- a pass that was taken in is heard whole: nothing of it comes after the carrier's first entries
+-- a pass that was taken in is heard whole: none of its entries comes after the carrier's first ones
 abbrev pub NothingComesLater : Type 0
 NothingComesLater = (layout : Layout) (v : View) (history : List Entry) → IsTale layout v history
     → (t : Told) → Contains v.told t → (o : Order) → Contains v.orders o

@@ -6,7 +6,7 @@ use Rattle.sh_pass.specs.Passes.{Caller}
 use Rattle.sh_gather.specs.Gathering.{AreWholeAccounts, NotedMore}
 use Rattle.sh_totals.specs.declared.pages.PageAccounts.{PageAccounts}
 
--- page number i of the heap, and the accounts of it that hold of what is known
+-- page number i of the heap, and its accounts by what the caller knows
 pub record IsPage (layout : Layout) (c : Caller) (i : ℕ) (p : PageAccounts) : Type 0 where
   pub page : p.page < pages_of c.heap.shape
   pub number : page_number c.heap.shape p.shard p.page ≡ i
