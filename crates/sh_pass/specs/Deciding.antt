@@ -63,8 +63,8 @@ DecidedByEntry plan key a new = (name : Name) × (place_named plan key ≡ Some 
 abbrev pub InOneStep : Plan → ℕ → List Footstep → Type 0
 InOneStep plan key new = DecidedByEntry plan key answer.Got new × (length new ≡ 1)
 
--- A removal is decided by the word that it found as it entered the slot of its key, if that word is not live, and
--- otherwise by the word that its mark found there
+-- A removal is decided by the word that it found as it entered the slot of its key, if that word is not live. Otherwise
+-- the word that its mark found there decides
 abbrev pub RemovalDecided : Plan → ℕ → Bool → List Footstep → Type 0
 RemovalDecided plan key removed new = (name : Name) × (place_named plan key ≡ Some name)
     × EntryOrMarkDecides key name removed new

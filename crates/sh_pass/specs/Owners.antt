@@ -62,8 +62,8 @@ pub record IsOwner (layout : Layout) (heap : Heap) (t : Seat (Unit {0}) View) (h
 
 -- ---- what it knows of a page and of its bell
 
--- which slots are its own, the slot to follow next, whether it armed the page, the class word that it noted, how often
--- it took what was put, and how often it met a link that was not written
+-- which slots are its own, the slot to follow next, whether it armed the page, and the class word that it noted; how
+-- often it took what was put, and how often it met a link that was not written
 pub record SeenPage : Type 0 where
   pub mine : ℕ → Bool
   pub cursor : Option ℕ
