@@ -13,14 +13,14 @@ use Rattle.sh_core.specs.Outcomes.{outcome_of}
 use Rattle.sh_core.specs.Words.{Words}
 use Rattle.sh_core.specs.Worlds.{run, value_at}
 
--- the value of a key, by its slot's words alone: those words, if the state word is live in the key's generation
+-- the value of a key, from its slot's words only: those words, if the state word is live in the key's generation
 abbrev pub map_of : Plan → Words → ℕ → Option (List ℕ)
 map_of plan w k = elim (plan.keys.unpack k) [
   | Some n ↦ cond (live_at n.generation (w.state_at n.page n.slot)) (Some (value_at w n.page n.slot)) None
   | None ↦ None
 ]
 
--- what an answer says of the map that its operation found
+-- what an entry says of the map that its operation found
 abbrev pub Finds : (ℕ → Option (List ℕ)) → Entry → Type 0
 Finds m (Insert a k v) = m k ≡ None
 Finds m (Got a k v) = m k ≡ Some v
@@ -29,7 +29,7 @@ Finds m (Crowded a k) = IsSome (m k)
 Finds m (Removed a k) = IsSome (m k)
 Finds m (Released a k) = Unit {0}
 
--- the map after an answer: an insert put its value under the key, a removal took it away, any other left all as it was
+-- the map after an entry: an insert puts its value under the key, a removal removes it, any other leaves the map as is
 abbrev pub made_by : (ℕ → Option (List ℕ)) → Entry → ℕ → Option (List ℕ)
 made_by m (Insert a k v) j = cond (k == j) (Some v) (m j)
 made_by m (Removed a k) j = cond (k == j) None (m j)

@@ -27,8 +27,8 @@ use Rattle.sh_core.specs.Words.{read}
 use Rattle.sh_core.specs.Worlds.{World}
 use Rattle.sh_core.specs.Lists.{times}
 
--- the key in the hand names a slot of the heap; the slot or the page there is one of the heap, and the generation whose
--- end it is one that there is
+-- the key in the hand names a slot of the heap; a slot or page in the hand is one of the heap; a generation that the
+-- hand ends is at most the last one
 abbrev pub HandWithin : Plan → Hand → Type 0
 HandWithin plan (Removing k) = (x : Name) × Named plan k x
 HandWithin plan (Leaving x) = SpotWithin plan x
@@ -40,7 +40,7 @@ HandWithin plan (RingTying q l) = q < heap_pages plan
 HandWithin plan (Filling x v i) = SpotWithin plan x
 HandWithin plan _ = Unit {0}
 
--- what the hand is about, the own shard and the armed pages
+-- the hand, the pass's own shard and its armed pages are within the heap
 pub record InHeap (plan : Plan) (p : Body) : Type 0 where
   pub hand : HandWithin plan p.hand
   pub owned : (n : ℕ) → p.owned ≡ Some n → n < plan.shards
@@ -61,7 +61,7 @@ HasPlace plan (Payload q i) = (q < heap_pages plan) × (i < payload_words)
 HasPlace plan (Owner n) = n < plan.shards
 HasPlace plan (Bell n) = n < plan.shards
 
--- the plan of a heap has places of its shape alone
+-- each place that the plan of a heap has is a place of its shape
 abbrev pub PlansHaveShapesPlaces : Type 0
 PlansHaveShapesPlaces = (layout : Layout) (shape : Numbers) (q : Place) → HasPlace (plan_of layout shape) q
     → IsPlace shape q
@@ -71,13 +71,13 @@ abbrev pub StepsWithin : Plan → World → Type 0
 StepsWithin plan w = (a : ℕ) (p : Body) (x : Action) (r : Row) → slice_get w.parts a ≡ Some p → row plan p x ≡ Some r
     → HasPlace plan r.place
 
--- what an operation does to a state word's count stays within 0 and 2^30
+-- the operation keeps a state word's count from 0 to below 2^30
 abbrev pub CountFits : Operation → ℕ → Type 0
 CountFits (FetchAdd m) n = (fields_of n).count + m < 2 ^ 30
 CountFits (FetchSub m) n = m ≤ (fields_of n).count
 CountFits _ n = Unit {0}
 
--- so the word has room for it
+-- then the word has room for the operation
 abbrev pub CountsLeaveRoom : Type 0
 CountsLeaveRoom = (o : Operation) (n : ℕ) → n < 2 ^ 64 → CountFits o n → HasRoom o n
 
@@ -85,7 +85,7 @@ abbrev pub CountsFit : Plan → World → Type 0
 CountsFit plan w = (a : ℕ) (p : Body) (x : Action) (r : Row) → slice_get w.parts a ≡ Some p → row plan p x ≡ Some r
     → CountFits r.operation (read w.words r.place)
 
--- each enabled action that swaps or exchanges a word stores one
+-- each enabled action that swaps or exchanges a word stores a number that fits a word
 abbrev pub StoresWords : Plan → World → Type 0
 StoresWords plan w = (a : ℕ) (p : Body) (x : Action) (r : Row) → slice_get w.parts a ≡ Some p → row plan p x ≡ Some r
     → StoresWord r.operation
@@ -105,7 +105,7 @@ abbrev pub BellsAreSmall : Plan → World → Type 0
 BellsAreSmall plan w = ((n : ℕ) → w.words.bell_at n ≤ heap_pages plan)
     × ((q : ℕ) → w.words.page_link_at q ≤ heap_pages plan + 1)
 
--- a value stands in a slot of its page's class, and is no longer than it
+-- a slot with a value is one of its page's class, and the value is no longer than the class allows
 abbrev pub ValuesFit : Plan → World → Type 0
 ValuesFit plan w = (x : Spot) → ((fields_of (w.words.state_at x.page x.slot)).present ||
     (fields_of (w.words.state_at x.page x.slot)).marked) ≡ true

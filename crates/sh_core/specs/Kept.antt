@@ -1,4 +1,4 @@
--- The world as the code keeps it: one list of words, and what it stands for.
+-- The world as the code keeps it, with one list of words, and the world that it represents.
 use Rattle.std.specs.Prelude.{ℕ, ◌≡◌, ◌≢◌, ◌-◌, ◌*◌, ◌<◌, ◌≤◌, List, [], ◌⊎◌, length, get_or, slice_get, slice_set}
 use Rattle.std.specs.Prelude.{Option, Some, IsSome, Result, Ok, Err}
 use Rattle.sh_history.specs.declared.entry.Entry.{Entry}
@@ -43,8 +43,8 @@ pub record HoldsWords (shape : Numbers) (list : List ℕ) (words : Words) : Type
 abbrev pub word_at : Numbers → List ℕ → Place → ℕ
 word_at shape list place = get_or list (number shape place) 0
 
--- the value that stands in a slot's words, and that one stands there: the slot is one of its page's class, and the
--- value is no longer than that allows
+-- The value in a slot's words. `SlotHasValue` says that there is one: the slot is one of its page's class, and the
+-- value is no longer than the class allows
 abbrev pub value_in : Numbers → List ℕ → Spot → List ℕ
 value_in shape list x = words_from (λ i. word_at shape list (Payload x.page i))
     (x.slot * width (word_at shape list (Class x.page) - 1)) (word_at shape list (Length x.page x.slot))
@@ -56,7 +56,7 @@ pub record SlotHasValue (shape : Numbers) (list : List ℕ) (x : Spot) : Type 0 
   pub slot : x.slot < slots (word_at shape list (Class x.page) - 1)
   pub length : word_at shape list (Length x.page x.slot) ≤ width (word_at shape list (Class x.page) - 1)
 
--- the same of the slot of a state word
+-- the same for the slot of a state word
 abbrev pub value_kept : Numbers → List ℕ → Place → List ℕ
 value_kept shape list (State q s) = value_in shape list (record { page = q; slot = s })
 value_kept shape list _ = []
@@ -65,29 +65,28 @@ abbrev pub KeepsValue : Numbers → List ℕ → Place → Type 0
 KeepsValue shape list (State q s) = SlotHasValue shape list (record { page = q; slot = s })
 KeepsValue shape list _ = ⊥
 
--- a row may be done on the list: its place is one of the shape, the count of a slot has room, and where it gets a value
--- one stands there
+-- a row may be done on the list: its place is one of the shape, a slot's count has room, and if the row gets a value
+-- there is one
 pub record IsReady (layout : Layout) (shape : Numbers) (list : List ℕ) (r : Row) : Type 0 where
   pub count : length list ≡ words_of shape
   pub row : RowFits shape (plan_of layout shape) r (word_at shape list r.place)
   pub counts : CountFits r.operation (word_at shape list r.place)
   pub gets : (k : ℕ) → r.reply (word_at shape list r.place) ≡ Some (Got k) → KeepsValue shape list r.place
 
--- the row asks for memory where it finds the word n: it replies, so that an entry joins the log, or a list of the part
--- grows
+-- if the row finds the word n it asks for memory: it replies, so an entry joins the log, or a list of the part grows
 abbrev pub AsksMemory : Row → Body → ℕ → Type 0
 AsksMemory r p n = IsSome (r.reply n) ⊎ ListGrows p (r.part n)
 
--- the event has such a row
+-- the event has a row that asks for memory
 abbrev pub NeedsMemory : Layout → KeptWorld → Event → Type 0
 NeedsMemory layout k e = (p : Body) × (r : Row) × (slice_get k.parts e.pass ≡ Some p)
     × (row (plan_of layout k.shape) p e.action ≡ Some r) × AsksMemory r p (word_at k.shape k.words r.place)
 
--- what joins the log where a pass does the row
+-- what joins the log if a pass does the row
 abbrev pub new_entry : Numbers → List ℕ → ℕ → Row → Option Entry
 new_entry shape list a r = entry_of a (value_kept shape list r.place) (r.reply (word_at shape list r.place))
 
--- what it leaves of the list, the pass's part and the log, and what came of it
+-- what the row leaves of the list, the pass's part and the log, and the outcome
 pub record DoesRow (shape : Numbers) (a : ℕ) (r : Row) (list : List ℕ) (entries : List Entry) (came : Outcome)
     (list' : List ℕ) (part' : Body) (entries' : List Entry) : Type 0 where
   pub words : list' ≡ slice_set list (number shape r.place) (operate r.operation (word_at shape list r.place))
@@ -95,7 +94,7 @@ pub record DoesRow (shape : Numbers) (a : ℕ) (r : Row) (list : List ℕ) (entr
   pub log : entries' ≡ joined entries (new_entry shape list a r)
   pub outcome : came ≡ done (new_entry shape list a r)
 
--- it stands for this world
+-- the kept world represents this world
 pub record StandsFor (k : KeptWorld) (w : World) : Type 0 where
   pub words : HoldsWords k.shape k.words w.words
   pub parts : k.parts ≡ w.parts
@@ -109,7 +108,7 @@ pub record FromEvents (layout : Layout) (k : KeptWorld) : Type 0 where
   pub events : List Event
   pub stands : StandsFor k (run (plan_of layout k.shape) events)
 
--- what an event leaves, and what came of it
+-- what an event leaves, and its outcome
 pub record StepsWorld (layout : Layout) (before : KeptWorld) (e : Event) (outcome : Outcome) (after : KeptWorld) : Type
     0 where
   pub shape : after.shape ≡ before.shape

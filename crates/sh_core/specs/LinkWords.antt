@@ -1,4 +1,4 @@
--- What the links of stacks, chains and bells say, in words: what follows from the sums that are kept.
+-- What the links of stacks, chains and bells are, in words: it follows from the sums that are kept.
 use Rattle.std.specs.Prelude.{ℕ, ◌+◌, ◌≡◌, ◌<◌, ◌⊎◌, List, [], ◌∷◌}
 use Rattle.sh_step.specs.Collections.{total}
 use Rattle.sh_step.specs.Plans.{Plan, heap_pages, home}
@@ -6,15 +6,14 @@ use Rattle.sh_core.specs.Lists.{PutLists, times}
 use Rattle.sh_core.specs.Stacks.{spot, link_to, ties_of, ring_ties, bell_link}
 use Rattle.sh_core.specs.Worlds.{World}
 
--- along a list each item's link is 0 and exactly one pass ties it, or it names the next item, or it is the end and the
--- item is the last
+-- Along a list, each item's link is 0 and exactly one pass ties it, or it names the next item. The last item's link
+-- names the end
 abbrev pub LinksOn : (link tied : ℕ → ℕ) → List ℕ → Type 0
 LinksOn link tied [] = Unit {0}
 LinksOn link tied (s ∷ xs) =
     (((link s ≡ 0) × (tied s ≡ 1)) ⊎ ((link s ≡ link_to xs) × (tied s ≡ 0))) × LinksOn link tied xs
 
--- so it is along each page's stack and chain, of slots, and along each shard's bell and its chain, which are of its
--- pages
+-- the links are so along each page's stack and chain of slots, and along each shard's bell and bell chain of pages
 pub record EachLinked (plan : Plan) (w : World) (l : PutLists) : Type 0 where
   pub stack : (q : ℕ) → LinksOn (w.words.link_at q) (λ s. total (ties_of (spot q s)) w.parts) (l.stack q)
   pub chain : (q : ℕ) → LinksOn (w.words.link_at q) (λ s. total (ties_of (spot q s)) w.parts) (l.chain q)

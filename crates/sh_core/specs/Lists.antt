@@ -1,4 +1,4 @@
--- The lists of what was put, which stand in no word and follow from the run, and the accounts of a page.
+-- The lists of what was put, which are in no word and follow from the run, and the accounts of a page.
 use Rattle.std.specs.Prelude.{ℕ, ◌+◌, ◌-◌, ◌==◌, cond, not, ◌&&◌, List, [], ◌∷◌, Option, Some, None, slice_get, drop}
 use Rattle.sh_step.specs.declared.action.Event.{Event}
 use Rattle.sh_step.specs.declared.action.Action.{Action}
@@ -17,8 +17,8 @@ use Rattle.sh_step.specs.declared.body.Body.{Body}
 use Rattle.sh_step.specs.Moves.{row}
 use Rattle.sh_core.specs.Worlds.{World, step, open_world}
 
--- Of page q: what was put since its last Take or Arm, newest first, and what its owner's cursor has yet to follow. Of
--- shard n the same of pages
+-- For page q: the slots put since its last Take or Arm, newest first, and those that its owner's cursor has not
+-- followed yet. For shard n: the same lists of pages
 pub record PutLists : Type 0 where
   pub stack : ℕ → List ℕ
   pub chain : ℕ → List ℕ
@@ -37,7 +37,7 @@ chain_followed l q = record l { chain = put l.chain q (drop 1 (l.chain q)) }
 abbrev pub bells_taken : PutLists → ℕ → PutLists
 bells_taken l n = record l { bells = put l.bells n []; bell_chain = put l.bell_chain n (l.bells n) }
 
--- what an action that was done, and found n, leaves of them
+-- the lists after an action that was done and found n
 unfoldable pub listed : Plan → Body → Action → ℕ → PutLists → PutLists
 listed plan p Put n l = elim (p.hand) [ ToPut x ↦ pushed l x | _ ↦ l ]
 listed plan p (PutSlot x) n l = pushed l (slot_of plan x)
@@ -73,7 +73,7 @@ lists_from plan w l (e ∷ es) = lists_from plan (step plan w e) (list_step plan
 abbrev pub lists_of : Plan → List Event → PutLists
 lists_of plan es = lists_from plan (open_world plan) no_lists es
 
--- What one slot is to a pass: once in `mine`, or in the hand
+-- how often `mine` has the slot; `in_hand` is 1 if the hand has it to put or to fill
 abbrev pub mine_at : Spot → Body → ℕ
 mine_at x p = total (λ y. if1 (same_spot x y)) p.mine
 
@@ -83,14 +83,14 @@ in_hand x p = elim (p.hand) [ ToPut y ↦ if1 (same_spot x y) | Filling y v n �
 abbrev pub times : ℕ → List ℕ → ℕ
 times s xs = total (λ y. if1 (y == s)) xs
 
--- how many of the first n slots of page q pass
+-- the sum of f over the first n slots of page q
 abbrev pub among : ℕ → (Spot → ℕ) → ℕ → ℕ
 among q f n = total f (spots q 0 n)
 
 abbrev pub state_of : World → Spot → Fields
 state_of w x = fields_of (w.words.state_at x.page x.slot)
 
--- the class that a class word names, and how many slots a page of it has
+-- the class that a class word names, and the number of slots of a page with that class word
 abbrev pub class_named : ℕ → Option ℕ
 class_named n = cond (n == 0) None (Some (n - 1))
 

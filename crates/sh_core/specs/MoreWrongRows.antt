@@ -1,4 +1,4 @@
--- More tables that are the right one except for one action: each breaks a clause that the tables of WrongRows keep.
+-- More tables that differ from the right one in one action: each breaks a clause that the tables of WrongRows keep.
 use Rattle.std.specs.Prelude.{◌+◌, ◌==◌, nat_lt, false, ◌&&◌, Some, None, length}
 use Rattle.std.specs.Bool.{then_some}
 use Rattle.sh_shape.specs.declared.places.Place.TheVariants.{Head, Link}
@@ -18,7 +18,7 @@ use Rattle.sh_word.specs.Fields.{fields_of}
 use Rattle.sh_core.specs.Variants.{Table}
 use Rattle.sh_core.specs.WrongRows.{finish_by}
 
--- each generation is the last
+-- each generation counts as the last
 unfoldable pub retires_early : Table
 retires_early plan p Finish = elim (p.hand) [
   | Finishing x g ↦ Some (finish_by plan p x (CompareExchange (marked_word g) (retired_word g)) (λ n. false))
@@ -26,7 +26,7 @@ retires_early plan p Finish = elim (p.hand) [
 ]
 retires_early plan p x = row plan p x
 
--- a generation is left out
+-- one generation is skipped
 unfoldable pub skips_generation : Table
 skips_generation plan p Finish = elim (p.hand) [
   | Finishing x g ↦ Some (finish_by plan p x (CompareExchange (marked_word g) (reusable_word (g + 1)))
@@ -35,7 +35,7 @@ skips_generation plan p Finish = elim (p.hand) [
 ]
 skips_generation plan p x = row plan p x
 
--- a shard is adopted that has an owner
+-- a shard that has an owner is adopted
 unfoldable pub adopts_taken : Table
 adopts_taken plan p (Adopt n) = elim (p.owned) [
   | None ↦ then_some (idle p && nat_lt n plan.shards)
@@ -44,7 +44,7 @@ adopts_taken plan p (Adopt n) = elim (p.owned) [
 ]
 adopts_taken plan p x = row plan p x
 
--- an owner leaves while links are to be followed
+-- an owner leaves although there are links to follow
 unfoldable pub leaves_cursors : Table
 leaves_cursors plan p Leave = elim (p.owned) [
   | Some n ↦ then_some (idle p && (length p.mine == 0) && (length p.armed == 0)) (leave p n)
@@ -52,7 +52,7 @@ leaves_cursors plan p Leave = elim (p.owned) [
 ]
 leaves_cursors plan p x = row plan p x
 
--- a value is told under the key of the next generation
+-- the key of the next generation is returned for a value
 unfoldable pub publishes_next : Table
 publishes_next plan p Publish = elim (p.hand) [
   | Filling x v n ↦ Some (record (publish plan p x v) {
@@ -62,18 +62,18 @@ publishes_next plan p Publish = elim (p.hand) [
 ]
 publishes_next plan p x = row plan p x
 
--- a hold stays though it was released
+-- a hold remains although it was released
 unfoldable pub keeps_hold : Table
 keeps_hold plan p (DropHold k) = named plan k (λ x. then_some (idle p && has (λ j. j == k) p.holds)
     (record (drop_key p k x) { part = λ n. hand p (after_drop (spot_of x) n) }))
 keeps_hold plan p x = row plan p x
 
--- a slot is filled that is nobody's to fill
+-- a slot is filled that is not the pass's to fill
 unfoldable pub fills_any_slot : Table
 fills_any_slot plan p (FillSlot y v) = slotted plan y (λ x. then_some (idle p && own plan p x.page) (fill_slot p x v))
 fills_any_slot plan p x = row plan p x
 
--- the class of a key is read from another word, and so its length
+-- the class word of a key is read from another word, and so is its length
 unfoldable pub reads_wrong_class : Table
 reads_wrong_class plan p (ReadClass k) = named plan k (λ x. then_some (idle p && has (λ j. j == k) p.holds)
     (record (read_class p k x) { place = Head x.page }))
@@ -90,13 +90,13 @@ enters_uncounted plan p (EnterGet k) = named plan k (λ x. then_some (idle p && 
     (record (enter_get plan p k x) { operation = Load }))
 enters_uncounted plan p x = row plan p x
 
--- a value is stored however long it is
+-- a value is stored whatever its length
 unfoldable pub fits_any_length : Table
 fits_any_length plan p (FillSlot y v) = slotted plan y
     (λ x. then_some (idle p && own plan p x.page && nat_lt 0 (class_word_noted p x.page)) (fill_slot p x v))
 fits_any_length plan p x = row plan p x
 
--- the bell names a page that the heap has not
+-- the bell names a page that the heap does not have
 unfoldable pub rings_far : Table
 rings_far plan p Ring = elim (p.hand) [
   | Ringing q ↦ Some (record (ring plan p q) { operation = Swap (top_word (local plan q + 100)) })
@@ -104,13 +104,13 @@ rings_far plan p Ring = elim (p.hand) [
 ]
 rings_far plan p x = row plan p x
 
--- whoever comes late leaves another slot than it entered
+-- a removal that comes too late leaves another slot than it entered
 unfoldable pub leaves_elsewhere : Table
 leaves_elsewhere plan p (EnterRemove k) = named plan k (λ x. then_some (idle p)
     (record (enter_remove plan p k x) { part = λ n. hand p (Leaving (record { page = 100; slot = 0 })) }))
 leaves_elsewhere plan p x = row plan p x
 
--- each page on a bell is tied as the last
+-- each page on a bell is linked as if it were the last
 unfoldable pub ties_ring_as_end : Table
 ties_ring_as_end plan p RingTie = elim (p.hand) [
   | RingTying q l ↦ Some (record (ring_tie p q l) { operation = Store 1 })

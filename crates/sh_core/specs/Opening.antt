@@ -7,7 +7,7 @@ abbrev pub opening_word : (pages number : ℕ) → ℕ
 opening_word pages number = cond (nat_lt number (page_words * pages) &&
     (nat_le first_state (number % page_words) && nat_lt (number % page_words) first_link)) (2 ^ 32) 0
 
--- the first so many words
+-- the first `count` words
 unfoldable pub opening_words : (pages count : ℕ) → List ℕ
 opening_words pages zero = []
 opening_words pages (suc n) = opening_words pages n ++ opening_word pages n ∷ []

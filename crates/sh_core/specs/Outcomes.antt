@@ -1,4 +1,4 @@
--- What comes of an event.
+-- The outcome of an event.
 use Rattle.std.specs.Prelude.{◌≡◌, Bool, true, false, List, [], ◌∷◌, ◌++◌, Option, Some, None, slice_get}
 use Rattle.sh_history.specs.declared.entry.Entry.{Entry}
 use Rattle.sh_history.specs.Log.{pass_of}
@@ -12,11 +12,11 @@ use Rattle.sh_core.specs.declared.outcome.Outcome.TheVariants.{Moved, Replied, S
 use Rattle.sh_core.specs.Words.{read}
 use Rattle.sh_core.specs.Worlds.{World, step, open_world, value_at_place, entry_of}
 
--- the row of an event, where there is such a pass and its condition holds
+-- the row of an event, if there is such a pass and its condition holds
 unfoldable pub row_of_event : Plan → World → Event → Option Row
 row_of_event plan w e = elim (slice_get w.parts e.pass) [ Some p ↦ row plan p e.action | None ↦ None ]
 
--- a step that was done replied what joined the log
+-- a step that was done replied the entry that joined the log, if one did
 abbrev pub done : Option Entry → Outcome
 done (Some entry) = Replied entry
 done None = Moved
@@ -28,7 +28,7 @@ outcome_of plan w e = elim (row_of_event plan w e) [
   | None ↦ Skipped
 ]
 
--- of each event of a run, in order
+-- the outcome of each event of a run, in order
 unfoldable pub outcomes_from : Plan → World → List Event → List Outcome
 outcomes_from plan w [] = []
 outcomes_from plan w (e ∷ es) = outcome_of plan w e ∷ outcomes_from plan (step plan w e) es
@@ -36,14 +36,14 @@ outcomes_from plan w (e ∷ es) = outcome_of plan w e ∷ outcomes_from plan (st
 abbrev pub outcomes : Plan → List Event → List Outcome
 outcomes plan es = outcomes_from plan (open_world plan) es
 
--- An event that was done and decided a call was replied: one entry of its pass joined the log, and that is what came of
--- it. One that decided none moved, and left the log
+-- If an event was done and decided a call, its outcome is a reply: one entry of its pass joined the log, and the reply
+-- is that entry. If it decided no call, its outcome is `Moved`, and the log is as it was
 abbrev pub IsTold : (decided : Bool) → (before after : World) → Event → Outcome → Type 0
 IsTold true before after e outcome = (t : Entry) × (outcome ≡ Replied t) × (pass_of t ≡ e.pass)
     × (after.log ≡ before.log ++ t ∷ [])
 IsTold false before after e outcome = (outcome ≡ Moved) × (after.log ≡ before.log)
 
--- so it is with each event that is done, whatever word it found
+-- each event that is done has such an outcome, whatever word it found
 abbrev pub DecidingEventsReply : Type 0
 DecidingEventsReply = (plan : Plan) (w : World) (e : Event) (m : Row) → row_of_event plan w e ≡ Some m
     → IsTold (decides plan e.action (read w.words m.place)) w (step plan w e) e (outcome_of plan w e)

@@ -1,4 +1,4 @@
--- What the words and the owners' notes keep beside the slots.
+-- What is kept of words and of owners' notes, besides the slots.
 use Rattle.std.specs.Prelude.{ℕ, ◌-◌, ◌/◌, ◌≡◌, ◌<◌, ◌≤◌, ◌==◌, ◌&&◌, ◌||◌, true, false, List, Option, Some, None}
 use Rattle.std.specs.Prelude.{slice_get}
 use Rattle.sh_slots.specs.declared.hand.Spot.{Spot}
@@ -25,7 +25,7 @@ pub record Bounds (plan : Plan) (class : ℕ → ℕ) (state length : ℕ → �
   pub lengths : (q s : ℕ) → ((fields_of (state q s)).present || (fields_of (state q s)).marked) ≡ true
       → length q s ≤ width (class q - 1)
 
--- what an owner notes is of its shard, and true
+-- what an owner notes is about its own shard, and true
 pub record OwnNotes (plan : Plan) (class : ℕ → ℕ) (owned : Option ℕ) (classes : List (ℕ × ℕ)) (mine : List Spot)
     (cursors : List (ℕ × ℕ)) (armed : List ℕ) (bell_cursor : Option ℕ) : Type 0 where
   pub mines : (x : Spot) → owned_by plan owned x.page ≡ false → total (λ y. if1 (same_spot x y)) mine ≡ 0
@@ -56,7 +56,7 @@ ListsAgreeOf plan w ps l = ListsAgree plan w.class_at w.head_at w.page_link_at w
 abbrev pub BoundsOf : Plan → Words → Type 0
 BoundsOf plan w = Bounds plan w.class_at w.state_at w.length_at
 
--- All that holds
+-- all that holds
 pub record Agreement (plan : Plan) (w : World) (l : PutLists) : Type 0 where
   pub sums : Sums plan w l
   pub lists : ListsAgreeOf plan w.words w.parts l

@@ -1,4 +1,5 @@
--- A quiet heap, in which no pass has begun anything: its words alone lead to each slot that was put, and none is lost.
+-- A quiet heap, in which no pass has begun anything: the links and cursors agree with the put lists, and no empty slot
+-- is lost.
 use Rattle.std.specs.Prelude.{ℕ, zero, suc, ◌+◌, ◌-◌, ◌/◌, ◌≡◌, ◌<◌, ◌≤◌, ◌==◌, ◌||◌, false, cond, List, [], ◌∷◌}
 use Rattle.std.specs.Prelude.{length}
 use Rattle.std.specs.Prelude.{◌++◌, Option, Some, None, option_map, slice_get, replicate}
@@ -23,15 +24,16 @@ use Rattle.sh_core.specs.Refines.{mine, Always}
 abbrev pub Quiet : World → Type 0
 Quiet w = (a : ℕ) (p : Body) → slice_get w.parts a ≡ Some p → p.hand ≡ Idle
 
--- The items from the one that a top names down to the end, at most n, by the links alone; none where a link is not
--- written, or where there are more
+-- The items from the one that a top names to the end, along the links. None if a link is not written, or if there are
+-- more than n items
 unfoldable pub walked : (ℕ → ℕ) → (n top : ℕ) → Option (List ℕ)
 walked link n zero = Some []
 walked link zero (suc s) = None
 walked link (suc n) (suc s) = cond (link s == 0) None (option_map (λ xs. s ∷ xs) (walked link n (link s - 1)))
 
--- the words lead from a page's head to each slot that was put on the page, and from its owner's cursor to each slot
--- that is yet to be followed
+-- The put lists come from the run, and their lengths bound the walks. For each page, a walk along the links from the
+-- head word gives the stack list, and one from the chain list's first slot gives the chain list. The cursors that
+-- passes have on the page are one at the chain list's first slot, and none at any other slot
 pub record WordsLead (w : World) (l : PutLists) : Type 0 where
   pub stack : (q n : ℕ) → length (l.stack q) ≤ n
       → walked (w.words.link_at q) n (w.words.head_at q / 2) ≡ Some (l.stack q)
@@ -45,12 +47,12 @@ pub record IsEmptySlot (w : World) (x : Spot) : Type 0 where
   pub below : x.slot < slots class
   pub empty : ((state_of w x).present || (state_of w x).marked) ≡ false
 
--- each empty slot is its owner's, or on the way from the head, or on the way from the cursor: one of these, and once
+-- each empty slot is in one of these, and there once: a pass's `mine`, its page's stack list, its page's chain list
 abbrev pub NoneLost : World → PutLists → Type 0
 NoneLost w l = (x : Spot) → IsEmptySlot w x
     → mine w x + times x.slot (l.stack x.page) + times x.slot (l.chain x.page) ≡ 1
 
--- each empty slot of a shard without an owner is on the way from the head, once
+-- each empty slot of a shard without an owner is in its page's stack list, once
 abbrev pub LeftIsOnStacks : Plan → World → PutLists → Type 0
 LeftIsOnStacks plan w l = (x : Spot) → IsEmptySlot w x → w.words.owner_at (home plan x.page) ≡ 0
     → times x.slot (l.stack x.page) ≡ 1
@@ -60,18 +62,19 @@ pub record LosesNothing (plan : Plan) (w : World) (l : PutLists) : Type 0 where
   pub none_lost : NoneLost w l
   pub left : LeftIsOnStacks plan w l
 
--- so it is after every list of events that leaves no pass with something begun
+-- this holds after every list of events that leaves no pass with something begun
 abbrev pub QuietLosesNothing : Type 0
 QuietLosesNothing = Always (λ plan w l. Quiet w → LosesNothing plan w l)
 
 -- ---- collecting
 
--- pass a takes what was put on page q, and follows it n times
+-- pass a takes what was put on page q, and follows n links
 abbrev pub collecting : Plan → (a q n : ℕ) → List Event
 collecting plan a q n = record { pass = a; action = Take (page_name plan q) }
     ∷ replicate n (record { pass = a; action = Follow (page_name plan q) })
 
--- no pass has begun anything, and nothing that was put on page q is left there: each empty slot of it is its owner's
+-- no pass has begun anything, nothing that was put on page q is left there, and a pass's `mine` has each of its empty
+-- slots once
 pub record NothingQueued (w : World) (l : PutLists) (q : ℕ) : Type 0 where
   pub quiet : Quiet w
   pub stack : l.stack q ≡ []
@@ -79,8 +82,8 @@ pub record NothingQueued (w : World) (l : PutLists) (q : ℕ) : Type 0 where
   pub queued : (accounts w l q).queued ≡ 0
   pub mine : (x : Spot) → x.page ≡ q → IsEmptySlot w x → mine w x ≡ 1
 
--- If no pass has begun anything, a pass that may take the stack of a page collects all of it, by as many follows as
--- slots were put there. None of them meets a link that is not written
+-- If no pass has begun anything, a pass that may take a page's stack collects all of it. It does one follow for each
+-- slot of the stack list, and each follow meets a written link
 abbrev pub CollectingFindsAll : Type 0
 CollectingFindsAll = (layout : Layout) (shape : Numbers) → IsLayout layout → IsShape shape → Fits layout shape
     → (es : List Event) → let plan = plan_of layout shape in Quiet (run plan es)

@@ -9,7 +9,7 @@ use Rattle.sh_step.specs.declared.body.Body.{Body}
 use Rattle.sh_core.specs.Lists.{times}
 use Rattle.sh_core.specs.Worlds.{World}
 
--- each held key names a place of the shape; what was read of a key is of a held one, and true
+-- each held key names a place of the shape; what was read of a key is about a held one, and true
 pub record ReadsAgree (plan : Plan) (class : ℕ → ℕ) (length : ℕ → ℕ → ℕ) (holds : List ℕ)
     (class_words lengths : List (ℕ × ℕ)) : Type 0 where
   pub named : (k : ℕ) → 0 < times k holds → (n : Name) × (plan.keys.unpack k ≡ Some n) × (n.page < heap_pages plan)

@@ -32,7 +32,7 @@ use Rattle.sh_core.specs.Stacks.{Chains, spot, tying, ties_of, cursor_at, ring_t
 use Rattle.sh_core.specs.Stacks.{bell_link, bell_head}
 use Rattle.sh_core.specs.Bells.{rings, armed_at}
 
--- The kinds of a slot, each counted
+-- the kinds of a slot, each counted
 abbrev pub live : Fields → ℕ
 live st = if1 (st.present && not st.marked)
 
@@ -51,7 +51,7 @@ in_hands w x = total (in_hand x) w.parts
 abbrev pub queued_at : PutLists → Spot → ℕ
 queued_at l x = times x.slot (l.stack x.page) + times x.slot (l.chain x.page)
 
--- how often the six kinds count a slot, together
+-- how often the six kinds count a slot, in all
 abbrev pub kind_count : World → PutLists → Spot → ℕ
 kind_count w l x = live (state_of w x) + marked (state_of w x) + retired (state_of w x) + mine w x + in_hands w x +
     queued_at l x
@@ -61,7 +61,8 @@ abbrev pub OneKind : World → PutLists → Type 0
 OneKind w l = (x : Spot) (c : ℕ) → w.words.class_at x.page ≡ c + 1
     → (x.slot < slots c → kind_count w l x ≡ 1) × (slots c ≤ x.slot → kind_count w l x ≡ 0)
 
--- the same as one equation for every spot: 1 below the slots of the page's class, and else 0; a blank page has no slots
+-- the same as one equation for every spot: 1 below the slots of the page's class, otherwise 0; a blank page has no
+-- slots
 abbrev pub KindsAddUp : World → PutLists → Type 0
 KindsAddUp w l = (x : Spot) → kind_count w l x ≡ if1 (nat_lt x.slot (slots_under (w.words.class_at x.page)))
 
@@ -70,7 +71,7 @@ abbrev pub Filled : World → PutLists → Type 0
 Filled w l = (q : ℕ) → let a = accounts w l q in
     a.live + (a.marked + (a.retired + (a.mine + (a.hand + a.queued)))) ≡ slots_under (w.words.class_at q)
 
--- a class word names a class or says 0, and only pages of the heap have a class
+-- a class word names a class or is 0, and only pages of the heap have a class
 abbrev pub ClassesAreKnown : Plan → World → Type 0
 ClassesAreKnown plan w = (q : ℕ) →
     (w.words.class_at q ≤ class_count) × (heap_pages plan ≤ q → w.words.class_at q ≡ 0)
@@ -96,8 +97,8 @@ ReadsWithin plan w = (a : ℕ) (p : Body) (k : ℕ) (n : Name) (c m i : ℕ) →
     (c ≡ w.words.class_at n.page) × (m ≡ w.words.length_at n.page n.slot)
     × (n.slot * width (c - 1) + i < payload_words)
 
--- what a pass noted of a key is of one that it holds, and true: the class word of its page, the length of its value,
--- and words of it
+-- what a pass noted of a key is about a key that it holds, and true: the class word of its page, the length of its
+-- value, and words of the value
 pub record KeyNotes (plan : Plan) (w : World) (p : Body) : Type 0 where
   pub class_words : (k c : ℕ) → noted k p.class_words ≡ Some c → (0 < times k p.holds)
       × ((n : Name) → plan.keys.unpack k ≡ Some n → w.words.class_at n.page ≡ c)
@@ -109,7 +110,7 @@ pub record KeyNotes (plan : Plan) (w : World) (p : Body) : Type 0 where
 abbrev pub NotesAreTrue : Plan → World → Type 0
 NotesAreTrue plan w = (a : ℕ) (p : Body) → slice_get w.parts a ≡ Some p → KeyNotes plan w p
 
--- a slot's count is the holds on its present key, and the passes that remove or leave there
+-- a slot's count is the number of holds on its present key and of passes that remove or leave there
 abbrev pub holds_now : Plan → Spot → Fields → Body → ℕ
 holds_now plan x st p = total (λ k. if1 (at_spot x (plan.keys.unpack k) && current st (plan.keys.unpack k))) p.holds
 
@@ -117,7 +118,7 @@ abbrev pub Counted : Plan → World → Type 0
 Counted plan w = (x : Spot) → (state_of w x).count ≡ total (holds_now plan x (state_of w x)) w.parts + total
     (visits plan x) w.parts
 
--- holds on the present key are at most guard_max, and each pass is on the slot once more for a moment
+-- holds on the present key are at most guard_max, and each pass may be on the slot once more for a moment
 abbrev pub CountIsFew : Plan → World → Type 0
 CountIsFew plan w = (x : Spot) → (state_of w x).count ≤ plan.keys.guard_max + length w.parts
 
@@ -130,14 +131,14 @@ PastIsRemoved plan w = (k : ℕ) (n : Name) → plan.keys.unpack k ≡ Some n
 abbrev pub GenerationsEnd : Plan → World → Type 0
 GenerationsEnd plan w = (x : Spot) → (0 < (state_of w x).generation) × ((state_of w x).generation ≤ plan.keys.gen_max)
 
--- and none follows where it is retired
+-- if it is retired, its generation is the last one
 abbrev pub RetiredIsLast : Plan → World → Type 0
 RetiredIsLast plan w = (x : Spot) → (state_of w x).present ≡ false → (state_of w x).marked ≡ true
     → (state_of w x).generation ≡ plan.keys.gen_max
 
--- what the log says of a key of generation g, at a slot in the state st whose words hold `now`. Of the present
--- generation: it was issued where the slot is live, marked or retired, with the value in its words, and not where it is
--- empty; it was removed exactly where the mark is set. Of a later one: neither
+-- What the log says of a key of generation g, at a slot in the state st whose words hold `now`. The key of the present
+-- generation was issued with the value in the words if the slot is live, marked or retired, and not if it is empty. It
+-- was removed exactly if the mark is set. A key of a later generation was neither issued nor removed
 pub record KeyTold (log : List Entry) (k g : ℕ) (st : Fields) (now : List ℕ) : Type 0 where
   pub issued : g ≡ st.generation → (st.present || st.marked) ≡ true → value_of log k ≡ Some now
   pub empty : g ≡ st.generation → (st.present || st.marked) ≡ false → value_of log k ≡ None
@@ -148,7 +149,7 @@ abbrev pub KeysAreTold : Plan → World → Type 0
 KeysAreTold plan w = (k : ℕ) (n : Name) → plan.keys.unpack k ≡ Some n
     → KeyTold w.log k n.generation (state_of w (spot_of n)) (value_at w.words n.page n.slot)
 
--- each pass's Got of a key are its Released and its holds, and so are all passes' together
+-- the Got entries of a key number its Released entries and its holds, for each pass and for all passes together
 pub record HoldsAreTold (w : World) : Type 0 where
   pub of_pass : (a : ℕ) (p : Body) (k : ℕ) → slice_get w.parts a ≡ Some p
       → got_count_by w.log a k ≡ released_count_by w.log a k + times k p.holds
@@ -158,17 +159,18 @@ pub record HoldsAreTold (w : World) : Type 0 where
 abbrev pub EntriesAreOurs : Plan → World → Type 0
 EntriesAreOurs plan w = All (λ e. pass_of e < plan.passes) w.log
 
--- a marked slot that nobody is on has a pass that finishes it
+-- a marked slot with count 0 has a pass that finishes it
 abbrev pub Finished : Plan → World → Type 0
 Finished plan w = (x : Spot) → (state_of w x).present ≡ true → (state_of w x).marked ≡ true → (state_of w x).count ≡ 0
     → 0 < total (finishing x (state_of w x).generation) w.parts
 
--- an armed page has one of: its flag, a pass that must ring, a place on the bell or on its chain; another has none
+-- an armed page has exactly one of these: its flag, a pass that must ring, a place on the bell or on the bell chain;
+-- another page has none
 abbrev pub Armed : Plan → World → PutLists → Type 0
 Armed plan w l = (q : ℕ) → (total (armed_at q) w.parts ≡ w.words.head_at q % 2 + total (rings q) w.parts + times q
     (l.bells (home plan q)) + times q (l.bell_chain (home plan q))) × (total (armed_at q) w.parts ≤ 1)
 
--- a shard's owner word is 1 where a pass owns it, and then one pass alone; else it is 0
+-- a shard's owner word is 1 if exactly one pass owns it, and 0 if none does
 pub record OneOwner (w : World) : Type 0 where
   pub word : (n : ℕ) → w.words.owner_at n ≤ 1
   pub owned : (n : ℕ) → w.words.owner_at n ≡ 1 → (a : ℕ) × (p : Body) × (slice_get w.parts a ≡ Some p)
@@ -177,7 +179,7 @@ pub record OneOwner (w : World) : Type 0 where
   pub alone : (a b : ℕ) (p r : Body) (n : ℕ) → slice_get w.parts a ≡ Some p → slice_get w.parts b ≡ Some r
       → p.owned ≡ Some n → r.owned ≡ Some n → a ≡ b
 
--- a shard that nobody owns has no cursor, nothing armed and nothing mine
+-- a shard without an owner has no cursor, no armed page and no slot in a pass's `mine`
 abbrev pub LeftEmpty : Plan → World → Type 0
 LeftEmpty plan w = (n : ℕ) → w.words.owner_at n ≡ 0
     → ((x : Spot) → home plan x.page ≡ n → mine w x ≡ 0)
@@ -189,8 +191,8 @@ abbrev pub ShardlessHaveNothing : World → Type 0
 ShardlessHaveNothing w = (a : ℕ) (p : Body) → slice_get w.parts a ≡ Some p → p.owned ≡ None
     → (p.mine ≡ []) × (p.cursors ≡ []) × (p.armed ≡ []) × (p.bell_cursor ≡ None)
 
--- what EachLinked says in words, as sums: along each list an item's link and what the pass that ties it will store are
--- together what names the rest; a head names the first of its stack, and a cursor is at the first of its chain
+-- What EachLinked says, as sums. Along each list, an item's link plus what the pass that ties it will store names the
+-- rest. A head names the first of its stack, and a cursor is at the first of its chain
 abbrev pub Linked : Plan → World → PutLists → Type 0
 Linked plan w l =
     Chains (λ q. w.words.head_at q / 2) w.words.link_at (λ q s. total (tying (spot q s)) w.parts)
@@ -199,9 +201,9 @@ Linked plan w l =
     (λ n q. total (ring_tying plan n q) w.parts) (λ n q. total (ring_ties plan n q) w.parts)
     (λ n q. total (bell_cursor_at n q) w.parts) l.bells l.bell_chain
 
--- what a pass has of its own lies within its shard, and what it noted is true. A slot is its own once, and is one of
--- its page's class; a page has one cursor at most, at a slot of its class that is not its own; an armed page is armed
--- once, and the bell's cursor is at one; a page of the shard that is not armed has no flag
+-- What a pass has of its own is within its shard, and what it noted is true. Each of its slots is in `mine` once, and
+-- is one of its page's class. A page has at most one cursor, at a slot of its class that is not in `mine`. An armed
+-- page is armed once, and the bell's cursor is at an armed page. A page of the shard that is not armed has no flag
 pub record OwnStands (plan : Plan) (w : World) (p : Body) : Type 0 where
   pub few_holds : length p.holds ≤ 16
   pub owned : (n : ℕ) → p.owned ≡ Some n → n < plan.shards
@@ -230,7 +232,7 @@ FillsAreKeys plan w = (a : ℕ) (p : Body) (x : Spot) (v : List ℕ) (i : ℕ) �
 abbrev pub HoldsAreFew : Plan → World → Type 0
 HoldsAreFew plan w = (k : ℕ) → total (λ (p : Body). times k p.holds) w.parts ≤ plan.keys.guard_max
 
--- a page whose flag stands has an empty stack
+-- a page whose flag is set has an empty stack
 abbrev pub FlaggedAreEmpty : World → PutLists → Type 0
 FlaggedAreEmpty w l = (q : ℕ) → w.words.head_at q % 2 ≡ 1 → l.stack q ≡ []
 
@@ -238,12 +240,12 @@ FlaggedAreEmpty w l = (q : ℕ) → w.words.head_at q % 2 ≡ 1 → l.stack q �
 abbrev pub KeysInHandName : Plan → World → Type 0
 KeysInHandName plan w = (a : ℕ) (p : Body) → slice_get w.parts a ≡ Some p → HandNames plan p.hand
 
--- a pass that has begun something can go on by this table: there is a next step, and each leaves fewer to the end
+-- a pass that has begun something can continue by this table: it has a next step, and each step leaves fewer to the end
 abbrev pub GoesOn : Table → Plan → World → Type 0
 GoesOn rows plan w = (a : ℕ) (p : Body) → slice_get w.parts a ≡ Some p → p.hand ≢ Idle
     → HasNext (rows plan p) × ComesNearer (rows plan p) p.hand
 
--- all of it
+-- all clauses
 pub record Refines (plan : Plan) (w : World) (l : PutLists) : Type 0 where
   pub legal : Legal plan.passes plan.keys.guard_max w.log
   pub entries : EntriesAreOurs plan w

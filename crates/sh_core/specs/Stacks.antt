@@ -11,7 +11,7 @@ use Rattle.sh_core.specs.Lists.{times}
 abbrev pub spot : ℕ → ℕ → Spot
 spot q s = record { page = q; slot = s }
 
--- the link word of the item above this list, and the head word's number for it
+-- the link word of the item above this list; `top` is the head word's number for it
 abbrev pub link_to : List ℕ → ℕ
 link_to [] = 1
 link_to (s ∷ xs) = s + 2
@@ -29,17 +29,17 @@ abbrev pub Chained : (ℕ → ℕ) → (ℕ → ℕ) → List ℕ → Type 0
 Chained word owed [] = Unit {0}
 Chained word owed (s ∷ xs) = (word s + owed s ≡ link_to xs) × Chained word owed xs
 
--- Of each group, its head's number, its items' links, what is owed and by how many, and the cursor, beside the two
--- lists
+-- For each group: its head's number, its items' links, the links that passes owe, the number of passes that owe them,
+-- and its cursors, together with the two lists
 pub record Chains (head : ℕ → ℕ) (link owed tied cursor : ℕ → ℕ → ℕ) (stack chain : ℕ → List ℕ) : Type 0 where
   pub tops : (q : ℕ) → head q ≡ top (stack q)
   pub stacks : (q : ℕ) → Chained (link q) (owed q) (stack q)
   pub chains : (q : ℕ) → Chained (link q) (owed q) (chain q)
-  -- an item that stands in a list has its link or one pass that ties it, any other neither
+  -- an item in a list has its link or one pass that ties it; another item has neither
   pub ties : (q s : ℕ) → if1 (not (link q s == 0)) + tied q s ≡ times s (stack q) + times s (chain q)
   pub cursors : (q s : ℕ) → cursor q s ≡ first_is (chain q) s
 
--- the link that a pass has yet to store at x, 0 where it has none
+-- the link that a pass still has to store at x, or 0
 abbrev pub tying : Spot → Body → ℕ
 tying x p = elim (p.hand) [ Tying y l r ↦ cond (same_spot x y) l 0 | _ ↦ 0 ]
 
@@ -49,7 +49,7 @@ ties_of x p = elim (p.hand) [ Tying y l r ↦ if1 (same_spot x y) | _ ↦ 0 ]
 abbrev pub cursor_at : ℕ → ℕ → Body → ℕ
 cursor_at q s p = total (λ c. if1 ((c.0 == q) && (c.1 == s))) p.cursors
 
--- the same of pages on the bell of shard n
+-- the same for pages on the bell of shard n
 abbrev pub ring_tying : Plan → ℕ → ℕ → Body → ℕ
 ring_tying plan n q p = elim (p.hand) [
   | RingTying k l ↦ cond ((n == home plan k) && (q == k)) (over_heap plan n 2 l) 0

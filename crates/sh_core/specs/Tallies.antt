@@ -1,4 +1,4 @@
--- What is kept of each slot: sums over the passes.
+-- What is kept for each slot: sums over the passes.
 use Rattle.std.specs.Prelude.{ℕ, ◌+◌, ◌-◌, ◌≡◌, ◌<◌, ◌==◌, nat_lt, Bool, true, false, cond, not, ◌&&◌, ◌||◌, List}
 use Rattle.std.specs.Prelude.{Option, Some, None}
 use Rattle.sh_slots.specs.declared.hand.Hand.TheVariants.{Removing, Leaving, Finishing}
@@ -18,7 +18,7 @@ abbrev pub at_spot : Spot → Option Name → Bool
 at_spot x (Some n) = same_spot x (spot_of n)
 at_spot x None = false
 
--- the key's generation is the slot's, and it is there
+-- the key's generation is the slot's, and the slot is present
 abbrev pub current : Fields → Option Name → Bool
 current st (Some n) = st.present && (n.generation == st.generation)
 current st None = false
@@ -37,7 +37,7 @@ visits plan x p = elim (p.hand) [
 abbrev pub stale : Fields → Spot → Option Name → ℕ
 stale st x o = cond (at_spot x o) (if1 (not (current st o))) 0
 
--- how many of its holds, and of what it removes, name the slot in another generation
+-- how many of its holds, and of the key that it removes, name the slot in another generation
 abbrev pub lost : Plan → Spot → Fields → Body → ℕ
 lost plan x st p = total (λ k. stale st x (plan.keys.unpack k)) p.holds + elim (p.hand)
     [ Removing k ↦ stale st x (plan.keys.unpack k) | _ ↦ 0 ]
@@ -74,14 +74,14 @@ tally plan x st ps = record {
   finishing = total (finishing x st.generation) ps;
 }
 
--- room: 1 below the class's number of slots, 0 above. queued: how often the slot stands in the stack and the chain
+-- room: 1 if the slot is one of its page's class, otherwise 0. queued: how often the stack and the chain have the slot
 pub record AddsUp (room queued : ℕ) (st : Fields) (t : Tally) : Type 0 where
   pub kinds : if1 (st.present || st.marked) + t.mine + t.hand + queued ≡ room
   pub counts : st.count ≡ t.held + t.visits
   pub none_lost : t.lost ≡ 0
   pub owed : st.present ≡ true → st.marked ≡ true → st.count ≡ 0 → 0 < t.finishing
 
--- below the number of slots of the page's class; a blank page has none
+-- 1 for a slot of its page's class, otherwise 0; a blank page has none
 abbrev pub room : Words → Spot → ℕ
 room w x = cond (nat_lt 0 (w.class_at x.page) && nat_lt x.slot (slots (w.class_at x.page - 1))) 1 0
 

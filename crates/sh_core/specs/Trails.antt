@@ -1,4 +1,4 @@
--- What a pass did, step by step: a trail stands in no world and is read by no condition. What is counted over it is in
+-- What a pass did, step by step: a trail is part of no world, and no condition reads it. What is counted over it is in
 -- sh_step's Footsteps.
 use Rattle.std.specs.Prelude.{ℕ, ◌≡◌, ◌≢◌, ◌==◌, List, [], ◌∷◌, ◌++◌, Some, None, cond, filter, slice_get}
 use Rattle.sh_history.specs.declared.entry.Entry.{Entry}
@@ -34,20 +34,20 @@ trail_of plan es a = trail_from plan (open_world plan) a [] es
 abbrev pub log_of : ℕ → World → List Entry
 log_of a w = filter (λ e. pass_of e == a) w.log
 
--- One event more that is done by pass a, whose part is p, by this row: the trail of a has one step more, with the word
--- that is found
+-- after one more event that pass a does by this row, with the part p, the trail of a has one more step, with the word
+-- that was found
 abbrev pub TrailGrows : Type 0
 TrailGrows = (plan : Plan) (es : List Event) (a : ℕ) (x : Action) (p : Body) (r : Row) → slice_get (run plan es).parts a
     ≡ Some p → row plan p x ≡ Some r
     → trail_of plan (es ++ record { pass = a; action = x } ∷ []) a ≡ trail_of plan es a
     ++ footstep_of x r (read (run plan es).words r.place) ∷ []
 
--- an event leaves the trails of the other passes
+-- an event leaves the trails of the other passes as they were
 abbrev pub OthersTrailsStay : Type 0
 OthersTrailsStay = (plan : Plan) (es : List Event) (e : Event) (a : ℕ) → e.pass ≢ a → trail_of plan (es ++ e ∷ []) a
     ≡ trail_of plan es a
 
--- and an event that is skipped leaves all of them
+-- an event that is skipped leaves all trails as they were
 abbrev pub SkipsLeaveTrails : Type 0
 SkipsLeaveTrails = (plan : Plan) (es : List Event) (e : Event) (a : ℕ) → row_of_event plan (run plan es) e ≡ None
     → trail_of plan (es ++ e ∷ []) a ≡ trail_of plan es a

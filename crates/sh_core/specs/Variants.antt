@@ -1,4 +1,4 @@
--- The same runs over any table of actions, to say what holds, or fails, where a row is another.
+-- The same runs over any table of actions, to say what holds, or fails, if a row is another.
 use Rattle.std.specs.Prelude.{List, [], ◌∷◌, Option, Some, None, slice_get}
 use Rattle.sh_key.specs.Layout.{Layout, IsLayout}
 use Rattle.sh_shape.specs.Shape.{Numbers, IsShape, Fits}
@@ -11,7 +11,7 @@ use Rattle.sh_core.specs.Words.{read}
 use Rattle.sh_core.specs.Worlds.{World, apply, open_world}
 use Rattle.sh_core.specs.Lists.{PutLists, listed, no_lists}
 
--- the row of an action, where the part meets its condition
+-- the row of an action, if the part meets its condition
 abbrev pub Table : Type 0
 Table = Plan → Body → Action → Option Row
 

@@ -14,13 +14,13 @@ pub record IsBusyAfter (plan : Plan) (es : List Event) (a : ℕ) : Type 0 where
   pub at : slice_get (run plan es).parts a ≡ Some body
   pub busy : body.hand ≢ Idle
 
--- so it is after es, and after each of these events except the last
+-- the pass is busy after es, and after each of these events except the last
 abbrev pub BusyUntil : Plan → List Event → List Event → ℕ → Type 0
 BusyUntil plan es [] a = Unit {0}
 BusyUntil plan es (e ∷ fs) a = IsBusyAfter plan es a × BusyUntil plan (es ++ e ∷ []) fs a
 
--- Until a pass has nothing begun, it does at most as many steps of its own as its hand says (`to_end`), however many
--- events of other passes come between
+-- While a pass is busy it does at most as many steps of its own as `to_end` of its hand says, however many events of
+-- other passes come between
 abbrev pub WaitFree : Type 0
 WaitFree = (plan : Plan) (es fs : List Event) (a : ℕ) (p u : Body) → slice_get (run plan es).parts a ≡ Some p
     → slice_get (run plan (es ++ fs)).parts a ≡ Some u → BusyUntil plan es fs a

@@ -4,7 +4,7 @@ use Rattle.sh_shape.specs.declared.places.Place.{Place}
 use Rattle.sh_shape.specs.declared.places.Place.TheVariants.{Class, Head, PageLink, State, Link, Length, Payload, Owner}
 use Rattle.sh_shape.specs.declared.places.Place.TheVariants.{Bell}
 
--- A function with another value at one number
+-- a function with another value at one number
 unfoldable pub put : {A : Type 0} → (ℕ → A) → ℕ → A → ℕ → A
 put f i x j = cond (j == i) x (f j)
 

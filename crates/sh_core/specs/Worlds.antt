@@ -26,7 +26,7 @@ abbrev pub words_from : (ℕ → ℕ) → ℕ → ℕ → List ℕ
 words_from f i zero = []
 words_from f i (suc n) = f i ∷ words_from f (i + 1) n
 
--- the value that stands in a slot's words
+-- the value in a slot's words
 unfoldable pub value_at : Words → ℕ → ℕ → List ℕ
 value_at w q s = words_from (w.payload_at q) (s * width (w.class_at q - 1)) (w.length_at q s)
 
@@ -34,7 +34,7 @@ abbrev pub value_at_place : Words → Place → List ℕ
 value_at_place w (State q s) = value_at w q s
 value_at_place w _ = []
 
--- what joins the log: the reply to this pass, with the value that stands in the slot where it is got
+-- what joins the log: the reply to this pass, with the value in the slot if it is got
 abbrev pub entry : ℕ → List ℕ → Reply → Entry
 entry a v (reply.Insert k u) = Insert a k u
 entry a v (reply.Got k) = Got a k v
@@ -51,7 +51,7 @@ abbrev pub joined : List Entry → Option Entry → List Entry
 joined xs (Some e) = xs ++ e ∷ []
 joined xs None = xs
 
--- one step, of whatever kind: one word, one part, and what it replies joins the log
+-- one step, of whatever kind: it changes one word and one part, and what it replies joins the log
 unfoldable pub apply : World → ℕ → Row → World
 apply w a m = let n = read w.words m.place in record {
   words = write w.words m.place (operate m.operation n);

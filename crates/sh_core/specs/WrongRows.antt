@@ -1,4 +1,4 @@
--- Tables that are the right one but for one action, or for two whose order is turned.
+-- Tables that differ from the right one in one action, or in two whose order is swapped.
 use Rattle.std.specs.Prelude.{ℕ, ◌-◌, ◌==◌, nat_lt, Bool, true, false, cond, not, ◌&&◌, ◌||◌, ◌∷◌, Some, None, length}
 use Rattle.std.specs.Bool.{then_some}
 use Rattle.sh_shape.specs.declared.places.Place.TheVariants.{State, Link, Head}
@@ -23,9 +23,9 @@ use Rattle.sh_bell.specs.Bell.{head_word, is_armed}
 use Rattle.sh_word.specs.Fields.{word_of}
 use Rattle.sh_core.specs.Variants.{Table}
 
--- ---- what is answered of a key, and what is known of it
+-- ---- what is returned for a key, and what is known of it
 
--- a key is crowded however few holds it has
+-- a key is crowded even if it has few holds
 unfoldable pub crowds_at_once : Table
 crowds_at_once plan p (EnterGet k) = named plan k (λ x. then_some (idle p && nat_lt (length p.holds) 16)
     (record (enter_get plan p k x) {
@@ -34,7 +34,7 @@ crowds_at_once plan p (EnterGet k) = named plan k (λ x. then_some (idle p && na
     }))
 crowds_at_once plan p x = row plan p x
 
--- a get takes a hold of a key that has as many as it may have
+-- a get takes a hold on a key that already has as many as it may have
 unfoldable pub ignores_room : Table
 ignores_room plan p (EnterGet k) = named plan k (λ x. then_some (idle p && nat_lt (length p.holds) 16)
     (record (enter_get plan p k x) {
@@ -43,7 +43,7 @@ ignores_room plan p (EnterGet k) = named plan k (λ x. then_some (idle p && nat_
     }))
 ignores_room plan p x = row plan p x
 
--- a get that finds the slot without the key's value answers nothing, and never will
+-- a get that finds the slot without the key's value returns nothing, then or later
 unfoldable pub never_answers_gone : Table
 never_answers_gone plan p (EnterGet k) = named plan k (λ x. then_some (idle p && nat_lt (length p.holds) 16)
     (record (enter_get plan p k x) {
@@ -66,7 +66,7 @@ both_remove plan p Mark = elim (p.hand) [
 ]
 both_remove plan p x = row plan p x
 
--- whoever marked a slot has done with it, and never takes its count back
+-- the pass that marked a slot is done with it, and never takes its count back
 unfoldable pub marks_and_stays : Table
 marks_and_stays plan p Mark = elim (p.hand) [
   | Removing k ↦ named plan k
@@ -83,7 +83,7 @@ drops_and_forgets plan p Drop = elim (p.hand) [
 ]
 drops_and_forgets plan p x = row plan p x
 
--- what was read of a key stays known after its last hold
+-- what was read of a key is still known after its last hold
 unfoldable pub knows_after_hold : Table
 knows_after_hold plan p (DropHold k) = named plan k (λ x. then_some (idle p && has (λ j. j == k) p.holds)
     (record (drop_key p k x) {
@@ -116,7 +116,7 @@ keeps_generation plan p Finish = elim (p.hand) [
 ]
 keeps_generation plan p x = row plan p x
 
--- whatever stands in the state word, it is overwritten
+-- the state word is overwritten, whatever it is
 unfoldable pub ignores_count : Table
 ignores_count plan p Finish = elim (p.hand) [
   | Finishing x g ↦ Some
@@ -150,14 +150,14 @@ finish_again plan p x g = record (finish plan p x g) {
   part = λ n. cond (n == marked_word g) ((finish plan p x g).part n) p;
 }
 
--- whoever finds that another came is to try it again
+-- a pass that finds another on the slot is to try again
 unfoldable pub tries_again : Table
 tries_again plan p Finish = elim (p.hand) [ Finishing x g ↦ Some (finish_again plan p x g) | _ ↦ None ]
 tries_again plan p x = row plan p x
 
 -- ---- stacks
 
--- a put adds its slot to the head word, so a flag that stood there stays
+-- a put adds its slot to the head word, so a flag that was there stays
 unfoldable pub keeps_flag : Table
 keeps_flag plan p Put = elim (p.hand) [
   | ToPut x ↦ Some (record (put_at p x) { operation = FetchAdd (head_word (top_word x.slot)) })
@@ -201,7 +201,7 @@ ends_at_unwritten plan p (Follow y) = paged plan y (λ q. elim (noted q p.cursor
     [ Some s ↦ then_some (idle p && own plan p q) (follow_to_end p q s) | None ↦ None ])
 ends_at_unwritten plan p x = row plan p x
 
--- a link that was followed stays
+-- a link that was followed stays in its word
 unfoldable pub leaves_link : Table
 leaves_link plan p (Follow y) = paged plan y (λ q. elim (noted q p.cursors)
     [ Some s ↦ then_some (idle p && own plan p q) (record (follow p q s) { operation = Load }) | None ↦ None ])
@@ -230,19 +230,19 @@ tie_and_stop p x l = record {
   reply = silent;
 }
 
--- whoever finds the flag of an armed page does not ring
+-- a pass that finds the flag of an armed page does not ring
 unfoldable pub never_rings : Table
 never_rings plan p Tie = elim (p.hand) [ Tying x l r ↦ Some (tie_and_stop p x l) | _ ↦ None ]
 never_rings plan p x = row plan p x
 
--- whoever has to ring has no step by which to do so
+-- a pass that has to ring has no step for it
 unfoldable pub cannot_ring : Table
 cannot_ring plan p Ring = None
 cannot_ring plan p x = row plan p x
 
 -- ---- owners
 
--- an owner leaves though slots are its own
+-- an owner leaves although it has slots of its own
 unfoldable pub leaves_slots : Table
 leaves_slots plan p Leave = elim (p.owned) [
   | Some n ↦ then_some (idle p && (length p.cursors == 0) && (length p.armed == 0)
@@ -251,7 +251,7 @@ leaves_slots plan p Leave = elim (p.owned) [
 ]
 leaves_slots plan p x = row plan p x
 
--- an owner leaves while what was rung is still to be followed
+-- an owner leaves while pages that were rung for are still to be followed
 unfoldable pub leaves_bell : Table
 leaves_bell plan p Leave = elim (p.owned) [
   | Some n ↦ then_some (idle p && (length p.mine == 0) && (length p.cursors == 0))
@@ -260,7 +260,7 @@ leaves_bell plan p Leave = elim (p.owned) [
 ]
 leaves_bell plan p x = row plan p x
 
--- all slots but the last one are asked for
+-- all slots except the last one are asked for
 abbrev pub most_mine : Body → ℕ → ℕ → Bool
 most_mine p q n = every (λ x. has (same_spot x) p.mine) (spots q 0 (slots (n - 1) - 1))
 

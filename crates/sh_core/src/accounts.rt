@@ -3,7 +3,7 @@
 /// How many of the slots of a page's class are of each kind. Together they are all of them.
 #[derive(Clone, Copy, Debug, PartialEq, Eq)]
 pub struct Accounts {
-    /// The page's class, or none for a blank page, of which all numbers are 0.
+    /// The page's class, or none for a blank page, for which all numbers are 0.
     pub class: Option<u32>,
     /// With a value that can be got.
     pub live: u32,

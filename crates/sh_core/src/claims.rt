@@ -11,8 +11,8 @@ ghost use Rattle.sh_core.specs.Refines.{Finished, OneOwner, Armed, LeftEmpty, Sh
 ghost use Rattle.sh_core.specs.Refines.{OwnPartsStand, FillsAreKeys, HoldsAreFew, FlaggedAreEmpty, KeysInHandName};
 ghost use Rattle.sh_core.specs.Refines.{GoesOn};
 
-/// The core refines the map: in every heap whose shape fits its layout, after every list of events, by any passes and
-/// in any order, and wherever calls were left unfinished.
+/// The core refines the map: in every heap whose shape fits its layout, after every list of events, by any passes in
+/// any order, and whichever calls are unfinished.
 pub fn refines_map()
     // The replies, in the order of their deciding steps, are a legal history of a map whose keys are never used again.
     ensures legal { Always (λ plan w l. Legal plan.passes plan.keys.guard_max w.log) }
@@ -25,7 +25,7 @@ pub fn refines_map()
     ensures filled { Always (λ plan w l. Filled w l) }
     ensures classes { Always (λ plan w l. ClassesAreKnown plan w) }
 
-    // What is held stands in its slot, unchanged, and holds are what the log says.
+    // The value of a held key is in its slot, unchanged, and holds are what the log says.
     ensures held { Always (λ plan w l. HeldStands plan w) }
     ensures reads { Always (λ plan w l. ReadsWithin plan w) }
     ensures notes { Always (λ plan w l. NotesAreTrue plan w) }
@@ -50,7 +50,7 @@ pub fn refines_map()
     ensures left { Always (λ plan w l. LeftEmpty plan w) }
     ensures shardless { Always (λ plan w l. ShardlessHaveNothing w) }
 
-    // What stands on a page and on a bell.
+    // The links of what was put on pages and on bells.
     ensures linked { Always (λ plan w l. Linked plan w l) }
     ensures links { Always (λ plan w l. EachLinked plan w l) }
     ensures flags { Always (λ plan w l. FlaggedAreEmpty w l) }
@@ -65,7 +65,7 @@ pub fn refines_map()
     ensures issues { Always (λ plan w l. IssuesKeys plan w) }
     ensures passes { Always (λ plan w l. length w.parts ≡ plan.passes) }
 
-    // A pass that has begun something can go on, and each of its steps brings it nearer to the end.
+    // A pass that has begun something can continue, and each of its steps brings it nearer to the end.
     ensures hands { Always (λ plan w l. KeysInHandName plan w) }
     ensures goes_on { Always (λ plan w l. GoesOn row plan w) }
 {}

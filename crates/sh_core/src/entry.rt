@@ -1,4 +1,4 @@
-//! The entry of a reply, with the value that stands in the slot where it is got.
+//! The entry of a reply, with the value in the slot if it is got.
 ghost use Rattle.std.specs.Prelude.{ℕ, ◌≡◌, length};
 ghost use Rattle.sh_shape.specs.Places.{IsPlace, words_of};
 ghost use Rattle.sh_slots.specs.declared.reply.Reply.TheVariants.{Got};
@@ -19,7 +19,7 @@ pub fn word_at(shape: &Shape, words: &[u64], place: Place) -> u64
     words[shape.index(place)]
 }
 
-// The value that stands in a slot.
+// The value in a slot.
 #[tactic(auto, using(crate::proofs::Words::KeptValues::value_rows))]
 fn value_in(shape: &Shape, words: &[u64], spot: Spot) -> Value
     requires count { length words.now ≡ words_of shape.now }
@@ -36,7 +36,7 @@ fn value_in(shape: &Shape, words: &[u64], spot: Spot) -> Value
     }
 }
 
-// The value that stands in the slot of a state word.
+// The value in the slot of a state word.
 fn value_kept(shape: &Shape, words: &[u64], place: Place) -> Value
     requires count { length words.now ≡ words_of shape.now }
     requires value { KeepsValue shape.now words.now place }

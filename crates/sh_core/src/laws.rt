@@ -14,35 +14,36 @@ pub fn trails_grow()
     ensures skipped { SkipsLeaveTrails }
 {}
 
-/// An event by whose word a call is decided replies: one entry of its pass joins the log then, and only then.
+/// An event whose word decides a call replies: one entry of its pass joins the log then, and only then.
 pub fn deciding_events_reply()
     ensures { DecidingEventsReply }
 {}
 
-/// A place that the plan of a heap has is one of the heap's shape.
+/// Each place that the plan of a heap has is one of the heap's shape.
 pub fn plans_have_the_places_of_shapes()
     ensures { PlansHaveShapesPlaces }
 {}
 
-/// Where the count of a state word stays within its bounds, the whole word has room.
+/// If the count of a state word stays within its bounds, the whole word has room.
 pub fn counts_leave_room()
     ensures { CountsLeaveRoom }
 {}
 
-/// Nothing is lost. If no pass has begun anything, the words alone lead to each slot that was put. Each empty slot of a
-/// page's class is its owner's, or on the way from the page's head or from the owner's cursor: one of these, and once.
-/// If no pass owns the shard, it is on the way from the head.
+/// Nothing is lost. If no pass has begun anything, the links lead from a page's head along its stack list. They lead
+/// along its chain list from the list's first slot, where the page's one cursor is. Each empty slot of a page's class
+/// is its owner's, or in the stack list, or in the chain list: in one of these, and once. If no pass owns the shard, it
+/// is in the stack list.
 pub fn quiet_heaps_lose_nothing()
     ensures { QuietLosesNothing }
 {}
 
-/// If no pass has begun anything, a pass that may take the stack of a page collects all of it. After as many follows as
-/// slots were put there, nothing is queued on the page, and each empty slot of it is its owner's.
+/// If no pass has begun anything, a pass that may take the stack of a page collects all of it. It does one follow for
+/// each slot of the stack. Then nothing is queued on the page, and each of its empty slots is its owner's.
 pub fn collecting_finds_all()
     ensures { CollectingFindsAll }
 {}
 
-/// Wait freedom: until a pass has nothing begun, it does at most as many steps of its own as its hand says, however
+/// Wait freedom: while a pass has something begun, it does at most as many steps of its own as its hand says, however
 /// many events of other passes come between.
 pub fn steps_are_wait_free()
     ensures { WaitFree }

@@ -1,8 +1,8 @@
 //! The core: the heap as a state machine over its words, and what holds after every list of events.
 //!
 //! An event is one action of one pass: one operation on one word, by a row of the table in `sh_step`. A world is the
-//! words, what each pass has of its own, and one log of all replies. The theorem stands on `refines_map`, and
-//! `refutes_wrong_tables` says of wrong tables of actions that they do not keep it.
+//! words, what each pass has of its own, and one log of all replies. `refines_map` is the theorem, and
+//! `refutes_wrong_tables` says that wrong tables of actions break it.
 #![tactic(auto)]
 
 pub mod accounts;

@@ -57,8 +57,8 @@ fn join(log: &mut Vec<Entry>, new: Option<Entry>) -> Outcome
     }
 }
 
-/// Does the move of a pass on the words, its own part and the log. Refused as `Memory` where memory for an entry, or
-/// for what the part notes, is refused: then nothing changed. A move that adds neither is not refused.
+/// Does the move of a pass on the words, its own part and the log. Refused as `Memory` if memory for an entry, or for
+/// what the part notes, is refused: then nothing changed. A move that adds neither is not refused.
 pub fn do_move<L: KeyLayout>(
     shape: &Shape,
     words: &mut Vec<u64>,

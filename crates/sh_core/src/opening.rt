@@ -14,7 +14,7 @@ use std::alloc::{AllocError, Global};
 // A state word says that the slot is empty, in its first generation.
 const FIRST_GENERATION: u64 = 1 << 32;
 
-// The word with this number, where there are so many pages: each slot is empty, and all else is 0.
+// The word with this number of a heap with this number of pages: each slot is empty, and every other word is 0.
 fn word_at(pages: u32, number: u32) -> u64
     requires { pages ≤ 2 ^ 24 }
     ensures { result ≡ opening_word pages number }
@@ -42,8 +42,8 @@ fn words_of(alloc: Global, shape: &Shape) -> Result<Vec<u64>, AllocError>
     Ok(words)
 }
 
-/// The words with which a heap of this shape opens, each at the number of its place. Refused as `BadShape` where the
-/// shape does not fit the layout, and as `Memory` where memory for the words is refused.
+/// The words with which a heap of this shape opens, each at the number of its place. Refused as `BadShape` if the shape
+/// does not fit the layout, and as `Memory` if memory for the words is refused.
 pub fn opening_of<L: KeyLayout>(alloc: Global, shape: &Shape) -> Result<Vec<u64>, Refusal>
     ensures opens { IfOk result (λ words. OpensWith L.layout shape.now words.items) }
     ensures lean { IfOk result (λ words. vec_capacity words ≡ words_of shape.now) }

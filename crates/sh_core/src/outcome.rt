@@ -1,7 +1,7 @@
-//! What came of an event.
+//! The outcome of an event.
 use sh_history::Entry;
 
-/// What came of an event.
+/// The outcome of an event.
 #[derive(Drop, Debug, PartialEq, Eq)]
 pub enum Outcome {
     /// The step was done, and decided nothing.

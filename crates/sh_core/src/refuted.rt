@@ -23,7 +23,7 @@ ghost use Rattle.sh_step.specs.Deciding.{DecidingReplies};
 /// The theorem does not hold of every table of actions. Each of these tables is the right one except for an action or
 /// two, and some list of events breaks a clause of the theorem, or a step breaks the law of deciding steps.
 pub fn refutes_wrong_tables()
-    // What is answered of a key, and what is known of it.
+    // What is returned for a key, and what is known of it.
     ensures crowds_at_once { ¬ AlwaysBy crowds_at_once (λ plan w l. Legal plan.passes plan.keys.guard_max w.log) }
     ensures both_remove { ¬ AlwaysBy both_remove (λ plan w l. Legal plan.passes plan.keys.guard_max w.log) }
     ensures marks_and_stays { ¬ AlwaysBy marks_and_stays (λ plan w l. Counted plan w) }

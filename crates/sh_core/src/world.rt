@@ -61,8 +61,8 @@ impl<L: KeyLayout> Model for World<L> {
 }
 
 impl<L: KeyLayout> World<L> {
-    /// A heap of this shape as it opens. Refused as `BadShape` where the shape does not fit the layout, and as `Memory`
-    /// where memory for the words and parts is refused.
+    /// A heap of this shape as it opens. Refused as `BadShape` if the shape does not fit the layout, and as `Memory` if
+    /// memory for the words and parts is refused.
     pub fn new(alloc: Global, shape: Shape) -> Result<World<L>, Refusal>
         ensures opens { Opens L.layout shape result }
         ensures reached { IfOk result (FromEvents L.layout) }
@@ -112,9 +112,9 @@ impl<L: KeyLayout> World<L> {
         self.shape
     }
 
-    /// Does one event: by the row of its action, where there is such a pass and the action's condition holds of its own
-    /// part, and else nothing, which is `Skipped`. Only a step that is not skipped, and by which an entry joins the log
-    /// or a list of the pass's own part grows, may be refused, as `Memory`, and then nothing changed.
+    /// Does one event by the row of its action, if there is such a pass and its own part meets the action's condition.
+    /// Otherwise it does nothing, and returns `Skipped`. It may be refused as `Memory` only if it is not skipped and an
+    /// entry joins the log or a list of the pass's own part grows. Then nothing changed.
     pub fn step(&mut self, event: &Event) -> Result<Outcome, Refusal>
         ensures ok { IfOk result (λ outcome. StepsWorld L.layout self.old event.now outcome self.new) }
         ensures err { OnErr result (self.new ≡ self.old) }
@@ -141,8 +141,8 @@ impl<L: KeyLayout> World<L> {
     }
 }
 
-/// The heap of this shape after these events, one after the other. Refused as `BadShape` where the shape does not fit
-/// the layout, and as `Memory` where memory is refused to the heap or to one of its steps.
+/// The heap of this shape after these events, in order. Refused as `BadShape` if the shape does not fit the layout, and
+/// as `Memory` if memory is refused to the heap or to one of its steps.
 pub fn run<L: KeyLayout>(alloc: Global, shape: Shape, events: &[Event]) -> Result<World<L>, Refusal>
     ensures runs { RunsWorld L.layout shape events.now result }
     // What holds of every run holds of this one.
