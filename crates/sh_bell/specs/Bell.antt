@@ -1,7 +1,7 @@
 -- The head words of pages, which say whether a page is armed, and the bells of shards, which name pages.
 use Rattle.std.specs.Prelude.{ℕ, ◌+◌, ◌-◌, ◌*◌, ◌/◌, ◌%◌, ◌==◌, nat_lt, Bool, cond}
 
--- a head word has its top doubled, and 1 more where the page is armed
+-- a head word is its top doubled, plus 1 if the page is armed
 abbrev pub is_armed : ℕ → Bool
 is_armed head = head % 2 == 1
 
@@ -11,7 +11,7 @@ top_of head = head / 2
 abbrev pub head_word : ℕ → ℕ
 head_word top = top * 2
 
--- the shard of a page, and its number there, where a shard has so many pages
+-- the shard of a page, and the page's number there, given the number of pages of a shard
 abbrev pub home_of : (pages page : ℕ) → ℕ
 home_of pages page = page / pages
 

@@ -2,7 +2,7 @@
 ghost use Rattle.std.specs.Prelude.{◌≡◌, ◌^◌, ◌+◌, ◌*◌, ◌<◌};
 ghost use Rattle.sh_bell.specs.Bell.{home_of, local_of, named_over_heap};
 
-/// The shard of a page, where each shard has so many.
+/// The shard of a page, if each shard has `pages` pages.
 pub fn home_of(pages: u64, page: u64) -> u64
     requires { 0 < pages }
     ensures { result ≡ home_of pages page }
@@ -10,7 +10,7 @@ pub fn home_of(pages: u64, page: u64) -> u64
     page / pages
 }
 
-/// The number in its shard of a page, where each shard has so many.
+/// The number of a page in its shard, if each shard has `pages` pages.
 pub fn local_of(pages: u64, page: u64) -> u64
     requires { 0 < pages }
     ensures { result ≡ local_of pages page }
@@ -19,7 +19,7 @@ pub fn local_of(pages: u64, page: u64) -> u64
 }
 
 /// A word of a shard that names its page p as p + `base`, and none below `base`: the same with the page's number over
-/// the whole heap, where each shard has so many.
+/// the whole heap, if each shard has `pages` pages.
 pub fn named_over_heap(pages: u64, shard: u64, base: u64, word: u64) -> u64
     requires { shard * pages + word < 2 ^ 64 }
     ensures { result ≡ named_over_heap pages shard base word }

@@ -66,7 +66,7 @@ abbrev pub is_release_from : ℕ → Entry → Bool
 is_release_from pass (Released p k) = p == pass
 is_release_from pass _ = false
 
--- how many holds the pass has, on whatever keys
+-- how many holds the pass has, over all keys
 abbrev pub hold_count : List Entry → ℕ → ℕ
 hold_count history pass = count_by (is_got_from pass) history - count_by (is_release_from pass) history
 

@@ -25,11 +25,11 @@ GetsGiveInserted =
     (passes guard_max : ℕ) (history : List Entry) → Legal passes guard_max history
     → (pass key : ℕ) (value : List ℕ) → Contains history (Got pass key value) → IsIssuedWith history key value
 
--- the removed keys are those of which a removal stands in the history
+-- a key counts as removed exactly if the history has a removal of it
 abbrev pub RemovedHasRemoval : Type 0
 RemovedHasRemoval = (history : List Entry) (key : ℕ) → (is_removed history key ≡ true) ↔ HasRemoval history key
 
--- a key is removed once at most, so of all callers that remove it exactly one is answered Removed
+-- a key is removed at most once: a legal history has at most one removal of it
 abbrev pub RemovedOnce : Type 0
 RemovedOnce =
     (passes guard_max : ℕ) (history : List Entry) → Legal passes guard_max history

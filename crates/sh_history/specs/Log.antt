@@ -1,4 +1,4 @@
--- What a caller knows of the history: its own entries, where the value of a get may not have been read yet.
+-- What a caller knows of the history: its own entries, in which the value of a get may not have been read yet.
 use Rattle.std.specs.Prelude.{◌≡◌, ◌≢◌, ℕ, ◌-◌, Bool, false, ◌==◌, ◌&&◌, if◌then◌else◌, List, [], ◌∷◌, filter, count_by}
 use Rattle.std.specs.List.{AllZip}
 use Rattle.sh_history.specs.declared.entry.Entry.{Entry}
@@ -7,7 +7,7 @@ use Rattle.sh_history.specs.declared.log.LogEntry.TheVariants.{Known, Unread}
 use Rattle.sh_history.specs.declared.entry.Entry.TheVariants.{Insert, Got, Gone, Crowded, Removed, Released}
 use Rattle.sh_history.specs.History.{is_got_by, is_release_by, is_got_from, is_release_from, Legal}
 
--- the log entry may stand for the entry
+-- the log entry is the entry, or it is a get whose value is not read yet and the entry is that get
 abbrev pub Agrees : LogEntry → Entry → Type 0
 Agrees (Known known) entry = entry ≡ known
 Agrees (Unread pass key) entry = (value : List ℕ) × (entry ≡ Got pass key value)
@@ -51,7 +51,7 @@ abbrev pub is_logged_release_from : ℕ → LogEntry → Bool
 is_logged_release_from pass (Known entry) = is_release_from pass entry
 is_logged_release_from pass (Unread p k) = false
 
--- how many holds the log leaves the pass, on whatever keys
+-- how many holds the log leaves the pass, over all keys
 abbrev pub logged_hold_count : List LogEntry → ℕ → ℕ
 logged_hold_count log pass = count_by (is_logged_got_from pass) log - count_by (is_logged_release_from pass) log
 
@@ -66,7 +66,7 @@ abbrev pub filled : ℕ → List ℕ → LogEntry → LogEntry
 filled key value (Known entry) = Known entry
 filled key value (Unread pass k) = if k == key then Known (Got pass k value) else Unread pass k
 
--- where it is a get of the key, its value is this one
+-- a known get of the key has this value, and an unread get is of another key
 abbrev pub HasValue : ℕ → List ℕ → LogEntry → Type 0
 HasValue key value (Known (Got p k v)) = k ≡ key → v ≡ value
 HasValue key value (Unread p k) = k ≢ key

@@ -6,7 +6,7 @@ ghost use Rattle.sh_history.specs.FirstFault.{IsWhy, IsFirstFault};
 use crate::Entry;
 use crate::look::{is_crowded, is_held_by, is_removed, value_of};
 
-/// Why an entry may not stand where it stands.
+/// Why an entry may not follow those before it.
 #[derive(Clone, Copy, Debug, PartialEq, Eq)]
 pub enum Why {
     /// An insert gives a key that was inserted before.
@@ -17,15 +17,15 @@ pub enum Why {
     OtherValue,
     /// The key was removed.
     AfterRemoval,
-    /// A key is called gone that was inserted and not removed.
+    /// A key is called gone although it was inserted and not removed.
     StillThere,
-    /// A key is called crowded on which the passes could not have brought the holds above the greatest count.
+    /// A key is called crowded although the passes could not have brought its holds above the greatest count.
     NotCrowded,
-    /// The pass has no hold on the key that it releases.
+    /// The pass releases a key on which it has no hold.
     NotHeld,
 }
 
-// Why the entry may not follow these, of several reasons the first of the list above, or `None` where it may.
+// Why the entry may not follow these: the first reason of the list above that holds, or `None` if it may follow.
 fn why_not(before: &[Entry], entry: &Entry, passes: u32, guard_max: u32) -> Option<Why>
     ensures { MatchOption result (Allowed passes guard_max before.now entry.now)
         (IsWhy passes guard_max before.now entry.now) }
@@ -89,8 +89,8 @@ fn why_not(before: &[Entry], entry: &Entry, passes: u32, guard_max: u32) -> Opti
     }
 }
 
-/// Says yes exactly where each entry is allowed after those before it, and else names the first that is not,
-/// and why.
+/// Returns `Ok` if each entry is allowed after those before it. Otherwise it returns the position of the first entry
+/// that is not, and why.
 pub fn check(entries: &[Entry], passes: u32, guard_max: u32) -> Result<(), (usize, Why)>
     ensures yes { IsOk result ↔ Legal passes guard_max entries.now }
     ensures no { IfErr result (λ fault. IsFirstFault passes guard_max entries.now fault.0 fault.1) }

@@ -13,8 +13,8 @@ pub fn removals_stand()
     ensures { RemovedHasRemoval }
 {}
 
-/// A legal history has at most one removal of a key. So of callers that race to remove it, at most one gets the
-/// answer Removed.
+/// A legal history has at most one removal of a key. So of callers that race to remove it, at most one gets the reply
+/// `Removed`.
 pub fn removed_once()
     ensures { RemovedOnce }
 {}

@@ -1,6 +1,5 @@
-//! Histories of a heap: what callers were answered, in order, and which such lists are legal, namely those of a map
-//! with counted holds whose keys are never used again. `check` decides it and names the first entry that is not
-//! allowed.
+//! Histories of a heap: the replies that callers got, in order. A history is legal if a map with counted holds, whose
+//! keys are never used again, gives it. `check` decides that, and names the first entry that is not allowed.
 #![tactic(auto)]
 
 pub mod checker;

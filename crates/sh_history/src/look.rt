@@ -29,7 +29,7 @@ pub fn is_removed(entries: &[Entry], key: u64) -> bool
     entries.iter().any(|entry| matches!(entry, Entry::Removed(_, removed) if *removed == key))
 }
 
-/// The value of the key, where it was issued and not removed.
+/// The value of the key, if it was issued and not removed.
 pub fn present_value(entries: &[Entry], key: u64) -> Option<&Value>
     ensures { option_copied result ≡ present_value entries.now key }
 {
@@ -116,7 +116,7 @@ pub fn holds_on(entries: &[Entry], key: u64) -> usize
     got_count(entries, key).saturating_sub(released_count(entries, key))
 }
 
-/// Whether this many passes, each on its way, could bring the holds on the key above the greatest count.
+/// Whether this many passes, each in the middle of a call, could bring the holds on the key above the greatest count.
 pub fn is_crowded(entries: &[Entry], key: u64, passes: u32, guard_max: u32) -> bool
     ensures { IsTrue result ↔ (guard_max < holds_on entries.now key + passes) }
 {

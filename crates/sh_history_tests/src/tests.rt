@@ -3,7 +3,7 @@ use sh_value::Value;
 use std::process::Abort;
 use std::test::Fail;
 
-// Of one pass, where a key may have four holds, the list is judged so. It is a function, since each assertion that is
+// With one pass, and four holds allowed on a key, the list is judged so. It is a function, as each assertion that is
 // written out is proved anew.
 fn is_judged(rt: &impl Abort, entries: &[Entry], wanted: Result<(), (usize, Why)>) {
     assert_eq!(rt; check(entries, 1, 4), wanted);

@@ -15,7 +15,7 @@ OnlyKeysUnpack layout = (k : ℕ) (p : Parts) → unpacked layout k ≡ Some p �
 abbrev pub KeysFit : Layout → Type 0
 KeysFit layout = (p : Parts) → IsInRange layout p → packed layout p < 2 ^ 64
 
--- the keys are the numbers from the first key on, as many as there are keys
+-- the keys are the numbers from the first key on, `key_count` of them
 abbrev pub KeysAreConsecutive : Layout → Type 0
 KeysAreConsecutive layout =
     (k : ℕ) → IsSome (unpacked layout k) ↔ ((first_key layout ≤ k) × (k < first_key layout + key_count layout))

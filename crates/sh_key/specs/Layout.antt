@@ -53,11 +53,11 @@ digits_of layout k = record {
   slot = k % 64;
 }
 
--- the parts, where the generation is one of the layout
+-- the parts, if the generation is one of the layout
 abbrev pub if_good : Layout → Parts → Option Parts
 if_good layout p = if nat_le 1 p.generation && nat_le p.generation layout.gen_max then Some p else None
 
--- the parts that a number is packed from, where it is a key
+-- the parts that a number is packed from, if it is a key
 abbrev pub unpacked : Layout → ℕ → Option Parts
 unpacked layout k = if_good layout (digits_of layout k)
 

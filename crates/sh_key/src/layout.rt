@@ -14,7 +14,7 @@ fn power_of_two(bits: u32) -> u64
     1 << bits
 }
 
-// The number whose digits are the parts, where a shard's digit is below `shards` and a page's below `pages`.
+// The number whose digits are the parts, if a shard's digit is below `shards` and a page's below `pages`.
 fn joined(parts: Parts, shards: u64, pages: u64) -> u64
     requires some_page { 1 ≤ pages }
     requires fits { ((parts.generation * shards + parts.shard) * pages + parts.page) * 64 + parts.slot < 2 ^ 64 }
@@ -27,9 +27,8 @@ fn joined(parts: Parts, shards: u64, pages: u64) -> u64
 
 /// How a place and a generation are packed into a key, and what a slot and a key may have.
 ///
-/// A layout gives its four numbers; all else is proved once, for every layout. A key is the number
-/// `((generation · 2^SHARD_BITS + shard) · 2^PAGE_BITS + page) · 64 + slot`, so one number names one place and
-/// generation.
+/// A layout gives its four numbers; all the rest is proved once, for every layout. A key is the number `((generation ·
+/// 2^SHARD_BITS + shard) · 2^PAGE_BITS + page) · 64 + slot`, so one number names one place and generation.
 pub trait KeyLayout: Drop {
     /// How many bits of a key name the shard. With `PAGE_BITS` at most 26, so that a key fits 64 bits.
     const SHARD_BITS: u32;
@@ -40,7 +39,7 @@ pub trait KeyLayout: Drop {
     /// The last generation of a slot, at least 1: a slot stores this many values, one after the other.
     const GEN_MAX: u32;
 
-    /// How many holds a key may have, at least 1, and with 64 passes on their way below 2^30.
+    /// How many holds a key may have: at least 1, and with one more for each of 64 passes below 2^30.
     const GUARD_MAX: u32;
 
     ghost SHARD_BITS: { ℕ };
@@ -79,7 +78,7 @@ pub trait KeyLayout: Drop {
         joined(parts, shards, pages)
     }
 
-    /// The parts of a key, or `None` where the number is the key of no parts in range.
+    /// The parts of a key, or `None` if the number is the key of no parts in range.
     final fn unpack(key: u64) -> Option<Parts>
         ensures parts { result ≡ unpacked layout key }
 

@@ -6,7 +6,7 @@ ghost use Rattle.sh_key.specs.Tag.{with_tag, IsTaggedKey};
 
 use crate::KeyLayout;
 
-// The keys of `Tagged` are below this number, and a tag stands at this many.
+// The keys of `Tagged` are below `TAGGED_KEYS`, and a tag adds multiples of `TAG_UNIT`.
 const TAGGED_KEYS: u64 = 1 << 52;
 
 const TAG_UNIT: u64 = 1 << 56;
@@ -126,7 +126,7 @@ impl Tagged {
         tag as u64 * TAG_UNIT + key
     }
 
-    /// The user's bits and the key of a tagged number, or `None` where bits 52 to 55 are not all zero.
+    /// The user's bits and the key of a tagged number, or `None` if bits 52 to 55 are not all zero.
     pub fn untag(number: u64) -> Option<(u8, u64)>
         ensures none { IsNone result ↔ ((number / 2 ^ 52) % 16 ≢ 0) }
 

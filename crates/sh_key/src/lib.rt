@@ -1,5 +1,5 @@
-//! Keys: a place of the heap and a generation, packed into one number that is never used again. A layout says how
-//! many bits each part has; what is proved of packing is proved once, for every layout.
+//! Keys: a place of the heap and a generation, packed into one number that is never used again. A layout says how many
+//! bits each part has; the laws of packing are proved once, for every layout.
 #![tactic(auto)]
 
 pub mod laws;

@@ -1,6 +1,6 @@
 //! What a key is made of.
 
-/// A place of the heap, and which of the values that stood there is meant.
+/// A place of the heap, and which of the values that were there is meant.
 #[derive(Clone, Copy, Debug, PartialEq, Eq)]
 pub struct Parts {
     /// The generation of the slot, from 1: each value that a slot stores has its own.

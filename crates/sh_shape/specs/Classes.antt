@@ -1,4 +1,4 @@
--- The classes of slots: how many words a slot of each class has, and how many slots a page of it.
+-- The classes of slots: how many words a slot of each class has, and how many slots a page of each class has.
 use Rattle.std.specs.Prelude.{ℕ, ◌+◌, ◌*◌, ◌<◌, ◌≤◌, nat_le, List, [], ◌∷◌, get_or, position, Option}
 use Rattle.sh_shape.specs.Places.{payload_words}
 
@@ -34,7 +34,7 @@ pub record IsClassOf (len class : ℕ) : Type 0 where
 abbrev pub SlotsFitPage : Type 0
 SlotsFitPage = (class : ℕ) → slots class * width class ≤ payload_words
 
--- so does each word of each slot, where the words of slot s are those from s * width on
+-- each word of each slot fits the page too: the words of slot s are those from s * width on
 abbrev pub SlotWordsFitPage : Type 0
 SlotWordsFitPage =
     (class slot i : ℕ) → slot < slots class → i < width class → slot * width class + i < payload_words

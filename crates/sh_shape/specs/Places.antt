@@ -8,15 +8,15 @@ use Rattle.sh_shape.specs.declared.places.Place.TheVariants.{Class, Head, PageLi
 use Rattle.sh_shape.specs.declared.places.Place.TheVariants.{Bell}
 use Rattle.sh_shape.specs.Shape.{Numbers, segment_pages}
 
--- for how many slots a page has places, and how many payload words it has
+-- the number of slots for which a page has places, and of its payload words
 abbrev pub slot_places : ℕ
 slot_places = 48
 
 abbrev pub payload_words : ℕ
 payload_words = 48
 
--- behind how many of a page's words each kind of them begins: the states behind the class, the head and the page link,
--- and each other kind behind the kind before it
+-- the offset in a page's words at which each kind of word begins: the states after the class, the head and the page
+-- link, and each other kind after the kind before it
 abbrev pub first_state : ℕ
 first_state = 3
 
@@ -58,7 +58,7 @@ PagesHaveShards =
     (shape : Numbers) (n : ℕ) → n < all_pages shape
     → (shard : ℕ) × (page : ℕ) × (shard < shape.shards) × (page < pages_of shape) × (page_number shape shard page ≡ n)
 
--- the heap has this place; a page is given by its number over the whole heap
+-- the place is one of the heap; a page is given by its number over the whole heap
 abbrev pub IsPlace : Numbers → Place → Type 0
 IsPlace shape (Class page) = page < all_pages shape
 IsPlace shape (Head page) = page < all_pages shape

@@ -2,7 +2,7 @@
 use Rattle.std.specs.Prelude.{ℕ, ◌*◌, ◌^◌, ◌≤◌}
 use Rattle.sh_key.specs.Layout.{Layout}
 
--- how many shards a heap has, how many segments a shard, and how many passes
+-- how many shards a heap has, how many segments a shard has, and how many passes there are
 pub record Numbers : Type 0 where
   pub shards : ℕ
   pub segments : ℕ

@@ -3,8 +3,8 @@ ghost use Rattle.std.specs.Prelude.{◌≡◌, ◌<◌, ◌*◌, ◌≤◌, nat_
 ghost use Rattle.sh_shape.specs.Classes.{class_count, width, slots, class_of, IsClassOf};
 ghost use Rattle.sh_shape.specs.Places.{slot_places, payload_words};
 
-/// How many classes there are. So it is the greatest class word: that of a page is 0 where it is blank, and else one
-/// more than its class.
+/// How many classes there are. It is also the greatest class word: the class word of a blank page is 0, and that of
+/// another page is 1 more than its class.
 pub const CLASS_COUNT: u64 = 8;
 
 const WIDTHS: [u32; 8] = [1, 2, 3, 4, 6, 8, 12, 16];
@@ -23,7 +23,7 @@ pub fn class_of(len: usize) -> Option<u32>
     }
 }
 
-// Where the first width stands that is at least the length.
+// The first position with a width that is at least the length.
 fn first_at_least(len: usize, widths: &[u32]) -> Option<usize>
     ensures { result ≡ position (λ words. nat_le len words) widths.now }
 {

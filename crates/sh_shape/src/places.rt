@@ -9,19 +9,19 @@ use crate::Shape;
 /// How many pages a segment has.
 pub const SEGMENT_PAGES: u32 = 8;
 
-/// For how many slots a page has places.
+/// The number of slots for which a page has places.
 pub const SLOT_PLACES: u32 = 48;
 
 /// How many payload words a page has.
 pub const PAYLOAD_WORDS: u32 = 48;
 
-/// Behind how many of a page's words its states begin: behind its class, its head and its page link.
+/// The offset of a page's states in its words: they come after its class, its head and its page link.
 pub const FIRST_STATE: u32 = 3;
 
-/// Behind how many of a page's words its links begin: behind its states, one for each place of a slot.
+/// The offset of a page's links in its words: they come after its states, one for each place of a slot.
 pub const FIRST_LINK: u32 = FIRST_STATE + SLOT_PLACES;
 
-// Its lengths begin behind its links, and its payload words behind its lengths.
+// The lengths come after the links, and the payload words after the lengths.
 const FIRST_LENGTH: u32 = FIRST_LINK + SLOT_PLACES;
 
 const FIRST_PAYLOAD: u32 = FIRST_LENGTH + SLOT_PLACES;
@@ -30,7 +30,7 @@ const FIRST_PAYLOAD: u32 = FIRST_LENGTH + SLOT_PLACES;
 /// length, and the payload words.
 pub const PAGE_WORDS: u32 = FIRST_PAYLOAD + PAYLOAD_WORDS;
 
-/// The place of a word. A page is given by its number over the whole heap, as `Shape::page_number` answers it.
+/// The place of a word. A page is given by its number over the whole heap, as `Shape::page_number` returns it.
 #[derive(Clone, Copy, Debug, PartialEq, Eq)]
 pub enum Place {
     /// The class word of a page.
@@ -214,7 +214,7 @@ fn in_page(page: u64, offset: u64) -> usize
     PAGE_WORDS as usize * page as usize + offset as usize
 }
 
-// The number of the first of a shard's two words, which stand behind those of so many pages.
+// The number of the first of a shard's two words, which come after the words of all pages.
 fn after_pages(pages: u32, shard: u64) -> usize
     requires pages { pages ≤ 2 ^ 24 }
     requires shard { shard < 2 ^ 21 }

@@ -1,4 +1,4 @@
-//! How large a heap is that has room for values.
+//! The size of a heap with room for values.
 ghost use Rattle.std.specs.Prelude.{◌≡◌, ℕ, ◌*◌, ◌≤◌, MatchResult};
 ghost use Rattle.sh_shape.specs.Shape.{segment_pages};
 ghost use Rattle.sh_shape.specs.Places.{slot_places};
@@ -12,12 +12,12 @@ use sh_key::KeyLayout;
 use sh_value::Refusal;
 
 impl Shape {
-    /// The least large shape of the layout in which each of so many owners has a shard with room for this many values
-    /// of this many words, from 0 to 16, and with so many passes. A slot may be wider than the value, and the last
-    /// segment has slots to spare.
+    /// The least large shape of the layout with a shard for each of `owners`, and this many passes. Each shard has room
+    /// for this many values of this many words, from 0 to 16. A slot may be wider than the value, and the last segment
+    /// may have slots to spare.
     ///
-    /// `BadShape` where no large shape of the layout has the room, so also where there is no owner or no pass, where
-    /// there are more than 64 passes, and where a value has more than 16 words.
+    /// `BadShape` if no large shape of the layout has the room. So also if there is no owner or no pass, if there are
+    /// more than 64 passes, or if a value has more than 16 words.
     ///
     /// ```text
     /// let shape = Shape::with_room::<Wide>(4, 10_000, 1, 8)?; // 10,000 values of a word for each of 4 owners
@@ -50,7 +50,7 @@ impl Shape {
     }
 }
 
-// The least number of segments, at least one, whose pages of so many slots have room for these values.
+// The least number of segments, at least one, whose pages of `slots` slots each have room for these values.
 fn segments_for(values: u64, slots: u32) -> u64
     requires some { 1 ≤ slots }
     requires few { slots ≤ slot_places }

@@ -13,8 +13,8 @@ const FEW_SEGMENTS: u64 = 256;
 
 const MOST_PASSES: u32 = 64;
 
-/// How many shards a heap has, how many segments of 8 pages each shard, and how many passes. A contract sees the three
-/// numbers, which are within the limits.
+/// How many shards a heap has, how many segments of 8 pages each shard has, and how many passes there are. A contract
+/// sees the three numbers, which are within the limits.
 #[derive(Clone, Copy, Debug, PartialEq, Eq)]
 pub struct Shape {
     shards: u32,
@@ -36,7 +36,7 @@ impl Model for Shape {
 
 impl Shape {
     /// The small shape with these numbers: at least one of each, at most 256 segments in all shards together, at most
-    /// 64 passes. Else it is refused as `BadShape`. Scripts name these shapes; `Shape::large` takes larger ones.
+    /// 64 passes. Otherwise it is refused as `BadShape`. Scripts name these shapes; `Shape::large` takes larger ones.
     ///
     /// ```text
     /// let shape = Shape::new(2, 128, 64)?;
@@ -57,8 +57,8 @@ impl Shape {
     }
 
     /// The shape with these numbers: at least one of each, at most 2,097,152 segments in all shards together, which are
-    /// 16,777,216 pages, at most 64 passes. Else it is refused as `BadShape`. Whether a layout has numbers for its
-    /// shards and pages is another question, which `fits` answers.
+    /// 16,777,216 pages, at most 64 passes. Otherwise it is refused as `BadShape`. `fits` returns whether a layout has
+    /// numbers for its shards and pages.
     ///
     /// ```text
     /// let shape = Shape::large(256, 128, 64)?;

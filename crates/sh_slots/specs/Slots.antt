@@ -31,8 +31,8 @@ spot_of n = record { page = n.page; slot = n.slot }
 abbrev pub name_at : Spot → ℕ → Name
 name_at x g = record { page = x.page; slot = x.slot; generation = g }
 
--- the word of a marked slot that nobody is on, and what ends its generation: the slot is empty, in the next one, or
--- retired
+-- the word of a marked slot that no pass is on, and the word that ends its generation: the slot is empty, in the next
+-- generation, or retired
 abbrev pub marked_word : ℕ → ℕ
 marked_word g = word_of (record { generation = g; marked = true; present = true; count = 0 })
 
@@ -42,11 +42,11 @@ reusable_word g = word_of (record { generation = g + 1; marked = false; present 
 abbrev pub retired_word : ℕ → ℕ
 retired_word g = word_of (record { generation = g; marked = true; present = false; count = 0 })
 
--- where a key may have so many holds, the word found has room for one more
+-- if a key may have `guard_max` holds, the word found has room for one more
 abbrev pub has_room : (guard_max found : ℕ) → Bool
 has_room guard_max n = nat_lt (fields_of n).count guard_max
 
--- what a get of a key of this generation is answered, by the word that it found as it entered
+-- what a get of a key of this generation returns, by the word that it found as it entered
 abbrev pub answer_to_get : (g guard_max found : ℕ) → GetAnswer
 answer_to_get g guard_max n = cond (live_at g n) (cond (has_room guard_max n) Got Crowded) Gone
 
@@ -65,6 +65,6 @@ finished_word g gen_max = cond (g == gen_max) (retired_word g) (reusable_word g)
 abbrev pub is_reusable_after : (g gen_max found : ℕ) → Bool
 is_reusable_after g gen_max n = (n == marked_word g) && not (g == gen_max)
 
--- what the key of a value names that becomes present where this word is found
+-- the name of the key under which a value becomes present, by the word found
 abbrev pub published_name : Spot → ℕ → Name
 published_name x n = name_at x (fields_of n).generation

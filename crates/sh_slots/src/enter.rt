@@ -5,7 +5,7 @@ ghost use Rattle.sh_slots.specs.Slots.{spot_of, live_at, answer_to_get, after_en
 use crate::{Hand, Name, Spot};
 use sh_word::{Kind, State};
 
-/// What a get is answered as it enters a slot.
+/// What a get returns as it enters a slot.
 #[derive(Clone, Copy, Debug, PartialEq, Eq)]
 pub enum GetAnswer {
     /// The value is there, and its key has room for a hold.
@@ -36,7 +36,7 @@ pub fn is_live_at(generation: u32, word: u64) -> bool
     state.kind() == Kind::Live && state.generation == generation
 }
 
-/// What a get of a key of this generation is answered, by the state word that it found as it entered. A key may have
+/// What a get of a key of this generation returns, by the state word that it found as it entered. A key may have
 /// `guard_max` holds.
 pub fn answer_to_get(generation: u32, guard_max: u32, found: u64) -> GetAnswer
     ensures { result ≡ answer_to_get generation guard_max found }
@@ -51,7 +51,7 @@ pub fn answer_to_get(generation: u32, guard_max: u32, found: u64) -> GetAnswer
 }
 
 /// What a removal of the key has in hand, by the state word that it found as it entered the slot that the key names: it
-/// goes on where the value is there, and else leaves.
+/// continues if the value is there, and otherwise leaves.
 pub fn after_enter_remove(key: u64, name: Name, found: u64) -> Hand
     ensures { result ≡ after_enter_remove key name found }
 {

@@ -1,4 +1,4 @@
-//! How a value comes into its slot.
+//! How a value gets into its slot.
 ghost use Rattle.std.specs.Prelude.{◌≡◌};
 ghost use Rattle.sh_slots.specs.Slots.{name_at, same_spot, published_name};
 
@@ -25,8 +25,8 @@ impl Spot {
     }
 }
 
-/// What the key of a value names that becomes present in the slot, by the state word found: the slot in the generation
-/// that it is in.
+/// The name of the key under which a value becomes present in the slot, by the state word found: the slot, in the
+/// word's generation.
 pub fn published_name(spot: Spot, found: u64) -> Name
     ensures { result ≡ published_name spot found }
 {

@@ -13,7 +13,7 @@ pub fn is_first_mark(found: u64) -> bool
     !State::of(found).marked
 }
 
-/// What a pass has in hand once it gave its count on the slot back, by the state word that it found. If the slot is
+/// What a pass has in hand after it gave back its count on the slot, by the state word that it found. If the slot is
 /// marked and the count was the last one, the pass has to end the generation.
 pub fn after_drop(spot: Spot, found: u64) -> Hand
     ensures { result ≡ after_drop spot found }
@@ -26,7 +26,7 @@ pub fn after_drop(spot: Spot, found: u64) -> Hand
     }
 }
 
-/// The state word of a marked slot of this generation that nobody is on.
+/// The state word of a marked slot of this generation that no pass is on.
 pub fn marked_word(generation: u32) -> u64
     ensures { result ≡ marked_word generation }
 {
@@ -48,7 +48,7 @@ pub fn retired_word(generation: u32) -> u64
     State::new(Kind::Retired, generation, 0).word()
 }
 
-/// The state word that the end of a generation, of which `gen_max` is the last, puts in place of the marked word.
+/// The state word that the end of a generation puts in place of the marked word; `gen_max` is the last generation.
 pub fn finished_word(generation: u32, gen_max: u32) -> u64
     requires { generation ≢ gen_max → generation + 1 < 2 ^ 32 }
     ensures { result ≡ finished_word generation gen_max }
@@ -60,8 +60,8 @@ pub fn finished_word(generation: u32, gen_max: u32) -> u64
     }
 }
 
-/// Whether a pass that went to end this generation, of which `gen_max` is the last, has the slot empty and in the next
-/// generation: it found the word as it left it, and the slot is not used up.
+/// Whether a pass that went to end this generation has the slot, empty and in the next generation: it found the word as
+/// it left it, and the slot is not used up. The last generation is `gen_max`.
 pub fn is_reusable_after(generation: u32, gen_max: u32, found: u64) -> bool
     ensures { result ≡ is_reusable_after generation gen_max found }
 {

@@ -10,7 +10,7 @@ pub struct Spot {
     pub slot: u64,
 }
 
-/// What a key names: a slot, and which of the values that stood there is meant.
+/// What a key names: a slot, and which of the values that were there is meant.
 #[derive(Clone, Copy, Debug, PartialEq, Eq)]
 pub struct Name {
     /// The page over the whole heap.
@@ -21,14 +21,14 @@ pub struct Name {
     pub generation: u32,
 }
 
-/// What a pass has begun, and has yet to end. Pages are numbered over the whole heap.
+/// What a pass has begun and not ended yet. Pages are numbered over the whole heap.
 #[derive(Drop, Debug, PartialEq, Eq)]
 pub enum Hand {
     /// Nothing.
     Idle,
     /// It entered the slot of the key, to remove it.
     Removing(u64),
-    /// It was answered, and has yet to give its count on the slot back.
+    /// It got its reply, and still has to give back its count on the slot.
     Leaving(Spot),
     /// Its count was the last one on the marked slot, of this generation.
     Finishing(Spot, u32),

@@ -1,5 +1,5 @@
-//! What a pass does with one slot: what its hand holds, what a step on the slot's state word says to it, and what a
-//! step answers.
+//! What a pass does with one slot: what its hand holds, what a step on the slot's state word means to it, and what a
+//! step replies.
 #![tactic(auto)]
 
 pub mod enter;

@@ -1,8 +1,8 @@
 //! What a step decides.
 use sh_value::Value;
 
-/// What the pass that did a step is answered by it. The pass itself, and the value of a `Got`, which are the words that
-/// stand in the slot, are added where the reply joins the log.
+/// The reply of a step to the pass that did it. As the reply joins the log, it gets the pass's number and, for a `Got`,
+/// the value, which is the words in the slot.
 #[derive(Drop, Debug, PartialEq, Eq)]
 pub enum Reply {
     /// The value was inserted under this key.

@@ -1,4 +1,4 @@
-//! Tests of the words of a slot: what a step makes of the word that it finds.
+//! Tests of the words of a slot: what a step leaves of the word that it finds.
 #![tactic(auto)]
 
 #[cfg(test)]

@@ -10,7 +10,7 @@ top_word n = n + 1
 abbrev pub top_item : ℕ → Option ℕ
 top_item top = cond (nat_lt top 1) None (Some (top - 1))
 
--- the link that an item stores which was put over this top
+-- the link that an item stores if it was put over this top
 abbrev pub link_over : ℕ → ℕ
 link_over top = top + 1
 

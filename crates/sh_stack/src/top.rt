@@ -20,7 +20,7 @@ pub fn top_item(top: u64) -> Option<u64>
     top.checked_sub(1)
 }
 
-/// The link that an item stores, by the top that it found as it was put.
+/// The link that an item stores, by the top that it found when it was put.
 pub fn link_over(top: u64) -> u64
     requires { top + 1 < 2 ^ 64 }
     ensures { result ≡ link_over top }

@@ -1,4 +1,4 @@
--- Sums over lists, and what stands in a list.
+-- Sums over lists, and what a list has.
 use Rattle.std.specs.Prelude.{ℕ, ◌+◌, ◌==◌, Bool, true, false, cond, ◌&&◌, ◌||◌, List, [], ◌∷◌, Option, Some, None}
 
 -- f of each item, added up
@@ -6,7 +6,7 @@ unfoldable pub total : {A : Type 0} → (A → ℕ) → List A → ℕ
 total f [] = 0
 total f (x ∷ xs) = f x + total f xs
 
--- 1 where the test holds
+-- 1 if the test holds, otherwise 0
 abbrev pub if1 : Bool → ℕ
 if1 b = cond b 1 0
 

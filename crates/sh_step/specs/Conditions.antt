@@ -25,7 +25,7 @@ pub record Named (plan : Plan) (k : ℕ) (x : Name) : Type 0 where
   pub page : x.page < heap_pages plan
   pub slot : x.slot < slot_places
 
--- the heap has the page of that name
+-- the heap has the page with that name
 pub record HasPage (plan : Plan) (y : PageName) : Type 0 where
   pub shard : y.shard < plan.shards
   pub page : y.page < plan.pages
@@ -121,8 +121,8 @@ action_of plan (move.RingTie q l) = action.RingTie
 action_of plan (move.TakeBell n) = action.TakeBell
 action_of plan (move.FollowBell q) = action.FollowBell
 
--- The table gives an action its move exactly where the move may be done: one that it gives may be, and is the action's,
--- and one that may be done is what it gives the move's action
+-- The table gives an action its move exactly if the move may be done. A move that it gives may be done, and is the
+-- action's. A move that may be done is the one that the table gives its action
 abbrev pub GivesWhatMayBe : Type 0
 GivesWhatMayBe = (plan : Plan) (p : Body) (x : Action) (m : Move) → move_of plan p x ≡ Some m → May plan p m
     × (action_of plan m ≡ x)

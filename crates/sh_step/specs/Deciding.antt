@@ -1,4 +1,4 @@
--- Which steps decide a call, and that those alone reply.
+-- Which steps decide a call, and that only those reply.
 use Rattle.std.specs.Prelude.{ℕ, ◌≡◌, Bool, true, false, not, Option, Some, None, is_some}
 use Rattle.sh_slots.specs.Slots.{live_at}
 use Rattle.sh_step.specs.declared.action.Action.{Action}
@@ -12,8 +12,8 @@ use Rattle.sh_step.specs.Rows.{Row}
 abbrev pub is_live : Plan → (k found : ℕ) → Bool
 is_live plan k n = elim (plan.keys.unpack k) [ Some x ↦ live_at x.generation n | None ↦ false ]
 
--- the step decides a call by the word that it found: an entry to get always; an entry to remove exactly where the word
--- is not live; a mark, the drop of a hold and a publish always; no other step
+-- whether the step decides a call, by the word that it found: an entry to get does, and so do a mark, the drop of a
+-- hold and a publish; an entry to remove does if the word is not live; no other step does
 abbrev pub decides : Plan → Action → ℕ → Bool
 decides plan (EnterGet k) n = true
 decides plan (EnterRemove k) n = not (is_live plan k n)
@@ -22,11 +22,11 @@ decides plan (DropHold k) n = true
 decides plan Publish n = true
 decides plan _ n = false
 
--- by these rows just the steps that decide reply, and they do so at once
+-- by these rows exactly the steps that decide reply, and they do so at once
 abbrev pub DecidingReplies : (Plan → Body → Action → Option Row) → Type 0
 DecidingReplies rows = (plan : Plan) (p : Body) (x : Action) (m : Row) (n : ℕ) → rows plan p x ≡ Some m
     → is_some (m.reply n) ≡ decides plan x n
 
--- so it is by the table
+-- this holds of the table
 abbrev pub DecidingStepsReply : Type 0
 DecidingStepsReply = DecidingReplies row

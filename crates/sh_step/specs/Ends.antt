@@ -1,4 +1,4 @@
--- How far a pass is from the end of what it has begun, by its hand alone.
+-- How far a pass is from the end of what it has begun, by its hand only.
 use Rattle.std.specs.Prelude.{ℕ, ◌≡◌, ◌≢◌, ◌+◌, ◌-◌, ◌<◌, cond, length, Option, Some}
 use Rattle.sh_slots.specs.declared.hand.Hand.{Hand}
 use Rattle.sh_slots.specs.declared.hand.Hand.TheVariants.{Idle, Removing, Leaving, Finishing, ToPut, Tying, Ringing}
@@ -11,7 +11,7 @@ use Rattle.sh_step.specs.Plans.{Plan}
 use Rattle.sh_step.specs.Moves.{row}
 use Rattle.sh_step.specs.Rows.{Row}
 
--- at most so many of its own steps are left until the hand is idle
+-- the greatest number of its own steps that are left until the hand is idle
 abbrev pub to_end : Hand → ℕ
 to_end Idle = 0
 to_end (RingTying q l) = 1
@@ -28,15 +28,15 @@ abbrev pub HandNames : Plan → Hand → Type 0
 HandNames plan (Removing k) = (x : Name) × Named plan k x
 HandNames plan _ = Unit {0}
 
--- by these rows each step leaves fewer steps to the end of what is in the hand, whatever word is found
+-- by these rows each step leaves fewer steps to the end of what is in the hand, whatever word it finds
 abbrev pub ComesNearer : (Action → Option Row) → Hand → Type 0
 ComesNearer rows h = (x : Action) (m : Row) → rows x ≡ Some m → (n : ℕ) → to_end (m.part n).hand < to_end h
 
--- and there is a next step
+-- there is a next step
 abbrev pub HasNext : (Action → Option Row) → Type 0
 HasNext rows = (x : Action) × (m : Row) × (rows x ≡ Some m)
 
--- so it is by the table, for each pass that has begun something
+-- this holds of the table, for each pass that has begun something
 abbrev pub StepsComeNearer : Type 0
 StepsComeNearer = (plan : Plan) (p : Body) → p.hand ≢ Idle → ComesNearer (row plan p) p.hand
 

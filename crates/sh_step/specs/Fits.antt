@@ -1,4 +1,4 @@
--- What the row of a step meets that is done in a heap, by the word found.
+-- What holds of the row of a step that is done in a heap, by the word found.
 use Rattle.std.specs.Prelude.{ℕ, ◌≡◌, ◌+◌, ◌≤◌, List, Some}
 use Rattle.sh_word.specs.Fields.{fields_of}
 use Rattle.sh_shape.specs.Shape.{Numbers}
@@ -10,7 +10,7 @@ use Rattle.sh_step.specs.Operations.{StoresWord}
 use Rattle.sh_step.specs.Plans.{Plan, heap_pages}
 use Rattle.sh_step.specs.Rows.{Row}
 
--- what stands on a bell names pages of the heap
+-- the words of bells and of pages' links name pages of the heap
 abbrev pub WordFits : Plan → Place → ℕ → Type 0
 WordFits plan (Bell k) n = n ≤ heap_pages plan + 1
 WordFits plan (PageLink q) n = n ≤ heap_pages plan + 1

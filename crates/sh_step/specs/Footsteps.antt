@@ -67,7 +67,7 @@ puts_slot t = elim (t.action) [ Put ↦ true | PutSlot y ↦ true | _ ↦ false 
 abbrev pub arms_page : Footstep → Bool
 arms_page t = elim (t.action) [ Arm y ↦ true | _ ↦ false ]
 
--- how often each of these was done
+-- how often each of these is in a list of steps
 abbrev pub steps : List Footstep → ℕ
 steps trail = length trail
 
@@ -92,7 +92,7 @@ puts trail = count_by puts_slot trail
 abbrev pub arms : List Footstep → ℕ
 arms trail = count_by arms_page trail
 
--- one step more counts where it is such a step
+-- one more step adds 1 to the count if it passes the test, and nothing otherwise
 abbrev pub CountsGrow : Type 0
 CountsGrow = (is_such : Footstep → Bool) (trail : List Footstep) (t : Footstep) → count_by is_such (trail ++ t ∷ [])
     ≡ count_by is_such trail + if1 (is_such t)

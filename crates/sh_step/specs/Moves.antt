@@ -32,7 +32,7 @@ use Rattle.sh_step.specs.Rows.{ring_tie, take_bell, follow_bell}
 abbrev pub has_place : Numbers → Parts → Bool
 has_place shape p = nat_lt p.shard shape.shards && nat_lt p.page (pages_of shape) && nat_lt p.slot slot_places
 
--- the place that a key, a page's name or a slot's name names, where the shape has it
+-- the place that a key, a page's name or a slot's name names, if the shape has it
 abbrev pub place_named : Plan → ℕ → Option Name
 place_named plan k = elim (plan.keys.unpack k) [
   | Some x ↦ cond (nat_lt x.page (heap_pages plan) && nat_lt x.slot slot_places)
@@ -47,7 +47,7 @@ abbrev pub slot_named : Plan → SlotName → Option Spot
 slot_named plan x = cond (nat_lt x.shard plan.shards && nat_lt x.page plan.pages && nat_lt x.slot slot_places)
     (Some (slot_of plan x)) None
 
--- what there is of the place that a key, a page's name or a slot's name names: nothing where the heap has no such place
+-- f of the place that a key, a page's name or a slot's name names, or nothing if the heap has no such place
 abbrev pub named : {A : Type 0} → Plan → ℕ → (Name → Option A) → Option A
 named plan k f = option_and_then f (place_named plan k)
 
@@ -57,7 +57,7 @@ paged plan y f = option_and_then f (page_named plan y)
 abbrev pub slotted : {A : Type 0} → Plan → SlotName → (Spot → Option A) → Option A
 slotted plan y f = option_and_then f (slot_named plan y)
 
--- the conditions: the move of an action by a pass with this part, where the action may be done
+-- the conditions: the move of an action by a pass with this part, if the action may be done
 unfoldable pub move_of : Plan → Body → Action → Option Move
 move_of plan p (action.EnterGet k) = named plan k
     (λ x. then_some (idle p && nat_lt (length p.holds) 16) (move.EnterGet k x))
@@ -156,12 +156,12 @@ row plan p a = option_map (row_of plan p) (move_of plan p a)
 abbrev pub step_of : Row → Step
 step_of r = record { place = r.place; operation = r.operation }
 
--- The step of a move, which looks at no part: it is that of its row by whatever part, here by that of a pass which did
--- nothing yet
+-- The step of a move, which does not depend on the part: it is the step of its row for any part, here for that of a
+-- pass that has done nothing yet
 abbrev pub step_at : Plan → Move → Step
 step_at plan m = step_of (row_of plan newcomer m)
 
--- it is
+-- the step of a move's row is the same for every part
 abbrev pub StepsLookAtNoPart : Type 0
 StepsLookAtNoPart = (plan : Plan) (p : Body) (m : Move) → step_of (row_of plan p m) ≡ step_at plan m
 
@@ -169,7 +169,7 @@ StepsLookAtNoPart = (plan : Plan) (p : Body) (m : Move) → step_of (row_of plan
 abbrev pub IsBlind : Row → Type 0
 IsBlind r = (n m : ℕ) → (r.part n ≡ r.part m) × (r.reply n ≡ r.reply m)
 
--- the row of each move that stores, and so answers no word, is such
+-- the row of each move that stores, and so returns no word, is blind
 abbrev pub StoresAreBlind : Type 0
 StoresAreBlind = (plan : Plan) (p : Body) (m : Move) (new : ℕ) → (row_of plan p m).operation ≡ Store new
     → IsBlind (row_of plan p m)
@@ -177,6 +177,6 @@ StoresAreBlind = (plan : Plan) (p : Body) (m : Move) (new : ℕ) → (row_of pla
 abbrev pub is_enabled : Plan → Body → Action → Bool
 is_enabled plan p a = is_some (move_of plan p a)
 
--- the step of an action by a pass with this body, where the action's condition holds
+-- the step of an action by a pass with this body, if the action's condition holds
 abbrev pub next_step : Plan → Body → Action → Option Step
 next_step plan p a = option_map step_of (row plan p a)

@@ -1,4 +1,4 @@
--- Notes and the newest of each number, kept beside them.
+-- Notes, and the newest note of each number, which is kept beside them.
 use Rattle.std.specs.Prelude.{ℕ, ◌≡◌, List}
 use Rattle.sh_step.specs.Collections.{noted}
 

@@ -1,4 +1,4 @@
--- What an operation leaves of the word that it finds, and what it answers.
+-- What an operation leaves of the word that it finds, and what it returns.
 use Rattle.std.specs.Prelude.{ℕ, ◌≡◌, ◌+◌, ◌-◌, ◌%◌, ◌^◌, ◌<◌, ◌≤◌, ◌==◌, cond, bit_or, Option, Some, None}
 use Rattle.sh_step.specs.declared.operation.Operation.{Operation}
 use Rattle.sh_step.specs.declared.operation.Operation.TheVariants.{FetchAdd, FetchSub, FetchOr, Swap, Store}
@@ -14,7 +14,7 @@ operate (Store m) n = m
 operate (CompareExchange old new) n = cond (n == old) new n
 operate Load n = n
 
--- what a swap or an exchange stores is a word
+-- what a swap or an exchange stores fits a word
 abbrev pub StoresWord : Operation → Type 0
 StoresWord (Swap m) = m < 2 ^ 64
 StoresWord (CompareExchange old new) = new < 2 ^ 64
@@ -26,7 +26,7 @@ HasRoom (FetchAdd m) n = n + m < 2 ^ 64
 HasRoom (FetchSub m) n = m ≤ n
 HasRoom _ n = Unit {0}
 
--- what a machine leaves, whose words of 64 bits wrap around
+-- what a machine leaves: its words have 64 bits and wrap around
 abbrev pub wrapped : Operation → ℕ → ℕ
 wrapped (FetchAdd m) n = (n + m) % 2 ^ 64
 wrapped (FetchSub m) n = (n + (2 ^ 64 - m)) % 2 ^ 64
@@ -36,11 +36,11 @@ wrapped (Store m) n = m
 wrapped (CompareExchange old new) n = cond (n == old) new n
 wrapped Load n = n
 
--- where the word found has room, that is what the operation leaves
+-- if the word found has room, the machine's result is what the operation leaves
 abbrev pub RoomDoesNotWrap : Type 0
 RoomDoesNotWrap = (o : Operation) (n : ℕ) → n < 2 ^ 64 → HasRoom o n → operate o n ≡ wrapped o n
 
--- what it answers: the word that it found, but for a store
+-- what it returns: the word that it found, or nothing for a store
 abbrev pub answer : Operation → ℕ → Option ℕ
 answer (Store m) n = None
 answer _ n = Some n

@@ -1,4 +1,4 @@
--- Parts: that of a pass which did nothing yet, and which of a part's lists grow.
+-- Parts: the part of a pass that has done nothing yet, and which of a part's lists grow.
 use Rattle.std.specs.Prelude.{◌<◌, [], None, length}
 use Rattle.sh_slots.specs.declared.hand.Hand.TheVariants.{Idle}
 use Rattle.sh_step.specs.declared.body.Body.{Body}
@@ -32,7 +32,7 @@ pub data ListGrows (old new : Body) : Type 0 where
   more_cursors : length old.cursors < length new.cursors → ListGrows old new
   more_armed : length old.armed < length new.armed → ListGrows old new
 
--- the moves that add to no list of the part, whatever word is found
+-- the moves that add to no list of the part, whatever word they find
 abbrev pub AddsToNoList : Move → Type 0
 AddsToNoList (move.EnterGet k x) = ⊥
 AddsToNoList (move.Finish x g) = ⊥

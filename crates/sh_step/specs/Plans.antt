@@ -1,4 +1,4 @@
--- What is fixed as a heap opens: how many shards, pages and passes there are, and how keys are packed.
+-- What is fixed when a heap opens: how many shards, pages and passes there are, and how keys are packed.
 use Rattle.std.specs.Prelude.{ℕ, ◌≡◌, ◌+◌, ◌-◌, ◌*◌, ◌^◌, ◌<◌, ◌≤◌, nat_lt, cond, ◌&&◌, Option, Some, None}
 use Rattle.sh_key.specs.declared.parts.Parts.{Parts}
 use Rattle.sh_key.specs.Layout.{Layout, packed, unpacked}
@@ -24,12 +24,12 @@ pub record Plan : Type 0 where
   pub passes : ℕ
   pub keys : Keys
 
--- what the parts of a key name among so many shards and pages of a shard
+-- what the parts of a key name, given the number of shards and of pages of a shard
 abbrev pub name_in : (shards pages : ℕ) → Parts → Option Name
 name_in shards pages p = cond (nat_lt p.shard shards && nat_lt p.page pages)
     (Some (record { page = p.shard * pages + p.page; slot = p.slot; generation = p.generation })) None
 
--- the parts of the key of a name, where each shard has so many pages
+-- the parts of the key of a name, given the number of pages of a shard
 abbrev pub parts_of : (pages : ℕ) → Name → Parts
 parts_of pages n = record {
   generation = n.generation;

@@ -1,5 +1,5 @@
--- The rows of the table: of each action the word, the operation on it, and by the word found what is left of the pass's
--- own part and what is replied.
+-- The rows of the table. For each action: the word, the operation on it, and, by the word found, what is left of the
+-- pass's own part and what is replied.
 use Rattle.std.specs.Prelude.{ℕ, ◌+◌, ◌-◌, ◌*◌, ◌^◌, ◌==◌, nat_lt, Bool, true, false, cond, ◌&&◌}
 use Rattle.std.specs.Prelude.{List, [], ◌∷◌, ◌++◌, Option, Some, None, slice_index, length}
 use Rattle.sh_word.specs.Fields.{fields_of}
@@ -48,7 +48,7 @@ owned_by plan o q = elim o [ Some n ↦ n == home plan q | None ↦ false ]
 abbrev pub own : Plan → Body → ℕ → Bool
 own plan p q = owned_by plan p.owned q
 
--- the class word noted of a page, 0 where none is
+-- the class word noted of a page, or 0
 abbrev pub class_word_noted : Body → ℕ → ℕ
 class_word_noted p q = elim (noted q p.classes) [ Some c ↦ c | None ↦ 0 ]
 
@@ -96,7 +96,7 @@ drop_hand p x = record {
   reply = silent;
 }
 
--- one hold less; what it read is forgotten with the last
+-- one hold less; what was read of the key is forgotten with the last hold
 abbrev pub freed : Body → ℕ → Body
 freed p k = let h = without (λ j. j == k) p.holds in record p {
   holds = h;

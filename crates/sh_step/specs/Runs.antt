@@ -7,7 +7,7 @@ use Rattle.sh_step.specs.declared.run.Run.{Run}
 abbrev pub odd : ℕ → Bool
 odd b = b % 2 == 1
 
--- of n slots of page q, from slot s on, those whose binary digit of b is 1, the last digit for slot s
+-- of the n slots of page q from slot s on, those whose binary digit of b is 1; the last digit is that of slot s
 unfoldable pub picked : (q s n b : ℕ) → List Spot
 picked q s zero b = []
 picked q s (suc n) b = cond (odd b) (record { page = q; slot = s } ∷ picked q (s + 1) n (b / 2))

@@ -5,7 +5,7 @@ ghost use Rattle.sh_step.specs.Kinds.{kind_of_action};
 use crate::kind::ActionKind;
 use sh_value::Value;
 
-/// A page as an action names it: any two numbers. Where the shape has no such page the action is not enabled.
+/// A page as an action names it: any two numbers. The action is not enabled if the shape has no such page.
 #[derive(Clone, Copy, Debug, PartialEq, Eq)]
 pub struct PageName {
     /// The shard.
@@ -14,7 +14,7 @@ pub struct PageName {
     pub page: u64,
 }
 
-/// A slot as an action names it: any three numbers. Where the shape has no such slot the action is not enabled.
+/// A slot as an action names it: any three numbers. The action is not enabled if the shape has no such slot.
 #[derive(Clone, Copy, Debug, PartialEq, Eq)]
 pub struct SlotName {
     /// The shard.
@@ -32,7 +32,7 @@ pub enum Action {
     EnterGet(u64),
     /// Enters the slot of a key, to remove it.
     EnterRemove(u64),
-    /// Marks the slot that it entered to remove: of several marks the first one decides.
+    /// Marks the slot that it entered to remove. If several passes mark it, the first mark decides.
     Mark,
     /// Gives back the count on the slot that it is leaving.
     Drop,
@@ -85,14 +85,14 @@ pub enum Action {
 /// An action by a pass.
 #[derive(Drop, Debug, PartialEq, Eq)]
 pub struct Event {
-    /// Who does it.
+    /// The number of the pass that does it.
     pub pass: u32,
     /// What is done.
     pub action: Action,
 }
 
 impl Action {
-    /// The kind that it is of.
+    /// The action's kind.
     pub fn kind(&self) -> ActionKind
         ensures { result ≡ kind_of_action self.now }
     {

@@ -1,4 +1,4 @@
-//! The atomic steps of the heap: which actions there are, and who does one.
+//! The atomic steps of the heap: the actions, and the passes that do them.
 //!
 //! An action is one operation on one word by one pass. There are 19 kinds; some have several forms, as a `Drop` of what
 //! the hand left and a `Drop` of a hold.

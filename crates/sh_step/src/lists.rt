@@ -1,4 +1,4 @@
-//! What stands in the lists of a pass's own part. Lists are newest first, and each call walks one.
+//! The lists of a pass's own part. Lists are newest first, and each call walks one.
 ghost use Rattle.std.specs.Prelude.{◌≡◌, ◌==◌, ◌+◌, ◌<◌, ◌≤◌, ◌∷◌, not, filter, IsOk};
 ghost use Rattle.std.specs.Prelude.{OnOk, OnErr, IfErr};
 ghost use Rattle.std.specs.VecDeque.{deque_len, deque_capacity};
@@ -22,14 +22,14 @@ fn newest_note(notes: &VecDeque<(u64, u64)>, number: u64) -> Option<(u64, u64)>
     notes.iter().copied().find(|note| note.0 == number)
 }
 
-// Where the number stands first.
+// The first position of the number.
 fn number_at(numbers: &VecDeque<u64>, number: u64) -> Option<usize>
     ensures { result ≡ position (λ x. x == number) numbers.now.items }
 {
     numbers.iter().position(|x| *x == number)
 }
 
-// Where the newest note for the number stands.
+// The position of the newest note for the number.
 fn note_at(notes: &VecDeque<(u64, u64)>, number: u64) -> Option<usize>
     ensures { result ≡ position (λ x. x.0 == number) notes.now.items }
 {
@@ -105,7 +105,7 @@ pub fn forget_words(words: &mut VecDeque<(u64, u64, u64)>, key: u64)
     keep_other_words(words, key);
 }
 
-/// Puts the item first. Where memory is refused the list stays as it is; where it has room none is asked for.
+/// Puts the item first. If memory is refused, the list stays as it is; if it has room, none is asked for.
 pub fn put_first<T: Copy + Drop>(items: &mut VecDeque<T>, item: T) -> Result<(), Refusal>
     ensures ok { OnOk result (items.new.items ≡ item ∷ items.old.items) }
     ensures err { OnErr result (items.new.items ≡ items.old.items) }
@@ -120,7 +120,7 @@ pub fn put_first<T: Copy + Drop>(items: &mut VecDeque<T>, item: T) -> Result<(),
     }
 }
 
-/// Makes room for so many more items. The list stays as it is.
+/// Makes room for this many more items. The list stays as it is.
 pub fn make_room<T>(items: &mut VecDeque<T>, more: usize) -> Result<(), Refusal>
     ensures items { items.new.items ≡ items.old.items }
     ensures len { deque_len items.new ≡ deque_len items.old }

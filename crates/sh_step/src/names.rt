@@ -34,7 +34,7 @@ fn number_of_page(shape: &Shape, shard: u64, page: u64) -> u64
     u64::from(shape.page_number(shard as u32, page as u32))
 }
 
-/// What the key names, where it is a key of the layout and names a place of the shape.
+/// What the key names, if it is a key of the layout and names a place of the shape.
 pub fn place_of_key<L: KeyLayout>(shape: &Shape, key: u64) -> Option<Name>
     ensures { result ≡ place_named (plan_of L.layout shape.now) key }
 {
@@ -50,7 +50,7 @@ pub fn place_of_key<L: KeyLayout>(shape: &Shape, key: u64) -> Option<Name>
     }
 }
 
-/// The number over the whole heap of the page of that name, where the shape has it.
+/// The number over the whole heap of the page with that name, if the shape has it.
 #[tactic(auto, unfolding(crate::specs::Plans::page_number))]
 pub fn page_of_name<L: KeyLayout>(shape: &Shape, name: PageName) -> Option<u64>
     ensures { result ≡ page_named (plan_of L.layout shape.now) name }
@@ -62,7 +62,7 @@ pub fn page_of_name<L: KeyLayout>(shape: &Shape, name: PageName) -> Option<u64>
     }
 }
 
-/// The slot of that name, where the shape has it.
+/// The slot with that name, if the shape has it.
 #[tactic(auto, unfolding(crate::specs::Plans::page_number))]
 pub fn slot_of_name<L: KeyLayout>(shape: &Shape, name: SlotName) -> Option<Spot>
     ensures { result ≡ slot_named (plan_of L.layout shape.now) name }
@@ -77,7 +77,7 @@ pub fn slot_of_name<L: KeyLayout>(shape: &Shape, name: SlotName) -> Option<Spot>
     }
 }
 
-/// The key of a name of a slot of the heap: the key names it.
+/// The key of the name of a slot of the heap: unpacking the key gives the name.
 #[tactic(auto, using(crate::proofs::KeyLaws::parts_in_range), unfolding(crate::specs::Plans::keys_of))]
 pub fn key_of_name<L: KeyLayout>(shape: &Shape, name: Name) -> u64
     requires page { name.page < all_pages shape.now }

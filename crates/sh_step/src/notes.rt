@@ -9,9 +9,8 @@ use std::alloc::Global;
 use std::collections::VecDeque;
 use std::marker::Model;
 
-/// Notes of numbers, the newest first: a number and what was found of it. Beside them stands the newest note of each
-/// number, so that a call that looks one up goes over as many notes as there are numbers, and not over each that was
-/// ever made.
+/// Notes of numbers, the newest first: a number and what was found for it. The newest note of each number is also kept
+/// on its own, so a lookup walks one note for each number, and not every note that was ever made.
 #[derive(Drop)]
 pub struct Notes {
     notes: VecDeque<(u64, u64)>,
@@ -56,7 +55,7 @@ impl Notes {
         value_noted(&self.newest, number)
     }
 
-    /// Notes what was found of a number. Where memory is refused all stays as it is.
+    /// Notes what was found for a number. If memory is refused, all stays as it is.
     pub fn put(&mut self, number: u64, found: u64) -> Result<(), Refusal>
         ensures ok { OnOk result (self.new ≡ (number, found) ∷ self.old) }
         ensures err { OnErr result (self.new ≡ self.old) }

@@ -1,4 +1,4 @@
-//! What steps are done with: words and numbers, by shape and layout and what a move names, and by no part.
+//! The words and numbers of steps. They follow from the shape, the layout and what a move names, and from no part.
 ghost use Rattle.std.specs.Prelude.{◌≡◌, ◌-◌, ◌^◌, ◌<◌, ◌≤◌, ℕ, slice_index};
 ghost use Rattle.sh_shape.specs.Classes.{width, slots};
 ghost use Rattle.sh_shape.specs.Places.{slot_places, payload_words};
@@ -17,7 +17,7 @@ use sh_value::Value;
 /// The class word of the pages whose slots have one word each.
 pub const ONE_WORD: u64 = 1;
 
-/// How many words a slot has of a page of this class word; of a number that is no class word 0.
+/// How many words a slot of a page of this class word has; 0 if the number is no class word.
 pub fn width_of_word(class_word: u64) -> u64
     ensures is { result ≡ width (class_word - 1) }
     ensures few { result ≤ 16 }
@@ -30,7 +30,7 @@ pub fn width_of_word(class_word: u64) -> u64
     }
 }
 
-/// How many slots a page of this class word has; of a number that is no class word 0.
+/// How many slots a page of this class word has; 0 if the number is no class word.
 pub fn slots_of_word(class_word: u64) -> u64
     ensures is { result ≡ slots (class_word - 1) }
     ensures few { result ≤ slot_places }
@@ -48,8 +48,8 @@ pub fn payload_word(slot: u64, class_word: u64, i: u64) -> u64
     requires { payload_word slot class_word i < payload_words }
     ensures { result ≡ payload_word slot class_word i }
 {
-    // (Values of one word are told apart, so that the place of their word waits for no load of the class word: the
-    // processor guesses how the test ends, and fetches the word meanwhile.)
+    // (Values of one word are a case of their own, so the place of their word does not wait for a load of the class
+    // word: the processor predicts the branch, and fetches the word meanwhile.)
     if class_word == ONE_WORD {
         return slot + i;
     }

@@ -5,17 +5,17 @@ ghost use Rattle.sh_step.specs.Operations.{operate, wrapped, HasRoom};
 /// What a step does with the one word that it touches.
 #[derive(Clone, Copy, Debug, PartialEq, Eq)]
 pub enum Operation {
-    /// Adds, and answers the word found.
+    /// Adds, and returns the word found.
     FetchAdd(u64),
-    /// Subtracts, and answers the word found.
+    /// Subtracts, and returns the word found.
     FetchSub(u64),
-    /// Sets bits, and answers the word found.
+    /// Sets bits, and returns the word found.
     FetchOr(u64),
-    /// Stores a word, and answers the one found.
+    /// Stores a word, and returns the one found.
     Swap(u64),
-    /// Stores a word, and answers nothing.
+    /// Stores a word, and returns nothing.
     Store(u64),
-    /// Where the first word is found stores the second, and answers the word found.
+    /// Stores the second word if the first is found, and returns the word found.
     CompareExchange(u64, u64),
     /// Returns the word found, which stays.
     Load,

@@ -48,7 +48,7 @@ impl OwnSlots {
         has_spot(&self.runs, spot)
     }
 
-    /// Whether the first slots of a page, so many, are all there.
+    /// Whether the first `count` slots of a page are all there.
     pub fn has_first(&self, page: u64, count: u64) -> bool
         requires { count ≤ slot_places }
         ensures { result ≡ every (λ x. has (same_spot x) self.now) (spots page 0 count) }
@@ -63,7 +63,7 @@ impl OwnSlots {
         has_no_spot(&self.runs)
     }
 
-    /// Puts the slot first. Where memory is refused all stays as it is.
+    /// Puts the slot first. If memory is refused, all stays as it is.
     pub fn put(&mut self, spot: Spot) -> Result<(), Refusal>
         ensures ok { OnOk result (self.new ≡ spot ∷ self.old) }
         ensures err { OnErr result (self.new ≡ self.old) }
@@ -87,8 +87,8 @@ impl OwnSlots {
         self.runs.clear();
     }
 
-    /// Of a page that is given a class, the first slots, so many, are then there and no others, before those of other
-    /// pages, and its class word is noted. Where memory is refused all stays as it is.
+    /// Notes the class word of a page that is given a class. Of the page's slots exactly the first `count` are then
+    /// there, before those of other pages. If memory is refused, all stays as it is.
     pub fn set_class(
         &mut self,
         page: u64,

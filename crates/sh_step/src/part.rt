@@ -111,7 +111,7 @@ impl Part {
         self.bell_cursor
     }
 
-    /// Whether it has begun nothing that it has yet to end.
+    /// Whether it has nothing begun.
     pub fn is_idle(&self) -> bool
         ensures { result ≡ idle self.now }
     {
@@ -177,7 +177,7 @@ impl Part {
         self.classes.of(page)
     }
 
-    /// The class word of a page of its shard, 0 where it knows none.
+    /// The class word of a page of its shard, or 0 if it knows none.
     pub fn class_word(&self, page: u64) -> u64
         ensures { result ≡ class_word_noted self.now page }
     {
@@ -215,7 +215,7 @@ impl Part {
         self.mine.has(spot)
     }
 
-    /// Whether the first slots of a page, so many, are its own to fill.
+    /// Whether the first `count` slots of a page are its own to fill.
     pub fn has_all_mine(&self, page: u64, count: u64) -> bool
         requires { count ≤ slot_places }
         ensures { result ≡ every (λ x. has (same_spot x) self.now.mine) (spots page 0 count) }
@@ -223,7 +223,7 @@ impl Part {
         self.mine.has_first(page, count)
     }
 
-    /// Whether nothing of its shard is with it: no slot to fill, no link to follow and no page armed.
+    /// Whether it has nothing of its shard: no slot to fill, no link to follow and no armed page.
     pub fn has_nothing_of_shard(&self) -> bool
         ensures { result ≡ ((length self.now.mine == 0) && (length self.now.cursors == 0) &&
             (length self.now.armed == 0) && is_none self.now.bell_cursor) }

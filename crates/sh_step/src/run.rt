@@ -7,7 +7,7 @@ ghost use Rattle.sh_step.specs.Runs.{odd, picked, slots_of};
 
 use sh_slots::Spot;
 
-// For how many slots a run has places: a bit of a word each.
+// The number of slots for which a run has places: a bit of a word each.
 const PLACES: u64 = 64;
 
 /// A run of own slots: of the 64 slots of a page from the first on, those whose bit is set, in rising order.
@@ -57,7 +57,7 @@ pub fn run_of_spot(spot: Spot) -> Run
     }
 }
 
-/// The run of the first slots of a page, so many.
+/// The run of the first `count` slots of a page.
 pub fn run_of_page(page: u64, count: u64) -> Run
     requires { count ≤ slot_places }
     ensures { slots_of result ≡ spots page 0 count }

@@ -59,7 +59,7 @@ pub fn has_no_spot(runs: &VecDeque<Run>) -> bool
     all_empty(runs)
 }
 
-// Notes a slot of the page as seen, where the run has it.
+// Notes a slot of the page as seen, if the run has it.
 fn see_slot(seen: &mut [bool; PLACES], run: Run, page: u64, slot: u64)
     requires { slot < slot_places }
     ensures { (x : ℕ) → x < slot_places → get_or seen.new x false ≡
@@ -96,7 +96,7 @@ fn slots_seen(runs: &VecDeque<Run>, page: u64) -> [bool; PLACES]
     seen
 }
 
-/// Whether the first slots of a page, so many, are all there.
+/// Whether the first `count` slots of a page are all there.
 pub fn has_slots(runs: &VecDeque<Run>, page: u64, count: u64) -> bool
     requires { count ≤ slot_places }
     ensures { result ≡ every (λ x. has (same_spot x) (slots_in runs.now.items)) (spots page 0 count) }
@@ -118,7 +118,7 @@ fn put_at(runs: &mut VecDeque<Run>, i: usize, run: Run)
     runs[i] = run;
 }
 
-// Takes the slot out of this run, which has it. A run that is empty then goes.
+// Takes the slot out of this run, which has it. A run that is then empty is removed.
 fn remove_from(runs: &mut VecDeque<Run>, i: usize, spot: Spot)
     requires { position (λ r. has (same_spot spot) (slots_of r)) runs.old.items ≡ Some i }
     ensures { slots_in runs.new.items ≡ without (same_spot spot) (slots_in runs.old.items) }

@@ -14,7 +14,7 @@ use sh_shape::{Place, Shape};
 use sh_slots::{finished_word, marked_word};
 use sh_word::{MARK_BIT, PRESENT_BIT};
 
-// What ends the generation, where nobody is on the slot.
+// The operation that ends the generation, if no pass is on the slot.
 fn end_of_generation<L: KeyLayout>(shape: &Shape, generation: u32) -> Operation
     requires { finished_word generation (plan_of L.layout shape.now).keys.gen_max < 2 ^ 64 }
     ensures { result ≡ Operation.CompareExchange (marked_word generation)

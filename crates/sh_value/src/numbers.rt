@@ -1,4 +1,4 @@
-//! Records of numbers alone: a `u64`, and tuples and arrays of them. Their kind is how many words they have.
+//! Records of numbers: a `u64`, and tuples and arrays of them. Their kind is the number of their words.
 //!
 //! So a struct of some numbers is stored as a tuple or an array, with no trait to implement. What was stored as a tuple
 //! may be read as the array of the same words, and the other way round.

@@ -22,7 +22,7 @@ pub trait Record {
         ensures few { length (words self.now) ≤ 15 }
         ensures decodes { record_of (words self.now) ≡ Some self.now };
 
-    /// The record that the words are, or `None` where they are none.
+    /// The record that the words are, or `None` if they are none.
     fn decode(value: &Value) -> Option<Self>
     where
         Self: Sized,

@@ -1,4 +1,4 @@
-//! What the heap answers in place of doing a call.
+//! What the heap returns if it does not do a call.
 ghost use Rattle.std.specs.Prelude.{◌≡◌};
 ghost use Rattle.sh_value.specs.Refusal.{refusal_number, refusal_name};
 
@@ -8,8 +8,8 @@ use thiserror::Error;
 /// Why a call is refused. A refused call leaves the map, the holds and the issued keys as they were.
 ///
 /// It is an error like any other: it is shown with its name and its usual reason, and `?` makes one of refused memory.
-/// `?` also makes one of a refusal that comes with what was to be used, which is then dropped: `Shard::adopt` gives its
-/// pass back so, so match if it is still needed.
+/// `?` also makes one of a refusal that returns what was to be used, and then drops that. `Shard::adopt` returns its
+/// pass in this way, so match on it if the pass is still needed.
 #[derive(Clone, Copy, Debug, PartialEq, Eq, Error)]
 pub enum Refusal {
     /// The number is no key of the layout, or its place is outside the heap's shape.
@@ -18,9 +18,9 @@ pub enum Refusal {
     /// The key names no present value: it was never issued, or it was removed.
     #[error("Gone: the key was removed, or never issued")]
     Gone,
-    /// The key has as many holds as a key may have. The running heap compares the count in the slot's word, in which
-    /// each pass that is on the slot for a moment counts too. So if a key may have four holds, three and one pass that
-    /// is about to remove it are enough.
+    /// The key has as many holds as a key may have. The running heap compares the count in the slot's word, which also
+    /// counts each pass that is on the slot for a moment. So if a key may have four holds, three holds and one pass
+    /// that is about to remove it are enough.
     #[error("Crowded: the key has as many holds as it may have")]
     Crowded,
     /// The pass has 16 holds.

@@ -36,8 +36,8 @@ impl Value {
         }
     }
 
-    /// The value of these words, of which there are at most 16: `Value::of([7, 8, 9])`. How many there are is known
-    /// where the call stands, so it is not refused.
+    /// The value of these words, of which there are at most 16: `Value::of([7, 8, 9])`. The number of words is known at
+    /// compile time, so the call is not refused.
     pub fn of<const N: usize>(words: [u64; N]) -> Value
         requires { N ≤ 16 }
         ensures { result ≡ words.entry }
@@ -57,14 +57,14 @@ impl Value {
         }
     }
 
-    /// Takes all words away.
+    /// Removes all words.
     pub fn clear(&mut self)
         ensures { self.new ≡ [] }
     {
         self.words.clear();
     }
 
-    /// Makes it the value of this word alone. Where it has one word already, no other place of it is written.
+    /// Makes it the value of this one word. If it has one word already, only that word is written.
     ///
     /// ```text
     /// let mut value = Value::of([7, 8]);
@@ -82,7 +82,7 @@ impl Value {
         }
     }
 
-    /// Puts a word behind the others, of which there are at most 15.
+    /// Adds a word after the others, of which there are at most 15.
     pub fn push(&mut self, word: u64)
         requires { length self.old < 16 }
         ensures words { self.new ≡ self.old ++ word ∷ [] }

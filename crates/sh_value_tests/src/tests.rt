@@ -72,7 +72,7 @@ fn refusals_have_numbers_and_names(rt: HostRuntime) -> Result<(), Fail> {
     Ok(())
 }
 
-// The record is stored as these words, under the kind of so many, and is read from them alone.
+// The record is stored as these words, its kind is their number, and it is read from them only.
 fn is_stored_as<R: Record>(rt: &impl Abort, stored: R, words: &[u64])
 where
     R: PartialEq + Debug + Drop,

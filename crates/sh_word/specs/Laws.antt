@@ -14,10 +14,10 @@ SubtractingLowersCount =
     (w : ℕ) → w < 2 ^ 64 → 0 < (fields_of w).count →
     fields_of ((w + (2 ^ 64 - 1)) % 2 ^ 64) ≡ record (fields_of w) { count = (fields_of w).count - 1 }
 
--- To `or` a word with this bit marks it.
+-- An `or` of a word with this bit marks it.
 abbrev pub OrMarks : ℕ → Type 0
 OrMarks bit = (w : ℕ) → fields_of (bit_or w bit) ≡ record (fields_of w) { marked = true }
 
--- To `or` a word with this bit makes it present.
+-- An `or` of a word with this bit makes it present.
 abbrev pub OrMakesPresent : ℕ → Type 0
 OrMakesPresent bit = (w : ℕ) → fields_of (bit_or w bit) ≡ record (fields_of w) { present = true }

@@ -9,10 +9,10 @@ pub const MARK_BIT: u64 = 1 << 31;
 /// The flag of a state word that says that a record is present in the slot.
 pub const PRESENT_BIT: u64 = 1 << 30;
 
-/// Every count is below this.
+/// Every count is below this number.
 pub const COUNT_LIMIT: u32 = 1 << 30;
 
-/// How a slot stands, by its two flags.
+/// The kind of a slot, by its two flags.
 #[derive(Clone, Copy, Debug, PartialEq, Eq)]
 pub enum Kind {
     /// Neither marked nor present: the slot has no record.
@@ -103,7 +103,7 @@ impl State {
             | u64::from(self.count)
     }
 
-    /// How the slot stands.
+    /// The slot's kind.
     pub fn kind(&self) -> Kind
         ensures value { result ≡ kind_of self.now }
         ensures fields { fields_at result self.now.generation self.now.count ≡ self.now }

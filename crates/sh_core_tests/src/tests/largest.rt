@@ -102,7 +102,7 @@ fn reads_all(world: &mut World<Tiny>, key: u64, rt: &impl Abort) {
     }
 }
 
-// A pass has sixteen holds at most, and notes a class, a length and sixteen words of each. The shard has 16 pages of
+// A pass has at most sixteen holds, and notes a class, a length and sixteen words for each. The shard has 16 pages of
 // three such values.
 #[test]
 fn a_part_notes_all_that_it_may_hold(rt: HostRuntime) {

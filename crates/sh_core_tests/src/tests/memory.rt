@@ -15,7 +15,7 @@ fn small(rt: &impl Abort) -> Shape {
     Shape::new(1, 1, 3).expect(rt, "one shard of one segment is a shape")
 }
 
-// A heap, opened once more where memory was refused.
+// A heap; if memory was refused, it is opened once more.
 fn open_with_memory(alloc: Global, rt: &impl Abort) -> World<Tiny> {
     match World::<Tiny>::new(alloc, small(rt)) {
         Ok(world) => world,
@@ -40,7 +40,7 @@ fn new_pair(alloc: Global, rt: &impl Abort) -> Pair {
     }
 }
 
-// Does the event on the world, once more where memory was refused: then the world was still as its twin.
+// Does the event on the world, and once more if memory was refused: the world was then still as its twin.
 fn step_with_memory(pair: &mut Pair, event: &Event, rt: &impl Abort) -> Result<Outcome, Refusal> {
     match pair.world.step(event) {
         Err(refusal) => {
@@ -52,7 +52,7 @@ fn step_with_memory(pair: &mut Pair, event: &Event, rt: &impl Abort) -> Result<O
     }
 }
 
-// Does the event on the twin, once more where memory was refused.
+// Does the event on the twin, and once more if memory was refused.
 fn step_twin(pair: &mut Pair, event: &Event, rt: &impl Abort) -> Result<Outcome, Refusal> {
     match pair.twin.step(event) {
         Err(refusal) => {
@@ -63,7 +63,7 @@ fn step_twin(pair: &mut Pair, event: &Event, rt: &impl Abort) -> Result<Outcome,
     }
 }
 
-// Does the event on the world and on its twin, and this comes of it.
+// Does the event on the world and on its twin, and both have this outcome.
 fn both(pair: &mut Pair, event: &Event, outcome: Outcome, rt: &impl Abort) {
     let answer = step_with_memory(pair, event, rt);
     agree(&answer, &step_twin(pair, event, rt), rt);

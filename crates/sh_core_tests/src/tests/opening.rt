@@ -4,7 +4,7 @@ use sh_key::{Tagged, Tiny, Wide};
 use sh_shape::Shape;
 use sh_value::Refusal;
 
-// Each slot is empty in its first generation, and all else is 0.
+// Each slot is empty in its first generation, and every other word is 0.
 #[test]
 fn a_heap_opens_empty(rt: HostRuntime) {
     let shape = Shape::new(1, 1, 2).expect(&rt, "one shard of one segment is a shape");

@@ -29,7 +29,7 @@ fn insert_runs(alloc: Global, shape: Shape, events: &[Event], rt: &impl Abort) {
     agree(world.shape(), shape, rt);
 }
 
-// Of two passes that remove the value the first to mark it does.
+// If two passes remove the value, the first to mark it does.
 fn removes_run(alloc: Global, shape: Shape, events: &[Event], rt: &impl Abort) {
     let removed = ran(alloc, shape, events, rt);
     let inserted = Entry::Insert(0, 4096, value(&[5], rt));

@@ -28,7 +28,7 @@ fn a_value_stands_in_its_slot(rt: HostRuntime) {
     has_log(&world, [Entry::Insert(0, 4096, value(&[5], &rt))], &rt);
 }
 
-// Of two passes that remove one key the first mark decides.
+// If two passes remove one key, the first mark decides.
 #[test]
 fn the_first_mark_removes(rt: HostRuntime) {
     let mut world = opened(rt.alloc(), 2, &rt);

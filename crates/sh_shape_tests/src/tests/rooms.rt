@@ -3,7 +3,7 @@ use super::agree;
 use sh_key::{Deep, KeyLayout, Tiny, Wide};
 use sh_shape::Shape;
 
-// The segments of the shape, or `None` where there is none.
+// The segments of the shape, or `None` if there is no shape.
 fn segments<L: KeyLayout>(owners: u32, values: u64, words: usize, passes: u32) -> Option<u32> {
     match Shape::with_room::<L>(owners, values, words, passes) {
         Ok(shape) => Some(shape.segments()),
@@ -11,7 +11,7 @@ fn segments<L: KeyLayout>(owners: u32, values: u64, words: usize, passes: u32) -
     }
 }
 
-// Of one word a segment has 384 slots, of 16 it has 24, and of 5, which take 6, it has 64.
+// For values of one word a segment has 384 slots; for 16 words it has 24; for 5 words, which take 6, it has 64.
 #[test]
 fn each_owner_has_room(rt: HostRuntime) {
     let table = [

@@ -13,9 +13,9 @@ use sh_slots::Reply;
 use sh_value::Refusal;
 
 impl Part {
-    /// Does what the move leaves in the pass's own part, by the word that its step found, and answers what is replied.
-    /// A move that makes a list of the part longer asks for memory first: where it is refused, as `Memory`, the part
-    /// stays as it is. No other move is refused.
+    /// Does what the move leaves in the pass's own part, by the word that its step found, and returns the reply. A move
+    /// that makes a list of the part longer asks for memory first: if it is refused, as `Memory`, the part stays as it
+    /// is. No other move is refused.
     pub fn apply<L: KeyLayout>(
         &mut self,
         shape: &Shape,

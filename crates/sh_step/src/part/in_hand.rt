@@ -25,7 +25,8 @@ impl Part {
         None
     }
 
-    // The end of a generation that found this word: the slot is then its own where its shard is, and else to be put.
+    // The end of a generation that found this word: the slot becomes its own if its shard is, and otherwise is to be
+    // put.
     pub(super) fn finish<L: KeyLayout>(
         &mut self,
         shape: &Shape,
@@ -53,7 +54,7 @@ impl Part {
         Ok(None)
     }
 
-    // A put that found this head word: the link is to be stored, and then to be rung where the flag was found.
+    // A put that found this head word: the link is to be stored, and the pass then rings if it found the flag.
     pub(super) fn put(&mut self, spot: Spot, found: u64) -> Option<Reply>
         ensures reply { result ≡ (put_at self.old spot).reply found }
         ensures part { self.new ≡ (put_at self.old spot).part found }

@@ -16,7 +16,7 @@ use sh_slots::{
 use sh_value::Refusal;
 
 impl Part {
-    // An entry to get that found this word: a hold, where the value is there and its key has room for one.
+    // An entry to get that found this word: it takes a hold if the value is there and its key has room for one.
     pub(super) fn enter_get<L: KeyLayout>(
         &mut self,
         key: u64,
@@ -73,7 +73,7 @@ impl Part {
         }
     }
 
-    // One hold less on the key; what was read of it is forgotten with the last.
+    // One hold less on the key; what was read of the key is forgotten with the last hold.
     fn free(&mut self, key: u64)
         ensures { self.new ≡ freed self.old key }
     {

@@ -24,7 +24,7 @@ fn over_heap<L: KeyLayout>(shape: &Shape, shard: u64, base: u64, word: u64) -> u
 }
 
 impl Part {
-    // An adoption that found this word: the shard is its own where it was nobody's, and it knows nothing of it yet.
+    // An adoption that found this word: the shard becomes its own if it was nobody's, and it knows nothing of it yet.
     pub(super) fn adopt(&mut self, shard: u64, found: u64) -> Option<Reply>
         ensures reply { result ≡ (adopt self.old shard).reply found }
         ensures part { self.new ≡ (adopt self.old shard).part found }
