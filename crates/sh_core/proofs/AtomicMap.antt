@@ -35,9 +35,9 @@ use Rattle.sh_core.proofs.WaitFree.{skipped, step_applies}
 use Rattle.sh_core.proofs.Words.Stepping.{outcome_done, outcome_skipped}
 use Rattle.sh_core.proofs.Words.Steps.{run_snoc}
 
--- ---- what the words say is what the log says
+-- ---- the words and the log say the same
 
--- of the slot's own generation, by its flags
+-- for the slot's own generation, by its flags
 of_now : (p m r : Bool) (v : Option (List ℕ)) (now : List ℕ) → ((p || m) ≡ true → v ≡ Some now)
     → ((p || m) ≡ false → v ≡ None) → r ≡ m
     → cond (p && not m && true) (Some now) None ≡ (if r then None else v)
@@ -46,7 +46,7 @@ of_now true false r v now some none is = rw is (sym (some refl))
 of_now false true r v now some none is = rw is refl
 of_now false false r v now some none is = rw is (sym (none refl))
 
--- of another
+-- for another generation
 of_other : (p m : Bool) (now : List ℕ) → cond (p && not m && false) (Some now) None ≡ None
 of_other true true now = refl
 of_other true false now = refl
@@ -132,7 +132,7 @@ entry_keeps_key a v (reply.Released k) = refl
 IsNamed : Plan → ℕ → Type 0
 IsNamed plan k = (x : Name) × (plan.keys.unpack k ≡ Some x)
 
--- of each move that replies
+-- for each move that replies
 named_reply : (plan : Plan) (w : World) (l : PutLists) → Refines plan w l → (a : ℕ) (p : Body) (m : Move)
     → slice_get w.parts a ≡ Some p → May plan p m → row plan p (action_of plan m) ≡ Some (row_of plan p m)
     → (r : Reply) → (row_of plan p m).reply (read w.words (row_of plan p m).place) ≡ Some r → IsNamed plan (reply_key r)

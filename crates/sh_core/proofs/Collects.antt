@@ -37,7 +37,7 @@ use Rattle.sh_core.proofs.Sums.Totals.{get_set, get_set_here}
 use Rattle.sh_core.proofs.Sums.Writes.{put_same}
 use Rattle.sh_core.proofs.Words.Steps.{step_moves, run_snoc}
 
--- ---- one event more
+-- ---- one more event
 
 lists_snoc : (plan : Plan) (w : World) (l : PutLists) (es : List Event) (e : Event)
     → lists_from plan w l (es ++ e ∷ []) ≡ list_step plan (run_from plan w es) e (lists_from plan w l es)
@@ -100,7 +100,7 @@ written : (rest : List ℕ) → (link_to rest == 0) ≡ false
 written [] = grind (arith, nat_tests)
 written (s ∷ rest) = grind (arith, nat_tests)
 
--- ---- what holds while pass a collects page q, and this is yet to be followed
+-- ---- what holds while pass a collects page q, and these slots are still to be followed
 
 record Collecting (plan : Plan) (w : World) (l : PutLists) (a q : ℕ) (left : List ℕ) : Type 0 where
   quiet : Quiet w

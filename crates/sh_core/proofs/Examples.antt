@@ -1,4 +1,4 @@
--- Worked examples, computed on the definitions, and wrong tables, of each of which some list of events breaks a clause.
+-- Worked examples, computed on the definitions, and wrong tables: for each table some list of events breaks a clause.
 pub mod Worked
 pub mod WrongRows
 pub mod NoRing

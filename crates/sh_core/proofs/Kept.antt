@@ -1,6 +1,6 @@
--- What is kept beside `Agreement`, a file each: what a pass read of keys is so, what a part names is of the heap, holds
--- have room, words that were noted are of the value, a retired slot is in its last generation, a flag stands alone; and
--- what follows of rows: their places and counts are of the heap, what they store is a word.
+-- What is kept besides `Agreement`, a file each. What a pass read of keys is true, and what a part names is in the
+-- heap. Holds have room, and words that were noted are of the value. A retired slot is in its last generation, and a
+-- flag is alone in its word. Rows have places and counts of the heap, and store words.
 pub mod ReadNotes
 pub mod StaysInHeap
 pub mod HoldsInBound

@@ -1,4 +1,4 @@
--- One entry more in a log: what it does to the values that are present, and what it says of them.
+-- One more entry in a log: what it does to the values that are present, and what it says of them.
 use Rattle.std.proofs.Common.{◌≡◌, ℕ, ◌==◌, ◌||◌, inl, inr, Bool, true, false, cond, List, [], ◌∷◌, ◌++◌, refl, ap, sym}
 use Rattle.std.proofs.Common.{◌∙◌, subst, Option, Some, None, eqb-true}
 use Rattle.std.specs.Prelude.{IsSome, if◌then◌else◌}
@@ -29,7 +29,7 @@ removed_snoc [] t j = or_false (is_removal_of j t)
 removed_snoc (x ∷ log) t j = ap (λ b. is_removal_of j x || b) (removed_snoc log t j)
     ∙ or_assoc (is_removal_of j x) (is_removed log j) (is_removal_of j t)
 
--- where the entry is neither the insert nor the removal of the key, nothing changes
+-- if the entry is neither the insert nor the removal of the key, nothing changes
 stays : (log : List Entry) (t : Entry) (j : ℕ) → value_of (t ∷ []) j ≡ None → is_removal_of j t ≡ false
     → present_value (log ++ t ∷ []) j ≡ present_value log j
 stays log t j none kept =

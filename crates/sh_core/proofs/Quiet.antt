@@ -16,7 +16,7 @@ use Rattle.sh_core.specs.Quiet.{Quiet, walked, WordsLead, NoneLost, LeftIsOnStac
 use Rattle.sh_core.specs.Quiet.{QuietLosesNothing}
 use Rattle.sh_core.proofs.Clauses.RunTheorem.{theorem}
 
--- a sum of nothings
+-- a sum of zeros
 pub none_of : (f : Body → ℕ) (ps : List Body) → ((a : ℕ) (p : Body) → slice_get ps a ≡ Some p → f p ≡ 0)
     → total f ps ≡ 0
 unfolding total
@@ -29,7 +29,7 @@ names_top : (ys : List ℕ) → link_to ys ≡ suc (top ys)
 names_top [] = refl
 names_top (y ∷ ys) = omega arith
 
--- a written link leads on
+-- a walk over a written link continues
 next : (link : ℕ → ℕ) (tied s : ℕ) (xs : List ℕ) (n : ℕ) → tied ≡ 0 → walked link n (top xs) ≡ Some xs
     → ((link s ≡ 0) × (tied ≡ 1)) ⊎ ((link s ≡ link_to xs) × (tied ≡ 0))
     → cond (link s == 0) None (option_map (λ zs. s ∷ zs) (walked link n (link s - 1))) ≡ Some (s ∷ xs)
@@ -44,7 +44,7 @@ next link tied s xs n free rest (inr written) =
     ≡ Some (s ∷ xs)) (sym no) (ap (option_map (λ zs. s ∷ zs)) on) in
     subst P (sym e) at
 
--- links all of which are written lead along the list
+-- if all links are written they lead along the list
 leads : (link tied : ℕ → ℕ) (xs : List ℕ) → LinksOn link tied xs → ((s : ℕ) → tied s ≡ 0) → (n : ℕ) → length xs ≤ n
     → walked link n (top xs) ≡ Some xs
 unfolding walked

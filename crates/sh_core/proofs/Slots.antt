@@ -1,5 +1,5 @@
--- What adds up of each slot and each key. A step on one state word changes what a slot is to the passes together, and
--- what the log says of its key: each kind of change has a lemma here, from one slot (`SlotSteps`) to all (`Slots`),
+-- What adds up for each slot and each key. A step on one state word changes what a slot is to the passes together, and
+-- what the log says of its key. Each kind of change has lemmas here: from one slot (`SlotSteps`) to all (`Slots`), and
 -- from the log's entries (`Logs`, `Permits`) to the whole record `Sums`, which `SumsStep` puts together.
 pub mod Slots
 pub mod SlotSteps

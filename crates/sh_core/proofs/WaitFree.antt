@@ -1,4 +1,4 @@
--- A pass ends what it has begun within so many steps of its own.
+-- A pass ends what it has begun within a number of its own steps.
 use Rattle.std.proofs.Common.{◌≡◌, ◌≢◌, ℕ, zero, suc, ◌+◌, ◌≤◌, ◌==◌, Bool, true, false, List, [], ◌∷◌, ◌++◌, refl}
 use Rattle.std.proofs.Common.{ap, sym, ◌∙◌, subst, arith, length, Option, Some, None, slice_get, set, append_assoc}
 use Rattle.std.proofs.Common.{append-nil, eqb-true, eq-eqb}
@@ -50,7 +50,7 @@ step_applies plan w e r is = go (slice_get w.parts e.pass) is where
   go None h = absurd (let z : None ≡ Some r = h in cc)
   go (Some p) h = ap (λ (o : Option Row). elim o as (λ _. World) [ Some m ↦ apply w e.pass m | None ↦ w ]) h
 
--- after one event more
+-- after one more event
 record Nearer (plan : Plan) (es : List Event) (e : Event) (a : ℕ) (p : Body) : Type 0 where
   body : Body
   at : slice_get (run plan (es ++ e ∷ [])).parts a ≡ Some body

@@ -1,5 +1,4 @@
--- The code: one list of words and the parts are the world that they stand for, and a step of the code is the step of
--- that world.
+-- The code: one list of words and the parts represent the world, and a step of the code is a step of that world.
 pub mod Steps
 pub mod Stepping
 pub mod Doing

@@ -33,7 +33,7 @@ value_of-append_some (Insert p k v ∷ xs) ys key value h =
     cond_kept (k == key) v value (value_of xs key) (value_of (xs ++ ys) key) (value_of-append_some xs ys key value) h
 value_of-append_some (_ ∷ xs) ys key value h = value_of-append_some xs ys key value h
 
--- a key that is not issued yet may be issued by what comes
+-- a key that is not issued yet may be issued by a later entry
 pub value_of-append_none : (xs ys : List Entry) (key : ℕ) → value_of xs key ≡ None
     → value_of (xs ++ ys) key ≡ value_of ys key
 value_of-append_none [] ys key h = refl
@@ -109,7 +109,7 @@ module _ (passes guard_max : ℕ) where
   release_step pass key before (Got p k v) allowed h = omega arith
   release_step pass key before _ allowed h = omega arith
 
-  -- nobody releases more than it got
+  -- no pass releases more than it got
   pub releases_after : (pass key : ℕ) (before xs : List Entry) → LegalAfter passes guard_max before xs
       → released_count_by before pass key ≤ got_count_by before pass key
       → released_count_by (before ++ xs) pass key ≤ got_count_by (before ++ xs) pass key
@@ -124,7 +124,7 @@ module _ (passes guard_max : ℕ) where
       → released_count_by xs pass key ≤ got_count_by xs pass key
   releases_le pass key xs legal = releases_after pass key [] xs legal (omega arith)
 
-  -- each get of a key was answered its value
+  -- each get of a key returned its value
   pub gets_have_value : (key : ℕ) (value : List ℕ) (before xs : List Entry) → LegalAfter passes guard_max before xs
       → value_of (before ++ xs) key ≡ Some value → AllHaveValue key value (map Known xs)
   gets_have_value key value before [] legal is = tt
@@ -160,7 +160,7 @@ module _ (passes guard_max : ℕ) where
       rw append_assoc at (issued_when_got pass key (before ++ x ∷ []) xs legal.1
       (let h = rw (count_by-cons (is_got_by pass key) x xs) at got in omega (arith, h)))
 
-  -- the value of an insert, and that of a get, wherever they stand
+  -- the value of an insert and that of a get, at any position
   pub value_of_insert : (front rest : List Entry) (p key : ℕ) (value : List ℕ)
       → Legal passes guard_max (front ++ Insert p key value ∷ rest)
       → value_of (front ++ Insert p key value ∷ rest) key ≡ Some value
@@ -207,7 +207,7 @@ filter_splits p [] front rest e is = absurd (nothing_splits front rest e is)
 filter_splits p (x ∷ xs) front rest e is =
     filter_here (p x) x e xs (filter p xs) front rest (λ front is. filter_splits p xs front rest e is) is
 
--- an entry of the log stands in the history
+-- an entry of the log is in the history
 pub stands_in : (passes guard_max : ℕ) (of_pass : ℕ → Bool) (front rest : List LogEntry) (e : Entry)
     → (book : Stands passes guard_max of_pass (front ++ Known e ∷ rest))
     → (front' : List Entry) × (rest' : List Entry) × (book.history ≡ front' ++ e ∷ rest')
@@ -215,7 +215,7 @@ stands_in passes guard_max of_pass front rest e book =
     let r = zip_splits front rest e (entries_of of_pass book.history) book.agrees in
     filter_splits (λ entry. of_pass (pass_of entry)) book.history r.0 r.1 e r.2
 
--- what a get gave is what was inserted
+-- what a get returned is what was inserted
 pub same_value : (passes guard_max : ℕ) (of_pass : ℕ → Bool) (log front rest front' rest' : List LogEntry)
     (p q key : ℕ) (given got : List ℕ) → Stands passes guard_max of_pass log
     → log ≡ front ++ Known (Insert p key given) ∷ rest → log ≡ front' ++ Known (Got q key got) ∷ rest' → got ≡ given

@@ -1,4 +1,4 @@
--- What a history says of a key, by the entries that stand in it.
+-- What a history says of a key, by its entries.
 use Rattle.std.proofs.Common.{◌≡◌, ℕ, Bool, true, false, cond, List, [], ◌∷◌, ◌++◌, Some, suc, refl, sym, ◌∙◌, ap, take}
 use Rattle.std.proofs.Common.{drop, drop-cons, arith, rules, ◌+◌, ◌≤◌, append_assoc, zero-add}
 use Rattle.std.specs.Prelude.{◌==◌, ◌||◌, count_by}
@@ -19,7 +19,7 @@ first_stands x xs = Contains-append_left (x ∷ []) xs x (Contains-push [] x)
 later_stands : (x y : Entry) (xs : List Entry) → Contains xs y → Contains (x ∷ xs) y
 later_stands x y xs h = Contains-append_right (x ∷ []) xs y h
 
--- where x stands, the list is what comes before it, x, and what comes after it
+-- if x is in the list, the list is what comes before x, then x, then what comes after it
 pub splits_at : {X : Type 0} (xs : List X) (x : X) → Contains xs x → (front : List X) × (rest : List X)
     × (xs ≡ front ++ x ∷ rest)
 splits_at xs x (k, inside, is) =
@@ -69,7 +69,7 @@ removed_here true p k key xs test later is =
     let same : k ≡ key = search rules in (p, rw same (first_stands (Removed p key) xs))
 removed_here false p k key xs test later is = removed_later (Removed p k) xs key (later is)
 
--- of a removed key a removal stands
+-- a removed key has a removal
 pub has_removal : (xs : List Entry) (key : ℕ) → is_removed xs key ≡ true → HasRemoval xs key
 has_removal [] key is = absurd (let h : ⊥ = cc in h)
 has_removal (Removed p k ∷ xs) key is = removed_here (k == key) p k key xs refl (has_removal xs key) is

@@ -8,7 +8,7 @@ use Rattle.sh_key.specs.declared.parts.Parts.{Parts}
 use Rattle.sh_key.specs.Layout.{Layout, IsLayout, IsInRange, IsKeyOf, packed, unpacked, if_good, digits_of, first_key}
 use Rattle.sh_key.specs.Laws.{KeysAreConsecutive}
 
--- a key fits 64 bits, where m and n are powers of two
+-- a key fits 64 bits, if m and n are powers of two
 pub digits-fit : (a b m n g s p t : ℕ) → m ≡ 2 ^ a → n ≡ 2 ^ b → a + b ≤ 26
     → g < 2 ^ 32 → s < 2 ^ a → p < 2 ^ b → t < 64 → ((g * m + s) * n + p) * 64 + t < 2 ^ 64
 digits-fit a b m n g s p t em en few hg hs hp ht =

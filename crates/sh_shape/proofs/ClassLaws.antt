@@ -23,7 +23,7 @@ found_none : (n m : ℕ) (b : Bool) → nat_lt n m ≡ b → cond b (Some n) Non
 found_none n m false is none = ltb-false n m is
 found_none n m true is none = absurd (let no_some : ⊥ = cc in no_some)
 
--- where each class is too narrow, so is the last
+-- if each class is too narrow, so is the last
 pub no_class : (len : ℕ) → class_of len ≡ None → 16 < len
 no_class len is =
     let wide_enough = λ (words : ℕ). nat_le len words in
@@ -31,7 +31,7 @@ no_class len is =
     let past : 8 ≤ first = found_none first 8 (nat_lt first 8) refl is in
     leb-false len 16 (fails_before_first wide_enough widths 7 0 past)
 
--- what the class of a length says, where it has one and where it has none
+-- what the class of a length says, if it has one and if it has none
 pub class_facts : (len : ℕ) (found : Option ℕ) → class_of len ≡ found → MatchOption found (16 < len) (IsClassOf len)
 class_facts len None is = no_class len is
 class_facts len (Some class) is = class_of_is len class is

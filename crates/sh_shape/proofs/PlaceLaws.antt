@@ -9,19 +9,19 @@ use Rattle.sh_shape.specs.Shape.{Numbers, IsShape}
 use Rattle.sh_shape.specs.Places.{pages_of, all_pages, page_number, IsPlace, number, page_words, PagesDiffer}
 use Rattle.sh_shape.specs.Places.{PagesHaveShards, PlacesDiffer, PlacesAreWords, WordsHavePlaces}
 
--- how many pages a heap has at most
+-- the greatest number of pages of a heap
 pub few_pages : (shape : Numbers) → IsShape shape → all_pages shape ≤ 2 ^ 24
 few_pages shape is =
     let pages : all_pages shape ≡ 8 * (shape.shards * shape.segments) = omega arith in
     let few = is.few_segments in omega arith
 
--- a shard's page is one of all
+-- a shard's page is one of all pages
 pub page_is_below : (shape : Numbers) (shard page : ℕ) → shard < shape.shards → page < pages_of shape
     → page_number shape shard page < all_pages shape
 page_is_below shape shard page h k =
     let below = mul-add-lt shard (pages_of shape) page shape.shards h k in omega (arith, below)
 
--- where the heap has a page, each shard has one
+-- if the heap has a page, each shard has one
 some_page : (shape : Numbers) (n : ℕ) → n < all_pages shape → 0 < pages_of shape
 some_page shape n h = elim (cases_lt 0 (pages_of shape)) [
   | inl lt ↦ lt
@@ -88,7 +88,7 @@ page_word shape page (suc (suc (suc s))) h k =
       ]
     ]
 
--- a word behind the pages is at a place
+-- a word after the pages is at a place
 shard_word : (shape : Numbers) (shard odd : ℕ) → shard < shape.shards → odd < 2
     → (a : Place) × IsPlace shape a × (number shape a ≡ page_words * all_pages shape + (2 * shard + odd))
 shard_word shape shard zero h k = (Owner shard, h, omega arith)

@@ -33,7 +33,7 @@ module _ (plan : Plan) (p : Body) where
   abbrev pub MayBe : Action → Move → Type 0
   MayBe x m = May plan p m × (action_of plan m ≡ x)
 
-  -- as another move is
+  -- the same, through an equal move
   as_this : (x : Action) (n m : Move) → n ≡ m → MayBe x n → MayBe x m
   as_this x n m e h = subst (MayBe x) e h
 

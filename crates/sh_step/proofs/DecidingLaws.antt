@@ -20,7 +20,7 @@ module _ (plan : Plan) (p : Body) (n : ℕ) where
   gone k true = refl
   gone k false = refl
 
-  -- what the key names, where it names something
+  -- what the key names, if it names something
   live : (k : ℕ) (x : Name) → plan.keys.unpack k ≡ Some x → live_at x.generation n ≡ is_live plan k n
   live k x e = sym (ap (λ (o : Option Name). elim o as (λ _. Bool)
       [ Some y ↦ live_at y.generation n | None ↦ false ]) e)

@@ -1,4 +1,4 @@
--- A pass that has begun something comes nearer to the end of it with each step, and can always go on.
+-- A pass that has begun something comes nearer to its end with each step, and can always continue.
 use Rattle.std.proofs.Common.{◌≡◌, ℕ, ◌<◌, ◌≤◌, ◌==◌, ◌&&◌, Bool, true, false, cond, ◌∷◌, length, refl, sym, subst}
 use Rattle.std.proofs.Common.{arith}
 use Rattle.std.specs.Prelude.{◌≢◌, nat_lt}
@@ -23,7 +23,7 @@ use Rattle.sh_step.proofs.ConditionLaws.{move_of_row}
 use Rattle.sh_step.proofs.RowLaws.{row_of_may}
 
 module _ (plan : Plan) (p : Body) (busy : p.hand ≢ Idle) where
-  -- who has begun something does nothing that asks for an idle hand
+  -- a pass that has begun something does nothing that asks for an idle hand
   no_idle : {A : Type 0} → p.hand ≡ Idle → A
   no_idle e = absurd (busy e)
 
@@ -61,7 +61,7 @@ module _ (plan : Plan) (p : Body) (busy : p.hand ≢ Idle) where
   near (Tie x l r) may n = nearer_by (Tie x l r) n (Tying x l r) may (tied x l r)
   near (Ring q) may n = nearer_by (Ring q) n (Ringing q) may (omega arith)
   near (RingTie q l) may n = nearer_by (RingTie q l) n (RingTying q l) may (omega arith)
-  -- each other asks for an idle hand
+  -- each other action asks for an idle hand
   near m may n = no_idle (assumption may)
 
   next_by : (m : Move) → May plan p m → HasNext (row plan p)

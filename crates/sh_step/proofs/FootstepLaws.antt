@@ -1,4 +1,4 @@
--- What is counted over a list of steps with one more.
+-- What is counted over a list of steps with one more step.
 use Rattle.std.proofs.Common.{◌+◌, cond, [], ◌∷◌, ap, ◌∙◌, zero-add}
 use Rattle.std.specs.Prelude.{count_by}
 use Rattle.std.proofs.lemmas.List.Sums.{sum_by-append}

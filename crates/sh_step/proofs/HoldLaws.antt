@@ -4,7 +4,7 @@ use Rattle.sh_step.specs.declared.body.Body.{Body}
 use Rattle.sh_step.specs.Collections.{has, without, off}
 use Rattle.sh_step.specs.Rows.{freed}
 
--- what is left where there is another hold, and where there is none
+-- what is left if there is another hold, and if there is none
 freed_by : Body → ℕ → Bool → Body
 freed_by p k other = record p {
   holds = without (λ j. j == k) p.holds;

@@ -1,4 +1,4 @@
--- The words of `Collections` by those of the library, and what they say of one list behind the other.
+-- The words of `Collections` by those of the library, and what they say of two lists in sequence.
 use Rattle.std.proofs.Common.{◌≡◌, ℕ, ◌==◌, ◌||◌, ◌&&◌, ◌+◌, ◌-◌, ◌<◌, subst, arith, Bool, true, false, cond, not, List}
 use Rattle.std.proofs.Common.{[], ◌∷◌, ◌++◌, Option, Some, None, ◌≤◌, zero, suc, refl, ltb-false, eqb-true}
 use Rattle.std.proofs.Common.{ap, sym, ◌∙◌}
@@ -41,7 +41,7 @@ unfolding without
 without_is_removed p [] = refl
 without_is_removed p (x ∷ xs) = without_split p x xs (p x) (without_is_removed p xs)
 
--- where the test passes at i first, and where it passes nowhere
+-- if the test passes first at i, and if it passes nowhere
 pub without_at : {A : Type 0} (p : A → Bool) (xs : List A) (i : ℕ) → position p xs ≡ Some i → without p xs ≡ remove xs i
 without_at p xs i e = without_is_removed p xs ∙ go (nat_lt (position_or_len p xs) (length xs)) e where
   go : (b : Bool) → cond b (Some (position_or_len p xs)) None ≡ Some i → remove xs (position_or_len p xs) ≡ remove xs i
@@ -90,7 +90,7 @@ pub spots_none : (q s n : ℕ) → n ≤ s → spots q s (n - s) ≡ []
 unfolding spots
 spots_none q s n past = let none : n - s ≡ 0 = omega arith in ap (λ k. spots q s k) none
 
--- one slot more
+-- one more slot
 pub every_more : (P : Spot → Bool) (q s n : ℕ) → s < n → every P (spots q s (n - s))
     ≡ (P (record { page = q; slot = s }) && every P (spots q (s + 1) (n - (s + 1))))
 unfolding every
@@ -102,7 +102,7 @@ pub every_none : (P : Spot → Bool) (q s n : ℕ) → n ≤ s → every P (spot
 unfolding every
 every_none P q s n past = ap (λ xs. every P xs) (spots_none q s n past)
 
--- ---- what a removal from a deque says, where the item is there
+-- ---- what a removal from a deque does, if the item is there
 
 pub on_some : {A P : Type 0} (o : Option A) (x : A) → o ≡ Some x → OnSome o P → P
 on_some {A} {P} o x e h = let Q : Option A → Type 0 = λ o. OnSome o P in subst Q e h
@@ -115,7 +115,7 @@ position_within p xs i e = go (nat_lt (position_or_len p xs) (length xs)) refl e
       (arith, nat_tests) in omega arith
   go false is e = absurd (let no_none : ⊥ = cc in no_none)
 
--- ---- one item more, and one list behind the other
+-- ---- one more item, and two lists in sequence
 
 pub has_front : {A : Type 0} (p : A → Bool) (x : A) (xs : List A) → p x ≡ true → has p (x ∷ xs) ≡ true
 unfolding has

@@ -1,4 +1,4 @@
--- What an action names: a key, a page's name or a slot's name names a place exactly where the heap has it.
+-- What an action names: a key, a page's name or a slot's name names a place exactly if the heap has it.
 use Rattle.std.proofs.Common.{◌≡◌, ℕ, ◌<◌, ◌&&◌, Bool, true, false, cond, refl, ap, subst, ◌∙◌, Option, Some, None}
 use Rattle.std.specs.Prelude.{nat_lt, option_and_then}
 use Rattle.sh_slots.specs.declared.hand.Spot.{Spot}
@@ -52,7 +52,7 @@ slot_is plan y x h =
       g.1,
     )
 
--- ---- and a place of the heap is named
+-- ---- a place of the heap is named
 
 pub is_place : (plan : Plan) (k : ℕ) (x : Name) → Named plan k x → place_named plan k ≡ Some x
 is_place plan k x n =
@@ -77,7 +77,7 @@ is_slot plan y h s =
     ∙ (ap (λ b. cond (b && nat_lt y.slot 48) (Some (slot_of plan y)) None) (lt_true y.page plan.pages h.page)
     ∙ ap (λ b. cond b (Some (slot_of plan y)) None) (lt_true y.slot 48 s))
 
--- ---- what there is of it
+-- ---- what a lookup gives
 
 -- what there is behind an option
 behind : {A B : Type 0} (f : A → Option B) (o : Option A) (m : B) → option_and_then f o ≡ Some m → (x : A)

@@ -1,4 +1,4 @@
--- The row of an action, by its move, and that there is none where what the action names is not of the heap.
+-- The row of an action, by its move; there is no row if the heap does not have what the action names.
 use Rattle.std.proofs.Common.{◌≡◌, ℕ, Option, None, refl, sym, ap}
 use Rattle.std.specs.Prelude.{option_map}
 use Rattle.sh_slots.specs.declared.hand.Hand.TheVariants.{Removing}

@@ -31,7 +31,7 @@ noted_off_other q k (x ∷ xs) other = go (x.0 == k) refl (noted_off_other q k x
       rest ∙ sym (ap (λ b. cond b (Some x.1) (noted q xs)) no)
   go false is rest = ap (λ o. cond (x.0 == q) (Some x.1) o) rest
 
--- one note more
+-- one more note
 one_more_note : (k n : ℕ) (newest notes : List (ℕ × ℕ)) → NoteTheSame newest notes
     → NoteTheSame ((k, n) ∷ off (λ x. x.0 == k) newest) ((k, n) ∷ notes)
 unfolding noted NoteTheSame

@@ -1,4 +1,4 @@
--- Where it has room, an operation does not wrap around.
+-- If it has room, an operation does not wrap around.
 use Rattle.std.proofs.Common.{◌≡◌, ℕ, ◌+◌, ◌-◌, ◌%◌, ◌^◌, ◌<◌, ◌≤◌, refl, arith}
 use Rattle.sh_step.specs.declared.operation.Operation.TheVariants.{FetchAdd, FetchSub, FetchOr, Swap, Store}
 use Rattle.sh_step.specs.declared.operation.Operation.TheVariants.{CompareExchange, Load}

@@ -46,7 +46,7 @@ page_of_name plan q = div-add-mod' q plan.pages
 pub slot_of_name : (plan : Plan) (x : Spot) → slot_of plan (slot_name plan x) ≡ x
 slot_of_name plan x = rw (page_of_name plan x.page) refl
 
--- and what a name names has that name
+-- what a name names has that name
 pub name_of_page : (plan : Plan) (y : PageName) → HasPage plan y → page_name plan (page_of plan y) ≡ y
 unfolding page_number home local
 name_of_page plan y h =

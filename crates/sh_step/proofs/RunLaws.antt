@@ -1,4 +1,4 @@
--- The slots that one run of own slots stands for.
+-- The slots that one run of own slots represents.
 use Rattle.std.proofs.Common.{◌≡◌, ℕ, zero, suc, ◌+◌, ◌-◌, ◌*◌, ◌/◌, ◌%◌, ◌^◌, ◌<◌, ◌≤◌, ◌==◌, ◌&&◌, ◌||◌, Bool, true}
 use Rattle.std.proofs.Common.{false, cond, List, [], ◌∷◌, refl, sym, ap, ◌∙◌, arith, pow_pos}
 use Rattle.std.specs.Prelude.{nat_lt, length}
@@ -59,7 +59,7 @@ none_behind x q s (suc n) b behind =
     has_skips x y (odd b) (picked q (s + 1) n (b / 2)) (other_slot x y other)
     ∙ none_behind x q (s + 1) n (b / 2) (omega arith)
 
--- the digit that i digits stand behind, of a number and of its half
+-- the digit above i digits, of a number and of its half
 digit_above : (b i : ℕ) → b / 2 ^ suc i ≡ b / 2 / 2 ^ i
 digit_above b i = ap (λ k. b / k) (pow-succ' 2 i) ∙ sym (div-div-eq-div-mul b 2 (2 ^ i))
 
@@ -91,7 +91,7 @@ has_by_digit q s (suc n) b (suc i) within =
     ∙ (ap (λ (k : ℕ). has (same_spot (record { page = q; slot = k })) (picked q (s + 1) n (b / 2))) next
     ∙ (has_by_digit q (s + 1) n (b / 2) i (omega arith) ∙ ap odd (sym (digit_above b i))))
 
--- where a slot is in a run, and where it is not
+-- if a slot is in a run, and if it is not
 same_place : (x : Spot) (r : Run) → x.page ≡ r.page → r.first ≤ x.slot
     → x ≡ record { page = r.page; slot = r.first + (x.slot - r.first) }
 same_place x r page first =
@@ -133,7 +133,7 @@ in_place x r there = record {
   within false is = let more : r.first + 64 ≤ x.slot = grind (arith, nat_tests) in
       absurd (let f : true ≡ false = sym there ∙ none_behind x r.page r.first 64 r.bits more in let no : ⊥ = cc in no)
 
--- ---- a slot less
+-- ---- one slot less
 
 -- a digit that is 1 is worth no more than the number
 worth : (b i : ℕ) → odd (b / 2 ^ i) ≡ true → 2 ^ i ≤ b
@@ -224,7 +224,7 @@ pub one_picked : (q s : ℕ) → picked q s 64 1 ≡ record { page = q; slot = s
 unfolding picked
 one_picked q s = ap (λ ys. record { page = q; slot = s } ∷ ys) (none_picked q (s + 1) 63)
 
--- a number of so many digits has a digit that is 1, or is 0
+-- a number of n digits has a digit that is 1, or is 0
 pub empty_picked : (q s n b : ℕ) → b < 2 ^ n → (length (picked q s n b) == 0) ≡ (b == 0)
 unfolding picked
 empty_picked q s zero b small = let z : b ≡ 0 = omega arith in sym (ap (λ k. k == 0) z)

@@ -1,4 +1,4 @@
--- The slots that several runs stand for, one run behind the other.
+-- The slots that several runs represent, in the order of the runs.
 use Rattle.std.proofs.Common.{◌≡◌, ℕ, ◌==◌, ◌&&◌, ◌||◌, Bool, true, false, cond, not, List, [], ◌∷◌, ◌++◌, refl, sym}
 use Rattle.std.proofs.Common.{ap, ◌∙◌}
 use Rattle.std.specs.Prelude.{filter, length, replicate, get_or}

@@ -58,7 +58,7 @@ set_run x (s ∷ rs) (suc i) r left at is less =
     ap (λ xs. slots_of s ++ xs) (set_run x rs i r left at.1 is less)
     ∙ sym (without_behind (same_spot x) (slots_of s) (slots_in rs) at.0)
 
--- the run that has this slot alone goes
+-- a run with only this slot is removed
 gone_run : (x : Spot) (rs : List Run) (i : ℕ) (r : Run) → InRun x rs i → slice_index_or rs i r ≡ r
     → without (same_spot x) (slots_of r) ≡ [] → slots_in (remove rs i) ≡ without (same_spot x) (slots_in rs)
 unfolding InRun slots_in

@@ -8,7 +8,7 @@ reusable_fits : (g : ℕ) → reusable_word g < 2 ^ 64 → g + 1 < 2 ^ 32
 unfolding word_of
 reusable_fits g h = omega arith
 
--- where the word after a generation that is not the last one fits, there is a number for the next generation
+-- if the word after a generation that is not the last one fits, there is a number for the next generation
 pub next_generation_fits : (g m n : ℕ) → cond (g == m) (retired_word g) (reusable_word g) < 2 ^ 64 → n ≡ m → g ≢ n
     → g + 1 < 2 ^ 32
 next_generation_fits g m n fits same other =

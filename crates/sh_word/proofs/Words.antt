@@ -30,7 +30,7 @@ pub same_fields : (f f' : Fields) → f.generation ≡ f'.generation → f.marke
     → f.count ≡ f'.count → f ≡ f'
 same_fields f f' g m p c = λ i. record { generation = g i; marked = m i; present = p i; count = c i }
 
--- The fields of the word of some fields are those fields, where the count has room.
+-- The fields of the word of some fields are those fields, if the count has room.
 pub fields_of-word_of : (f : Fields) → f.count < 2 ^ 30 → fields_of (word_of f) ≡ f
 unfolding fields_of word_of
 fields_of-word_of f room =
@@ -55,7 +55,7 @@ word_of-fields_of w =
 pub same_word : (w w' : ℕ) → fields_of w ≡ fields_of w' → w ≡ w'
 same_word w w' e = sym (word_of-fields_of w) ∙ (ap word_of e ∙ word_of-fields_of w')
 
--- Fields with the same word are the same, where the counts have room.
+-- Fields with the same word are the same, if the counts have room.
 pub same_fields_by_word : (f f' : Fields) → f.count < 2 ^ 30 → f'.count < 2 ^ 30 → word_of f ≡ word_of f' → f ≡ f'
 same_fields_by_word f f' room room' e = sym (fields_of-word_of f room) ∙ (ap fields_of e ∙ fields_of-word_of f' room')
 
@@ -81,7 +81,7 @@ word_of-lt f h =
 
 -- ---- adding and subtracting 1
 
--- Adding 1 makes the count one more, where it has room.
+-- Adding 1 makes the count one more, if it has room.
 pub fields_of-add : (w : ℕ) → (fields_of w).count < 2 ^ 30 - 1 → fields_of (w + 1)
     ≡ record (fields_of w) { count = (fields_of w).count + 1 }
 unfolding fields_of
@@ -92,7 +92,7 @@ fields_of-add w room =
     let c : (w + 1) % 2 ^ 30 ≡ w % 2 ^ 30 + 1 = omega arith in
     same_fields _ _ g (ap (λ (x : ℕ). x == 1) m) (ap (λ (x : ℕ). x == 1) p) c
 
--- Subtracting 1 makes the count one less, where it is above 0.
+-- Subtracting 1 makes the count one less, if it is above 0.
 pub fields_of-sub : (w : ℕ) → 0 < (fields_of w).count → fields_of (w - 1)
     ≡ record (fields_of w) { count = (fields_of w).count - 1 }
 unfolding fields_of
@@ -125,12 +125,12 @@ wrapping_sub_one w h above =
     let positive : 0 < w = count_above-word_above w above in
     omega arith
 
--- The fields of what `fetch_add(1)` stores, where the count has room.
+-- The fields of what `fetch_add(1)` stores, if the count has room.
 pub fields_of-wrapping_add : (w : ℕ) → w < 2 ^ 64 → (fields_of w).count < 2 ^ 30 - 1 → fields_of ((w + 1) % 2 ^ 64)
     ≡ record (fields_of w) { count = (fields_of w).count + 1 }
 fields_of-wrapping_add w h room = ap fields_of (wrapping_add_one w h room) ∙ fields_of-add w room
 
--- The fields of what `fetch_sub(1)` stores, where the count is above 0.
+-- The fields of what `fetch_sub(1)` stores, if the count is above 0.
 pub fields_of-wrapping_sub : (w : ℕ) → w < 2 ^ 64 → 0 < (fields_of w).count → fields_of ((w + (2 ^ 64 - 1)) % 2 ^ 64)
     ≡ record (fields_of w) { count = (fields_of w).count - 1 }
 fields_of-wrapping_sub w h above = ap fields_of (wrapping_sub_one w h above) ∙ fields_of-sub w above
@@ -149,7 +149,7 @@ bit_set_other w k i other =
     let e : max (bit_at w i) 0 ≡ bit_at w i = omega arith in
     bit_at_or w (2 ^ k) i ∙ (ap (λ (x : ℕ). max (bit_at w i) x) (bit_at-pow_other k i other) ∙ e)
 
--- To `or` a word with 2^31 marks it.
+-- An `or` of a word with 2^31 marks it.
 pub fields_of-or_mark : (w : ℕ) → fields_of (bit_or w (2 ^ 31)) ≡ record (fields_of w) { marked = true }
 unfolding fields_of
 fields_of-or_mark w =
@@ -159,7 +159,7 @@ fields_of-or_mark w =
     let c : bit_or w (2 ^ 31) % 2 ^ 30 ≡ w % 2 ^ 30 = or_mod w (2 ^ 31) 30 ∙ or_zero_r (w % 2 ^ 30) in
     same_fields _ _ g (ap (λ (x : ℕ). x == 1) m) (ap (λ (x : ℕ). x == 1) p) c
 
--- To `or` a word with 2^30 makes it present.
+-- An `or` of a word with 2^30 makes it present.
 pub fields_of-or_present : (w : ℕ) → fields_of (bit_or w (2 ^ 30)) ≡ record (fields_of w) { present = true }
 unfolding fields_of
 fields_of-or_present w =
@@ -169,7 +169,7 @@ fields_of-or_present w =
     let c : bit_or w (2 ^ 30) % 2 ^ 30 ≡ w % 2 ^ 30 = or_mod w (2 ^ 30) 30 ∙ or_zero_r (w % 2 ^ 30) in
     same_fields _ _ g (ap (λ (x : ℕ). x == 1) m) (ap (λ (x : ℕ). x == 1) p) c
 
--- Neither takes a word of 64 bits out of that range.
+-- After either, a word of 64 bits still has 64 bits.
 pub or_mark_fits : (w : ℕ) → w < 2 ^ 64 → bit_or w (2 ^ 31) < 2 ^ 64
 or_mark_fits w h = or_lt 64 w (2 ^ 31) h (omega arith)
 

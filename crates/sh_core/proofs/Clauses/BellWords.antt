@@ -1,4 +1,4 @@
--- What bells and the links of pages name are pages of the heap, so their words are small.
+-- Bells and the links of pages name pages of the heap, so their words are small.
 use Rattle.std.proofs.Common.{◌≡◌, ℕ, zero, suc, ◌+◌, ◌-◌, ◌*◌, ◌<◌, ◌≤◌, ◌==◌, Bool, true, false, cond, List, [], ◌∷◌}
 use Rattle.std.proofs.Common.{refl, ap, ◌∙◌, subst, arith, eqb-true, eq-eqb}
 use Rattle.std.specs.Prelude.{not, nat_lt}
@@ -15,7 +15,7 @@ use Rattle.sh_core.proofs.Kept.PlacesInHeap.{belled}
 use Rattle.sh_core.proofs.Sums.Tests.{if1_self}
 use Rattle.sh_core.proofs.Sums.ListCounts.{times_cons}
 
--- an item of a chain links to what stands behind it
+-- an item of a chain links to the item after it
 chained_at : (word owed : ℕ → ℕ) (q : ℕ) (xs : List ℕ) → Chained word owed xs → 0 < times q xs → (rest : List ℕ)
     × (word q + owed q ≡ link_to rest) × ((s : ℕ) → times s rest ≤ times s xs)
 unfolding total
@@ -33,7 +33,7 @@ chained_at word owed q (x ∷ xs) h some = go (x == q) refl some (λ k. chained_
         in omega arith,
   )
 
--- a word that names a page as it does over the heap is no greater
+-- a word that names a page by its number in the shard is at most the word that names it over the heap
 over_small : (plan : Plan) (n k m : ℕ) → m ≤ over_heap plan n k m
 unfolding over_heap page_number
 over_small plan n k m = go (nat_lt m k) refl where

@@ -1,4 +1,4 @@
--- What is held stands, and what may be read of it lies within its slot.
+-- The value of a held key is in its slot, and what may be read of it is within the slot.
 use Rattle.std.proofs.Common.{◌≡◌, ℕ, ◌+◌, ◌-◌, ◌*◌, ◌<◌, ◌||◌, true, sym, refl, subst, arith}
 use Rattle.sh_slots.specs.declared.hand.Spot.{Spot}
 use Rattle.sh_word.specs.Fields.{Fields, fields_of}

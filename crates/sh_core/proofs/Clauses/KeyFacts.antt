@@ -13,7 +13,7 @@ use Rattle.sh_core.proofs.Slots.Permits.{value_none, value_one, value_some, remo
 use Rattle.sh_core.proofs.Slots.Permits.{gots_by_are, releases_by_are}
 
 module _ (plan : Plan) (w : World) (l : PutLists) (all : Agreement plan w l) where
-  -- how often a key was removed says whether it was
+  -- the number of removals of a key says whether it was removed
   removed_is : (k : ℕ) (b : Bool) → removals k w.log ≡ if1 b → is_removed w.log k ≡ b
   removed_is k true e = (removed_by k w.log).1 (omega arith)
   removed_is k false e = (removed_by k w.log).0 (omega arith)

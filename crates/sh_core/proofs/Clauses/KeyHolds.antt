@@ -1,4 +1,4 @@
--- The holds on a key are holds on the slot that it names, so they are as few.
+-- The holds on a key are holds on the slot that it names, so the slot's bound is theirs too.
 use Rattle.std.proofs.Common.{◌≡◌, ℕ, zero, suc, ◌≤◌, ◌==◌, Bool, true, false, refl, sym, ◌∙◌, arith, Option, Some}
 use Rattle.std.proofs.Common.{None, eqb-true}
 use Rattle.sh_slots.specs.declared.hand.Name.{Name}

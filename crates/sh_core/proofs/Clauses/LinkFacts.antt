@@ -1,4 +1,4 @@
--- What the links of stacks, chains and bells say, from the sums that are kept.
+-- What the links of stacks, chains and bells are, from the sums that are kept.
 use Rattle.std.proofs.Common.{◌≡◌, ℕ, zero, suc, ◌+◌, ◌<◌, ◌==◌, ◌⊎◌, inl, inr, false, List, [], ◌∷◌, refl, ap, arith}
 use Rattle.std.specs.Prelude.{not}
 use Rattle.std.proofs.lemmas.Bool.Decides.{nat_tests}
@@ -18,7 +18,7 @@ use Rattle.sh_core.proofs.Sums.Tests.{if1_self}
 use Rattle.sh_core.proofs.Sums.ListCounts.{times_cons}
 use Rattle.sh_core.proofs.Lists.BellTakes.{bell_home}
 
--- one item's link: with its pass it adds up to what names the rest, and it has one of the two
+-- one item's link: with what its pass owes it adds up to what names the rest, and it has one of the two
 one_link : (n owed tied next : ℕ) → n + owed ≡ next → if1 (not (n == 0)) + tied ≡ 1 → (tied ≡ 0 → owed ≡ 0)
     → ((n ≡ 0) × (tied ≡ 1)) ⊎ ((n ≡ next) × (tied ≡ 0))
 one_link zero owed tied next sum one none = inl (refl, omega arith)
@@ -28,7 +28,7 @@ one_link (suc n) owed tied next sum one none =
     let free : tied ≡ 0 = omega arith in
     let nothing = none free in inr (omega arith, free)
 
--- along a list of which each item has its link or one pass that ties it
+-- along a list in which each item has its link or one pass that ties it
 links_on : (link owed tied : ℕ → ℕ) (xs : List ℕ) → Chained link owed xs
     → ((s : ℕ) → 0 < times s xs → if1 (not (link s == 0)) + tied s ≡ 1) → ((s : ℕ) → tied s ≡ 0 → owed s ≡ 0)
     → LinksOn link tied xs
@@ -44,7 +44,7 @@ links_on link owed tied (s ∷ xs) chained one none =
 module _ (plan : Plan) (w : World) (l : PutLists) (laws : Lawful plan) (all : Agreement plan w l)
     (know : AllReadsAgree plan w)
     (within : AllInHeap plan w) where
-  -- a slot stands once at most on its page
+  -- a slot is at most once on its page
   slot_link : (q s : ℕ) → 0 < times s (l.stack q) + times s (l.chain q)
       → if1 (not (w.words.link_at q s == 0)) + total (ties_of (spot q s)) w.parts ≡ 1
   slot_link q s some =
@@ -52,7 +52,7 @@ module _ (plan : Plan) (w : World) (l : PutLists) (laws : Lawful plan) (all : Ag
       let few = room_few w.words (spot q s) in
       let ties = all.lists.stacks.ties q s in omega arith
 
-  -- and a page on its bell or that bell's chain
+  -- a page is at most once on its bell or that bell's chain
   page_link : (n q : ℕ) → 0 < times q (l.bells n) + times q (l.bell_chain n)
       → if1 (not (bell_link plan w.words.page_link_at n q == 0)) + total (ring_ties plan n q) w.parts ≡ 1
   page_link n q some =

@@ -1,4 +1,4 @@
--- All that holds, holds as the heap opens.
+-- All that is kept holds as the heap opens.
 use Rattle.std.proofs.Common.{◌≡◌, ℕ, zero, suc, ◌+◌, ◌^◌, ◌≤◌, length, refl, subst, arith, Some, None, slice_get}
 use Rattle.std.proofs.Common.{replicate}
 use Rattle.std.proofs.lemmas.List.{length-replicate}

@@ -1,4 +1,4 @@
--- What a pass owns: one owner a shard, and what it has lies within its shard.
+-- What a pass owns: each shard has one owner, and what a pass has is within its shard.
 use Rattle.std.proofs.Common.{◌≡◌, ◌≢◌, ℕ, ◌%◌, ◌<◌, ◌≤◌, ◌==◌, Bool, true, false, refl, sym, ap, ◌∙◌, arith, Option}
 use Rattle.std.proofs.Common.{Some, None, slice_get, eq-eqb, eqb-true}
 use Rattle.std.proofs.lemmas.Bool.Decides.{nat_tests}
@@ -79,7 +79,7 @@ module _ (plan : Plan) (w : World) (l : PutLists) (all : Agreement plan w l) whe
 module _ (plan : Plan) (w : World) (l : PutLists) (laws : Lawful plan) (all : Agreement plan w l)
     (know : AllReadsAgree plan w)
     (within : AllInHeap plan w) (a : ℕ) (p : Body) (at : slice_get w.parts a ≡ Some p) where
-  -- what is not zero is not that of another's page
+  -- if a pass has something at a page, the page is of its shard
   own_or : (b : Bool) (n : ℕ) → 0 < n → (b ≡ false → n ≡ 0) → b ≡ true
   own_or true n some h = refl
   own_or false n some h = let z = h refl in absurd (omega arith)
@@ -132,7 +132,7 @@ module _ (plan : Plan) (w : World) (l : PutLists) (laws : Lawful plan) (all : Ag
       in first_one (l.chain q) s t (omega arith) (omega arith)) in
       none_noted q (unpoint q p.cursors) (once_only (λ x. x.0 == q) p.cursors once)
 
-  -- who owns the shard has armed what is armed there
+  -- the owner of the shard has armed what is armed there
   armed_here : (q : ℕ) → own plan p q ≡ true → total (armed_at q) w.parts ≡ times q p.armed
   armed_here q mine = alone_armed plan w.words w.parts l a p all.lists at q mine
 

@@ -1,4 +1,4 @@
--- The theorem: what is kept along a run, and each clause of it.
+-- The theorem: what is kept along a run, and each of its clauses.
 use Rattle.std.proofs.Common.{◌||◌, ◌≡◌, ℕ, zero, suc, ◌<◌, ◌≤◌, List, refl, subst, arith, Some, None, slice_get}
 use Rattle.sh_slots.specs.declared.hand.Hand.{Hand}
 use Rattle.sh_slots.specs.declared.hand.Hand.TheVariants.{Removing, Filling}
@@ -206,7 +206,7 @@ theorem layout shape a b c es =
       flags = flags_open plan;
     }) (kept_move plan laws))
 
--- its log, in the layout's own number of holds
+-- its log, with the layout's own bound on holds
 pub legal_of : (layout : Layout) (shape : Numbers) → IsLayout layout → IsShape shape → Fits layout shape
     → (es : List Event) → Legal shape.passes layout.guard_max (run (plan_of layout shape) es).log
 unfolding keys_of

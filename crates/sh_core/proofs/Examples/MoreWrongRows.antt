@@ -94,7 +94,7 @@ released_is_held = refuted keeps_hold (λ plan w l. HoldsAreTold w) 1 (omega ari
     (three_slots ++ inserted 0 ++ ev 0 (EnterGet 4096) ∷ ev 0 (DropHold 4096) ∷ [])
     (λ h. let z : 1 ≡ 1 + 1 = h.together 4096 in absurd (omega arith))
 
--- what is held of a key of this name is its value
+-- the words of a held key with this name are its value
 stored : (plan : Plan) (w : World) (a : ℕ) (p : Body) (k : ℕ) (n : Name) → HeldStands plan w → slice_get w.parts a
     ≡ Some p → 0 < times k p.holds → plan.keys.unpack k ≡ Some n
     → value_of w.log k ≡ Some (value_at w.words n.page n.slot)

@@ -1,4 +1,4 @@
--- A table by which a pass that has to ring has no step for it: such a pass can never go on.
+-- A table that has no step for a pass that has to ring: such a pass can never continue.
 use Rattle.std.proofs.Common.{◌≡◌, ℕ, refl, arith, Some, None}
 use Rattle.sh_slots.specs.declared.hand.Hand.TheVariants.{Idle, Ringing}
 use Rattle.sh_step.specs.declared.action.Action.{Action}
@@ -17,7 +17,7 @@ use Rattle.sh_core.specs.WrongRows.{cannot_ring}
 use Rattle.sh_core.proofs.Examples.Worked.{small, everything}
 use Rattle.sh_core.proofs.Examples.WrongRows.{freeing, refuted}
 
--- who has to ring may do nothing else
+-- a pass that has to ring may do no other action
 module _ (plan : Plan) (p : Body) (q : ℕ) (is : p.hand ≡ Ringing q) where
   idle : {A : Type 0} → p.hand ≡ Idle → A
   idle rests = absurd (let z : ⊥ = cc in z)

@@ -59,7 +59,7 @@ everything = 0
 abbrev pub three_slots : List Event
 three_slots = ev 0 (Adopt 0) ∷ ev 0 (ReadPage (page 0 0)) ∷ ev 0 (SetClass (page 0 0) 7) ∷ []
 
--- with the value 5 in the first
+-- the page with the value 5 in the first slot
 abbrev one_value : List Event
 one_value = three_slots ++ ev 0 (FillSlot (slot 0 0 0) (5 ∷ [])) ∷ ev 0 Fill ∷ ev 0 Publish ∷ []
 
@@ -79,7 +79,7 @@ one_value_words : (words 2 one_value).class_at 0 ∷ (words 2 one_value).state_a
 unfolding everything
 one_value_words = refl
 
--- of two passes that remove one key the first mark decides
+-- if two passes remove one key, the first mark decides
 two_removers : ends 2 (one_value ++ ev 0 (EnterRemove 4096) ∷ ev 1 (EnterRemove 4096) ∷ ev 1 Mark ∷ ev 0 Mark ∷ []) ≡ (
   Moved ∷ Moved ∷ Moved ∷ Moved ∷ Moved ∷ Replied (Insert 0 4096 (5 ∷ [])) ∷ Moved ∷ Moved ∷
       Replied (Removed 1 4096) ∷ Replied (Gone 0 4096) ∷ [],
@@ -94,16 +94,16 @@ again = one_value ++ ev 0 (EnterRemove 4096) ∷ ev 0 Mark ∷ ev 0 Drop ∷ ev 
     ev 0 (FillSlot (slot 0 0 0) (6 ∷ [])) ∷ ev 0 Fill ∷ ev 0 Publish ∷ ev 1 (EnterGet 4096) ∷
     ev 0 (EnterRemove 8192) ∷ ev 0 Mark ∷ ev 0 Drop ∷ []
 
--- marked, with one pass on it
+-- the slot is marked, with one pass on it
 again_word : (words 2 again).state_at 0 0 ≡ 11811160065
 unfolding everything
 again_word = refl
 
--- and that the other pass then ends
+-- the other pass then ends the generation
 abbrev ended : List Event
 ended = again ++ ev 1 Drop ∷ ev 1 Finish ∷ ev 1 Put ∷ ev 1 Tie ∷ []
 
--- an old key stays gone, and the last to leave ends the removal
+-- an old key stays gone, and the last pass to leave ends the removal
 again_ends : ends 2 ended ≡ (
   Moved ∷ Moved ∷ Moved ∷ Moved ∷ Moved ∷ Replied (Insert 0 4096 (5 ∷ [])) ∷ Moved ∷ Replied (Removed 0 4096) ∷ Moved ∷
       Moved ∷ Moved ∷ Moved ∷ Replied (Insert 0 8192 (6 ∷ [])) ∷ Replied (Gone 1 4096) ∷ Moved ∷
@@ -130,7 +130,7 @@ late_finish : ends 2 (one_value ++ ev 0 (EnterRemove 4096) ∷ ev 0 Mark ∷ ev 
 unfolding everything
 late_finish = refl
 
--- two freed slots, of which the lower one is not tied yet
+-- two freed slots; the lower one is not tied yet
 abbrev untied : List Event
 untied = three_slots ++ ev 0 (FillSlot (slot 0 0 0) ([])) ∷ ev 0 Publish ∷ ev 0 (FillSlot (slot 0 0 1) ([])) ∷
     ev 0 Publish ∷ ev 1 (EnterRemove 4096) ∷ ev 1 Mark ∷ ev 1 Drop ∷ ev 1 Finish ∷ ev 1 Put ∷ ev 2 (EnterRemove 4097) ∷
@@ -153,7 +153,7 @@ untied_words : (words 3 untied).head_at 0 ∷ (words 3 untied).link_at 0 0 ∷ (
 unfolding everything
 untied_words = refl
 
--- and goes on once it is tied
+-- following continues after the link is stored
 tied_later : ends 3 (untied ++ ev 1 Tie ∷ ev 0 (Follow (page 0 0)) ∷ [])
     ≡ (
       Moved ∷ Moved ∷ Moved ∷ Moved ∷ Replied (Insert 0 4096 []) ∷ Moved ∷ Replied (Insert 0 4097 []) ∷ Moved ∷
@@ -194,7 +194,7 @@ rung_ends : ends 2 rung ≡ (
 unfolding everything
 rung_ends = refl
 
--- armed again, and the bell empty
+-- the page is armed again, and the bell is empty
 rung_words : (words 2 rung).head_at 0 ∷ (words 2 rung).link_at 0 0 ∷ (words 2 rung).page_link_at 0 ∷
     (words 2 rung).bell_at 0 ∷ [] ≡ 1 ∷ 1 ∷ 0 ∷ 0 ∷ []
 unfolding everything
@@ -228,7 +228,7 @@ class_is_kept : ends 2 (one_value ++ ev 0 (SetClass (page 0 0) 7) ∷ ev 0 (SetC
 unfolding everything
 class_is_kept = refl
 
--- a page that is wholly its owner's gets another class
+-- a page whose slots are all its owner's gets another class
 class_changes : ends 2 (one_value ++ ev 0 (EnterRemove 4096) ∷ ev 0 Mark ∷ ev 0 Drop ∷ ev 0 Finish ∷
     ev 0 (SetClass (page 0 0) 0) ∷ [])
     ≡ (
@@ -248,7 +248,7 @@ adopter_knows_nothing : ends 2 (ev 0 (Adopt 0) ∷ ev 0 Leave ∷ ev 0 Leave ∷
 unfolding everything
 adopter_knows_nothing = refl
 
--- the accounts of the page where a remover stops
+-- the accounts of the page while a remover has stopped
 abbrev stopped : List Event → Accounts
 stopped es = (ends 2 (one_value ++ es)).1
 

@@ -1,4 +1,4 @@
--- The theorem refuses wrong tables: of each, a clause that some list of events breaks.
+-- The theorem refuses wrong tables: for each table, a clause that some list of events breaks.
 use Rattle.std.proofs.Common.{◌≡◌, ℕ, ◌+◌, ◌<◌, ◌≤◌, true, false, List, [], ◌∷◌, ◌++◌, refl, sym, ◌∙◌, subst, arith}
 use Rattle.std.proofs.Common.{cond, Some, None, slice_get}
 use Rattle.sh_history.specs.declared.entry.Entry.TheVariants.{Insert, Crowded, Removed}
@@ -33,7 +33,7 @@ use Rattle.sh_core.specs.WrongRows.{remembers_generation, finish_again, tries_ag
 use Rattle.sh_step.proofs.Truths.{no_bool}
 use Rattle.sh_core.proofs.Examples.Worked.{small, ev, slot, page, three_slots, everything}
 
--- ---- over the right table it is the run
+-- ---- a run by the right table is the run
 
 same_from : (plan : Plan) (w : World) (l : PutLists) (es : List Event)
     → (run_from_by row plan w es ≡ run_from plan w es) × (lists_from_by row plan w l es ≡ lists_from plan w l es)
@@ -45,13 +45,13 @@ pub same_run : (plan : Plan) (es : List Event) → (run_by row plan es ≡ run p
     × (lists_by row plan es ≡ lists_of plan es)
 same_run plan es = same_from plan (open_world plan) no_lists es
 
--- so what always holds holds of it
+-- so what always holds, always holds by the right table
 pub same_always : (P : Plan → World → PutLists → Type 0) → Always P → AlwaysBy row P
 same_always P always layout shape a b c es =
     let plan : Plan = plan_of layout shape in
     let s = same_run plan es in rw (s.0, s.1) (always layout shape a b c es)
 
--- ---- one list of events in a tiny heap refutes what should always hold
+-- ---- one list of events in a tiny heap refutes that a clause always holds
 
 abbrev pub IsLegal : Plan → World → PutLists → Type 0
 IsLegal plan w l = Legal plan.passes plan.keys.guard_max w.log
@@ -85,7 +85,7 @@ unfolding everything step_by run_from_by list_step_by lists_from_by crowds_at_on
     ignores_room never_answers_gone remembers_generation tries_again keeps_flag
 wrongly = 0
 
--- a key is issued twice where the end of a generation leaves it
+-- a key is issued twice if the end of a generation leaves the generation
 abbrev reissuing : List Event
 reissuing = three_slots ++ inserted 0 ++ removed 0 4096 ++ inserted 0
 
@@ -99,7 +99,7 @@ kept_generation_issues_twice = refuted keeps_generation IsLegal 1 (omega arith) 
     (λ h. let t : Legal 1 4 (Insert 0 4096 [] ∷ Removed 0 4096 ∷ Insert 0 4096 [] ∷ []) = subst (Legal 1 4) reissued h
     in let z : Some [] ≡ None = t.1.1.0 in cc)
 
--- and where the last generation is followed by the first
+-- the same if the first generation follows the last
 abbrev wrapping : List Event
 wrapping = three_slots ++ inserted 0 ++ removed 0 4096 ++ inserted 0 ++ removed 0 8192 ++ inserted 0 ++ removed 0 12288
     ++ inserted 0
@@ -116,7 +116,7 @@ wrapped_generation_issues_twice = refuted wraps_generation IsLegal 1 (omega arit
     Removed 0 12288 ∷ Insert 0 4096 [] ∷ []) = subst (Legal 1 4) wrapped h in let z : Some []
     ≡ None = t.1.1.1.1.1.1.0 in cc)
 
--- what is held of a key of this name stands in its slot
+-- the value of a held key with this name is in its slot
 present : (plan : Plan) (w : World) (a : ℕ) (p : Body) (k : ℕ) (n : Name) → HeldStands plan w → slice_get w.parts a
     ≡ Some p → 0 < times k p.holds → plan.keys.unpack k ≡ Some n → (state_of w (spot_of n)).present ≡ true
 present plan w a p k n h at some name =
@@ -125,7 +125,7 @@ present plan w a p k n h at some name =
     let i : s.name ≡ n = cc in
     let P : Name → Type 0 = λ y. (state_of w (spot_of y)).present ≡ true in subst P i s.present
 
--- a held value goes where a late end overwrites whatever stands there
+-- a held value is lost if a late end overwrites the state word
 abbrev overwriting : List Event
 overwriting = three_slots ++ inserted 0 ++ ev 1 (EnterRemove 4096) ∷ ev 1 Mark ∷ ev 1 Drop ∷ ev 0 (EnterGet 4096) ∷
     ev 0 Drop ∷ ev 0 Finish ∷ inserted 0 ++ ev 0 (EnterGet 8192) ∷ ev 1 Finish ∷ []
@@ -146,7 +146,7 @@ ignored_count_loses_held = refuted ignores_count (λ plan w l. HeldStands plan w
     let z : false ≡ true = present (small 2) (run_by ignores_count (small 2) overwriting) 0 holder 8192
     (record { page = 0; slot = 0; generation = 2 }) h refl some refl in no_bool z)
 
--- a link that is stored before its slot is put names nothing under it
+-- a link that is stored before its slot is put does not name the slot under it
 abbrev pub putting : List Event
 putting = three_slots ++ inserted 0 ++ inserted 1 ++ put_back 1 4096 ++ put_back 1 4097
 
@@ -155,7 +155,7 @@ unfolding wrongly
 early_link_is_wrong = refuted ties_first Linked 2 (omega arith) (omega arith) putting
     (λ h. let z : 1 ≡ 2 = (h.0.stacks 0).0 in absurd (omega arith))
 
--- the slots under a link that is not written yet are lost where it is taken for the end
+-- the slots under a link that is not written yet are lost if it is taken for the end
 abbrev following : List Event
 following = three_slots ++ inserted 0 ++ inserted 1 ++ put_back 1 4096 ++ removed 1 4097 ++ ev 1 Put ∷
     ev 0 (Take (page 0 0)) ∷ ev 0 (Follow (page 0 0)) ∷ []
@@ -165,7 +165,7 @@ unfolding wrongly
 unwritten_end_loses_slots = refuted ends_at_unwritten Linked 2 (omega arith) (omega arith) following
     (λ h. let z : 0 ≡ 1 = h.0.cursors 0 1 in absurd (omega arith))
 
--- and where an old link still stands
+-- the same if an old link is still there
 abbrev following_again : List Event
 following_again = three_slots ++ inserted 0 ++ inserted 1 ++ put_back 1 4096 ++ ev 0 (Take (page 0 0)) ∷
     ev 0 (Follow (page 0 0)) ∷ inserted 0 ++ put_back 1 4097 ++ removed 1 8192 ++ ev 1 Put ∷ ev 0 (Take (page 0 0)) ∷
@@ -176,7 +176,7 @@ unfolding wrongly
 old_link_loses_slots = refuted leaves_link Linked 2 (omega arith) (omega arith) following_again
     (λ h. let z : 0 ≡ 1 = h.0.cursors 0 1 in absurd (omega arith))
 
--- an armed page whose flag was found has no ring to wait for where nobody rings
+-- if no pass rings, an armed page whose flag was found has no ring to wait for
 abbrev pub freeing : List Event
 freeing = three_slots ++ inserted 0 ++ ev 0 (Arm (page 0 0)) ∷ put_back 1 4096
 
@@ -185,13 +185,13 @@ unfolding wrongly
 silent_freer_loses_ring = refuted never_rings Armed 2 (omega arith) (omega arith) freeing
     (λ h. let z : 1 ≡ 0 = (h 0).0 in absurd (omega arith))
 
--- slots stay with a pass that owns nothing where it leaves with them
+-- slots stay with a pass that owns nothing if it leaves with them
 pub leaver_keeps_slots : ¬ AlwaysBy leaves_slots (λ plan w l. LeftEmpty plan w)
 unfolding wrongly
 leaver_keeps_slots = refuted leaves_slots (λ plan w l. LeftEmpty plan w) 1 (omega arith) (omega arith)
     (three_slots ++ ev 0 Leave ∷ []) (λ h. let z : 1 ≡ 0 = (h 0 refl).0 (spot 0 0) refl in absurd (omega arith))
 
--- a slot with a value is its owner's too where its page gets another class
+-- a slot with a value is its owner's too if its page gets another class
 pub forgotten_slot_has_two_kinds : ¬ AlwaysBy forgets_last_slot (λ plan w l. OneKind w l)
 unfolding wrongly
 forgotten_slot_has_two_kinds = refuted forgets_last_slot (λ plan w l. OneKind w l) 1 (omega arith) (omega arith)
@@ -199,7 +199,7 @@ forgotten_slot_has_two_kinds = refuted forgets_last_slot (λ plan w l. OneKind w
     let small : 2 < 4 = omega arith in
     let z : 2 ≡ 1 = (h (spot 0 2) 6 refl).0 small in absurd (omega arith))
 
--- a key with one hold to come is not crowded where four may be had
+-- a key with room for one more hold is not crowded if it may have four
 abbrev getting : List Event
 getting = three_slots ++ inserted 0 ++ ev 0 (EnterGet 4096) ∷ []
 
@@ -227,21 +227,21 @@ key_is_removed_twice = refuted both_remove IsLegal 2 (omega arith) (omega arith)
     (λ h. let t : Legal 2 4 (Insert 0 4096 [] ∷ Removed 0 4096 ∷ Removed 1 4096 ∷ []) = subst (Legal 2 4) removed_both h
     in let z : true ≡ false = t.1.1.0.1 in cc)
 
--- a count that nobody takes back
+-- a count that no pass takes back
 pub stayed_count_is_nobodys : ¬ AlwaysBy marks_and_stays (λ plan w l. Counted plan w)
 unfolding wrongly
 stayed_count_is_nobodys = refuted marks_and_stays (λ plan w l. Counted plan w) 1 (omega arith) (omega arith)
     (three_slots ++ inserted 0 ++ ev 0 (EnterRemove 4096) ∷ ev 0 Mark ∷ [])
     (λ h. let z : 1 ≡ 0 = h (spot 0 0) in absurd (omega arith))
 
--- a marked slot that nobody finishes
+-- a marked slot that no pass finishes
 pub forgotten_end_never_comes : ¬ AlwaysBy drops_and_forgets (λ plan w l. Finished plan w)
 unfolding wrongly
 forgotten_end_never_comes = refuted drops_and_forgets (λ plan w l. Finished plan w) 1 (omega arith) (omega arith)
     (three_slots ++ inserted 0 ++ ev 0 (EnterRemove 4096) ∷ ev 0 Mark ∷ ev 0 Drop ∷ [])
     (λ h. let z : 0 < 0 = h (spot 0 0) refl refl refl in absurd (omega arith))
 
--- the class of a key that is held no more
+-- the class of a key that is no longer held
 abbrev knowing : List Event
 knowing = three_slots ++ inserted 0 ++ ev 0 (EnterGet 4096) ∷ ev 0 (ReadClass 4096) ∷ ev 0 (DropHold 4096) ∷ []
 
@@ -259,14 +259,14 @@ unfolding wrongly
 known_key_is_not_held = refuted knows_after_hold (λ plan w l. NotesAreTrue plan w) 1 (omega arith) (omega arith) knowing
     (λ h. let z : 0 < 0 = ((h 0 knower refl).class_words 4096 8 refl).0 in absurd (omega arith))
 
--- a fourth generation, of which tiny has three
+-- a fourth generation; tiny has three
 pub unretired_slot_has_no_key : ¬ AlwaysBy never_retires (λ plan w l. GenerationsEnd plan w)
 unfolding wrongly
 unretired_slot_has_no_key = refuted never_retires (λ plan w l. GenerationsEnd plan w) 1 (omega arith) (omega arith)
     (three_slots ++ inserted 0 ++ removed 0 4096 ++ inserted 0 ++ removed 0 8192 ++ inserted 0 ++ removed 0 12288)
     (λ h. let z : 4 ≤ 3 = (h (spot 0 0)).1 in absurd (omega arith))
 
--- a slot that stands twice among its owner's
+-- a slot that is twice among its owner's
 abbrev collected : List Event
 collected = three_slots ++ inserted 0 ++ put_back 1 4096 ++ ev 0 (Take (page 0 0)) ∷ ev 0 (Follow (page 0 0)) ∷ []
 
@@ -277,7 +277,7 @@ followed_twice_is_mine_twice = refuted follows_twice (λ plan w l. OneKind w l) 
     let small : 0 < 3 = omega arith in
     let z : 2 ≡ 1 = (h (spot 0 0) 7 refl).0 small in absurd (omega arith))
 
--- what was rung for is followed by nobody where its owner left
+-- no pass follows what was rung for if its owner left
 abbrev pub ringing : List Event
 ringing = three_slots ++ inserted 0 ++ inserted 1 ++ inserted 2 ++ ev 0 (Arm (page 0 0)) ∷ put_back 1 4096
     ++ ev 1 Ring ∷ ev 1 RingTie ∷ ev 0 TakeBell ∷ ev 0 Leave ∷ []
@@ -297,7 +297,7 @@ ninth_class_is_none = refuted gives_any_class (λ plan w l. ClassesAreKnown plan
     (ev 0 (Adopt 0) ∷ ev 0 (ReadPage (page 0 0)) ∷ ev 0 (SetClass (page 0 0) 8) ∷ [])
     (λ h. let z : 9 ≤ 8 = (h 0).0 in absurd (omega arith))
 
--- a fifth hold where four may be had
+-- a fifth hold if a key may have four
 pub fifth_hold_is_too_many : ¬ AlwaysBy ignores_room (λ plan w l. HoldsAreFew plan w)
 unfolding wrongly
 fifth_hold_is_too_many = refuted ignores_room (λ plan w l. HoldsAreFew plan w) 1 (omega arith) (omega arith)
@@ -334,7 +334,7 @@ end_may_never_come = refuted tries_again (λ plan w l. GoesOn tries_again plan w
     (λ h. let z : 5 < 5 = (h 0 ender refl (λ e. cc)).1 Finish (finish_again (small 1) ender (spot 0 0) 1) refl 0
     in absurd (omega arith))
 
--- a get that is never answered
+-- a get that never returns
 abbrev unanswered : Row
 unanswered = record (enter_get (small 1) newcomer 4096 (record { page = 0; slot = 0; generation = 1 })) {
   reply = λ n. cond (live_at 1 n) ((enter_get (small 1) newcomer 4096

@@ -1,4 +1,4 @@
--- A head word with a flag is the flag alone, step by step, so a page whose flag stands has an empty stack.
+-- A head word with a flag is the flag alone, step by step, so a page whose flag is set has an empty stack.
 use Rattle.std.proofs.Common.{◌≡◌, ℕ, ◌+◌, ◌*◌, ◌/◌, ◌%◌, ◌==◌, Bool, true, false, List, [], ◌∷◌, refl, sym, ◌∙◌, arith}
 use Rattle.std.proofs.Common.{eqb-true}
 use Rattle.sh_shape.specs.declared.places.Place.{Place}

@@ -1,4 +1,4 @@
--- The holds on a slot's key are at most as many as the layout allows, step by step.
+-- The holds on a slot's key are at most the number that the layout allows, step by step.
 use Rattle.std.proofs.Common.{◌≡◌, ℕ, suc, ◌+◌, ◌<◌, ◌≤◌, ◌==◌, ◌&&◌, ◌⊎◌, inl, inr, ⊎_elim, Bool, true, false, cond}
 use Rattle.std.proofs.Common.{List, ◌∷◌, refl, sym, ap, subst, arith, Some, slice_get, eqb-true, ltb-true}
 use Rattle.std.specs.Prelude.{nat_lt}
@@ -25,11 +25,11 @@ use Rattle.sh_step.specs.Rows.{Row, hand, read_class, read_length, read_word}
 use Rattle.sh_step.specs.Conditions.{May}
 use Rattle.sh_core.proofs.Moves.ByMove.{keys_stay}
 
--- every key that names a slot and is held is held in its present generation, so these are the holds on the slot's key
+-- each held key that names a slot is held in the slot's present generation, so these are the holds on the slot's key
 abbrev pub HoldsInBound : Plan → World → Type 0
 HoldsInBound plan w = (x : Spot) → total (held plan x) w.parts ≤ plan.keys.guard_max
 
--- a step takes no hold, or one where the count was below the bound
+-- a step takes no hold, or it takes one and the count was below the bound
 abbrev Bounded : Plan → World → Body → Row → Type 0
 Bounded plan w p m = (x : Spot) → (held plan x (m.part (read w.words m.place)) ≤ held plan x p)
     ⊎ ((held plan x (m.part (read w.words m.place)) ≤ suc (held plan x p))
@@ -40,7 +40,7 @@ module _ (plan : Plan) (w : World) (p : Body) where
   same_bounded r h x = inl (let s : held plan x (r.part (read w.words r.place)) ≡ held plan x p = ap
       (λ (ks : List ℕ). total (λ k. if1 (at_spot x (plan.keys.unpack k))) ks) h in omega arith)
 
-  -- a get takes a hold where it found room for it
+  -- a get takes a hold if it found room for it
   get_bounded : (k : ℕ) (y : Name) (b c : Bool) → plan.keys.unpack k ≡ Some y
       → nat_lt (fields_of (w.words.state_at y.page y.slot)).count plan.keys.guard_max ≡ c → (x : Spot)
       → (held plan x (cond (b && c) (record p { holds = k ∷ p.holds }) (hand p (Leaving (spot_of y)))) ≤ held plan x p)

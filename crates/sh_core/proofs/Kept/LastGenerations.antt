@@ -1,4 +1,4 @@
--- What is kept beside: a retired slot is in the last generation, and each entry is of a pass of the heap.
+-- What is kept besides: a retired slot is in the last generation, and each entry is of a pass of the heap.
 use Rattle.std.proofs.Common.{◌≡◌, ℕ, ◌+◌, ◌-◌, ◌<◌, ◌≤◌, ◌==◌, ◌&&◌, Bool, true, false, cond, List, [], ◌∷◌, sym, refl}
 use Rattle.std.proofs.Common.{ap, ◌∙◌, arith, Option, Some, None, slice_get, eqb-true}
 use Rattle.std.specs.Prelude.{◌^◌, bit_or, All as Each}
@@ -94,7 +94,7 @@ module _ (plan : Plan) (w : World) (l : PutLists) (all : Agreement plan w l) (a 
   drop_last : (n : ℕ) → 1 ≤ (fields_of n).count → LastWord plan n → LastWord plan (n - 1)
   drop_last n some h = same_but plan n (n - 1) ((fields_of n).count - 1) (fields_of-sub n (omega arith)) h
 
-  -- Finish alone writes a retired word; Mark finds a slot that is present
+  -- only Finish writes a retired word; Mark finds a slot that is present
   row_writes_last : (m : Move) → May plan p m → RowWritesLast plan w.words (row_of plan p m)
   row_writes_last (EnterGet k x) may = enter_last (w.words.state_at x.page x.slot) (counts (EnterGet k x) may)
       (old x.page x.slot)

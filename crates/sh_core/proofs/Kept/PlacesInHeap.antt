@@ -62,7 +62,7 @@ module _ (plan : Plan) (w : World) (l : PutLists) (laws : Lawful plan) (all : Ag
       let few = slots_few (w.words.class_at q - 1) in
       let r1 = r.1 in omega arith
 
-  -- where a value is being filled in
+  -- if a value is being filled in
   filling : (a : ℕ) (p : Body) (x : Spot) (v : List ℕ) (i : ℕ) → slice_get w.parts a ≡ Some p → p.hand ≡ Filling x v i
       → i < length v → x.slot * width (class_word_noted p x.page - 1) + i < 48
   filling a p x v i at is less =
@@ -81,7 +81,7 @@ module _ (plan : Plan) (w : World) (l : PutLists) (laws : Lawful plan) (all : Ag
       let r = room_placed plan w.words x all.bounds (omega arith) in
       rw fine.class_is (slot_words_fit_page (w.words.class_at x.page - 1) x.slot i r.1 (omega arith))
 
-  -- a page that stands on a bell, or on its chain, is one of the heap
+  -- a page on a bell, or on its chain, is one of the heap
   pub belled : (n q : ℕ) → 0 < times q (l.bells n) + times q (l.bell_chain n) → q < heap_pages plan
   belled n q some =
       let at_home = bell_home plan w.words w.parts l n q all.lists some in

@@ -40,7 +40,7 @@ use Rattle.sh_core.proofs.Sums.Writes.{put2_other, put_other, write_same}
 abbrev Three : Body → Body → Type 0
 Three p u = (u.holds ≡ p.holds) × (u.class_words ≡ p.class_words) × (u.lengths ≡ p.lengths)
 
--- the words that a step leaves to the keys held by anyone
+-- the words that a step leaves to the keys that passes hold
 abbrev HeldWordsStay : Plan → World → Words → Type 0
 HeldWordsStay plan w W = (b : ℕ) (u : Body) (k : ℕ) (n : Name) → slice_get w.parts b ≡ Some u → 0 < times k u.holds
     → plan.keys.unpack k ≡ Some n → (W.class_at n.page ≡ w.words.class_at n.page)
@@ -82,7 +82,7 @@ module _ (plan : Plan) (w : World) (l : PutLists) (a : ℕ) (p : Body) (all : Ag
   three_knows : (W : Words) (u : Body) → HeldWordsStay plan w W → Three p u → ReadsAgreeOf plan W u
   three_knows W u stay t = rw (t.0, t.1, t.2) (knows_words plan w W a p at stay (old a p at))
 
-  -- a move that changes neither what is known nor the words of which it is
+  -- a move that changes neither what is known nor the words that it is known of
   owes_quiet : (m : Row) → (let W : Words = write w.words m.place (operate m.operation (read w.words m.place))
       in (W.class_at ≡ w.words.class_at) × (W.length_at ≡ w.words.length_at)) → Three p (m.part (read w.words m.place))
       → Owes plan w a p m

@@ -1,4 +1,4 @@
--- What the rows of enabled actions meet: what they store is a word, and a key that they issue is one of the layout.
+-- What the rows of enabled actions store fits a word, and a key that they issue is one of the layout.
 use Rattle.std.proofs.Common.{◌≡◌, ◌≢◌, ℕ, ◌+◌, ◌*◌, ◌^◌, ◌<◌, ◌≤◌, ◌==◌, Bool, true, false, cond, List, refl, sym, ap}
 use Rattle.std.proofs.Common.{◌∙◌, arith, Option, Some, None, slice_get}
 use Rattle.std.proofs.Math.Nat.{mod-le}
@@ -47,7 +47,7 @@ mark_issues_none : (k : ℕ) (a : Bool) → issues (Some (cond a (reply.Gone k) 
 mark_issues_none k true = refl
 mark_issues_none k false = refl
 
--- the generation stands in the upper half of a state word
+-- the generation is in the upper half of a state word
 word_small : (g : ℕ) (a b : Bool) → g < 2 ^ 32 → word_of (record { generation = g; marked = a; present = b; count = 0 })
     < 2 ^ 64
 unfolding word_of

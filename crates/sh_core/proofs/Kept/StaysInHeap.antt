@@ -31,11 +31,11 @@ use Rattle.sh_step.specs.Conditions.{May, SpotWithin}
 use Rattle.sh_core.proofs.Sums.ListCounts.{times_cons, times_none, times_less}
 use Rattle.sh_core.proofs.Sums.Tests.{cond_either}
 
--- where a slot's state word is found it is of a generation that there is
+-- if a slot's state word is found, its generation is at most the last one
 abbrev IsStateOf : Plan → Row → ℕ → Type 0
 IsStateOf plan r n = (q s : ℕ) → r.place ≡ State q s → (fields_of n).generation ≤ plan.keys.gen_max
 
--- what the hand is known to be names what is of the heap
+-- what is known of the hand says that it names places of the heap
 pub hand_within : (plan : Plan) (p : Body) (h : Hand) → InHeap plan p → p.hand ≡ h → HandWithin plan h
 hand_within plan p h old is = subst (HandWithin plan) is old.hand
 

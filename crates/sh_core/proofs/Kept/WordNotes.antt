@@ -38,7 +38,7 @@ use Rattle.sh_core.proofs.Sums.ListCounts.{times_cons, times_without, has_some}
 abbrev Note : Type 0
 Note = ℕ × ℕ × ℕ
 
--- the note is of a held key, and says a word of the value that the key was issued with
+-- the note is for a held key, and is a word of the value that the key was issued with
 pub record WordNote (log : List Entry) (holds : List ℕ) (x : Note) : Type 0 where
   pub held : 0 < times x.0 holds
   pub value : List ℕ
@@ -80,7 +80,7 @@ in_off {A = A} t (y ∷ ys) j x h = go (t y) refl j h (λ i e. in_off t ys i x e
 
 -- ---- step by step
 
--- what was told stays told as the log grows
+-- a true note stays true as the log grows
 told_more : (log : List Entry) (o : Option Entry) (holds : List ℕ) (x : Note) → WordNote log holds x
     → WordNote (joined log o) holds x
 told_more log None holds x t = t
@@ -92,7 +92,7 @@ told_more log (Some e) holds x t = record {
   says = t.says;
 }
 
--- of other holds, among which the key is
+-- the same for other holds, among which the key is
 told_of : (log : List Entry) (holds held : List ℕ) (x : Note) → WordNote log holds x → 0 < times x.0 held
     → WordNote log held x
 told_of log holds held x t some = record {

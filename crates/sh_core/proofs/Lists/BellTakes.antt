@@ -113,7 +113,7 @@ module _ (plan : Plan) (w : Words) (ps : List Body) (l : PutLists) (a : ℕ) (p 
     moved k false e = rw (put_other l.bells n (home plan k) [] e, put_other l.bell_chain n (home plan k) (l.bells n) e)
         refl
 
--- no pass stores a page's link on another shard's bell, so a page that stands on a bell or its chain is of that shard
+-- no pass stores a page's link on another shard's bell, so a page on a bell or its chain is of that shard
 pub ties_home : (plan : Plan) (n q : ℕ) → (n == home plan q) ≡ false → (ps : List Body) → total (ring_ties plan n q) ps
     ≡ 0
 unfolding total

@@ -1,4 +1,4 @@
--- What is kept of lists, bells, duties and owners: what stays where a part keeps its face, and what an owner alone has.
+-- What is kept of lists, bells, duties and owners: what stays if a part keeps its face, and what only an owner has.
 use Rattle.std.proofs.Common.{◌≡◌, ◌≢◌, ℕ, ◌+◌, ◌-◌, ◌≤◌, ◌==◌, ◌&&◌, ⊎_elim, Bool, true, false, cond, List, [], ◌∷◌}
 use Rattle.std.proofs.Common.{set, sym, refl, ap, ◌∙◌, subst, arith, Option, Some, None, slice_get, eq-eqb}
 use Rattle.std.specs.Prelude.{nat_lt}
@@ -124,7 +124,7 @@ module _ (plan : Plan) (w : Words) (ps : List Body) (l : PutLists) (a : ℕ) (p 
       let t = total_two (owns (home plan q)) ps b a u p n h at in
       owns_none plan u.owned q (omega arith)
 
--- who ties nothing has no link to store
+-- a pass that ties nothing has no link to store
 pub no_ties : (x : Spot) (ps : List Body) → total (ties_of x) ps ≡ 0 → total (tying x) ps ≡ 0
 unfolding total
 no_ties x [] h = refl

@@ -23,7 +23,7 @@ use Rattle.sh_core.proofs.Sums.Tests.{eqb-comm}
 use Rattle.sh_core.proofs.Sums.Writes.{put_same, put_other}
 use Rattle.sh_core.proofs.Lists.StackKinds.{apart_pages}
 
--- the owner changes, and with it what it has
+-- the owner changes, and so does what it has
 pub lists_owner : (plan : Plan) (w : Words) (ps : List Body) (l : PutLists) (a : ℕ) (p p' : Body) (n m : ℕ)
     → ListsAgreeOf plan w ps l → slice_get ps a ≡ Some p → p'.hand ≡ p.hand
     → ((q s : ℕ) → cursor_at q s p' ≡ cursor_at q s p) → ((k q : ℕ) → bell_cursor_at k q p' ≡ bell_cursor_at k q p)
@@ -146,7 +146,7 @@ taken_rest_owner plan w ps l a p n r at some = lists_owner plan w ps l a p p n 1
           let y : 0 < w.owner_at k = grind (arith, nat_tests) in (omega arith, omega arith)
       go k d false e = let x = put_other w.owner_at n k 1 e in (omega arith, omega arith)
 
--- ReadPage notes the class that stands
+-- ReadPage notes the page's class word
 pub read_page_agrees : (plan : Plan) (w : Words) (ps : List Body) (l : PutLists) (a : ℕ) (p : Body) (q : ℕ)
     → ListsAgreeOf plan w ps l → slice_get ps a ≡ Some p → q < heap_pages plan
     → ListsAgreeOf plan w (set ps a (record p { classes = (q, w.class_at q) ∷ p.classes })) l

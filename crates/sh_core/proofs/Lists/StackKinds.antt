@@ -184,7 +184,7 @@ apart_pages plan o q k a b = go (q == k) refl where
   go false e = refl
   go true e = let i = eqb-true q k e in let z : true ≡ false = sym a ∙ ap (owned_by plan o) i ∙ b in absurd (cc)
 
--- Take and Arm: the stack becomes the chain; of the page's flag and of what is armed the duty speaks
+-- Take and Arm: the stack becomes the chain; the duty covers the page's flag and what is armed
 module _ (plan : Plan) (w : Words) (ps : List Body) (l : PutLists) (a : ℕ) (p : Body) (q m : ℕ) (arms : List ℕ)
     (old : ListsAgreeOf plan w ps l) (at : slice_get ps a ≡ Some p) (mine : own plan p q ≡ true)
     (no : noted q p.cursors ≡ None)

@@ -11,7 +11,7 @@ use Rattle.sh_core.proofs.Sums.Tests.{eqb-comm, if1_self, if1_zero}
 use Rattle.sh_core.proofs.Sums.ListCounts.{times_cons, times_none, apart_item}
 use Rattle.sh_core.proofs.Sums.Writes.{put_same, put_other}
 
--- a list whose items' links and debts add up to what they did
+-- a list whose items' links and debts add up to what they did before
 pub chained_same : (word word' owed owed' : ℕ → ℕ) (xs : List ℕ) → Chained word owed xs
     → ((s : ℕ) → 0 < times s xs → word' s + owed' s ≡ word s + owed s) → Chained word' owed' xs
 unfolding total

@@ -33,7 +33,7 @@ lists_after plan p (move.FollowBell q) n l = elim (p.owned) [
 ]
 lists_after plan p _ n l = l
 
--- so its action does
+-- the same for its action
 after_move : (plan : Plan) (p : Body) (m : Move) → May plan p m → (n : ℕ) (l : PutLists)
     → listed plan p (action_of plan m) n l ≡ lists_after plan p m n l
 unfolding listed
@@ -92,7 +92,7 @@ step_keeps plan P w l e old keeps = go (slice_get w.parts e.pass) refl where
           subst Q (sym is) (subst R same (subst (P (apply w e.pass r)) (sym (after_move plan p m may n l))
           (keeps p m at may)))
 
--- and each run
+-- the same for each run
 pub run_keeps : (plan : Plan) (P : World → PutLists → Type 0) (w : World) (l : PutLists) (es : List Event) → P w l
     → ((w : World) (l : PutLists) (a : ℕ) (p : Body) (m : Move) → P w l → slice_get w.parts a ≡ Some p → May plan p m
     → P (apply w a (row_of plan p m)) (lists_after plan p m (read w.words (row_of plan p m).place) l))
@@ -102,7 +102,7 @@ run_keeps plan P w l [] old keeps = old
 run_keeps plan P w l (e ∷ es) old keeps = run_keeps plan P (step plan w e) (list_step plan w e l) es
     (step_keeps plan P w l e old (λ p m at may. keeps w l e.pass p m old at may)) keeps
 
--- what a move does to a state word's count stays within its bounds
+-- a move keeps a state word's count within its bounds
 abbrev pub MovesCount : Plan → World → Body → Type 0
 MovesCount plan w p = (m : Move) → May plan p m → CountFits (row_of plan p m).operation
     (read w.words (row_of plan p m).place)

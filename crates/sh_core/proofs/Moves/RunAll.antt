@@ -32,7 +32,7 @@ module _ (plan : Plan) (w : World) (l : PutLists) (a : ℕ) (p : Body) (laws : L
   After m u = let r : Row = row_of plan u m in Agreement plan (apply w a r)
       (lists_after plan u m (read w.words r.place) l)
 
-  -- what holds of the part with the hand that it has, holds of it
+  -- what holds of the part with its own hand put in holds of the part
   by_hand : (m : Move) (h : Hand) → p.hand ≡ h → (slice_get w.parts a ≡ Some (hand p h) → After m (hand p h))
       → After m p
   by_hand m h is f = let e : p ≡ hand p h = λ i. record p { hand = is i }

@@ -1,4 +1,4 @@
--- A change of a page's class, and what keeps the words bounds.
+-- A change of a page's class, and what keeps the bounds of words.
 use Rattle.std.proofs.Common.{◌≡◌, ◌≢◌, ℕ, zero, suc, ◌+◌, ◌-◌, ◌*◌, ◌<◌, ◌≤◌, ◌==◌, ◌&&◌, ◌||◌, ◌⊎◌, inl, inr, Bool}
 use Rattle.std.proofs.Common.{true, false, cond, set, sym, refl, ap, ◌∙◌, subst, arith, Some, None, slice_get, eqb-true}
 use Rattle.std.proofs.Common.{eq-eqb, ltb-true}
@@ -71,7 +71,7 @@ module _ (plan : Plan) (w : World) (l : PutLists) (a : ℕ) (p : Body) (q c : �
   abbrev class_part : Body
   class_part = classed p q c
 
-  -- of the page's slots all is in `mine`
+  -- each of the page's slots is in `mine`
   pub empty_page : (x : Spot) → x.page ≡ q → (if1 ((fields_of (w.words.state_at x.page x.slot)).present ||
       (fields_of (w.words.state_at x.page x.slot)).marked) ≡ 0) × (total (in_hand x) w.parts ≡ 0) × (queued l x ≡ 0)
       × (total (mine_at x) w.parts ≡ mine_at x p)
@@ -170,7 +170,7 @@ module _ (plan : Plan) (w : World) (l : PutLists) (a : ℕ) (p : Body) (q c : �
               }
         others b u at' _ e f = f
 
--- the words stay bounds
+-- the words stay within their bounds
 pub bounds_state : (plan : Plan) (w : Words) (x : Spot) (n : ℕ) → BoundsOf plan w → (0 < (fields_of n).generation)
     × ((fields_of n).generation ≤ plan.keys.gen_max) → (((fields_of n).present || (fields_of n).marked) ≡ true
     → w.length_at x.page x.slot ≤ width (w.class_at x.page - 1)) → BoundsOf plan (write w (State x.page x.slot) n)
@@ -203,7 +203,7 @@ bounds_state plan w x n old gen len = record {
   lens q s false e h = old.lengths q s (sym (ap (λ (m : ℕ). (fields_of m).present || (fields_of m).marked)
       (put2_other w.state_at x.page x.slot n q s e)) ∙ h)
 
--- where generation, M and P stay
+-- if generation, M and P stay
 pub bounds_still : (plan : Plan) (w : Words) (x : Spot) (n : ℕ) → BoundsOf plan w → (fields_of n).generation
     ≡ (fields_of (w.state_at x.page x.slot)).generation → (fields_of n).marked
     ≡ (fields_of (w.state_at x.page x.slot)).marked → (fields_of n).present

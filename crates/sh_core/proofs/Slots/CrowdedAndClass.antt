@@ -53,7 +53,7 @@ but_one f h (x ∷ xs) zero v e z =
     let r = total_length f h xs in omega arith
 but_one f h (x ∷ xs) (suc i) v e z = let one = h x in let r = but_one f h xs i v e z in omega arith
 
--- on its slot a hold is on the present key, or lost
+-- a hold on the slot is on the present key, or lost
 on_key : (plan : Plan) (st : Fields) (k : ℕ) (y : Name) → Lawful plan → plan.keys.unpack k ≡ Some y → y.generation
     ≡ st.generation → (j : ℕ) → if1 (at_spot (spot_of y) (plan.keys.unpack j)) ≤ if1 (j == k) + stale st (spot_of y)
     (plan.keys.unpack j)

@@ -33,7 +33,7 @@ use Rattle.sh_core.proofs.Sums.Tests.{if1_neither}
 use Rattle.sh_core.proofs.Sums.ListCounts.{has_some}
 use Rattle.sh_core.proofs.Sums.Writes.{put2_same, put2_other, put_same, put_other}
 
--- a step that changes value words of Empty slots alone
+-- a step that changes only value words of Empty slots
 pub keys_value : (plan : Plan) (w W : Words) (log : List Entry) → KeysAgree plan w log
     → ((q s : ℕ) → W.state_at q s ≡ w.state_at q s)
     → ((y : Spot) → (value_at W y.page y.slot ≡ value_at w y.page y.slot)
@@ -145,7 +145,7 @@ not_hand plan w l a b p q x y v u i j g n at d at' e = go (same_spot y x) refl w
       let one : if1 (same_spot x y) ≡ 1 = rw t refl in
       let two = if1_same_spot x in absurd (omega arith)
 
--- the words of another slot are other words
+-- the words of another slot are different words
 row_other : (w : Words) (x y : Spot) (k v n W : ℕ) → same_spot y x ≡ false → k < W → n ≤ W
     → words_from ((write w (Payload x.page (x.slot * W + k)) v).payload_at y.page) (y.slot * W) n
     ≡ words_from (w.payload_at y.page) (y.slot * W) n
@@ -166,7 +166,7 @@ row_other w x y k v n W h a b = go (y.page == x.page) refl where
       (λ j l c. rows_apart y.slot x.slot W j k d (omega arith) a c)
       ∙ ap (λ (q : ℕ). words_from (w.payload_at q) (y.slot * W) n) (sym i)
 
--- the same where the pages may differ
+-- the same if the pages may differ
 row_any : (w : Words) (x y : Spot) (k v n C D : ℕ) → same_spot y x ≡ false → k < C
     → (y.page ≡ x.page → (D ≡ C) × (n ≤ C)) → words_from ((write w (Payload x.page (x.slot * C + k)) v).payload_at
     y.page) (y.slot * D) n ≡ words_from (w.payload_at y.page) (y.slot * D) n

@@ -122,7 +122,7 @@ none_released : (a k j : ℕ) → (values j (Released a k ∷ []) ≡ []) × (re
 unfolding values
 none_released a k j = (refl, refl)
 
--- a hold that stands has been got and not released
+-- a hold has been got and not released
 pub released_permitted : (plan : Plan) (w : World) (l : PutLists) (a : ℕ) (p : Body) (k : ℕ) → Sums plan w l
     → slice_get w.parts a ≡ Some p → has (λ j. j == k) p.holds ≡ true → Permits plan w.log (Released a k)
 released_permitted plan w l a p k g at is =

@@ -77,7 +77,7 @@ drop_slots plan w ps l a p x old at = let f = old x in let v = leaving plan ps a
       b : Bool
       b = (fields_of n).present && (fields_of n).marked && ((fields_of n).count == 1)
 
--- Enter, where the pass only visits: one visitor more
+-- Enter, if the pass only visits: one more visitor
 pub enter_adds_up : (r q : ℕ) (st : Fields) (plan : Plan) (ps : List Body) (a : ℕ) (p : Body) (x : Spot)
     → slice_get ps a
     ≡ Some (hand p Idle) → AddsUp r q st (tally plan x st ps)
@@ -102,7 +102,7 @@ enter_slots plan w ps l a p x old at few = let f = old x in
 abbrev pub holding : Body → ℕ → Body
 holding p k = record p { holds = k ∷ p.holds }
 
--- Enter that gets: one hold more, of the present generation
+-- Enter that gets: one more hold, of the present generation
 pub get_adds_up : (r q : ℕ) (st : Fields) (plan : Plan) (ps : List Body) (a : ℕ) (p : Body) (k : ℕ) (y : Name)
     → plan.keys.unpack k ≡ Some y → current st (Some y) ≡ true
     → slice_get ps a ≡ Some (hand p Idle) → AddsUp r q st (tally plan (spot_of y) st ps)
@@ -125,7 +125,7 @@ get_due plan p k z name y st h =
     let b : stale st y (plan.keys.unpack k) ≡ 0 = rw (name, h) refl in
     tally_ext _ _ refl refl (omega arith) refl (omega arith) refl
 
--- Mark: the pass that removes goes on as a visitor
+-- Mark: the pass that removes stays as a visitor
 pub mark_adds_up : (r q : ℕ) (st : Fields) (plan : Plan) (ps : List Body) (a : ℕ) (p : Body) (k : ℕ) (y : Name)
     → plan.keys.unpack k ≡ Some y → st.present ≡ true
     → slice_get ps a ≡ Some (hand p (Removing k)) → AddsUp r q st (tally plan (spot_of y) st ps)
@@ -151,7 +151,7 @@ pub remove_due : (plan : Plan) (p : Body) (k : ℕ) (z : Name) → plan.keys.unp
     → same_spot y (spot_of z) ≡ false → due plan y st (hand p (Removing k)) ≡ due plan y st (hand p Idle)
 remove_due plan p k z name y st h = rw (name, h) refl
 
--- Enter that goes on to remove
+-- Enter that continues to remove
 pub remove_adds_up : (r q : ℕ) (st : Fields) (plan : Plan) (ps : List Body) (a : ℕ) (p : Body) (k : ℕ) (y : Name)
     → plan.keys.unpack k ≡ Some y → current st (Some y) ≡ true
     → slice_get ps a ≡ Some (hand p Idle) → AddsUp r q st (tally plan (spot_of y) st ps)
@@ -165,7 +165,7 @@ remove_adds_up r q st plan ps a p k y name now at f =
     let fresh : stale st x (plan.keys.unpack k) ≡ 0 = rw (name, e, now) refl in
     record { kinds = omega arith; counts = omega arith; none_lost = omega arith; owed = λ c d n. absurd (omega arith) }
 
--- Finish that succeeds: nobody is there; the slot is the finisher's, or retired
+-- Finish that succeeds: no pass is on the slot; it is the finisher's, or retired
 abbrev pub reused_fields : ℕ → Fields
 reused_fields g = record { generation = g + 1; marked = false; present = false; count = 0 }
 
@@ -195,7 +195,7 @@ finish_hand r q st plan ps a p x g there none at f =
     let few = lost_le plan x (reused_fields g) (set ps a (hand p (ToPut x))) in
     record { kinds = omega arith; counts = omega arith; none_lost = omega arith; owed = λ c d n. cc }
 
--- Publish: the slot in the hand is Empty, and is Live then
+-- Publish: the slot in the hand is Empty, and then Live
 pub publish_adds_up : (r q : ℕ) (st : Fields) (plan : Plan) (ps : List Body) (a : ℕ) (p : Body) (x : Spot) (v : List ℕ)
     (i : ℕ) → r ≤ 1
     → slice_get ps a ≡ Some (hand p (Filling x v i)) → AddsUp r q st (tally plan x st ps)

@@ -114,14 +114,13 @@ lost_le plan x st ps =
     (λ p. held plan x p + visits plan x p) (λ p. lost_le1 plan x st p (p.hand)) ps
     in omega (arith, total_plus (held plan x) (visits plan x) ps)
 
--- with no value there, each hold is lost
+-- if the slot has no value, each hold on it is lost
 pub lost_most : (plan : Plan) (x : Spot) (st st' : Fields) (ps : List Body) → st.present ≡ false
     → (tally plan x st' ps).lost ≤ (tally plan x st ps).lost
 lost_most plan x st st' ps e = total_le (lost plan x st') (lost plan x st) (λ p. lost_most1 plan x st st' e p (p.hand))
     ps
 
--- a step on the state word of x, by the pass a: what is kept of x is owed, and the other slots must mean to p' what
--- they meant to p
+-- A step on the state word of x, by the pass a. What is kept for x is owed. Each other slot is to p' what it was to p
 pub slots_state : (plan : Plan) (w : Words) (ps : List Body) (l : PutLists) (a : ℕ) (p p' : Body) (x : Spot) (n : ℕ)
     → SlotsAddUp plan w ps l → slice_get ps a ≡ Some p
     → ((y : Spot) (st : Fields) → same_spot y x ≡ false → due plan y st p' ≡ due plan y st p)

@@ -34,7 +34,7 @@ use Rattle.sh_core.proofs.Sums.Tests.{eqb-comm}
 use Rattle.sh_core.proofs.Sums.ListCounts.{times_cons, times_none}
 use Rattle.sh_core.proofs.Sums.Writes.{put_same, put_other}
 
--- other words than those that slots and keys read
+-- words other than those that slots and keys read
 abbrev pub beside : Words → (ℕ → ℕ) → (ℕ → ℕ) → (ℕ → ℕ → ℕ) → (ℕ → ℕ) → (ℕ → ℕ) → Words
 beside w h pl li ow be = record w { head_at = h; page_link_at = pl; link_at = li; owner_at = ow; bell_at = be }
 
@@ -71,7 +71,7 @@ queued_push l x y = go (y.page == x.page) refl where
 abbrev pub tied : Body → Spot → ℕ → Bool → Body
 tied p x n r = hand p (Tying x n r)
 
--- Put: what was in the hand, or mine, is queued. u is what the pass gave up of a slot
+-- Put: a slot in the hand, or in `mine`, is then queued; u is what the pass no longer has of a slot
 pub sums_put : (plan : Plan) (w : World) (l : PutLists) (a : ℕ) (p p' : Body) (x : Spot) (n : ℕ) (r : Bool) (h : ℕ → ℕ)
     → Sums plan w l → slice_get w.parts a ≡ Some p → p'.holds ≡ p.holds
     → ((y : Spot) (st : Fields) → (due plan y st p).mine + (due plan y st p).hand
@@ -112,7 +112,7 @@ queued_taken l q none y = go (y.page == q) refl where
       let z = times_none y.slot in rw (i, put_same l.stack q [], put_same l.chain q (l.stack q), none) (omega arith)
   go false e = rw (put_other l.stack q y.page [] e, put_other l.chain q y.page (l.stack q) e) refl
 
--- Follow: what was queued is mine
+-- Follow: a slot that was queued is then in `mine`
 pub sums_follow : (plan : Plan) (w : World) (l : PutLists) (a : ℕ) (p p' : Body) (q s : ℕ) (li : ℕ → ℕ → ℕ)
     → Sums plan w l → slice_get w.parts a ≡ Some p → l.chain q ≡ s ∷ drop 1 (l.chain q)
     → ((y : Spot) (st : Fields) → due plan y st p' ≡ record (due plan y st p)

@@ -1,4 +1,4 @@
--- What a kind owes, so that all that holds goes on.
+-- What a kind owes, so that all that is kept still holds.
 use Rattle.std.proofs.Common.{◌≡◌, ◌≢◌, ℕ, ◌+◌, ◌≤◌, ⊎_elim, List, [], ◌∷◌, ◌++◌, length, set, refl, ◌∙◌, subst, arith}
 use Rattle.std.proofs.Common.{Option, Some, None, slice_get, eq-eqb, ne_eqb, sym}
 use Rattle.std.proofs.lemmas.List.{length-set}
@@ -19,7 +19,7 @@ use Rattle.sh_core.specs.Sums.{Sums, FillAgrees}
 use Rattle.sh_core.proofs.Sums.Totals.{total_append, total_set, get_set}
 use Rattle.sh_core.proofs.Slots.Logs.{holds_step}
 
--- the entry pays for the change of the pass's holds
+-- the entry accounts for the change of the pass's holds
 abbrev pub Paid : ℕ → Body → Body → Option Entry → Type 0
 Paid a p p' None = (k : ℕ) → times k p'.holds ≡ times k p.holds
 Paid a p p' (Some e) = (pass_of e ≡ a) × ((k : ℕ) → got_in k e + times k p.holds ≡ released_in k e + times k p'.holds)

@@ -29,7 +29,7 @@ room_is c t = go (c == 0) refl where
       ≡ false = grind (arith, nat_tests) in rw (none, z) refl
   go false e = let some : nat_lt 0 c ≡ true = grind (arith, nat_tests) in rw some refl
 
--- where a slot has room, its page has a class, and it is one of its slots
+-- if a slot has room, its page has a class, and the slot is one of the page's slots
 pub class_room : (w : Words) (x : Spot) → 0 < room w x → (0 < w.class_at x.page)
     × (x.slot < slots (w.class_at x.page - 1))
 class_room w x some = go (nat_lt 0 (w.class_at x.page)) (nat_lt x.slot (slots (w.class_at x.page - 1))) refl refl where
@@ -45,7 +45,7 @@ room_under w x some =
     let class : (w.class_at x.page == 0) ≡ false = ne_eqb (w.class_at x.page) 0 (λ e. let n = r.0 in omega arith) in
     rw (under_class_word (w.class_at x.page) class) r.1
 
--- and the page is one of the heap
+-- the page is one of the heap
 pub room_placed : (plan : Plan) (w : Words) (x : Spot) → BoundsOf plan w → 0 < room w x → (x.page < heap_pages plan)
     × (x.slot < slots (w.class_at x.page - 1))
 room_placed plan w x bounds some = let r = class_room w x some in ((bounds.classes x.page).1 r.0, r.1)

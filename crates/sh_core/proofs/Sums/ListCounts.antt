@@ -1,4 +1,4 @@
--- What stands how often in a list: tests and notes, counted.
+-- How often an item is in a list: tests and notes, counted.
 use Rattle.std.proofs.Common.{◌≡◌, ℕ, zero, suc, ◌+◌, ◌<◌, ◌≤◌, ◌==◌, ◌&&◌, ◌||◌, Bool, true, false, cond, List, []}
 use Rattle.std.proofs.Common.{◌∷◌, refl, sym, ap, ◌∙◌, subst, arith, Some, None, eq-eqb, eqb-true, drop, length}
 use Rattle.sh_slots.specs.declared.hand.Spot.{Spot}
@@ -46,7 +46,7 @@ has_none f [] e = refl
 has_none f (x ∷ xs) e = let h = or_parts (f x) (has f xs) e in let rest = has_none f xs h.1
     in let here : if1 (f x) ≡ 0 = rw h.0 refl in omega arith
 
--- what passes once does not pass again where it is taken out
+-- if one item passes, none passes after it is taken out
 pub once_only : {A : Type 0} (f : A → Bool) (xs : List A) → total (λ y. if1 (f y)) xs ≤ 1 → has f (without f xs) ≡ false
 unfolding total has without
 once_only f [] e = refl
@@ -65,7 +65,7 @@ without_shorter f (x ∷ xs) = go (f x) (without_shorter f xs) where
   go true h = omega arith
   go false h = omega arith
 
--- ---- numbers: how often one stands in a list
+-- ---- numbers: how often one is in a list
 
 pub times_cons : (s t : ℕ) (xs : List ℕ) → times s (t ∷ xs) ≡ if1 (t == s) + times s xs
 unfolding total
@@ -75,7 +75,7 @@ pub times_none : (s : ℕ) → times s [] ≡ 0
 unfolding total
 times_none s = refl
 
--- what stands in a list from which an item is missing is not that item
+-- an item of a list differs from an item that the list does not have
 pub apart_item : (s i : ℕ) (xs : List ℕ) → times s xs ≡ 0 → 0 < times i xs → (i == s) ≡ false
 apart_item s i xs none some = go (i == s) refl where
   go : (b : Bool) → (i == s) ≡ b → b ≡ false
@@ -91,7 +91,7 @@ pub times_off : (q k : ℕ) (xs : List ℕ) → 0 < times q xs → times k (with
     ≡ times k xs
 times_off q k xs some = times_without q k xs (some_has q xs some)
 
--- the same where it may stay
+-- the same if the item may stay
 pub times_off_if : (b : Bool) (q k : ℕ) (xs : List ℕ) → (b ≡ true → 0 < times q xs)
     → times k (cond b (without (λ x. x == q) xs) xs) + cond b (if1 (q == k)) 0 ≡ times k xs
 times_off_if true q k xs some = times_off q k xs (some refl)
@@ -106,7 +106,7 @@ times_less q k (x ∷ xs) = go (x == q) (times_less q k xs) where
   go true rest = omega arith
   go false rest = omega arith
 
--- ---- lists in which nothing stands
+-- ---- empty lists
 
 pub no_spots : (xs : List Spot) → ((x : Spot) → total (λ y. if1 (same_spot x y)) xs ≡ 0) → xs ≡ []
 unfolding total
@@ -118,7 +118,7 @@ unfolding total
 no_numbers [] none = refl
 no_numbers (x ∷ xs) none = absurd (let here = none x in let one = if1_self x in omega arith)
 
--- ---- notes: how often a number is noted at all, and with this value
+-- ---- notes: how often a number is noted, and how often with this value
 
 abbrev pub times_noted : ℕ → List (ℕ × ℕ) → ℕ
 times_noted q xs = total (λ (c : ℕ × ℕ). if1 (c.0 == q)) xs
@@ -186,7 +186,7 @@ total_unnoted f q s (c ∷ cs) e = go (c.0 == q) refl e (λ h. total_unnoted f q
       let d : f (c.0, c.1) ≡ f (q, s) = ap f (λ j. (a j, b j)) in omega arith
   go false i h rest = let r = rest h in omega arith
 
--- what is noted of a number without the notes of another was noted, and it is not that one
+-- what is noted of j after the notes of k are taken out was noted before, and j is not k
 pub noted_off : (k j : ℕ) (xs : List (ℕ × ℕ)) (c : ℕ) → noted j (off (λ x. x.0 == k) xs) ≡ Some c
     → (noted j xs ≡ Some c) × ((k == j) ≡ false)
 unfolding noted off
@@ -213,7 +213,7 @@ noted_off k j (x ∷ xs) c h = go (x.0 == k) (x.0 == j) refl refl h (λ z. noted
   go false false e f h rest =
       let h2 : cond (x.0 == j) (Some x.1) (noted j (off (λ x. x.0 == k) xs)) ≡ Some c = h in rest (rw f at h2)
 
--- where each value is noted once at most, and no two are, the number is noted once at most
+-- if each value is noted at most once for a number, and no two values are, the number is noted at most once
 pub noted_once : (q : ℕ) (xs : List (ℕ × ℕ)) → ((s : ℕ) → times_noted_as q s xs ≤ 1)
     → ((s t : ℕ) → 0 < times_noted_as q s xs → 0 < times_noted_as q t xs → s ≡ t) → times_noted q xs ≤ 1
 unfolding total

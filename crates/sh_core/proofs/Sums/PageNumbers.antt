@@ -5,7 +5,7 @@ use Rattle.std.specs.Prelude.{nat_lt}
 use Rattle.std.proofs.lemmas.Bool.Decides.{nat_tests}
 use Rattle.sh_step.specs.Plans.{Plan, page_number, home, local, over_heap}
 
--- a page in its shard, over the whole heap again
+-- the number over the whole heap of a page's number in its shard is the page
 pub over_local : (plan : Plan) (q : ℕ) → over_heap plan (home plan q) 1 (local plan q + 1) ≡ q + 1
 unfolding over_heap page_number home local
 over_local plan q =
@@ -28,7 +28,7 @@ pub over_none : (plan : Plan) (n k : ℕ) → 0 < k → over_heap plan n k 0 ≡
 unfolding over_heap
 over_none plan n k some = let e : nat_lt 0 k ≡ true = grind (arith, nat_tests) in rw e refl
 
--- only 0 is the word that names none and ends nothing
+-- only 0 is a word that names no item and is no end
 pub over_some : (plan : Plan) (n m : ℕ) → (m == 0) ≡ false → (over_heap plan n 2 m == 0) ≡ false
 unfolding over_heap
 over_some plan n m some = go (nat_lt m 2) where

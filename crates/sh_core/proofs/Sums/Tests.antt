@@ -13,12 +13,12 @@ eqb-comm a b = go (a == b) (b == a) refl refl where
   go false true e f = absurd (let z : true ≡ false = sym (eq-eqb a b (sym (eqb-true b a f))) ∙ e in cc)
   go false false e f = refl
 
--- a conjunction that fails though its second part holds
+-- a conjunction that fails although its second part holds
 pub first_fails : (a b : Bool) → (a && b) ≡ false → b ≡ true → a ≡ false
 first_fails false b h e = refl
 first_fails true b h e = absurd (let z : true ≡ false = sym e ∙ h in cc)
 
--- what holds of both holds of either
+-- what holds of both branches of a `cond` holds of its result
 pub cond_either : {A : Type 0} (P : A → Type 0) (b : Bool) (x y : A) → P x → P y → P (cond b x y)
 cond_either P b x y left right = cond_both b x y P (λ _. left) (λ _. right)
 
@@ -57,7 +57,7 @@ if1_bit zero h = refl
 if1_bit (suc zero) h = refl
 if1_bit (suc (suc m)) h = absurd (omega arith)
 
--- a test under another one
+-- a test under another test
 pub cond_if1-true : (b c : Bool) → c ≡ true → cond b (if1 c) 0 ≡ if1 b
 cond_if1-true b c h = rw h refl
 

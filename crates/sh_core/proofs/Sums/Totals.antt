@@ -35,7 +35,7 @@ total_at f [] i v e = cc
 total_at f (x ∷ xs) zero v e = let h : x ≡ v = cc in let g : f x ≡ f v = ap f h in omega arith
 total_at f (x ∷ xs) (suc i) v e = omega (arith, total_at f xs i v e)
 
--- without an item that passes: the sum is less by what one item that passes gave
+-- without an item that passes, the sum is less by what one item that passes adds
 pub total_without : {A : Type 0} (f : A → ℕ) (p : A → Bool) (n : ℕ) → ((x : A) → p x ≡ true → f x ≡ n) → (xs : List A)
     → has p xs ≡ true → total f (without p xs) + n ≡ total f xs
 unfolding total without has
@@ -61,7 +61,7 @@ get_set_here [] i v w e = absurd (let z : None ≡ Some v = e in cc)
 get_set_here (x ∷ xs) zero v w e = refl
 get_set_here (x ∷ xs) (suc i) v w e = get_set_here xs i v w e
 
--- what two different ones have, all have
+-- the items at two different positions add at most the total
 pub total_two : {A : Type 0} (f : A → ℕ) (xs : List A) (i j : ℕ) (v w : A) → i ≢ j → slice_get xs i ≡ Some v
     → slice_get xs j ≡ Some w → f v + f w ≤ total f xs
 unfolding total
@@ -73,7 +73,7 @@ total_two f (x ∷ xs) (suc i) zero v w n e d = let s : x ≡ w = cc in let t : 
     in let r = total_at f xs i v e in omega arith
 total_two f (x ∷ xs) (suc i) (suc j) v w n e d = let r = total_two f xs i j v w (λ h. n (ap suc h)) e d in omega arith
 
--- what adds up to something has an item that does
+-- a total above 0 has an item that adds something
 pub some_part : {A : Type 0} (f : A → ℕ) (xs : List A) → 0 < total f xs → (i : ℕ) × (x : A) × (slice_get xs i ≡ Some x)
     × (0 < f x)
 unfolding total
@@ -96,7 +96,7 @@ unfolding total
 total_length f h [] = omega arith
 total_length f h (x ∷ xs) = let one = h x in let rest = total_length f h xs in omega arith
 
--- where only those who own have something and there is one owner, what all have is what it has
+-- if only owners have something, the total is 0 without an owner, and with one owner it is what that one has
 pub zero_all : {A : Type 0} (f g : A → ℕ) → (xs : List A) → ((j : ℕ) (x : A) → slice_get xs j ≡ Some x → g x ≡ 0 → f x
     ≡ 0) → total g xs ≡ 0 → total f xs ≡ 0
 unfolding total

@@ -1,4 +1,4 @@
--- What stands at a place after a write: there what was written, elsewhere what stood.
+-- The value at a place after a write: what was written there, and elsewhere what was there before.
 use Rattle.std.proofs.Common.{◌≡◌, ℕ, ◌==◌, ◌&&◌, false, refl, ap, ◌∙◌, arith, ⊎_elim, ne_eqb, Bool, true, eqb-true}
 use Rattle.std.proofs.Common.{eq-eqb}
 use Rattle.std.proofs.lemmas.Bool.{cases_eq, and_left, and_right}

@@ -1,4 +1,4 @@
--- An event that decides a call replies, and no other does.
+-- An event that decides a call replies, and no other event does.
 use Rattle.std.proofs.Common.{◌≡◌, ℕ, Bool, true, false, List, refl, sym, subst, ap, Option, Some, None, slice_get}
 use Rattle.std.specs.Prelude.{is_some}
 use Rattle.sh_slots.specs.declared.reply.Reply.{Reply}

@@ -1,4 +1,4 @@
--- A move that was done is the step of each world that the kept words stand for.
+-- A move that was done is the step of each world that the kept words represent.
 use Rattle.std.proofs.Common.{◌≡◌, ℕ, zero, suc, ◌+◌, ◌-◌, ◌*◌, ◌<◌, ◌≤◌, List, [], ◌∷◌, length, get_or, set, take}
 use Rattle.std.proofs.Common.{◌++◌, sym, refl, ap, ◌∙◌, subst, arith, Option, Some, None, slice_get}
 use Rattle.std.specs.Prelude.{Result, Ok, Err, IfOk, OnErr}
@@ -37,7 +37,7 @@ words_same f g i zero h = refl
 words_same f g i (suc n) h = let here : f i ≡ g i = h i (omega arith) (omega arith)
     in let rest = words_same f g (i + 1) n (λ j a b. h j (omega arith) (omega arith)) in λ k. here k ∷ rest k
 
--- a value that stands in the list is that of the world
+-- a value in the list is that of the world
 value_same : (shape : Numbers) (list : List ℕ) (w : Words) (q s : ℕ) → HoldsWords shape list w
     → SlotHasValue shape list (record { page = q; slot = s }) → value_in shape list (record { page = q; slot = s })
     ≡ value_at w q s
@@ -65,7 +65,7 @@ kept_same shape list w (Payload q s) h v = absurd v
 kept_same shape list w (Owner q) h v = absurd v
 kept_same shape list w (Bell q) h v = absurd v
 
--- an entry has a value only where it is got
+-- an entry has a value only if it is got
 entry_same : (a : ℕ) (v u : List ℕ) (o : Option Reply) → ((k : ℕ) → o ≡ Some (reply.Got k) → v ≡ u) → entry_of a v o
     ≡ entry_of a u o
 entry_same a v u (Some (reply.Got k)) h = let e = h k refl in ap (λ (xs : List ℕ). entry_of a xs (Some (reply.Got k))) e
@@ -83,7 +83,7 @@ new_same layout k w a r s ready = entry_same a (value_kept k.shape k.words r.pla
     (r.reply (word_at k.shape k.words r.place)) (λ j g. kept_same k.shape k.words w.words r.place s.words
     (ready.gets j g))
 
--- what is kept once a move was done
+-- what is kept after a move was done
 pub record Done (k k' : KeptWorld) (e : Event) (r : Row) (came : Outcome) : Type 0 where
   pub part : Body
   pub does : DoesRow k.shape e.pass r k.words k.log came k'.words part k'.log
@@ -128,7 +128,7 @@ module _ (layout : Layout) (k k' : KeptWorld) (e : Event) (p : Body) (r : Row) (
   pub is_done : IsDone layout k e
   is_done w s = outcome_not_skipped plan w e r (event_row w s)
 
--- nothing changed where there is no such pass, or the condition does not hold
+-- nothing changed if there is no such pass, or if the condition does not hold
 pub steps_past : (layout : Layout) (k : KeptWorld) (e : Event) → slice_get k.parts e.pass ≡ None
     → StepsWorld layout k e Skipped k
 steps_past layout k e at =
@@ -154,7 +154,7 @@ set_here [] a p h = refl
 set_here (x ∷ ps) zero p h = let same : p ≡ x = cc in ap (λ (u : Body). u ∷ ps) same
 set_here (x ∷ ps) (suc a) p h = ap (λ (us : List Body). x ∷ us) (set_here ps a p h)
 
--- after a move was tried: done, or nothing changed
+-- after a move was tried: it was done, or nothing changed
 module _ (layout : Layout) (k : KeptWorld) (e : Event) (p : Body) (r : Row) (reached : FromEvents layout k)
     (at : slice_get k.parts e.pass ≡ Some p) (is : row (plan_of layout k.shape) p e.action ≡ Some r)
     (ready : IsReady layout k.shape k.words r) (res : Result Outcome Refusal) (words' : List ℕ) (part' : Body)
@@ -191,7 +191,7 @@ module _ (layout : Layout) (k : KeptWorld) (e : Event) (p : Body) (r : Row) (rea
     go (Ok came) = tt
     go (Err x) = is_done layout k world_after e p r Skipped reached at is ready
 
--- where its memory is refused, the event asked for some
+-- if its memory is refused, the event asked for some
 pub needs_after : (layout : Layout) (k : KeptWorld) (e : Event) (p : Body) (r : Row) → slice_get k.parts e.pass ≡ Some p
     → row (plan_of layout k.shape) p e.action ≡ Some r → (res : Result Outcome Refusal)
     → OnErr res (AsksMemory r p (word_at k.shape k.words r.place)) → OnErr res (NeedsMemory layout k e)

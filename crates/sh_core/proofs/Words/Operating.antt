@@ -7,7 +7,7 @@ use Rattle.sh_step.specs.declared.operation.Operation.TheVariants.{CompareExchan
 use Rattle.sh_step.specs.Operations.{HasRoom}
 use Rattle.sh_core.specs.InHeap.{CountFits, CountsLeaveRoom}
 
--- the count stands lowest in a state word
+-- the count is in the lowest bits of a state word
 add_fits : (n m : ℕ) → n < 2 ^ 64 → (fields_of n).count + m < 2 ^ 30 → n + m < 2 ^ 64
 unfolding fields_of
 add_fits n m h f = omega arith

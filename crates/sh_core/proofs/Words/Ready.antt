@@ -44,7 +44,7 @@ mark_gets_none : (k : ℕ) (a : Bool) → gets_key (Some (cond a (reply.Gone k) 
 mark_gets_none k true = refl
 mark_gets_none k false = refl
 
--- only where the value is there
+-- a key is got only if the value is there
 got_live : (k j : ℕ) (a b : Bool) → Some (cond a (cond b (reply.Got k) (reply.Crowded k)) (reply.Gone k))
     ≡ Some (reply.Got j) → a ≡ true
 got_live k j true b h = refl
@@ -84,7 +84,7 @@ word_fits plan w h (Bell n) = let s = h.0 n in omega arith
 word_fits plan w h (PageLink q) = h.1 q
 word_fits plan w h _ = tt
 
--- where a slot has a value in the world, one stands in the list
+-- if a slot has a value in the world, it has one in the list
 keeps : (layout : Layout) (k : KeptWorld) (w : World) (q s : ℕ) → StandsFor k w → ValuesFit (plan_of layout k.shape) w
     → (fields_of (w.words.state_at q s)).present ≡ true → SlotHasValue k.shape k.words (record { page = q; slot = s })
 keeps layout k w q s st fits there = go (fits (record { page = q; slot = s }) (rw there refl)) where
@@ -104,7 +104,7 @@ keeps layout k w q s st fits there = go (fits (record { page = q; slot = s }) (r
         length = rw (c, l) wide;
       }
 
--- where the condition of an action holds, its row may be done
+-- if the condition of an action holds, its row may be done
 pub ready : (layout : Layout) (k : KeptWorld) (a : ℕ) (p : Body) (x : Action) (r : Row) → FromEvents layout k
     → slice_get k.parts a ≡ Some p → row (plan_of layout k.shape) p x ≡ Some r → IsReady layout k.shape k.words r
 ready layout k a p x r reached at e =

@@ -1,4 +1,4 @@
--- A step of the code is the step of the world that it stands for.
+-- A step of the code is the step of the world that it represents.
 use Rattle.std.proofs.Common.{◌≡◌, ◌≢◌, ℕ, List, [], ◌∷◌, ◌++◌, get_or, set, sym, ap, ◌∙◌, subst, Option, Some, None}
 use Rattle.std.proofs.Common.{slice_get}
 use Rattle.sh_history.specs.declared.entry.Entry.{Entry}
@@ -24,7 +24,7 @@ use Rattle.sh_core.proofs.Words.KeptWords.{hold_write}
 use Rattle.sh_core.proofs.Clauses.RunTheorem.{legal_of}
 use Rattle.sh_core.proofs.Words.Steps.{step_moves, step_skips, step_past, run_snoc}
 
--- what is kept once the row was done on the word n
+-- what is kept after the row was done on the word n
 abbrev pub moved : KeptWorld → ℕ → Row → ℕ → Option Entry → KeptWorld
 moved k a m n new = record k {
   words = set k.words (number k.shape m.place) (operate m.operation n);
@@ -65,7 +65,7 @@ stands_past plan k w e s at =
     let here : slice_get w.parts e.pass ≡ None = rw (← s.parts) at in
     let Q : World → Type 0 = λ u. StandsFor k u in subst Q (sym (step_past plan w e here)) s
 
--- what comes of it
+-- the outcome of the event
 pub row_of_past : (plan : Plan) (w : World) (e : Event) → slice_get w.parts e.pass ≡ None → row_of_event plan w e ≡ None
 unfolding row_of_event
 row_of_past plan w e at = ap (λ (o : Option Body). elim o as (λ _. Option Row)
@@ -98,7 +98,7 @@ pub outcome_not_skipped : (plan : Plan) (w : World) (e : Event) (m : Row) → ro
 outcome_not_skipped plan w e m is h = done_is (entry_of e.pass (value_at_place w.words m.place)
     (m.reply (read w.words m.place))) (sym (outcome_done plan w e m is) ∙ h)
 
--- one more event leads on
+-- one more event
 pub reached_on : (layout : Layout) (k k' : KeptWorld) (e : Event) → FromEvents layout k → k'.shape ≡ k.shape
     → ((w : World) → StandsFor k w → StandsFor k' (step (plan_of layout k.shape) w e)) → FromEvents layout k'
 reached_on layout k k' e r same on =

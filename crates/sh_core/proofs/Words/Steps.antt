@@ -58,7 +58,7 @@ unfolding trail_from run_from
 trail_snoc plan w a steps [] e = refl
 trail_snoc plan w a steps (d ∷ es) e = trail_snoc plan (step plan w d) a (trodden plan w d a steps) es e
 
--- what the row of an event adds, where it has one
+-- what the row of an event adds, if it has one
 adds : World → Event → ℕ → List Footstep → Option Row → List Footstep
 adds w e a steps o = elim o [
   | Some m ↦ cond (e.pass == a) (steps ++ footstep_of e.action m (read w.words m.place) ∷ [])

@@ -4,7 +4,7 @@ use Rattle.sh_step.specs.Collections.{has, every}
 use Rattle.sh_step.specs.Runs.{slots_in}
 use Rattle.sh_step.proofs.runs.has_slots.Given as goal
 
--- the answer rests with the slots from here on
+-- the result depends on the slots from here on
 abbrev pub invariant-loop-slot : goal.invariant-loop-slot
 invariant-loop-slot l =
     every (λ x. has (same_spot x) (slots_in l.runs.items)) (spots l.page 0 l.count)

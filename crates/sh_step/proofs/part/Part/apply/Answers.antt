@@ -1,4 +1,4 @@
--- Where a method's clause speaks of any plan or of any word found, at those of the move.
+-- Clauses of a method that are about any plan or any word found, at those of the move.
 use Rattle.std.proofs.Common.{◌≡◌, ◌∙◌, ℕ, Option, refl, sym, ap, subst}
 use Rattle.std.specs.Prelude.{OnOk}
 use Rattle.sh_slots.specs.declared.reply.Reply.{Reply}
