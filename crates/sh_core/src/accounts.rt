@@ -1,4 +1,4 @@
-//! What a page's slots are.
+//! The kinds of a page's slots.
 
 /// How many of the slots of a page's class are of each kind. Together they are all of them.
 #[derive(Clone, Copy, Debug, PartialEq, Eq)]

@@ -1,4 +1,4 @@
-//! The core: the heap as a state machine over its words, and what holds after every list of events.
+//! The core: the heap as a state machine over its words, with the laws that hold after every list of events.
 //!
 //! An event is one action of one pass: one operation on one word, by a row of the table in `sh_step`. A world is the
 //! words, what each pass has of its own, and one log of all replies. `refines_map` is the theorem, and

@@ -31,7 +31,7 @@ fn slot(number: u64) -> SlotName {
     }
 }
 
-// What was found is what is wanted. It is a function, since each assertion that is written out is proved anew.
+// What was found is what is wanted. It is a function, as each assertion that is written out is proved anew.
 fn agree<T: PartialEq + Debug + Drop>(found: T, wanted: T, rt: &impl Abort) {
     assert_eq!(rt; found, wanted);
 }
@@ -54,14 +54,14 @@ fn step<L: KeyLayout>(world: &mut World<L>, event: &Event, rt: &impl Abort) -> O
     world.step(event).expect(rt, "memory is given")
 }
 
-// Does these, each of which decides nothing.
+// Does these events, which decide nothing.
 fn moves<L: KeyLayout>(world: &mut World<L>, events: &[Event], rt: &impl Abort) {
     for event in events {
         agree(step(world, event, rt), Outcome::Moved, rt);
     }
 }
 
-// Has the pass do this, which decides the entry.
+// The pass does this action, which decides the entry.
 fn replies<L: KeyLayout>(
     world: &mut World<L>,
     pass: u32,
@@ -73,7 +73,7 @@ fn replies<L: KeyLayout>(
     agree(answer, Outcome::Replied(entry), rt);
 }
 
-// Has the pass try this, whose condition fails.
+// The pass tries this action, whose condition fails.
 fn skips<L: KeyLayout>(world: &mut World<L>, pass: u32, action: Action, rt: &impl Abort) {
     agree(step(world, &event(pass, action), rt), Outcome::Skipped, rt);
 }
@@ -98,7 +98,7 @@ fn has_words<L: KeyLayout, const N: usize>(
     }
 }
 
-// The first pass adopts the shard, and its first page gets three slots, of which it may fill each.
+// The first pass adopts the shard and gives its first page three slots, which are all its own to fill.
 fn with_page(alloc: Global, passes: u32, rt: &impl Abort) -> World<Tiny> {
     let mut world = empty_world::<Tiny>(alloc, passes, rt);
     moves(
@@ -113,7 +113,7 @@ fn with_page(alloc: Global, passes: u32, rt: &impl Abort) -> World<Tiny> {
     world
 }
 
-// And it fills the first slot with the one word 5.
+// As `with_page`, and the first pass then inserts the one word 5 in the first slot.
 fn opened(alloc: Global, passes: u32, rt: &impl Abort) -> World<Tiny> {
     let mut world = with_page(alloc, passes, rt);
     fills(&mut world, 0, 5, rt);

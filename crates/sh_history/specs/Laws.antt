@@ -19,7 +19,7 @@ ValueIsInserted =
     (passes guard_max : ℕ) (history : List Entry) → Legal passes guard_max history
     → (key : ℕ) (value : List ℕ) → (value_of history key ≡ Some value) ↔ IsIssuedWith history key value
 
--- what a get of a key gave is what was inserted
+-- a get of a key returned the value that was inserted with it
 abbrev pub GetsGiveInserted : Type 0
 GetsGiveInserted =
     (passes guard_max : ℕ) (history : List Entry) → Legal passes guard_max history
@@ -35,7 +35,7 @@ RemovedOnce =
     (passes guard_max : ℕ) (history : List Entry) → Legal passes guard_max history
     → (key : ℕ) → count_by (is_removal_of key) history ≤ 1
 
--- no pass released a key more often than it got it
+-- a pass released a key at most as often as it got it
 abbrev pub ReleasesAreGot : Type 0
 ReleasesAreGot =
     (passes guard_max : ℕ) (history : List Entry) → Legal passes guard_max history

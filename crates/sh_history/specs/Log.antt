@@ -61,7 +61,7 @@ IsGotBy pass key (Known (Got p k value)) = (p ≡ pass) × (k ≡ key)
 IsGotBy pass key (Unread p k) = (p ≡ pass) × (k ≡ key)
 IsGotBy pass key _ = ⊥
 
--- the entry once the value of the key is read
+-- the entry after the value of the key was read
 abbrev pub filled : ℕ → List ℕ → LogEntry → LogEntry
 filled key value (Known entry) = Known entry
 filled key value (Unread pass k) = if k == key then Known (Got pass k value) else Unread pass k

@@ -2,7 +2,7 @@
 ghost use Rattle.sh_history.specs.Laws.{ValueIsInserted, GetsGiveInserted, RemovedHasRemoval, RemovedOnce};
 ghost use Rattle.sh_history.specs.Laws.{ReleasesAreGot};
 
-/// In a legal history a key has one value: the one that it was inserted with, which is what each get of it gave.
+/// In a legal history a key has one value: it was inserted with this value, and each get of it returned this value.
 pub fn one_value_a_key()
     ensures issued { ValueIsInserted }
     ensures got { GetsGiveInserted }
@@ -19,7 +19,7 @@ pub fn removed_once()
     ensures { RemovedOnce }
 {}
 
-/// In a legal history no pass released a key more often than it got it.
+/// In a legal history a pass released a key at most as often as it got it.
 pub fn releases_are_got()
     ensures { ReleasesAreGot }
 {}

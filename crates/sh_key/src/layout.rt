@@ -82,7 +82,8 @@ pub trait KeyLayout: Drop {
     final fn unpack(key: u64) -> Option<Parts>
         ensures parts { result ≡ unpacked layout key }
 
-        // Some parts are those in range that are packed into the key, and those in range that are, are found.
+        // Parts that are returned are in range and have this key, and if parts in range have this key, they are
+        // returned.
         ensures packs { IfSome result (λ p. IsKeyOf layout p key) }
         ensures only { (p : Parts) → IsKeyOf layout p key → result ≡ Some p }
     {

@@ -130,7 +130,7 @@ impl Tagged {
     pub fn untag(number: u64) -> Option<(u8, u64)>
         ensures none { IsNone result ↔ ((number / 2 ^ 52) % 16 ≢ 0) }
 
-        // Some tag and key are those that the number was tagged with, and those that it was, are found.
+        // A tag and key that are returned make the number, and if a tag and key make it, they are returned.
         ensures tags { IfSome result (λ parts. IsTaggedKey number parts.0 parts.1) }
         ensures only { (tag key : ℕ) → IsTaggedKey number tag key → result ≡ Some (tag, key) }
     {

@@ -60,7 +60,7 @@ fn wide_packs_its_last_key(rt: HostRuntime) {
     agree(&rt, Wide::first_key(), 16777216);
 }
 
-// No number is too large to be one: the keys use all bits.
+// No number is too large to be a key: the keys use all bits.
 #[test]
 fn deep_packs_its_last_key(rt: HostRuntime) {
     let last = Parts {

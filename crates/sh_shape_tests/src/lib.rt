@@ -1,5 +1,5 @@
-//! Tests of shapes: their limits, which layouts they fit, how large one with room for values is, the classes of slots,
-//! and the places of words.
+//! Tests of shapes: their limits, the layouts that they fit, the size of a shape with room for values, the classes of
+//! slots, and the places of words.
 #![tactic(auto)]
 
 #[cfg(test)]

@@ -16,7 +16,7 @@ unfoldable pub spots : ℕ → ℕ → ℕ → List Spot
 spots q s zero = []
 spots q s (suc n) = record { page = q; slot = s } ∷ spots q (s + 1) n
 
--- the word found says Live, and of this generation
+-- the word found says Live, in this generation
 abbrev pub live_at : ℕ → ℕ → Bool
 live_at g n = (fields_of n).present && not (fields_of n).marked && ((fields_of n).generation == g)
 

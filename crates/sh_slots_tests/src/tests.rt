@@ -6,7 +6,7 @@ use sh_slots::{
 use std::fmt::Debug;
 use std::process::Abort;
 
-// The words of generation 1, empty, live and marked, with nobody on the slot.
+// The words of generation 1, empty, live and marked, with no pass on the slot.
 const EMPTY: u64 = 4294967296;
 
 const LIVE: u64 = 5368709120;

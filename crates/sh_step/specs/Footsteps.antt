@@ -20,7 +20,7 @@ footstep_of x r n = record { action = x; place = r.place; answer = answer r.oper
 abbrev pub did_find : ℕ → Footstep → Bool
 did_find n t = elim (t.answer) [ Some m ↦ m == n | None ↦ false ]
 
--- on page q, on a link of page q, on shard n, on its bell, and on the link of a page of its bell
+-- the place is the head of page q, a link of page q, the owner word of shard n, its bell, the link of one of its pages
 abbrev pub at_head : ℕ → Place → Bool
 at_head q (Head x) = x == q
 at_head q _ = false

@@ -2,6 +2,6 @@
 use Rattle.std.specs.Prelude.{ℕ, ◌≡◌, List}
 use Rattle.sh_step.specs.Collections.{noted}
 
--- the same is noted of every number
+-- both lists note the same for every number
 unfoldable pub NoteTheSame : List (ℕ × ℕ) → List (ℕ × ℕ) → Type 0
 NoteTheSame newest notes = (q : ℕ) → noted q newest ≡ noted q notes

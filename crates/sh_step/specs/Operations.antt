@@ -4,7 +4,7 @@ use Rattle.sh_step.specs.declared.operation.Operation.{Operation}
 use Rattle.sh_step.specs.declared.operation.Operation.TheVariants.{FetchAdd, FetchSub, FetchOr, Swap, Store}
 use Rattle.sh_step.specs.declared.operation.Operation.TheVariants.{CompareExchange, Load}
 
--- the word after it
+-- the word after the operation
 abbrev pub operate : Operation → ℕ → ℕ
 operate (FetchAdd m) n = n + m
 operate (FetchSub m) n = n - m

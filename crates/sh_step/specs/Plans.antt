@@ -17,7 +17,7 @@ pub record Keys : Type 0 where
   pub gen_max : ℕ
   pub guard_max : ℕ
 
--- pages: of one shard
+-- pages: the number of pages of one shard
 pub record Plan : Type 0 where
   pub shards : ℕ
   pub pages : ℕ
@@ -83,7 +83,7 @@ page_of plan x = page_number plan x.shard x.page
 abbrev pub slot_of : Plan → SlotName → Spot
 slot_of plan x = record { page = page_number plan x.shard x.page; slot = x.slot }
 
--- the laws of a plan on which the core rests: a key names one place and generation, and counts have room
+-- the laws of a plan that the core needs: a key names one place and generation, and counts have room
 pub record Lawful (plan : Plan) : Type 0 where
   pub names : (n : Name) → 0 < n.generation → n.generation ≤ plan.keys.gen_max → n.page < heap_pages plan
       → n.slot < slot_places → plan.keys.unpack (plan.keys.pack n) ≡ Some n

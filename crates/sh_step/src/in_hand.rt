@@ -1,4 +1,4 @@
-//! The moves of what a pass has begun.
+//! The moves that continue what a pass has begun. A move is `None` if the pass has begun nothing of the kind.
 ghost use Rattle.std.specs.Prelude.{◌≡◌};
 ghost use Rattle.sh_step.specs.Plans.{Plan};
 ghost use Rattle.sh_step.specs.Moves.{move_of};
@@ -6,7 +6,7 @@ ghost use Rattle.sh_step.specs.Moves.{move_of};
 use crate::{Action, Move, Part};
 use sh_slots::Hand;
 
-/// The move of a drop of what it leaves.
+/// The move that gives back the count on the slot that the pass is leaving.
 #[tactic(auto, unfolding(crate::specs::Moves::move_of))]
 pub fn drop_hand(part: &Part) -> Option<Move>
     ensures { (plan : Plan) → result ≡ move_of plan part.now Action.Drop }
@@ -17,7 +17,7 @@ pub fn drop_hand(part: &Part) -> Option<Move>
     }
 }
 
-/// The move of the end of a generation.
+/// The move that ends a generation.
 #[tactic(auto, unfolding(crate::specs::Moves::move_of))]
 pub fn finish(part: &Part) -> Option<Move>
     ensures { (plan : Plan) → result ≡ move_of plan part.now Action.Finish }
@@ -28,7 +28,7 @@ pub fn finish(part: &Part) -> Option<Move>
     }
 }
 
-/// The move of a put of the slot in its hand.
+/// The move that puts the slot in the hand.
 #[tactic(auto, unfolding(crate::specs::Moves::move_of))]
 pub fn put(part: &Part) -> Option<Move>
     ensures { (plan : Plan) → result ≡ move_of plan part.now Action.Put }
@@ -39,7 +39,7 @@ pub fn put(part: &Part) -> Option<Move>
     }
 }
 
-/// The move of the store of a slot's link.
+/// The move that stores a slot's link.
 #[tactic(auto, unfolding(crate::specs::Moves::move_of))]
 pub fn tie(part: &Part) -> Option<Move>
     ensures { (plan : Plan) → result ≡ move_of plan part.now Action.Tie }
@@ -50,7 +50,7 @@ pub fn tie(part: &Part) -> Option<Move>
     }
 }
 
-/// The move of a ring.
+/// The move that rings.
 #[tactic(auto, unfolding(crate::specs::Moves::move_of))]
 pub fn ring(part: &Part) -> Option<Move>
     ensures { (plan : Plan) → result ≡ move_of plan part.now Action.Ring }
@@ -61,7 +61,7 @@ pub fn ring(part: &Part) -> Option<Move>
     }
 }
 
-/// The move of the store of a page's link.
+/// The move that stores a page's link.
 #[tactic(auto, unfolding(crate::specs::Moves::move_of))]
 pub fn ring_tie(part: &Part) -> Option<Move>
     ensures { (plan : Plan) → result ≡ move_of plan part.now Action.RingTie }
@@ -72,7 +72,7 @@ pub fn ring_tie(part: &Part) -> Option<Move>
     }
 }
 
-/// The move of the store of a word.
+/// The move that stores the next word of a value.
 #[tactic(auto, unfolding(crate::specs::Moves::move_of))]
 pub fn fill(part: &Part) -> Option<Move>
     ensures { (plan : Plan) → result ≡ move_of plan part.now Action.Fill }
@@ -85,7 +85,7 @@ pub fn fill(part: &Part) -> Option<Move>
     }
 }
 
-/// The move of the end of a filling.
+/// The move that ends a filling.
 #[tactic(auto, unfolding(crate::specs::Moves::move_of))]
 pub fn publish(part: &Part) -> Option<Move>
     ensures { (plan : Plan) → result ≡ move_of plan part.now Action.Publish }

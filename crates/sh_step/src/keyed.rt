@@ -1,4 +1,4 @@
-//! The moves of actions on keys.
+//! The moves of actions on keys. A move is `None` if the action may not be done.
 ghost use Rattle.std.specs.Prelude.{◌≡◌};
 ghost use Rattle.sh_step.specs.Plans.{plan_of};
 ghost use Rattle.sh_step.specs.Moves.{move_of};
@@ -9,7 +9,7 @@ use sh_key::KeyLayout;
 use sh_shape::Shape;
 use sh_slots::Hand;
 
-// The move of an entry to get.
+// The move that enters a slot to get a key.
 #[tactic(auto, unfolding(crate::specs::Moves::move_of))]
 pub fn enter_get<L: KeyLayout>(shape: &Shape, part: &Part, key: u64) -> Option<Move>
     ensures { result ≡ move_of (plan_of L.layout shape.now) part.now (Action.EnterGet key) }
@@ -20,7 +20,7 @@ pub fn enter_get<L: KeyLayout>(shape: &Shape, part: &Part, key: u64) -> Option<M
     }
 }
 
-// The move of an entry to remove.
+// The move that enters a slot to remove a key.
 #[tactic(auto, unfolding(crate::specs::Moves::move_of))]
 pub fn enter_remove<L: KeyLayout>(shape: &Shape, part: &Part, key: u64) -> Option<Move>
     ensures { result ≡ move_of (plan_of L.layout shape.now) part.now (Action.EnterRemove key) }
@@ -31,7 +31,7 @@ pub fn enter_remove<L: KeyLayout>(shape: &Shape, part: &Part, key: u64) -> Optio
     }
 }
 
-// The move of the drop of a hold.
+// The move that gives back the count of a hold.
 #[tactic(auto, unfolding(crate::specs::Moves::move_of))]
 pub fn drop_hold<L: KeyLayout>(shape: &Shape, part: &Part, key: u64) -> Option<Move>
     ensures { result ≡ move_of (plan_of L.layout shape.now) part.now (Action.DropHold key) }
@@ -42,7 +42,7 @@ pub fn drop_hold<L: KeyLayout>(shape: &Shape, part: &Part, key: u64) -> Option<M
     }
 }
 
-// The move of a read of a held key's class.
+// The move that reads the class of a held key's page.
 #[tactic(auto, unfolding(crate::specs::Moves::move_of))]
 pub fn read_class<L: KeyLayout>(shape: &Shape, part: &Part, key: u64) -> Option<Move>
     ensures { result ≡ move_of (plan_of L.layout shape.now) part.now (Action.ReadClass key) }
@@ -53,7 +53,7 @@ pub fn read_class<L: KeyLayout>(shape: &Shape, part: &Part, key: u64) -> Option<
     }
 }
 
-// The move of a read of the length of a held key's value.
+// The move that reads the length of a held key's value.
 #[tactic(auto, unfolding(crate::specs::Moves::move_of))]
 pub fn read_length<L: KeyLayout>(shape: &Shape, part: &Part, key: u64) -> Option<Move>
     ensures { result ≡ move_of (plan_of L.layout shape.now) part.now (Action.ReadLength key) }
@@ -64,7 +64,7 @@ pub fn read_length<L: KeyLayout>(shape: &Shape, part: &Part, key: u64) -> Option
     }
 }
 
-// The move of a mark.
+// The move that marks the slot of the key to remove.
 #[tactic(auto, unfolding(crate::specs::Moves::move_of))]
 pub fn mark<L: KeyLayout>(shape: &Shape, part: &Part) -> Option<Move>
     ensures { result ≡ move_of (plan_of L.layout shape.now) part.now Action.Mark }
@@ -78,7 +78,7 @@ pub fn mark<L: KeyLayout>(shape: &Shape, part: &Part) -> Option<Move>
     }
 }
 
-// The move of a read of a word of a held key's value.
+// The move that reads a word of a held key's value.
 #[tactic(auto, unfolding(crate::specs::Moves::move_of))]
 pub fn read_word<L: KeyLayout>(shape: &Shape, part: &Part, key: u64, i: u64) -> Option<Move>
     ensures { result ≡ move_of (plan_of L.layout shape.now) part.now (Action.ReadWord key i) }

@@ -49,7 +49,8 @@ pub enum Move {
     Put(Spot),
     /// Puts a slot of its own.
     PutSlot(Spot),
-    /// Stores the link of the slot; whether it found the flag.
+    /// Stores the link of the slot, which is the second field. The third is whether the slot's put found the page's
+    /// flag.
     Tie(Spot, u64, bool),
     /// Becomes the owner of the shard.
     Adopt(u64),

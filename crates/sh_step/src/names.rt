@@ -17,7 +17,7 @@ fn has_place(shape: &Shape, parts: &Parts) -> bool
     parts.shard < shape.shards() && parts.page < shape.pages() && parts.slot < SLOT_PLACES
 }
 
-// Whether the shape has a page of this name.
+// Whether the shape has a page with this name.
 fn has_page(shape: &Shape, shard: u64, page: u64) -> bool
     ensures { result ≡ (nat_lt shard shape.now.shards && nat_lt page (pages_of shape.now)) }
 {

@@ -1,4 +1,4 @@
-//! The moves of actions on shards and their bells.
+//! The moves of actions on shards and their bells. A move is `None` if the action may not be done.
 ghost use Rattle.std.specs.Prelude.{◌≡◌};
 ghost use Rattle.sh_step.specs.Plans.{plan_of, Plan};
 ghost use Rattle.sh_step.specs.Moves.{move_of};
@@ -7,7 +7,7 @@ use crate::{Action, Move, Part};
 use sh_key::KeyLayout;
 use sh_shape::Shape;
 
-/// The move of an adoption.
+/// The move that adopts a shard.
 #[tactic(auto, unfolding(crate::specs::Moves::move_of))]
 pub fn adopt<L: KeyLayout>(shape: &Shape, part: &Part, shard: u64) -> Option<Move>
     ensures { result ≡ move_of (plan_of L.layout shape.now) part.now (Action.Adopt shard) }
@@ -19,7 +19,7 @@ pub fn adopt<L: KeyLayout>(shape: &Shape, part: &Part, shard: u64) -> Option<Mov
     }
 }
 
-/// The move of a leave.
+/// The move that gives the shard up.
 #[tactic(auto, unfolding(crate::specs::Moves::move_of))]
 pub fn leave(part: &Part) -> Option<Move>
     ensures { (plan : Plan) → result ≡ move_of plan part.now Action.Leave }
@@ -31,7 +31,7 @@ pub fn leave(part: &Part) -> Option<Move>
     }
 }
 
-/// The move of a take of the bell.
+/// The move that takes the bell.
 #[tactic(auto, unfolding(crate::specs::Moves::move_of))]
 pub fn take_bell(part: &Part) -> Option<Move>
     ensures { (plan : Plan) → result ≡ move_of plan part.now Action.TakeBell }
@@ -43,7 +43,7 @@ pub fn take_bell(part: &Part) -> Option<Move>
     }
 }
 
-/// The move of the bell's cursor.
+/// The move that follows the bell's cursor.
 #[tactic(auto, unfolding(crate::specs::Moves::move_of))]
 pub fn follow_bell(part: &Part) -> Option<Move>
     ensures { (plan : Plan) → result ≡ move_of plan part.now Action.FollowBell }

@@ -1,4 +1,4 @@
-//! The moves of actions on pages.
+//! The moves of actions on pages. A move is `None` if the action may not be done.
 ghost use Rattle.std.specs.Prelude.{◌≡◌, ◌==◌, ◌&&◌, ◌||◌, not, nat_lt};
 ghost use Rattle.sh_shape.specs.Classes.{class_count};
 ghost use Rattle.sh_step.specs.Plans.{plan_of};
@@ -48,14 +48,14 @@ fn may_arm<L: KeyLayout>(shape: &Shape, part: &Part, page: u64) -> bool
     may_take::<L>(shape, part, page) && !part.has_armed(page)
 }
 
-// Whether each slot is its own, of a page of this class word.
+// Whether each slot of a page with this class word is its own.
 fn has_whole_page(part: &Part, page: u64, class_word: u64) -> bool
     ensures { result ≡ all_mine part.now page class_word }
 {
     part.has_all_mine(page, slots_of_word(class_word))
 }
 
-// Whether it may give the page of this class word a class.
+// Whether it may give the page, which has this class word, a class.
 fn may_set_class<L: KeyLayout>(
     shape: &Shape,
     part: &Part,
@@ -71,7 +71,7 @@ fn may_set_class<L: KeyLayout>(
         && class < CLASS_COUNT
 }
 
-/// The move of a read of a page's class.
+/// The move that reads a page's class.
 #[tactic(auto, unfolding(crate::specs::Moves::move_of))]
 pub fn read_page<L: KeyLayout>(shape: &Shape, part: &Part, name: PageName) -> Option<Move>
     ensures { result ≡ move_of (plan_of L.layout shape.now) part.now (Action.ReadPage name) }
@@ -82,7 +82,7 @@ pub fn read_page<L: KeyLayout>(shape: &Shape, part: &Part, name: PageName) -> Op
     }
 }
 
-/// The move of a take of a page's stack.
+/// The move that takes a page's stack.
 #[tactic(auto, unfolding(crate::specs::Moves::move_of))]
 pub fn take<L: KeyLayout>(shape: &Shape, part: &Part, name: PageName) -> Option<Move>
     ensures { result ≡ move_of (plan_of L.layout shape.now) part.now (Action.Take name) }
@@ -93,7 +93,7 @@ pub fn take<L: KeyLayout>(shape: &Shape, part: &Part, name: PageName) -> Option<
     }
 }
 
-/// The move of an arming.
+/// The move that arms a page.
 #[tactic(auto, unfolding(crate::specs::Moves::move_of))]
 pub fn arm<L: KeyLayout>(shape: &Shape, part: &Part, name: PageName) -> Option<Move>
     ensures { result ≡ move_of (plan_of L.layout shape.now) part.now (Action.Arm name) }
@@ -104,7 +104,7 @@ pub fn arm<L: KeyLayout>(shape: &Shape, part: &Part, name: PageName) -> Option<M
     }
 }
 
-/// The move of a change of a page's class.
+/// The move that gives a page a class.
 #[tactic(auto, unfolding(crate::specs::Moves::move_of))]
 pub fn set_class<L: KeyLayout>(
     shape: &Shape,
@@ -126,7 +126,7 @@ pub fn set_class<L: KeyLayout>(
     Some(Move::SetClass(page, class as u32))
 }
 
-/// The move of a page's cursor.
+/// The move that follows a page's cursor.
 #[tactic(auto, unfolding(crate::specs::Moves::move_of))]
 pub fn follow<L: KeyLayout>(shape: &Shape, part: &Part, name: PageName) -> Option<Move>
     ensures { result ≡ move_of (plan_of L.layout shape.now) part.now (Action.Follow name) }

@@ -149,7 +149,7 @@ impl Part {
         self.is_idle() && self.has_hold(key)
     }
 
-    /// Whether it may read the word of that number of the key's value, which has this length.
+    /// Whether it may read the word with that number of the key's value, which has this length.
     pub fn may_read(&self, key: u64, i: u64, length: u64) -> bool
         ensures { result ≡ (idle self.now && has (λ j. j == key) self.now.holds && nat_lt i length) }
     {

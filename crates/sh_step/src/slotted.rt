@@ -1,4 +1,4 @@
-//! The moves of actions on slots.
+//! The moves of actions on slots. A move is `None` if the action may not be done.
 ghost use Rattle.std.specs.Prelude.{◌≡◌, ◌-◌, ◌&&◌, nat_lt, nat_le, length};
 ghost use Rattle.sh_shape.specs.Classes.{width};
 ghost use Rattle.sh_slots.specs.Slots.{same_spot};
@@ -47,7 +47,7 @@ fn may_fill<L: KeyLayout>(shape: &Shape, part: &Part, spot: Spot, length: u64) -
     may_put::<L>(shape, part, spot) && fits_class(length, part.class_word(spot.page))
 }
 
-/// The move of the begin of a filling.
+/// The move that begins a filling.
 #[tactic(auto, unfolding(crate::specs::Moves::move_of))]
 pub fn fill_slot<L: KeyLayout>(
     shape: &Shape,
@@ -65,7 +65,7 @@ pub fn fill_slot<L: KeyLayout>(
     }
 }
 
-/// The move of a put of a slot of its own.
+/// The move that puts a slot of the pass's own.
 #[tactic(auto, unfolding(crate::specs::Moves::move_of))]
 pub fn put_slot<L: KeyLayout>(shape: &Shape, part: &Part, name: SlotName) -> Option<Move>
     ensures { result ≡ move_of (plan_of L.layout shape.now) part.now (Action.PutSlot name) }

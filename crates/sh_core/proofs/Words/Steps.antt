@@ -1,4 +1,4 @@
--- A step, once its part and its move are known.
+-- A step whose part and move are known.
 use Rattle.std.proofs.Common.{◌≡◌, ◌≢◌, ℕ, ◌==◌, cond, List, [], ◌∷◌, ◌++◌, refl, ap, ◌∙◌, Option, Some, None}
 use Rattle.std.proofs.Common.{slice_get, eq-eqb, ne_eqb}
 use Rattle.sh_step.specs.declared.action.Event.{Event}

@@ -1,4 +1,4 @@
-//! What grows, as far as it may: the words of the largest heap, a long log, and all that a part may note.
+//! What grows, at its largest: the words of the largest heap, a long log, and all that a part may note.
 ghost use Rattle.std.specs.Prelude.{◌<◌};
 
 use super::{agree, event, has_words, moves, replies, skips, step, value};

@@ -26,7 +26,7 @@ fn open_with_memory(alloc: Global, rt: &impl Abort) -> World<Tiny> {
     }
 }
 
-// Two worlds to which the same events happen.
+// Two worlds that do the same events.
 #[derive(Drop)]
 struct Pair {
     world: World<Tiny>,
@@ -220,7 +220,7 @@ fn a_slot_refused_for_memory_changes_nothing(rt: HostRuntime) {
     has_words(&pair.world, [(0, 1)], &rt);
 }
 
-// How often memory was refused for a heap, which opens otherwise.
+// How often memory was refused for a heap; if it was not, the heap opens.
 fn opens_or_not(alloc: Global, rt: &impl Abort) -> u32 {
     match World::<Tiny>::new(alloc, small(rt)) {
         Ok(world) => {
@@ -236,7 +236,7 @@ fn opens_or_not(alloc: Global, rt: &impl Abort) -> u32 {
     }
 }
 
-// One of the heaps at most is refused, and the others open.
+// At most one of the heaps is refused, and the others open.
 #[test]
 fn a_heap_refused_for_memory_does_not_open(rt: HostRuntime) {
     let mut refused = 0u32;
@@ -246,7 +246,7 @@ fn a_heap_refused_for_memory_does_not_open(rt: HostRuntime) {
     agree(refused.max(1), 1, &rt);
 }
 
-// How often memory was refused for a run of these, which ends with a value that is held otherwise.
+// How often memory was refused for a run of these events; if it was not, the run ends with a held value.
 fn runs_or_not(alloc: Global, events: &[Event], rt: &impl Abort) -> u32 {
     match run::<Tiny>(alloc, small(rt), events) {
         Ok(world) => {
@@ -261,7 +261,7 @@ fn runs_or_not(alloc: Global, events: &[Event], rt: &impl Abort) -> u32 {
     }
 }
 
-// One of the runs at most is refused, and the others end as ever.
+// At most one of the runs is refused, and the others end as usual.
 #[test]
 fn a_run_refused_for_memory_is_refused(rt: HostRuntime) {
     let events = [

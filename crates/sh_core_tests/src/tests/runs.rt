@@ -8,12 +8,12 @@ use sh_value::Refusal;
 use std::alloc::Global;
 use std::process::Abort;
 
-// Runs these on a heap of this shape.
+// Runs these events on a heap of this shape.
 fn ran(alloc: Global, shape: Shape, events: &[Event], rt: &impl Abort) -> World<Tiny> {
     run::<Tiny>(alloc, shape, events).expect(rt, "it fits tiny")
 }
 
-// No event leaves the heap as it opens.
+// A run of no events is the heap as it opens.
 fn none_run(alloc: Global, shape: Shape, rt: &impl Abort) {
     let empty = ran(alloc, shape, &[], rt);
     has_words(&empty, [(0, 0)], rt);

@@ -5,7 +5,7 @@ use sh_key::Tiny;
 use sh_step::{Action, Event, PageName, SlotName};
 use std::process::Abort;
 
-// The passes may do none of these, and nothing changes: the world stays as its twin, which did the same events but
+// The passes may do none of these, and nothing changes: the world stays as its twin, which did the same events except
 // these.
 fn skips_all(world: &mut World<Tiny>, twin: &World<Tiny>, events: &[Event], rt: &impl Abort) {
     for event in events {
@@ -14,7 +14,7 @@ fn skips_all(world: &mut World<Tiny>, twin: &World<Tiny>, events: &[Event], rt: 
     }
 }
 
-// The ends of what a pass may have begun.
+// The actions that continue or end what a pass has begun.
 fn ends(pass: u32) -> [Event; 15] {
     [
         event(pass, Action::Mark),
@@ -40,7 +40,7 @@ fn skips_ends(world: &mut World<Tiny>, twin: &World<Tiny>, pass: u32, rt: &impl 
     skips_all(world, twin, &ends(pass), rt);
 }
 
-// Only passes that the shape has do something.
+// A pass that the shape does not have does nothing.
 #[test]
 fn a_pass_past_the_last_is_skipped(rt: HostRuntime) {
     let mut world = opened(rt.alloc(), 2, &rt);
@@ -139,7 +139,7 @@ fn numbers_outside_the_shape_name_nothing(rt: HostRuntime) {
     );
 }
 
-// A page gets its class only once it was read.
+// A page gets a class only after its class was read.
 #[test]
 fn an_adopter_reads_a_page_first(rt: HostRuntime) {
     let mut world = empty_world::<Tiny>(rt.alloc(), 2, &rt);

@@ -122,7 +122,7 @@ fn a_late_finish_changes_nothing(rt: HostRuntime) {
     has_words(&world, [(1, 0), (3, 8589934592)], &rt);
 }
 
-// A key of tiny has four holds at most, and each get gives the value.
+// A key of tiny has at most four holds, and each get returns the value.
 #[test]
 fn a_fifth_get_is_crowded(rt: HostRuntime) {
     let mut world = opened(rt.alloc(), 2, &rt);

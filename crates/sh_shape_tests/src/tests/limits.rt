@@ -5,7 +5,7 @@ use sh_shape::{Shape, fits};
 use sh_value::Refusal;
 use std::process::Abort;
 
-// Exactly a good shape is made, and has these numbers. Else it is refused as `BadShape`.
+// A good shape is made and has these numbers; any other is refused as `BadShape`.
 fn is_made(
     rt: &impl Abort,
     made: Result<Shape, Refusal>,

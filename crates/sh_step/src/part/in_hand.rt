@@ -1,4 +1,4 @@
-//! What actions on what a pass has begun leave in its own part.
+//! What the steps that continue a pass's begun work leave in its own part.
 ghost use Rattle.std.specs.Prelude.{◌≡◌, ◌+◌, ◌≤◌, ℕ, None, IfOk, IfErr, OnOk, OnErr};
 ghost use Rattle.sh_shape.specs.Places.{all_pages};
 ghost use Rattle.sh_step.specs.Plans.{Plan, plan_of};
@@ -16,7 +16,7 @@ use sh_stack::link_over;
 use sh_value::Refusal;
 
 impl Part {
-    // A drop of what it leaves that found this word.
+    // Gives back the count on the slot that the pass is leaving; the step found this word.
     pub(super) fn drop_hand(&mut self, spot: Spot, found: u64) -> Option<Reply>
         ensures reply { result ≡ (drop_hand self.old spot).reply found }
         ensures part { self.new ≡ (drop_hand self.old spot).part found }
@@ -63,7 +63,7 @@ impl Part {
         None
     }
 
-    // The store of a slot's link.
+    // Stores a slot's link; the pass then rings if its put found the flag.
     pub(super) fn tie(&mut self, spot: Spot, ring: bool) -> Option<Reply>
         ensures reply { result ≡ None }
         ensures part { (link found : ℕ) → self.new ≡ (tie self.old spot link ring).part found }
@@ -76,7 +76,7 @@ impl Part {
         None
     }
 
-    // A ring that found this word on the bell.
+    // Rings; the step found this word on the bell.
     #[tactic(auto, using(sh_shape::proofs::PlaceLaws::few_pages))]
     pub(super) fn ring(&mut self, shape: &Shape, page: u64, found: u64) -> Option<Reply>
         requires { found ≤ all_pages shape.now + 1 }
@@ -88,7 +88,7 @@ impl Part {
         None
     }
 
-    // The store of a page's link.
+    // Stores a page's link.
     pub(super) fn ring_tie(&mut self) -> Option<Reply>
         ensures reply { result ≡ None }
         ensures part { (page link found : ℕ) → self.new ≡ (ring_tie self.old page link).part found }

@@ -16,7 +16,8 @@ use sh_slots::{
 use sh_value::Refusal;
 
 impl Part {
-    // An entry to get that found this word: it takes a hold if the value is there and its key has room for one.
+    // Enters a slot to get its value; the step found this word. It takes a hold if the value is there and the key has
+    // room.
     pub(super) fn enter_get<L: KeyLayout>(
         &mut self,
         key: u64,
@@ -48,7 +49,7 @@ impl Part {
         }
     }
 
-    // An entry to remove that found this word.
+    // Enters a slot to remove its value; the step found this word.
     pub(super) fn enter_remove(&mut self, key: u64, name: Name, found: u64) -> Option<Reply>
         ensures reply { (plan : Plan) → result ≡ (enter_remove plan self.old key name).reply found }
         ensures part { (plan : Plan) → self.new ≡ (enter_remove plan self.old key name).part found }
@@ -60,7 +61,7 @@ impl Part {
         }
     }
 
-    // A mark that found this word.
+    // Marks a slot; the step found this word.
     pub(super) fn mark(&mut self, key: u64, name: Name, found: u64) -> Option<Reply>
         ensures reply { result ≡ (mark self.old key name).reply found }
         ensures part { self.new ≡ (mark self.old key name).part found }
@@ -85,7 +86,7 @@ impl Part {
         }
     }
 
-    // A drop of a hold that found this word.
+    // Gives back the count of a hold; the step found this word.
     pub(super) fn drop_hold(&mut self, key: u64, name: Name, found: u64) -> Option<Reply>
         ensures reply { result ≡ (drop_key self.old key name).reply found }
         ensures part { self.new ≡ (drop_key self.old key name).part found }
@@ -95,7 +96,7 @@ impl Part {
         Some(Reply::Released(key))
     }
 
-    // A read of the class of a held key's page.
+    // Notes the class of a held key's page.
     pub(super) fn read_class(
         &mut self,
         key: u64,
@@ -112,7 +113,7 @@ impl Part {
         Ok(None)
     }
 
-    // A read of the length of a held key's value.
+    // Notes the length of a held key's value.
     pub(super) fn read_length(
         &mut self,
         key: u64,
@@ -129,7 +130,7 @@ impl Part {
         Ok(None)
     }
 
-    // A read of a word, of this number, of a held key's value.
+    // Notes the word with this number of a held key's value.
     pub(super) fn read_word(
         &mut self,
         key: u64,

@@ -24,7 +24,8 @@ fn over_heap<L: KeyLayout>(shape: &Shape, shard: u64, base: u64, word: u64) -> u
 }
 
 impl Part {
-    // An adoption that found this word: the shard becomes its own if it was nobody's, and it knows nothing of it yet.
+    // Adopts a shard; the step found this word. The shard becomes its own if it had no owner, and it knows no page of
+    // it yet.
     pub(super) fn adopt(&mut self, shard: u64, found: u64) -> Option<Reply>
         ensures reply { result ≡ (adopt self.old shard).reply found }
         ensures part { self.new ≡ (adopt self.old shard).part found }
@@ -40,7 +41,7 @@ impl Part {
         None
     }
 
-    // A leave.
+    // Gives the shard up.
     pub(super) fn leave(&mut self) -> Option<Reply>
         ensures reply { result ≡ None }
         ensures part { (shard found : ℕ) → self.new ≡ (leave self.old shard).part found }
@@ -49,7 +50,7 @@ impl Part {
         None
     }
 
-    // A take of the shard's bell that found this word.
+    // Takes the shard's bell; the step found this word.
     pub(super) fn take_bell<L: KeyLayout>(
         &mut self,
         shape: &Shape,
@@ -65,7 +66,7 @@ impl Part {
         None
     }
 
-    // A read of the link of a page of the bell that found this word: once it is written the page is off the bell.
+    // Reads the link of a page of the bell; the step found this word. If it is written, the page leaves the bell.
     #[tactic(auto, using(crate::proofs::PageLaws::home_is_shard), unfolding(crate::specs::Plans::home))]
     pub(super) fn follow_bell<L: KeyLayout>(
         &mut self,

@@ -27,7 +27,7 @@ fn point_to_top(cursors: &mut VecDeque<(u64, u64)>, page: u64, head: u64) -> Res
 }
 
 impl Part {
-    // A read of a page's class.
+    // Notes a page's class.
     pub(super) fn read_page(&mut self, page: u64, found: u64) -> Result<Option<Reply>, Refusal>
         ensures reply { IfOk result (λ reply. reply ≡ (read_page self.old page).reply found) }
         ensures part { OnOk result (self.new ≡ (read_page self.old page).part found) }
@@ -39,7 +39,7 @@ impl Part {
         Ok(None)
     }
 
-    // The change of a page's class: all its slots are then its own, and none but those.
+    // Gives a page a class: of its slots exactly those of the class are then the pass's own.
     pub(super) fn set_class(&mut self, page: u64, class: u32) -> Result<Option<Reply>, Refusal>
         ensures reply { IfOk result (λ reply. reply ≡ None) }
         ensures part { (found : ℕ) → OnOk result (self.new ≡ (set_class self.old page class).part found) }
@@ -53,7 +53,7 @@ impl Part {
         Ok(None)
     }
 
-    // A take that found this head word.
+    // Takes a page's stack; the step found this head word.
     pub(super) fn take(&mut self, page: u64, found: u64) -> Result<Option<Reply>, Refusal>
         ensures reply { IfOk result (λ reply. reply ≡ (take_page self.old page).reply found) }
         ensures part { OnOk result (self.new ≡ (take_page self.old page).part found) }
@@ -68,7 +68,7 @@ impl Part {
         Ok(None)
     }
 
-    // A read of the link of a page's slot that found this word: the slot is its own once the link is written.
+    // Reads the link of a page's slot; the step found this word. If it is written, the slot becomes the pass's own.
     pub(super) fn follow(
         &mut self,
         page: u64,
@@ -97,7 +97,7 @@ impl Part {
         Ok(None)
     }
 
-    // An arming that found this head word.
+    // Arms a page; the step found this head word.
     pub(super) fn arm(&mut self, page: u64, found: u64) -> Result<Option<Reply>, Refusal>
         ensures reply { IfOk result (λ reply. reply ≡ (arm self.old page).reply found) }
         ensures part { OnOk result (self.new ≡ (arm self.old page).part found) }

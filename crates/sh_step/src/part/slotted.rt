@@ -14,7 +14,7 @@ use sh_slots::{Hand, Reply, Spot, published_name};
 use sh_value::Value;
 
 impl Part {
-    // The begin of a filling.
+    // Begins to fill a slot.
     pub(super) fn fill_slot(&mut self, spot: Spot, value: &Value) -> Option<Reply>
         ensures reply { result ≡ None }
         ensures part { (found : ℕ) → self.new ≡ (fill_slot self.old spot value.now).part found }
@@ -24,7 +24,7 @@ impl Part {
         None
     }
 
-    // The store of the value's word of this number.
+    // Stores the value's word with this number.
     pub(super) fn fill(&mut self, spot: Spot, value: &Value, i: u64) -> Option<Reply>
         requires { i + 1 < 2 ^ 64 }
         ensures reply { result ≡ None }
@@ -34,8 +34,8 @@ impl Part {
         None
     }
 
-    // The end of a filling that found this state word: the value is inserted under the slot's key in the generation
-    // found, which names it.
+    // Ends a filling; the step found this state word. The value is inserted under the key of the slot in the generation
+    // found.
     pub(super) fn publish<L: KeyLayout>(
         &mut self,
         shape: &Shape,
@@ -55,7 +55,7 @@ impl Part {
         Some(Reply::Insert(key, value.copy()))
     }
 
-    // A put of a slot of its own that found this head word.
+    // Puts a slot of its own; the step found this head word.
     pub(super) fn put_slot(&mut self, spot: Spot, found: u64) -> Option<Reply>
         ensures reply { result ≡ (put_at (record self.old { mine = without (same_spot spot) self.old.mine }) spot).reply
             found }
