@@ -31,9 +31,9 @@ walked link n zero = Some []
 walked link zero (suc s) = None
 walked link (suc n) (suc s) = cond (link s == 0) None (option_map (λ xs. s ∷ xs) (walked link n (link s - 1)))
 
--- The put lists come from the run, and their lengths bound the walks. For each page, a walk along the links from the
--- head word gives the stack list, and one from the chain list's first slot gives the chain list. The cursors that
--- passes have on the page are one at the chain list's first slot, and none at any other slot
+-- The put lists come from the run, and n is at least the list's length. A walk of at most n items along a page's links
+-- gives the stack list from the head word, and the chain list from that list's first slot. The parts of the passes have
+-- one cursor of the page at the chain list's first slot, and none at another slot
 pub record WordsLead (w : World) (l : PutLists) : Type 0 where
   pub stack : (q n : ℕ) → length (l.stack q) ≤ n
       → walked (w.words.link_at q) n (w.words.head_at q / 2) ≡ Some (l.stack q)
@@ -47,7 +47,8 @@ pub record IsEmptySlot (w : World) (x : Spot) : Type 0 where
   pub below : x.slot < slots class
   pub empty : ((state_of w x).present || (state_of w x).marked) ≡ false
 
--- each empty slot is in one of these, and there once: a pass's `mine`, its page's stack list, its page's chain list
+-- each empty slot is in one of these, and there once: the `mine` of a pass's part, its page's stack list, its chain
+-- list
 abbrev pub NoneLost : World → PutLists → Type 0
 NoneLost w l = (x : Spot) → IsEmptySlot w x
     → mine w x + times x.slot (l.stack x.page) + times x.slot (l.chain x.page) ≡ 1
