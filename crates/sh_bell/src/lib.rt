@@ -1,7 +1,7 @@
 //! Bells: how the owner of a shard learns that an empty slot was put on one of its pages.
 //!
 //! The owner arms a page: it sets the flag of the page's head word. The pass that next puts a slot there clears the
-//! flag and, as it found it set, rings: it puts the page on the shard's bell, which is an exchange stack of pages by
+//! flag and, as it found it set, rings: it puts the page on the shard's bell. The bell is an exchange stack of pages by
 //! their numbers in the shard.
 #![tactic(auto)]
 

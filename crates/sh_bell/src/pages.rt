@@ -18,8 +18,8 @@ pub fn local_of(pages: u64, page: u64) -> u64
     page % pages
 }
 
-/// A word of a shard that names its page p as p + `base`, and none below `base`: the same with the page's number over
-/// the whole heap, if each shard has `pages` pages.
+/// A word of a shard that names its page p as p + `base`, and none below `base`. The result names the page by its
+/// number over the whole heap, if each shard has `pages` pages.
 pub fn named_over_heap(pages: u64, shard: u64, base: u64, word: u64) -> u64
     requires { shard * pages + word < 2 ^ 64 }
     ensures { result ≡ named_over_heap pages shard base word }

@@ -27,7 +27,7 @@ use Rattle.sh_core.specs.Words.{read}
 use Rattle.sh_core.specs.Worlds.{World}
 use Rattle.sh_core.specs.Lists.{times}
 
--- the key in the hand names a slot of the heap; a slot or page in the hand is one of the heap; a generation that the
+-- The key in the hand names a slot of the heap. A slot or page in the hand is one of the heap. A generation that the
 -- hand ends is at most the last one
 abbrev pub HandWithin : Plan → Hand → Type 0
 HandWithin plan (Removing k) = (x : Name) × Named plan k x

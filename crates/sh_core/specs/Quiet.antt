@@ -47,8 +47,7 @@ pub record IsEmptySlot (w : World) (x : Spot) : Type 0 where
   pub below : x.slot < slots class
   pub empty : ((state_of w x).present || (state_of w x).marked) ≡ false
 
--- each empty slot is in one of these, and there once: the `mine` of a pass's part, its page's stack list, its chain
--- list
+-- each empty slot is in one of these, and there once: the `mine` of a pass's part, or its page's stack or chain list
 abbrev pub NoneLost : World → PutLists → Type 0
 NoneLost w l = (x : Spot) → IsEmptySlot w x
     → mine w x + times x.slot (l.stack x.page) + times x.slot (l.chain x.page) ≡ 1

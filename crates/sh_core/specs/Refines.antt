@@ -97,8 +97,8 @@ ReadsWithin plan w = (a : ℕ) (p : Body) (k : ℕ) (n : Name) (c m i : ℕ) →
     (c ≡ w.words.class_at n.page) × (m ≡ w.words.length_at n.page n.slot)
     × (n.slot * width (c - 1) + i < payload_words)
 
--- what a pass noted of a key is about a key that it holds, and true: the class word of its page, the length of its
--- value, and words of the value
+-- What a pass noted of a key is about a key that it holds, and true. It notes the class word of the key's page, the
+-- length of its value, and words of the value
 pub record KeyNotes (plan : Plan) (w : World) (p : Body) : Type 0 where
   pub class_words : (k c : ℕ) → noted k p.class_words ≡ Some c → (0 < times k p.holds)
       × ((n : Name) → plan.keys.unpack k ≡ Some n → w.words.class_at n.page ≡ c)

@@ -13,8 +13,8 @@ use Rattle.sh_core.specs.Tallies.{SlotsAddUp}
 use Rattle.sh_core.specs.Stories.{KeysAgree, HoldsAgree, AllHoldsAgree}
 use Rattle.sh_history.specs.History.{Legal}
 
--- for a slot into which v is being filled: its length word is v's length, which its class allows; the first i words of
--- its payload are v's; the class that the pass noted is the page's
+-- For a slot into which v is being filled: its length word is v's length, which its class allows. The first i words of
+-- its payload are v's. The class that the pass noted is the page's
 pub record Fills (size class noted slot : ℕ) (payload : ℕ → ℕ) (v : List ℕ) (i : ℕ) : Type 0 where
   pub length_is : size ≡ length v
   pub begun : i ≤ length v

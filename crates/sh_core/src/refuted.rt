@@ -20,8 +20,8 @@ ghost use Rattle.sh_core.specs.MoreWrongRows.{reads_wrong_length, enters_uncount
 ghost use Rattle.sh_core.specs.MoreWrongRows.{leaves_elsewhere, ties_ring_as_end};
 ghost use Rattle.sh_step.specs.Deciding.{DecidingReplies};
 
-/// The theorem does not hold of every table of actions. Each of these tables is the right one except for an action or
-/// two, and some list of events breaks a clause of the theorem, or a step breaks the law of deciding steps.
+/// The theorem does not hold of every table of actions. Each of these tables differs from the right one in an action or
+/// two. Some list of events breaks a clause of the theorem, or a step breaks the law of deciding steps.
 pub fn refutes_wrong_tables()
     // What is returned for a key, and what is known of it.
     ensures crowds_at_once { ¬ AlwaysBy crowds_at_once (λ plan w l. Legal plan.passes plan.keys.guard_max w.log) }

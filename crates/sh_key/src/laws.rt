@@ -6,7 +6,7 @@ ghost use Rattle.sh_key.specs.Laws.{KeysUnpack, OnlyKeysUnpack, KeysFit, KeysAre
 
 use crate::KeyLayout;
 
-/// What is true of the keys of every layout: one number names one place and generation, each key fits 64 bits, and the
+/// What is true of the keys of every layout. One number names one place and generation, and each key fits 64 bits. The
 /// keys are the numbers from `first_key` on, `key_count` of them.
 pub fn packing_laws<L: KeyLayout>()
     ensures lawful { IsLayout L.layout }

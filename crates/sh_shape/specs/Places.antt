@@ -15,8 +15,8 @@ slot_places = 48
 abbrev pub payload_words : ℕ
 payload_words = 48
 
--- the offset in a page's words at which each kind of word begins: the states after the class, the head and the page
--- link, and each other kind after the kind before it
+-- The offset in a page's words at which each kind of word begins. The states come after the class, the head and the
+-- page link, and each other kind after the kind before it
 abbrev pub first_state : ℕ
 first_state = 3
 

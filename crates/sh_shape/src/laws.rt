@@ -13,8 +13,8 @@ pub fn place_laws()
     ensures covered { WordsHavePlaces }
 {}
 
-/// The slots of a page fit its 48 payload words, whatever class the page has, and so does each word of each slot: slot
-/// s has the words from s times the width on. A slot has at most 16 words.
+/// The slots of a page fit its 48 payload words, whatever class the page has. So does each word of each slot: slot s
+/// has the words from s times the width on. A slot has at most 16 words.
 pub fn slots_fit_page()
     ensures slots { SlotsFitPage }
     ensures words { SlotWordsFitPage }

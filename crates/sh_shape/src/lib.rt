@@ -1,5 +1,5 @@
-//! The shape of a heap: how many shards, segments and passes it has, within which limits, and which layouts it fits;
-//! the classes of its slots; and the place of each of its words.
+//! The shape of a heap: how many shards, segments and passes it has, within which limits, and which layouts it fits.
+//! The crate also has the classes of slots, and the place of each word.
 #![tactic(auto)]
 
 pub mod classes;

@@ -50,8 +50,8 @@ pub fn answer_to_get(generation: u32, guard_max: u32, found: u64) -> GetAnswer
     }
 }
 
-/// What a removal of the key has in hand, by the state word that it found as it entered the slot that the key names: it
-/// continues if the value is there, and otherwise leaves.
+/// What a removal of the key has in hand, by the state word that it found as it entered the key's slot. It continues if
+/// the value is there, and otherwise leaves.
 pub fn after_enter_remove(key: u64, name: Name, found: u64) -> Hand
     ensures { result ≡ after_enter_remove key name found }
 {

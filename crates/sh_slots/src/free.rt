@@ -60,8 +60,8 @@ pub fn finished_word(generation: u32, gen_max: u32) -> u64
     }
 }
 
-/// Whether a pass that went to end this generation has the slot, empty and in the next generation: it found the word as
-/// it left it, and the slot is not used up. The last generation is `gen_max`.
+/// Whether a pass that went to end this generation has the slot, empty and in the next generation. It does if it found
+/// the word as it left it, and the generation is not `gen_max`, the last one.
 pub fn is_reusable_after(generation: u32, gen_max: u32, found: u64) -> bool
     ensures { result ≡ is_reusable_after generation gen_max found }
 {

@@ -1,7 +1,7 @@
 //! Exchange stacks over numbered items, which are the slots of a page or the pages of a shard.
 //!
 //! A stack has a word for its top, and each item has a word for its link. An item is put by one swap of the top with
-//! the word that names the item; only then does the item store its link, which says what the swap found. The whole
+//! the word that names the item. Only then does the item store its link, which says what the swap found. The whole
 //! stack is taken by one swap of the top with 0, and then followed link by link.
 #![tactic(auto)]
 

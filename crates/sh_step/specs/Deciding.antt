@@ -12,8 +12,8 @@ use Rattle.sh_step.specs.Rows.{Row}
 abbrev pub is_live : Plan → (k found : ℕ) → Bool
 is_live plan k n = elim (plan.keys.unpack k) [ Some x ↦ live_at x.generation n | None ↦ false ]
 
--- whether the step decides a call, by the word that it found: an entry to get does, and so do a mark, the drop of a
--- hold and a publish; an entry to remove does if the word is not live; no other step does
+-- Whether the step decides a call, by the word that it found. An entry to get, a mark, the drop of a hold and a publish
+-- do. An entry to remove does if the word is not live. No other step does
 abbrev pub decides : Plan → Action → ℕ → Bool
 decides plan (EnterGet k) n = true
 decides plan (EnterRemove k) n = not (is_live plan k n)

@@ -156,7 +156,7 @@ row plan p a = option_map (row_of plan p) (move_of plan p a)
 abbrev pub step_of : Row → Step
 step_of r = record { place = r.place; operation = r.operation }
 
--- The step of a move, which does not depend on the part: it is the step of its row for any part, here for that of a
+-- The step of a move, which does not depend on the part. It is the step of its row for any part, here for the part of a
 -- pass that has done nothing yet
 abbrev pub step_at : Plan → Move → Step
 step_at plan m = step_of (row_of plan newcomer m)

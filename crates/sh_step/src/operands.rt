@@ -48,8 +48,8 @@ pub fn payload_word(slot: u64, class_word: u64, i: u64) -> u64
     requires { payload_word slot class_word i < payload_words }
     ensures { result ≡ payload_word slot class_word i }
 {
-    // (Values of one word are a case of their own, so the place of their word does not wait for a load of the class
-    // word: the processor predicts the branch, and fetches the word meanwhile.)
+    // (Values of one word are a case of their own, so their place does not wait for a load of the class word. The
+    // processor predicts the branch, and fetches the word meanwhile.)
     if class_word == ONE_WORD {
         return slot + i;
     }

@@ -1,5 +1,5 @@
-//! What the heap stores and what its calls return: values of at most 16 words, the holds that keep them readable, the
-//! refusals of a call that did not do its work, and records, which are types stored as words.
+//! What the heap stores and what its calls return. Values have at most 16 words, and holds keep them readable. A
+//! refusal says why a call did not do its work. Records are types stored as words.
 #![tactic(auto)]
 
 pub mod hold;

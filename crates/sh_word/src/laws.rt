@@ -4,8 +4,8 @@ ghost use Rattle.sh_word.specs.Laws.{AddingRaisesCount, SubtractingLowersCount, 
 
 use crate::{MARK_BIT, PRESENT_BIT};
 
-/// Each operation changes one field of what a word says and leaves the others: adding 1 while the
-/// count has room, subtracting 1 while it is above 0, and setting either flag.
+/// Each operation changes one field of what a word says and leaves the others. It adds 1 while the count has room,
+/// subtracts 1 while it is above 0, or sets either flag.
 pub fn operations_change_one_field()
     ensures add { AddingRaisesCount }
     ensures subtract { SubtractingLowersCount }

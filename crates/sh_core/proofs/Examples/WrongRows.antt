@@ -67,8 +67,8 @@ refuted rows P n some few es fails always = fails (always tiny (record { shards 
       few_passes = few;
     }) (record { shards_fit = omega arith; pages_fit = omega arith }) es)
 
--- on a page of three slots: a value in one of them; a key that pass a removes, up to the end of its generation, and up
--- to its slot's place on the stack
+-- On a page of three slots: a value in one of them. A key that pass a removes, up to the end of its generation. The
+-- same, up to its slot's place on the stack
 abbrev pub inserted : ℕ → List Event
 inserted s = ev 0 (FillSlot (slot 0 0 s) []) ∷ ev 0 Publish ∷ []
 
