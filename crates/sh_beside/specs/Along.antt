@@ -1,5 +1,5 @@
--- Mode plain's own run along with mode heap, for scripts in which no line has a key as a number: then the numbers of
--- keys are in what inserts are answered alone.
+-- Mode plain's own run along with mode heap, for scripts in which no line has a key as a number. The numbers of keys
+-- then occur only in the answers to inserts.
 use Rattle.std.specs.Prelude.{◌≡◌, ℕ, ◌+◌, ◌<◌, List, [], ◌∷◌, ◌⊎◌, Option, Some, Ok, IsSome}
 use Rattle.sh_value.specs.declared.refusal.Refusal.TheVariants as refusal
 use Rattle.sh_key.specs.Layout.{Layout}
@@ -17,7 +17,7 @@ use Rattle.sh_output.specs.declared.answer.Answer.TheVariants as answer
 use Rattle.sh_models.specs.PlainRun.{Run, CallDoes, at_turn, key_of, opening_run}
 use Rattle.sh_beside.specs.Beside.{RefusedAlone}
 
--- the key is named by its name
+-- the key is referred to by its name
 abbrev pub ByName : Reference → Type 0
 ByName (reference.Name i) = Unit {0}
 ByName (reference.Key number) = ⊥
@@ -29,12 +29,12 @@ NamesKey (call.Remove r) = ByName r
 NamesKey (call.Release r) = ByName r
 NamesKey _ = Unit {0}
 
--- the same answer, but for the number of a key
+-- the same answer, except for the number of a key
 abbrev pub SameButKey : (told plain : Answer) → Type 0
 SameButKey (answer.Key m) (answer.Key n) = Unit {0}
 SameButKey told plain = told ≡ plain
 
--- a get of a key that is there is Crowded with fewer holds than mode plain has it, but more than the layout allows if
+-- a get of a key that is there is Crowded with fewer holds than in mode plain, but with more than the layout allows if
 -- all passes are counted too
 pub record IsCrowdedEarly (layout : Layout) (run : Run) (r : Reference) (told : Answer) (next : Run) : Type 0 where
   pub key : ℕ
@@ -49,7 +49,7 @@ abbrev pub CrowdedEarly : Layout → Run → Call → Answer → Run → Type 0
 CrowdedEarly layout run (call.Get r) told next = IsCrowdedEarly layout run r told next
 CrowdedEarly layout run _ told next = ⊥
 
--- mode plain answers the same, but for the number of a key
+-- mode plain gives the same answer, except for the number of a key
 pub record IsPlainAnswer (layout : Layout) (run : Run) (c : Call) (told : Answer) (next : Run) : Type 0 where
   pub plain : Answer
   pub does : CallDoes layout run c plain next
@@ -60,7 +60,7 @@ abbrev pub CallAlong : Layout → Run → Call → Answer → Run → Type 0
 CallAlong layout run c told next = IsPlainAnswer layout run c told next
     ⊎ (CrowdedEarly layout run c told next ⊎ RefusedAlone layout run c told next)
 
--- these lines are answered so along with mode plain, one after the other
+-- these lines have these answers along with mode plain, one after the other
 abbrev pub RanAlong : Layout → Run → List CallLine → List Answer → Run → Type 0
 RanAlong layout run [] [] after = after ≡ run
 RanAlong layout run [] (a ∷ answers) after = ⊥
@@ -68,7 +68,7 @@ RanAlong layout run (l ∷ lines) [] after = ⊥
 RanAlong layout run (l ∷ lines) (a ∷ answers) after = (next : Run)
     × CallAlong layout (at_turn run l.pass) l.call a next × RanAlong layout next lines answers after
 
--- from the start on
+-- the same, from the start
 abbrev pub AreAlongPlain : Layout → Numbers → Option ℕ → List CallLine → List Answer → Type 0
 AreAlongPlain layout shape tag lines answers = (after : Run)
     × RanAlong layout (opening_run shape.shards shape.passes tag) lines answers after

@@ -1,7 +1,7 @@
 -- Mode heap beside mode plain. The plain map walks the lines along with the running heap, in the keys that the heap
--- gives. Each answer is what mode plain says of its line, in its own definitions, but for what is said here: which
--- number a key has, at how many holds a key is crowded, and where an adopt, a leave or an insert is refused that mode
--- plain would do.
+-- gives. Each answer is what mode plain's own definitions say of its line, with three exceptions, stated here. They are
+-- the number of a key, the number of holds at which it is crowded, and when an adopt, a leave or an insert is refused
+-- that mode plain would do.
 use Rattle.std.specs.Prelude.{◌≡◌, ℕ, ◌+◌, ◌<◌, ◌≤◌, Bool, true, false, List, [], ◌∷◌, ◌++◌, ◌⊎◌, length}
 use Rattle.std.specs.Prelude.{Option, Some, None, Result, Ok, Err}
 use Rattle.sh_value.specs.declared.refusal.Refusal.{Refusal}
@@ -22,11 +22,11 @@ use Rattle.sh_calls.specs.Parts.{is_placed_key}
 
 -- ---- the numbers of keys
 
--- the name of an insert that was refused stands for nothing
+-- the name of an insert that was refused is bound to no key
 abbrev pub unnamed : Run → Run
 unnamed run = record run { keys = run.keys ++ None ∷ [] }
 
--- the value stands under a key of the heap's choice: one with a place in the shape, which was not given before
+-- the value is stored under a key of the heap's choice: one with a place in the shape, which was not given before
 pub record GivesKey (layout : Layout) (shape : Numbers) (run : Run) (words : List ℕ) (told : Answer)
     (next : Run) : Type 0
   where
@@ -39,12 +39,12 @@ pub record GivesKey (layout : Layout) (shape : Numbers) (run : Run) (words : Lis
       keys = run.keys ++ Some key ∷ [];
     }
 
--- where mode plain gives its next key, the heap gives a key of its own; what mode plain refuses is refused
+-- if mode plain gives its next key, the heap gives a key of its own; what mode plain refuses is refused
 abbrev pub InsertsBeside : Layout → Numbers → Run → List ℕ → Result ℕ Refusal → Answer → Run → Type 0
 InsertsBeside layout shape run words (Ok next_key) told next = GivesKey layout shape run words told next
 InsertsBeside layout shape run words (Err r) told next = (told ≡ answer.Refused r) × (next ≡ unnamed run)
 
--- a number whose place the shape does not have is no key to the heap; where it is one, this is done
+-- a number whose place the shape does not have is no key to the heap; otherwise this is done
 abbrev pub IfPlaced : (is_placed : Bool) → (Does : Type 0) → Run → Answer → Run → Type 0
 IfPlaced true Does run told next = Does
 IfPlaced false Does run told next = (told ≡ answer.Refused refusal.BadKey) × (next ≡ run)
@@ -55,13 +55,13 @@ WherePlaced layout shape (Err a) Does run told next = Does
 
 -- ---- Crowded
 
--- A key with so many holds is crowded for this get. To mode plain that is a key with as many holds as the layout
--- allows. The running heap counts the passes too that are on their way to the slot, all but one of them at most.
+-- A key with `limit` holds is crowded for this get. In mode plain that is the number of holds that the layout allows.
+-- The running heap also counts the passes that are on their way to the slot, which are at most all but one.
 pub record IsLimit (layout : Layout) (run : Run) (limit : ℕ) : Type 0 where
   pub most : limit ≤ layout.guard_max
   pub least : layout.guard_max < limit + run.store.passes
 
--- a get is answered as in mode plain, had the layout this limit
+-- the answer to a get is that of mode plain with this limit in the layout
 pub record GetsBeside (layout : Layout) (run : Run) (key : Result ℕ Answer) (told : Answer) (next : Run) : Type 0 where
   pub limit : ℕ
   pub is_limit : IsLimit layout run limit
@@ -69,7 +69,7 @@ pub record GetsBeside (layout : Layout) (run : Run) (key : Result ℕ Answer) (t
 
 -- ---- a line
 
--- the call is answered as in mode plain
+-- the answer to the call is that of mode plain
 abbrev pub AsPlain : Layout → Numbers → Run → Call → Answer → Run → Type 0
 AsPlain layout shape run (call.Insert words) told next =
     InsertsBeside layout shape run words (insert_attempt layout run words).answer told next
@@ -79,11 +79,11 @@ AsPlain layout shape run (call.Remove r) told next =
     WherePlaced layout shape (key_of run r) (CallDoes layout run (call.Remove r) told next) run told next
 AsPlain layout shape run c told next = CallDoes layout run c told next
 
--- A refusal that the running heap alone has, of what mode plain would do; the line then changes nothing. By the
--- contracts of passes and shards, which the answers of mode heap keep: Taken, where a step met an owner of the shard
--- (that another pass owns it by the lines before is not said, since no entry tells of owners); Memory, where room for
--- what is kept of pages was refused; Waiting, where others have begun to free slots of the shard; Full, where its pages
--- have no slot for such a value.
+-- A refusal by the running heap alone of what mode plain would do; the line then changes nothing. When it may come is
+-- stated by the contracts of passes and shards, which the answers of mode heap keep. Taken: a step met an owner of the
+-- shard (no entry records owners, so it is not said that a pass owns it by the lines before). Memory: room for what is
+-- kept of pages was refused. Waiting: others have begun to free slots of the shard. Full: its pages have no slot for a
+-- value of this size.
 abbrev pub RefusedAlone : Layout → Run → Call → Answer → Run → Type 0
 RefusedAlone layout run (call.Adopt shard) told next = (adopt_answer run shard ≡ answer.Done)
     × ((told ≡ answer.Refused refusal.Taken) ⊎ (told ≡ answer.Refused refusal.Memory)) × (next ≡ run)
@@ -98,7 +98,7 @@ CallBeside layout shape run c told next = AsPlain layout shape run c told next �
 
 -- ---- lines
 
--- these lines are answered so beside mode plain, one after the other
+-- these lines have these answers beside mode plain, one after the other
 abbrev pub RanBeside : Layout → Numbers → Run → List CallLine → List Answer → Run → Type 0
 RanBeside layout shape run [] [] after = after ≡ run
 RanBeside layout shape run [] (a ∷ answers) after = ⊥
@@ -106,7 +106,7 @@ RanBeside layout shape run (l ∷ lines) [] after = ⊥
 RanBeside layout shape run (l ∷ lines) (a ∷ answers) after = (next : Run)
     × CallBeside layout shape (at_turn run l.pass) l.call a next × RanBeside layout shape next lines answers after
 
--- from the start on, where the map is empty and no pass has a shard
+-- the same from the start, when the map is empty and no pass has a shard
 abbrev pub AreBesidePlain : Layout → Numbers → Option ℕ → List CallLine → List Answer → Type 0
 AreBesidePlain layout shape tag lines answers = (after : Run)
     × RanBeside layout shape (opening_run shape.shards shape.passes tag) lines answers after

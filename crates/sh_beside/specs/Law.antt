@@ -1,4 +1,4 @@
--- The law: what mode heap answers is beside mode plain.
+-- The law: the answers of mode heap are beside those of mode plain.
 use Rattle.std.specs.Prelude.{ℕ, Bool, true, List}
 use Rattle.std.specs.List.{All}
 use Rattle.sh_script.specs.HeaderMeaning.{layout_of}
@@ -7,8 +7,8 @@ use Rattle.sh_heap_run.specs.HeapOutput.{IsHeap}
 use Rattle.sh_beside.specs.Beside.{AreBesidePlain}
 use Rattle.sh_beside.specs.Along.{NamesKey, AreAlongPlain}
 
--- The answers of mode heap that this output tells are beside those of mode plain. Where no line has a key as a number,
--- they go along with mode plain's own run: it answers the same, but for the numbers of keys that inserts are answered.
+-- The answers of mode heap in this output are beside those of mode plain. If no line has a key as a number, they go
+-- along with mode plain's own run: it gives the same answers, except for the numbers of keys that inserts return.
 pub record IsBesidePlain {asked : Bool} {text output : List ℕ} (heap : IsHeap true asked text output) : Type 0 where
   pub beside : AreBesidePlain (layout_of heap.header.layout) heap.header.shape heap.header.tag heap.lines
       heap.is_output.told.replies.answers
@@ -16,6 +16,6 @@ pub record IsBesidePlain {asked : Bool} {text output : List ℕ} (heap : IsHeap 
       → AreAlongPlain (layout_of heap.header.layout) heap.header.shape heap.header.tag heap.lines
       heap.is_output.told.replies.answers
 
--- so it is of each output of mode heap
+-- this holds of each output of mode heap
 abbrev pub HeapIsBesidePlain : Type 0
 HeapIsBesidePlain = (asked : Bool) (text output : List ℕ) → (heap : IsHeap true asked text output) → IsBesidePlain heap

@@ -22,17 +22,17 @@ abbrev pub HeedsLast : Option Caller → SeenPass → SeenPass → Type 0
 HeedsLast None s t = t ≡ s
 HeedsLast (Some r) s t = Heeds r s t
 
--- what is seen of a pass with its part of these
+-- what is seen of pass p, with its part among these
 abbrev pub seen_with_part : Option Heap → RunTerms → (ℕ → PassPart) → ℕ → SeenPass
 seen_with_part heap terms parts p = record (new_pass heap terms p) { part = parts p }
 
--- the last receipt tells of the insert of each name
+-- the last receipt contains the insert of each name
 abbrev pub LastTells : (tag : Option ℕ) → List (Option ℕ) → Option Caller → Type 0
 LastTells tag numbers None = numbers ≡ []
 LastTells tag numbers (Some r) = (i number : ℕ) → slice_get numbers i ≡ Some (Some number)
     → tells_number tag (seen_of_receipt r).heard (Some number) ≡ true
 
--- the first i lines are answered, and these are the passes
+-- the first i lines have run with these answers, and these are the passes
 pub record AnsweredSoFar (heap : Option Heap) (terms : RunTerms) (tag : Option ℕ)
     (lines : List CallLine) (i : ℕ) (numbers : List (Option ℕ)) (sides : List SeenPass) (output : List ℕ) : Type 0 where
   pub answers : List Answer
@@ -45,7 +45,7 @@ pub record AnsweredSoFar (heap : Option Heap) (terms : RunTerms) (tag : Option �
       → s ≡ record (seen_with_part heap terms run.parts p) { orders = s.orders }
   pub heard : NamesWereHeard tag (take i lines) answers (orders_of sides)
 
--- the same, and the last receipt tells of all entries
+-- the same, and the last receipt contains all entries
 pub record OrderedSoFar (heap : Option Heap) (terms : RunTerms) (tag : Option ℕ) (lines : List CallLine) (i : ℕ)
     (numbers : List (Option ℕ)) (sides : List SeenPass) (output : List ℕ) (last : Option Caller) : Type 0 where
   pub so_far : AnsweredSoFar heap terms tag lines i numbers sides output

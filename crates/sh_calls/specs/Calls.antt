@@ -1,5 +1,5 @@
--- What a call of a pass does, given its answer: which refusal comes exactly where, what the log gains, who owns what,
--- and that the contract of the pass, or of its shard, gives this answer.
+-- What a call of a pass does, given its answer: exactly when each refusal comes, what the log gains, who owns what. The
+-- contract of the pass, or of its shard, gives this answer.
 use Rattle.std.specs.Prelude.{◌≡◌, ℕ, ◌+◌, ◌<◌, nat_lt, nat_le, not, true, List, map, length, Option, Some}
 use Rattle.std.specs.Prelude.{None, Result, Ok, Err, ok_or, if◌then◌else◌}
 use Rattle.sh_value.specs.declared.hold.Hold.{Hold}
@@ -23,7 +23,7 @@ use Rattle.sh_pass.specs.Passes.{GetDoes, ReadDoes, RemoveDoes, ReleaseDoes}
 use Rattle.sh_calls.specs.Standing.{Serves, AdoptServed, LeaveServed, InsertServed}
 use Rattle.sh_calls.specs.Parts.{RunTerms, PassPart, Becomes, with_entry, is_placed_key, is_key_of_shard}
 
--- a refusal that comes before all else, with nothing changed; where there is none, the rest holds
+-- a refusal that precedes every other effect and changes nothing; if there is none, the rest holds
 abbrev pub UnlessRefused : {A : Type 0} → Option Refusal → Result A Refusal → (Unchanged Rest : Type 0) → Type 0
 UnlessRefused (Some e) r Unchanged Rest = (r ≡ Err e) × Unchanged
 UnlessRefused None r Unchanged Rest = Rest
@@ -63,7 +63,7 @@ LeaveAnswers v r w = UnlessRefused (needs_shard v.shard) r (Becomes v w) (PartLe
 
 -- ---- insert
 
--- the key is one that an insert may give where this shard is owned
+-- the key is one that an insert may return when this shard is owned
 pub record IsOwnKey (terms : RunTerms) (shard : Option ℕ) (key : ℕ) : Type 0 where
   pub own : is_key_of_shard terms.layout shard key ≡ true
   pub small : key < first_key terms.layout + key_count terms.layout
@@ -80,7 +80,7 @@ InsertAnswers terms pass v words r w =
     UnlessRefused (needs_shard v.shard) r (Becomes v w) (ValueInserted terms pass v words r w)
     × InsertServed terms.layout v.shard words v.stands r w.stands
 
--- the words of a script may be too many for a value, which comes before all else
+-- the words of a script may be too many for a value, which is refused first
 abbrev pub words_refusal : List ℕ → Option Refusal
 words_refusal words = if nat_lt 16 (length words) then Some refusal.TooLong else None
 
@@ -147,9 +147,9 @@ RemoveAnswers terms pass v key r w =
     UnlessRefused (remove_refusal terms key) r (Becomes v w) (KeyRemoved pass v key r w)
     × Serves terms.layout (λ x y. RemoveDoes terms.layout key x r y) v.stands w.stands
 
--- ---- how a result is told
+-- ---- how a result is reported
 
--- the result of the call is told so
+-- the answer reports a result that the call may have
 pub record AnswerSays {A : Type 0} (tell : Result A Refusal → Answer)
     (CallAnswers : Result A Refusal → PassPart → Type 0) (a : Answer) (w : PassPart) : Type 0 where
   pub result : Result A Refusal
@@ -158,16 +158,16 @@ pub record AnswerSays {A : Type 0} (tell : Result A Refusal → Answer)
 
 -- ---- names
 
--- the key that is written so
+-- the key that is written as this number
 abbrev pub key_for_number : Option ℕ → ℕ → Result ℕ Answer
 key_for_number tag number = ok_or (key_shown tag number) (answer.Refused refusal.BadKey)
 
--- a name stands for the number that its insert was answered, if it was not refused
+-- a name is bound to the number that its insert returned, unless the insert was refused
 abbrev pub key_for_name : Option ℕ → Option ℕ → Result ℕ Answer
 key_for_name tag (Some number) = key_for_number tag number
 key_for_name tag None = Err answer.Unbound
 
--- the key that a call is on, or what is answered where there is none, if its name stands for this number
+-- the key that a call is on if its name is bound to this number, or the answer if there is no key
 abbrev pub key_meant : Option ℕ → Option ℕ → Reference → Result ℕ Answer
 key_meant tag bound (reference.Key number) = key_for_number tag number
 key_meant tag bound (reference.Name i) = key_for_name tag bound
@@ -179,7 +179,7 @@ OnKey (Ok key) v CallAnswers a w = CallAnswers key a w
 
 -- ---- a call
 
--- A call of a pass with the part v is answered so, and leaves the part w. Where it is on a name, the name stands for
+-- A call of a pass with the part v has this answer, and leaves the part w. If it is on a name, the name is bound to
 -- this number.
 abbrev pub CallAnswers : RunTerms → Option ℕ → ℕ → PassPart → Call → Option ℕ → Answer → PassPart → Type 0
 CallAnswers terms tag pass v (call.Adopt shard) bound a w = AnswerSays done_answer (AdoptAnswers terms v shard) a w
@@ -197,7 +197,7 @@ CallAnswers terms tag pass v (call.Release r) bound a w = OnKey (key_meant tag b
 CallAnswers terms tag pass v call.Post bound a w = (a ≡ answer.Done) × (w ≡ v)
 CallAnswers terms tag pass v (call.Wait name) bound a w = (a ≡ answer.Done) × (w ≡ v)
 
--- the number that the name of an insert stands for
+-- the number that an insert with this answer binds to its name
 abbrev pub number_told : Answer → Option ℕ
 number_told (answer.Key number) = Some number
 number_told _ = None

@@ -1,4 +1,4 @@
--- A history whose entries stand in the order of the lines that added them.
+-- A history whose entries are in the order of the lines that added them.
 use Rattle.std.specs.Prelude.{◌≡◌, ℕ, ◌<◌, ◌≤◌, ◌==◌, Bool, true, false, cond, List, [], ◌∷◌, ◌++◌, map, length, filter}
 use Rattle.std.specs.Prelude.{Option, Some, None}
 use Rattle.std.specs.List.{Contains}
@@ -36,7 +36,7 @@ abbrev pub is_done_gone_or_crowded : Answer → Bool
 is_done_gone_or_crowded (answer.Refused refusal.Crowded) = true
 is_done_gone_or_crowded a = is_done_or_gone a
 
--- a call that is answered so adds an entry to the history
+-- a call with this answer adds an entry to the history
 abbrev pub adds_entry : Call → Answer → Bool
 adds_entry (call.Insert words) a = is_key a
 adds_entry (call.Get r) a = is_done_gone_or_crowded a
@@ -50,18 +50,18 @@ adding_passes [] answers = []
 adding_passes (l ∷ lines) [] = []
 adding_passes (l ∷ lines) (a ∷ answers) = cond (adds_entry l.call a) (l.pass ∷ []) [] ++ adding_passes lines answers
 
--- The entries stand in the order of the lines that added them. Those of each pass are in its own order in any case, so
+-- The entries are in the order of the lines that added them. Those of each pass are in its own order in any case, so
 -- the first entry is that of the first line that adds one, the second that of the second, and so on.
 abbrev pub IsInOrder : List CallLine → List Answer → List Entry → Type 0
 IsInOrder lines answers history = map pass_of history ≡ adding_passes lines answers
 
--- ---- how it is found, with the list `who` of the passes of the entries that there are by now
+-- ---- how it is found; `who` lists the passes of the entries that there are by now
 
 -- once for each entry of pass a
 abbrev pub times : ℕ → List ℕ → List ℕ
 times a who = filter (λ p. p == a) who
 
--- at some point of the history all entries of pass p that there are by now stand before, and of pass a no others
+-- the history has a prefix with all entries of pass p that there are by now, and with no later ones of pass a
 pub record Cut (history : List Entry) (who : List ℕ) (p a : ℕ) : Type 0 where
   pub early : List Entry
   pub late : List Entry
@@ -69,11 +69,11 @@ pub record Cut (history : List Entry) (who : List ℕ) (p a : ℕ) : Type 0 wher
   pub heard : length (times p who) ≤ length (by p early)
   pub own : length (by a early) ≤ length (times a who)
 
--- whoever added an entry had heard of all entries before it
+-- the pass that added an entry had heard of all entries before it
 abbrev pub AllHeard : List Entry → List ℕ → Type 0
 AllHeard history who = (before after : List ℕ) (a : ℕ) → who ≡ before ++ a ∷ after → (p : ℕ) → Cut history before p a
 
--- the receipt tells of all entries that there are by now
+-- the receipt contains all entries that there are by now
 pub record HeardAll (heap : Option Heap) (who : List ℕ) (r : Caller) : Type 0 where
   pub heap_is : (seen_of_receipt r).heap ≡ heap
   pub heard : (p : ℕ) → 0 < length (times p who) → (h : Heard) × Contains (seen_of_receipt r).heard h × (h.pass ≡ p)

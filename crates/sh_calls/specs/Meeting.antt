@@ -9,7 +9,7 @@ use Rattle.sh_table.specs.Seats.{Heap}
 use Rattle.sh_table.specs.Tales.{Before}
 use Rattle.sh_table.specs.Views.{Each}
 
--- who carries the tale, if there is one yet
+-- the pass that carries the tale, if there is one yet
 abbrev pub CarriesTale : Option Heap → RunTerms → Option SeenPass → List PassTold → Type 0
 CarriesTale heap terms None ts = ts ≡ []
 CarriesTale heap terms (Some s) ts = (s.heap ≡ heap) × (s.terms ≡ terms) × (tale_told s ≡ ts)
@@ -18,12 +18,12 @@ CarriesTale heap terms (Some s) ts = (s.heap ≡ heap) × (s.terms ≡ terms) ×
 abbrev pub KeepsOrders : List Order → List Order → Type 0
 KeepsOrders os ps = (o : Order) → Contains os o → Contains ps o
 
--- who carries these orders, if there is one yet
+-- the pass that carries these orders, if there is one yet
 abbrev pub CarriesOrders : Option SeenPass → List Order → Type 0
 CarriesOrders None os = os ≡ []
 CarriesOrders (Some s) os = KeepsOrders os s.orders
 
--- what meeting a carrier, if there is one, gives
+-- the result of meeting a carrier, if there is one
 abbrev pub MeetsCarrier : Option SeenPass → SeenPass → SeenPass → Type 0
 MeetsCarrier None s r = r ≡ s
 MeetsCarrier (Some c) s r = (r.heap ≡ c.heap) × (r.terms ≡ c.terms) × (tale_told r ≡ tale_told c ++ tale_told s)
@@ -38,8 +38,8 @@ abbrev pub IsOfHeap : Option Heap → Option SeenPass → Type 0
 IsOfHeap heap None = Unit {0}
 IsOfHeap heap (Some s) = s.heap ≡ heap
 
--- this pass owns no shard and carries this tale and these orders; the tale is whole: one legal history has all that it
--- speaks for, and nothing else, and keeps the orders
+-- this pass owns no shard and carries this tale and these orders; the tale is whole: one legal history has exactly the
+-- entries that the pass speaks for, and keeps the orders
 pub record HasMet (heap : Option Heap) (terms : RunTerms) (s : SeenPass) (tale : List PassTold) (orders : List Order) :
     Type 0 where
   pub carries : CarriesTale heap terms (Some s) tale

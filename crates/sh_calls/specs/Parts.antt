@@ -18,7 +18,7 @@ pub record RunTerms : Type 0 where
   pub layout : Layout
   pub shape : Numbers
 
--- its entries, in order, the shard that it owns, and what of both stands between calls
+-- its entries, in order, the shard that it owns, and its state between calls
 pub record PassPart : Type 0 where
   pub log : List LogEntry
   pub shard : Option ℕ
@@ -58,7 +58,7 @@ abbrev pub new_passes : Option Heap → RunTerms → ℕ → List SeenPass
 new_passes heap terms zero = []
 new_passes heap terms (suc n) = new_passes heap terms n ++ new_pass heap terms n ∷ []
 
--- a call may change the part alone
+-- a call changes nothing except the part
 abbrev pub SamePass : SeenPass → SeenPass → Type 0
 SamePass v w = w ≡ record v { part = w.part }
 
@@ -89,7 +89,7 @@ pub record HasWholeTale (terms : RunTerms) (tale : List PassTold) : Type 0 where
   pub has : HasAllLogs history tale
   pub only : entries_of (λ p. not (nat_lt p terms.shape.passes)) history ≡ []
 
--- ---- what decides which refusal comes
+-- ---- which refusal is returned
 
 -- the number is a key of the layout, and its place is one of the shape
 abbrev pub is_placed_key : Layout → Numbers → ℕ → Bool
@@ -112,6 +112,6 @@ no_terms = heap_terms (record { shard_bits = 0; page_bits = 0; gen_max = 0; guar
 abbrev pub with_entry : PassPart → LogEntry → PassPart
 with_entry v e = record v { log = v.log ++ e ∷ [] }
 
--- it is this, but for what stands, of which the call's own contract tells
+-- it is this, except for the standing, which the call's own contract describes
 abbrev pub Becomes : PassPart → PassPart → Type 0
 Becomes u w = w ≡ record u { stands = w.stands }

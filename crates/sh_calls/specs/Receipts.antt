@@ -9,7 +9,7 @@ use Rattle.sh_pass.specs.Passes.{Caller}
 use Rattle.sh_calls.specs.Standing.{StandingHeeds}
 use Rattle.sh_calls.specs.Parts.{PassPart, SeenPass, PassTold, HasWholeTale, Becomes, tale_told}
 
--- which heap it is of, and what it tells
+-- which heap it is of, and what it contains
 pub record SeenReceipt : Type 0 where
   pub heap : Option Heap
   pub heard : List Heard
@@ -29,19 +29,19 @@ receipt_seen s = record {
   orders = s.orders;
 }
 
--- what was heard stands before all that the pass is answered from now on
+-- what was heard happens before all that is returned to the pass from now on
 abbrev pub order_seen : SeenPass → Heard → Order
 order_seen s h = record { heard = h; carrier = s.pass; length = length s.part.log }
 
 abbrev pub orders_heard : SeenPass → SeenReceipt → List Order
 orders_heard s r = s.orders ++ (r.orders ++ map (order_seen s) r.heard)
 
--- the part, once its pass heeded the receipt: what stands of it heeded the receipt too, and nothing else changed
+-- the part, once its pass heeded the receipt: its standing heeded the receipt too, and nothing changed otherwise
 pub record PartHeeds (r : Caller) (v w : PassPart) : Type 0 where
   pub is : Becomes v w
   pub stands : StandingHeeds r v.stands w.stands
 
--- it is as it was, or, where the lines run one after the other, its pass heeded a receipt
+-- it is as it was, or its pass heeded a receipt, as it does if the lines run one after the other
 abbrev pub MayHeed : PassPart → PassPart → Type 0
 MayHeed v w = (w ≡ v) ⊎ ((r : Caller) × PartHeeds r v w)
 
@@ -50,7 +50,7 @@ pub record Heeds (r : Caller) (s t : SeenPass) : Type 0 where
   pub is : t ≡ record s { part = t.part; orders = orders_heard s (seen_of_receipt r) }
   pub part : PartHeeds r s.part t.part
 
--- one legal history has all that the pass speaks for, and nothing else, and keeps its orders
+-- one legal history has exactly the entries that the pass speaks for, and keeps its orders
 pub record HasOrderedTale (s : SeenPass) : Type 0 where
   pub whole : HasWholeTale s.terms (tale_told s)
   pub orders : Each (Before whole.history) s.orders

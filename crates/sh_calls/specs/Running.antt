@@ -11,7 +11,7 @@ use Rattle.sh_calls.specs.Parts.{PassPart, PassTold, SeenPass, heap_terms}
 abbrev pub log_told : Told → PassTold
 log_told t = record { pass = t.pass; log = t.own.log }
 
--- the entries of a pass and the shard that it owns, where this stands of it
+-- the entries of a pass and the shard that it owns, with this standing
 abbrev pub part_of_caller : Caller → Standing → PassPart
 part_of_caller c stands = record { log = c.view.own.log; shard = c.view.own.body.owned; stands = stands }
 

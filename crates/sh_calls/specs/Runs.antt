@@ -1,4 +1,4 @@
--- A run of lines of several passes: what each was answered.
+-- A run of lines of several passes: the answer to each.
 use Rattle.std.specs.Prelude.{◌≡◌, ℕ, ◌+◌, ◌<◌, ◌≤◌, ◌⊎◌, ◌==◌, true, cond, length, List, [], ◌∷◌, ◌++◌}
 use Rattle.std.specs.Prelude.{slice_get, Option, Some, None}
 use Rattle.sh_script.specs.declared.calls.Call.{Call}
@@ -10,7 +10,7 @@ use Rattle.sh_calls.specs.Parts.{RunTerms, PassPart, new_part}
 use Rattle.sh_calls.specs.Receipts.{MayHeed}
 use Rattle.sh_calls.specs.Calls.{CallAnswers, name_used, binds, number_told}
 
--- for each name that is bound the number that it stands for, if its insert was answered one; for each pass its part
+-- for each name that is bound, the number that it is bound to, if its insert returned one; for each pass, its part
 pub record CallsRun : Type 0 where
   pub numbers : List (Option ℕ)
   pub parts : ℕ → PassPart
@@ -23,7 +23,7 @@ abbrev pub number_bound : List (Option ℕ) → Option ℕ → Option ℕ
 number_bound numbers None = None
 number_bound numbers (Some i) = elim (slice_get numbers i) [ Some number ↦ number | None ↦ None ]
 
--- the number that the name of the call stands for
+-- the number that the name of the call is bound to
 abbrev pub number_meant : List (Option ℕ) → Call → Option ℕ
 number_meant numbers c = number_bound numbers (name_used c)
 
@@ -40,13 +40,13 @@ next_run run line a part = record {
       part;
 }
 
--- The line, with this answer, ends a run: its reply finds no room behind the output, or the number that its name stands
--- for finds none behind the numbers. An answer alone ends none.
+-- The line, with this answer, ends a run: its reply finds no room behind the output, or the number of its name finds
+-- none behind the numbers. An answer alone ends none.
 abbrev pub EndsAt : (room name_room : ℕ) → List ℕ → List (Option ℕ) → CallLine → Answer → Type 0
 EndsAt room name_room output numbers line a =
     (room < length output + length (reply_line line a)) ⊎ ((binds line.call ≡ true) × (name_room ≤ length numbers))
 
--- The line is answered so. It sees the part of its own pass alone, and the numbers of the names bound before. Where the
+-- The line has this answer. It sees the part of its own pass alone, and the numbers of the names bound before. If the
 -- lines run one after the other, the pass may have heeded a receipt of the line before.
 pub record LineAnswered (terms : RunTerms) (tag : Option ℕ) (run : CallsRun) (line : CallLine)
     (a : Answer) (next : CallsRun) : Type 0 where
@@ -56,7 +56,7 @@ pub record LineAnswered (terms : RunTerms) (tag : Option ℕ) (run : CallsRun) (
   pub does : CallAnswers terms tag line.pass begins line.call (number_meant run.numbers line.call) a part
   pub next_is : next ≡ next_run run line a part
 
--- these lines are answered so
+-- these lines have these answers
 abbrev pub LinesAnswered : RunTerms → Option ℕ → CallsRun → List CallLine → List Answer → CallsRun
     → Type 0
 LinesAnswered terms tag run [] [] after = after ≡ run

@@ -1,4 +1,4 @@
--- What of a pass stands between its calls, and which answers the contracts of passes and shards give.
+-- The state of a pass between its calls, and which answers the contracts of passes and shards give.
 use Rattle.std.specs.Prelude.{◌≡◌, ℕ, List, Option, Some, None, Result, Ok, Err}
 use Rattle.sh_key.specs.Layout.{Layout}
 use Rattle.sh_value.specs.declared.refusal.Refusal.{Refusal}
@@ -9,7 +9,8 @@ use Rattle.sh_pass.specs.Receipts.{heeded}
 use Rattle.sh_shard.specs.Shards.{Sharded, StaysOwner, AdoptServes, LeaveServes, InsertServes, value_class}
 use Rattle.sh_shard.specs.Shards.{shard_heeded}
 
--- a pass that owns no shard, or the shard that a pass owns, each as its own contracts see it; of no heap nothing stands
+-- a pass that owns no shard, or the shard that a pass owns, each as its own contracts see it; Nowhere if there is no
+-- heap
 pub data Standing : Type 0 where
   Alone : Caller → Standing
   Owning : Sharded → Standing
@@ -26,19 +27,19 @@ StandingHeeds r (Alone v) (Alone w) = w ≡ heeded v r
 StandingHeeds r (Owning o) (Owning n) = n ≡ shard_heeded o r
 StandingHeeds r _ _ = ⊥
 
--- a call that a pass and an owner have alike: the pass does this, and an owner stays the owner of its shard
+-- a call that a pass and an owner have in common: the pass does this, and an owner stays the owner of its shard
 abbrev pub Serves : Layout → (Caller → Caller → Type 0) → Standing → Standing → Type 0
 Serves layout Does (Alone v) (Alone w) = Does v w
 Serves layout Does (Owning o) (Owning n) = Does o.pages.owner n.pages.owner × StaysOwner layout o n
 Serves layout Does _ _ = ⊥
 
--- adopting makes a shard of the pass, or gives the pass back, as the contract of a shard says
+-- adopting turns the pass into a shard, or gives the pass back, as the contract of a shard says
 abbrev pub PassAdopts : ℕ → Standing → Result (Unit {0}) Refusal → Standing → Type 0
 PassAdopts shard (Alone v) (Ok _) (Owning n) = AdoptServes shard v (Ok n)
 PassAdopts shard (Alone v) (Err e) (Alone w) = AdoptServes shard v (Err (w, e))
 PassAdopts shard _ _ _ = ⊥
 
--- leaving makes a pass of the shard, or gives the shard back
+-- leaving turns the shard into a pass, or gives the shard back
 abbrev pub ShardLeaves : Standing → Result (Unit {0}) Refusal → Standing → Type 0
 ShardLeaves (Owning o) (Ok _) (Alone w) = LeaveServes o (Ok w)
 ShardLeaves (Owning o) (Err e) (Owning n) = LeaveServes o (Err (n, e))
@@ -48,7 +49,7 @@ abbrev pub ShardInserts : Layout → List ℕ → Standing → Result ℕ Refusa
 ShardInserts layout words (Owning o) r (Owning n) = InsertServes layout (value_class words) words o r n
 ShardInserts layout words _ _ _ = ⊥
 
--- ---- the same, where a pass may own a shard or none: what it may not do leaves all as it was
+-- ---- the same, for a pass that may own a shard or none: a call that it may not make changes nothing
 
 abbrev pub AdoptServed : Option ℕ → ℕ → Standing → Result (Unit {0}) Refusal → Standing → Type 0
 AdoptServed None shard s r t = PassAdopts shard s r t

@@ -19,7 +19,7 @@ abbrev pub part_told : (ℕ → PassPart) → ℕ → PassTold
 part_told parts pass = record { pass = pass; log = (parts pass).log }
 
 -- The output is the reply lines of answers to these lines, in their order. Each answer is one that the line's call may
--- have, by what its own pass of the heap did on the lines before and by the numbers that names were answered.
+-- have. It depends on what its own pass of the heap did on the lines before, and on the numbers of the names.
 pub record AreReplies (heap : Option Heap) (terms : RunTerms) (tag : Option ℕ) (lines : List CallLine)
     (output : List ℕ) : Type 0 where
   pub answers : List Answer
@@ -27,10 +27,10 @@ pub record AreReplies (heap : Option Heap) (terms : RunTerms) (tag : Option ℕ)
   pub ran : LinesAnswered terms tag (opening_calls heap) lines answers after
   pub is : output ≡ replies_text lines answers
 
--- The same, where all passes met at the end: this is their tale. There is one legal history in which the entries of
--- each pass are just those that its answers say, in order, and there are no others. What is answered of a name stands
--- behind the insert that bound it. Where the lines ran one after the other, the entries of all passes stand in the
--- order of the lines.
+-- The same, when all passes met at the end: this is their tale. There is one legal history in which the entries of each
+-- pass are exactly those that its answers say, in order, and there are no others. The entries of a line on a name come
+-- after the insert that bound it. If the lines ran one after the other, the entries of all passes are in the order of
+-- the lines.
 pub record IsTold (alone : Bool) (heap : Option Heap) (terms : RunTerms) (tag : Option ℕ) (lines : List CallLine)
     (output : List ℕ) (tale : List PassTold) : Type 0 where
   pub replies : AreReplies heap terms tag lines output
@@ -39,8 +39,8 @@ pub record IsTold (alone : Bool) (heap : Option Heap) (terms : RunTerms) (tag : 
   pub named : NamesComeFirst tag lines replies.answers whole.history
   pub in_order : alone ≡ true → IsInOrder lines replies.answers whole.history
 
--- In a told run a line on a name is answered Gone only where the key was removed before: the name stands for the number
--- of a key, and the entry of the line is Gone and has before it the insert and a removal of the key.
+-- In such a run a line on a name gets Gone only if the key was removed before. The name is bound to the number of a
+-- key. The entry of the line is Gone, and the insert and a removal of the key come before it.
 abbrev pub NamedIsRemoved : Type 0
 NamedIsRemoved = (alone : Bool) (heap : Option Heap) (terms : RunTerms) (tag : Option ℕ) (lines : List CallLine)
     (output : List ℕ) (tale : List PassTold) (t : IsTold alone heap terms tag lines output tale)

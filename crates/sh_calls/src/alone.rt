@@ -26,8 +26,8 @@ fn heed_last<S: Side>(side: &mut S, last: Option<Receipt>)
     }
 }
 
-// Runs the lines in their order, each pass with a receipt of the line before, on the passes of a heap that is named. No
-// answer ends it: only where a line finds no room is there a `NoRoom`.
+// Runs the lines in their order on all passes of the named heap. Each pass heeds a receipt of the line before. No
+// answer ends the run: `NoRoom` is returned only if a line finds no room.
 fn lines_in_turn<S: Side>(
     alloc: Global,
     lines: &[CallLine],
@@ -61,8 +61,8 @@ fn lines_in_turn<S: Side>(
     Ok((output, Some(carrier)))
 }
 
-/// Runs the lines in their order, each with a receipt of the line before. Answers the reply lines, and the pass that
-/// carries the tale of all once all owners have left and all passes have met; none where an owner could not leave.
+/// Runs the lines in their order, each with a receipt of the line before. Returns the reply lines, and the pass that
+/// carries the tale of all once all owners have left and all passes have met; no pass if an owner could not leave.
 pub fn alone_lines<S: Side>(
     alloc: Global,
     lines: &[CallLine],

@@ -1,4 +1,4 @@
-//! A pass or a shard: a side made of the two.
+//! A pass or a shard: a side that is one of the two.
 ghost use Rattle.std.specs.Prelude.{◌≡◌, ◌<◌, ◌+◌, ◌++◌, IfOk, MatchResult, Ok, Err, None, map};
 ghost use Rattle.sh_key.specs.Layout.{first_key, key_count};
 ghost use Rattle.sh_calls.specs.Standing.{ShardInserts};
@@ -15,7 +15,7 @@ use std::alloc::Global;
 use std::marker::Model;
 use std::mem;
 
-/// The calls that a pass and a shard have alike.
+/// The calls that a pass and a shard have in common.
 pub trait Calls: Drop {
     // What a contract sees.
     ghost seen: { Self → SeenPass };
@@ -27,7 +27,7 @@ pub trait Calls: Drop {
         ensures same { SamePass (seen self.old) (seen self.new) }
         ensures shard { (seen self.new).part.shard ≡ (seen self.old).part.shard };
 
-    /// The value of the key that it holds.
+    /// The value of the key that is held.
     fn read(&mut self, hold: Hold) -> Result<Value, Refusal>
         ensures does { ReadAnswers (seen self.old).terms (seen self.old).pass (seen self.old).part hold.key result
             (seen self.new).part }
@@ -48,26 +48,26 @@ pub trait Calls: Drop {
         ensures same { SamePass (seen self.old) (seen self.new) }
         ensures shard { (seen self.new).part.shard ≡ (seen self.old).part.shard };
 
-    /// A receipt of all that it was answered, and of all that it heard of others.
+    /// A receipt of all that was returned to this pass, and of all that it heard of others.
     fn receipt(&mut self) -> Receipt
         ensures tells { seen_of_receipt result ≡ receipt_seen (seen self.old) }
         ensures same { seen self.new ≡ seen self.old };
 
-    /// Everything that the receipt covers happens before what the caller is answered from now on.
+    /// Everything that the receipt covers happens before what is returned to the caller from now on.
     fn heed(&mut self, receipt: Receipt)
         requires { (seen_of_receipt receipt).heap ≡ (seen self.old).heap }
         ensures { Heeds receipt (seen self.old) (seen self.new) };
 
-    /// One legal history has all that it speaks for, and nothing else, and keeps the orders that it heard of, where it
-    /// speaks for all passes.
+    /// If it speaks for all passes, one legal history has exactly the entries that it speaks for, and keeps the orders
+    /// that it heard of.
     fn whole(&self)
         requires { map told_pass (tale_told (seen self.now)) ≡ passes_below (seen self.now).terms.shape.passes }
         ensures { HasOrderedTale (seen self.now) };
 }
 
-/// A pass that becomes a shard when it adopts one, and gets back when it leaves it.
+/// A pass that becomes a shard when it adopts one, and a pass again when it leaves it.
 pub trait Adopts<S: Calls>: Calls + Sized {
-    /// The shard that the pass becomes; where the adoption is refused, the pass comes back.
+    /// The shard that the pass becomes; if the adoption is refused, the pass comes back.
     fn adopt(self, alloc: Global, shard: u64) -> Result<S, (Self, Refusal)>
         requires none { (Self.seen self).part.shard ≡ None }
         ensures { MatchResult result
@@ -76,14 +76,14 @@ pub trait Adopts<S: Calls>: Calls + Sized {
             (λ e. AdoptAnswers (Self.seen self).terms (Self.seen self).part shard (Err e.1) (Self.seen e.0).part
             × SamePass (Self.seen self) (Self.seen e.0)) };
 
-    /// The pass that the shard was; where leaving is refused, the shard comes back.
+    /// The pass that the shard was; if leaving is refused, the shard comes back.
     fn leave(shard: S) -> Result<Self, (S, Refusal)>
         ensures { MatchResult result
             (λ p. LeaveAnswers (S.seen shard).part (Ok tt) (Self.seen p).part × SamePass (S.seen shard) (Self.seen p))
             (λ e. LeaveAnswers (S.seen shard).part (Err e.1) (S.seen e.0).part
             × SamePass (S.seen shard) (S.seen e.0)) };
 
-    /// The first pass, which now speaks for both, and has heard of what either heard of.
+    /// Returns the first pass, which now speaks for both, and has heard of what either heard of.
     fn join(self, other: Self) -> Self
         requires heap { (Self.seen self).heap ≡ (Self.seen other).heap }
         ensures heap { (Self.seen result).heap ≡ (Self.seen self).heap }
@@ -92,7 +92,7 @@ pub trait Adopts<S: Calls>: Calls + Sized {
         ensures tale { tale_told (Self.seen result) ≡ tale_told (Self.seen self) ++ tale_told (Self.seen other) }
         ensures orders { KeepsOrders ((Self.seen self).orders ++ (Self.seen other).orders) (Self.seen result).orders };
 
-    /// Stores the value in the shard, and answers its key.
+    /// Stores the value in the shard, and returns its key.
     fn insert(shard: &mut S, value: &Value) -> Result<u64, Refusal>
         ensures does { ValueInserted (S.seen shard.old).terms (S.seen shard.old).pass (S.seen shard.old).part value.now
             result (S.seen shard.new).part }
@@ -104,18 +104,18 @@ pub trait Adopts<S: Calls>: Calls + Sized {
         ensures shard { (S.seen shard.new).part.shard ≡ (S.seen shard.old).part.shard };
 }
 
-/// What a holder has: a pass, a shard, or nothing while one becomes the other.
+/// What a holder has: a pass, a shard, or neither while one becomes the other.
 #[derive(Drop)]
 pub enum State<P: Drop, S: Drop> {
     /// It owns no shard.
     Pass(P),
     /// It owns a shard.
     Shard(S),
-    /// One is becoming the other; between calls it is never so.
+    /// One is becoming the other; this is never the state between calls.
     Moving,
 }
 
-/// A pass of a heap, which may own a shard. A contract sees what is seen of it.
+/// A pass of a heap, which may own a shard. Contracts describe it by what is seen of the pass or the shard.
 #[derive(Drop)]
 pub struct Holder<P: Calls, S: Calls> {
     state: State<P, S>,
@@ -143,7 +143,7 @@ impl<P: Calls, S: Calls> Holder<P, S> {
         }
     }
 
-    /// The pass, where it owns no shard.
+    /// The pass, if it owns no shard.
     pub fn into_pass(self) -> P
         requires { self.part.shard ≡ None }
         ensures { P.seen result ≡ self }

@@ -1,4 +1,4 @@
-//! The calls of a script on the running heap: what a line may be answered, and the passes and shards that answer it.
+//! The calls of a script on the running heap: what a line may return, and the passes and shards that run it.
 #![tactic(auto)]
 
 pub mod alone;

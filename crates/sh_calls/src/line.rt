@@ -15,7 +15,7 @@ use sh_script::{Call, Reference};
 use sh_value::{Hold, Refusal, Value};
 use std::alloc::Global;
 
-/// How a result without a value is written.
+/// The answer that reports a result without a value.
 pub fn done<T: Drop>(res: Result<T, Refusal>) -> Answer
     ensures { result ≡ done_answer res }
 {
@@ -25,7 +25,7 @@ pub fn done<T: Drop>(res: Result<T, Refusal>) -> Answer
     }
 }
 
-// The key that a call is on, or what it is answered where there is none.
+// The key that a call is on, or the answer to the call if there is no key.
 fn key_meant(tag: Option<u8>, bound: Option<u64>, reference: Reference) -> Result<u64, Answer>
     ensures { result ≡ key_meant tag bound reference }
 {
@@ -59,7 +59,7 @@ fn insert<S: Side>(side: &mut S, tag: Option<u8>, words: &[u64]) -> Answer
     }
 }
 
-/// Makes the call. Where it is on a name, the name stands for this number.
+/// Makes the call. If it is on a name, `bound` is the number that the name is bound to.
 #[tactic(auto, using(crate::proofs::CallLemmas::says))]
 pub fn answered<S: Side>(
     alloc: Global,
@@ -126,7 +126,7 @@ pub fn binds(call: &Call) -> bool
     matches!(call, Call::Insert(_) | Call::Post)
 }
 
-/// The number that the name of an insert stands for.
+/// The number that an insert with this answer binds to its name.
 pub fn number_told(answer: &Answer) -> Option<u64>
     ensures { result ≡ number_told answer.now }
 {
@@ -136,7 +136,7 @@ pub fn number_told(answer: &Answer) -> Option<u64>
     }
 }
 
-/// The number that the name of the call stands for, among the names that are bound.
+/// The number that the name of the call is bound to, among the names that are bound.
 pub fn number_meant(numbers: &[Option<u64>], call: &Call) -> Option<u64>
     ensures { result ≡ number_meant numbers.now call.now }
 {

@@ -9,7 +9,7 @@ ghost use Rattle.sh_calls.specs.Meeting.{AllOfHeap, orders_of};
 use crate::side::Side;
 use sh_value::Refusal;
 
-/// The carrier, if there is one, which now speaks for the side too; else the side. None owns a shard.
+/// Returns the carrier, if there is one, which now speaks for the side too; otherwise the side. Neither owns a shard.
 pub fn meet<S: Side>(carrier: Option<S>, side: S) -> S
     requires heap { IsOfHeap (S.seen side).heap (option_map S.seen carrier) }
     requires none { OwnsNone (option_map S.seen carrier) × ((S.seen side).part.shard ≡ None) }
@@ -22,7 +22,7 @@ pub fn meet<S: Side>(carrier: Option<S>, side: S) -> S
     }
 }
 
-// Whether it owns no shard, where leaving was tried if it owned one.
+// Leaves the shard if the side owns one. Returns whether it owns none now.
 fn retire<S: Side>(side: &mut S) -> bool
     ensures none { result ≡ true → (S.seen side.new).part.shard ≡ None }
     ensures waits { result ≡ false → ShardLeaves (S.seen side.old).part.stands (Err Refusal.Waiting)
@@ -36,8 +36,8 @@ fn retire<S: Side>(side: &mut S) -> bool
     }
 }
 
-/// What one of the passes carries once all have met: nobody owns a shard any more. None where an owner was refused when
-/// it left, or where there is no pass.
+/// The pass that carries the tale of all once all have met: none owns a shard any more. None if an owner was refused
+/// when it left, or if there is no pass.
 pub fn met<S: Side>(sides: Vec<S>) -> Option<S>
     ghost at: { Option Heap × RunTerms }
     requires of { AllOfHeap at.0 at.1 (map S.seen sides.items) }

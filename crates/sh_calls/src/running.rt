@@ -9,7 +9,7 @@ use sh_shard::Shard;
 use sh_value::{Hold, Refusal, Value};
 use std::alloc::Global;
 
-// What a pass knows stands before a call, and it owns no shard after it: `shape` tells both.
+// What a pass knows is the `Standing` before a call, and it owns no shard after the call: `shape` states both.
 impl<'a, L: KeyLayout> Calls for Pass<'a, L> {
     ghost seen = { λ p. seen_of_caller L.layout p };
 
@@ -54,7 +54,7 @@ impl<'a, L: KeyLayout> Calls for Pass<'a, L> {
     }
 }
 
-// What an owner knows stands before a call: `shape` tells it.
+// What an owner knows is the `Standing` before a call: `shape` states it.
 impl<'a, L: KeyLayout> Calls for Shard<'a, L> {
     ghost seen = { λ s. seen_of_shard L.layout s };
 

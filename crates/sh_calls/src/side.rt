@@ -11,25 +11,26 @@ use sh_pass::Receipt;
 use sh_value::{Hold, Refusal, Value};
 use std::alloc::Global;
 
-/// A pass, which may own a shard. Its clauses say of each call which refusal comes exactly where, what its log gains,
-/// and that the contract of the pass, or of its shard, gives this answer.
+/// A pass, which may own a shard. The clauses of each call say exactly when each refusal is returned, and what the log
+/// gains. They also say that the contract of the pass, or of its shard, allows this result.
 pub trait Side: Drop {
     // What a contract sees.
     ghost seen: { Self → SeenPass };
 
-    /// Adopts the shard. Refused as `Taken` where it owns one, as `NoShard` where there is no such shard, as `Taken`
-    /// by one step that met another owner, and as `Memory`.
+    /// Adopts the shard. Refused as `Taken` if it owns one, as `NoShard` if there is no such shard, as `Taken` by one
+    /// step that met another owner, and as `Memory`.
     fn adopt(&mut self, alloc: Global, shard: u64) -> Result<(), Refusal>
         ensures does { AdoptAnswers (seen self.old).terms (seen self.old).part shard result (seen self.new).part }
         ensures same { SamePass (seen self.old) (seen self.new) };
 
-    /// Leaves its shard. Refused as `NoShard` where it owns none, and as `Waiting` where it met what others have begun.
+    /// Leaves its shard. Refused as `NoShard` if it owns none, and as `Waiting` if others have begun to free slots of
+    /// the shard.
     fn leave(&mut self) -> Result<(), Refusal>
         ensures does { LeaveAnswers (seen self.old).part result (seen self.new).part }
         ensures same { SamePass (seen self.old) (seen self.new) };
 
-    /// Stores the value in its shard, and answers its key. Refused as `NoShard` where it owns none, as `Full` where the
-    /// shard has no room, and as `Memory` where a segment is unopened.
+    /// Stores the value in its shard, and returns its key. Refused as `NoShard` if it owns none, as `Full` if the shard
+    /// has no room, and as `Memory` if a segment is unopened.
     fn insert(&mut self, value: &Value) -> Result<u64, Refusal>
         ensures does { InsertAnswers (seen self.old).terms (seen self.old).pass (seen self.old).part value.now result
             (seen self.new).part }
@@ -43,7 +44,7 @@ pub trait Side: Drop {
             (seen self.new).part }
         ensures same { SamePass (seen self.old) (seen self.new) };
 
-    /// The value of the key that it holds. Refused as `NotHeld`.
+    /// The value of the key that is held. Refused as `NotHeld`.
     fn read(&mut self, hold: Hold) -> Result<Value, Refusal>
         ensures does { ReadAnswers (seen self.old).terms (seen self.old).pass (seen self.old).part hold.key result
             (seen self.new).part }
@@ -61,17 +62,17 @@ pub trait Side: Drop {
             (seen self.new).part }
         ensures same { SamePass (seen self.old) (seen self.new) };
 
-    /// A receipt of all that it was answered, and of all that it heard of others.
+    /// A receipt of all that was returned to this pass, and of all that it heard of others.
     fn receipt(&mut self) -> Receipt
         ensures tells { seen_of_receipt result ≡ receipt_seen (seen self.old) }
         ensures same { seen self.new ≡ seen self.old };
 
-    /// Everything that the receipt covers happens before what the caller is answered from now on.
+    /// Everything that the receipt covers happens before what is returned to the caller from now on.
     fn heed(&mut self, receipt: Receipt)
         requires { (seen_of_receipt receipt).heap ≡ (seen self.old).heap }
         ensures { Heeds receipt (seen self.old) (seen self.new) };
 
-    /// The first side, which now speaks for both, and has heard of what either heard of. Neither owns a shard.
+    /// Returns the first side, which now speaks for both, and has heard of what either heard of. Neither owns a shard.
     fn join(self, other: Self) -> Self
     where
         Self: Sized,
@@ -83,8 +84,8 @@ pub trait Side: Drop {
         ensures tale { tale_told (seen result) ≡ tale_told (seen self) ++ tale_told (seen other) }
         ensures orders { KeepsOrders ((seen self).orders ++ (seen other).orders) (seen result).orders };
 
-    /// One legal history has all that it speaks for, and nothing else, and keeps the orders that it heard of, where it
-    /// speaks for all passes.
+    /// If it speaks for all passes, one legal history has exactly the entries that it speaks for, and keeps the orders
+    /// that it heard of.
     fn whole(&self)
         requires { map told_pass (tale_told (seen self.now)) ≡ passes_below (seen self.now).terms.shape.passes }
         ensures { HasOrderedTale (seen self.now) };

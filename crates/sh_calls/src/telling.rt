@@ -8,7 +8,7 @@ use crate::line::{binds, number_told};
 use sh_output::{Answer, push_reply};
 use sh_script::{CallLine, Fault};
 
-/// A line found no room. Only `tell` makes one, so what ends with it ends for no answer.
+/// A line found no room. Only `tell` makes one, so no answer ends a run.
 #[derive(Clone, Copy, Debug, Drop)]
 pub struct NoRoom(());
 
@@ -23,8 +23,8 @@ impl From<NoRoom> for Fault {
     }
 }
 
-/// Adds the reply line of a call, and the number of the name that the call binds. It is refused only if the line or the
-/// number finds no room: every answer of a call is written, also that it was refused memory.
+/// Adds the reply line of a call, and the number of the name that the call binds. Refused only if the line or the
+/// number finds no room: every answer of a call is written, even a refusal of memory.
 pub fn tell(
     output: &mut Vec<u8>,
     numbers: &mut Vec<Option<u64>>,

@@ -1,5 +1,5 @@
--- What modes heap and threads write for a script of calls: the reply lines, and then, where they are asked for and
--- every owner could leave, the accounts of the pages.
+-- What modes heap and threads write for a script of calls: the reply lines, and then the accounts of the pages, if they
+-- are asked for and every owner could leave.
 use Rattle.std.specs.Prelude.{◌≡◌, ℕ, Bool, true, false, List, [], ◌++◌, Option, Some}
 use Rattle.sh_key.specs.Layout.{Layout}
 use Rattle.sh_shape.specs.Shape.{Numbers}
@@ -27,14 +27,14 @@ pub record TellsTale (layout : Layout) (shape : Numbers) (tale : List PassTold) 
   pub kept : Each (Before whole.history) orders
   pub lines : AreAccountLines layout shape whole.history text
 
--- account lines by this history, where they are asked for; else none
+-- account lines by this history, if they are asked for; otherwise none
 abbrev pub AccountsAsked : (asked : Bool) → Layout → Numbers → List Entry → List ℕ → Type 0
 AccountsAsked true layout shape history text = AreAccountLines layout shape history text
 AccountsAsked false layout shape history text = text ≡ []
 
--- The replies are told by the tale of all passes of a heap of this shape, and after them come the account lines by its
--- history, where they are asked for. The history is the log of a run of the core. Where the lines ran one after the
--- other, it has the entries in the order of the lines.
+-- The replies are those of the tale of all passes of a heap of this shape. After them come the account lines by its
+-- history, if they are asked for. The history is the log of a run of the core. If the lines ran one after the other, it
+-- has the entries in the order of the lines.
 pub record IsHeapOutput (alone : Bool) (layout : Layout) (shape : Numbers) (tag : Option ℕ) (lines : List CallLine)
     (asked : Bool) (output : List ℕ) : Type 0 where
   pub heap : Heap
@@ -62,23 +62,23 @@ pub record IsStopped (layout : Layout) (shape : Numbers) (tag : Option ℕ) (lin
   pub of_shape : heap.shape ≡ shape
   pub waiting : AreWaiting (Some heap) (heap_terms layout shape) tag lines output
 
--- The text is a script of calls, and these are the replies of a run of it at whose end a pass was refused when it left
--- its shard: there is no account line then.
+-- The text is a script of calls, and these are the replies of a run at whose end a pass was refused when it left its
+-- shard: there is no account line then.
 pub record IsHeapWaiting (text output : List ℕ) : Type 0 where
   pub header : Header
   pub lines : List CallLine
   pub is_calls : IsCalls text header lines
   pub stopped : IsStopped (layout_of header.layout) header.shape header.tag lines output
 
--- ---- how it is made
+-- ---- how it is produced
 
--- what came of the lines, and whether an owner could not leave
+-- the result of the lines, with whether an owner could not leave
 abbrev pub IsRan : (alone : Bool) → Layout → Numbers → Option ℕ → List CallLine → (asked : Bool) → List ℕ
     → (is_waiting : Bool) → Type 0
 IsRan alone layout shape tag lines asked output true = IsStopped layout shape tag lines output
 IsRan alone layout shape tag lines asked output false = IsHeapOutput alone layout shape tag lines asked output
 
--- what came of a script on the running heap, and whether an owner could not leave
+-- the result of a script on the running heap, with whether an owner could not leave
 abbrev pub IsHeapRun : (alone asked : Bool) → (text output : List ℕ) → (is_waiting : Bool) → Type 0
 IsHeapRun alone asked text output true = IsHeapWaiting text output
 IsHeapRun alone asked text output false = IsHeap alone asked text output

@@ -1,4 +1,4 @@
--- The accounts of a heap of which all passes met.
+-- The accounts of a heap all of whose passes met.
 use Rattle.std.specs.Prelude.{◌≡◌, ℕ, List}
 use Rattle.sh_key.specs.Layout.{Layout}
 use Rattle.sh_shape.specs.Shape.{Numbers}
@@ -13,8 +13,8 @@ use Rattle.sh_gather.specs.Histories.{IsHistory, LeadsHere}
 use Rattle.sh_gather.specs.Gathering.{CountsKeys}
 use Rattle.sh_output.specs.AccountLines.{ShardsSaid, accounts_after, accounts_text}
 
--- the numbers of a page by the history: none is an owner's or in a hand, the page's keys are counted by what the
--- history says of them, and the queued slots are those that are left of the slots of the page's class
+-- The numbers of a page by the history: no slot is an owner's or in a hand, and the page's keys are counted by what the
+-- history says of them. The queued slots are the rest of the slots of the page's class.
 pub record HasNumbers (plan : Plan) (q : ℕ) (a : Accounts) (history : List Entry) : Type 0 where
   pub mine : a.mine ≡ 0
   pub hand : a.hand ≡ 0
@@ -27,7 +27,7 @@ pub record LeadsToWhole (layout : Layout) (c : Caller) (events : List Event) : T
   pub leads : LeadsHere layout c.view events
   pub history : IsHistory layout c.view (run (plan_of layout c.view.shape) events).log
 
--- what the pass knows of page q: every history of its tale has these numbers
+-- what the pass knows of page q: in every history of its tale the page has these numbers
 pub record PageSaid (layout : Layout) (c : Caller) (q : ℕ) (a : Accounts) : Type 0 where
   pub numbers : (history : List Entry) → IsHistory layout c.view history
       → HasNumbers (plan_of layout c.view.shape) q a history

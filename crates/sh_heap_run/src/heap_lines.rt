@@ -1,4 +1,5 @@
-//! The calls of a script on a running heap: the heap is opened, the lines are run, and the passes tell what they know.
+//! The calls of a script on a running heap: the heap is opened, the lines are run, and the passes gather what they
+//! know.
 ghost use Rattle.std.specs.Prelude.{◌≡◌, ◌++◌, ℕ, Bool, List, IfOk, IfErr, OnOk, Option, Some, map, option_map};
 ghost use Rattle.sh_shape.specs.Shape.{IsShape, Fits};
 ghost use Rattle.sh_step.specs.declared.action.Event.{Event};
@@ -32,11 +33,11 @@ pub type PassHolder<'a, L> = Holder<Pass<'a, L>, Shard<'a, L>>;
 pub struct Ran {
     /// The reply lines, and the account lines after them.
     pub output: Vec<u8>,
-    /// An owner could not leave at the end.
+    /// Whether an owner could not leave at the end.
     pub is_waiting: bool,
 }
 
-/// A heap of this shape, which fits the layout, with the right to its passes.
+/// Opens a heap of this shape, which fits the layout. Returns it with the right to its passes.
 pub fn opened<L: KeyLayout>(alloc: Global, shape: Shape) -> Result<(Heap<L>, Seats<L>), Fault>
     requires { Fits L.layout shape }
     ensures shape { IfOk result (λ r. (r.0.shape ≡ shape) × (r.1 ≡ r.0)) }
@@ -63,7 +64,7 @@ fn held<'a, L: KeyLayout>(
     Ok(holders)
 }
 
-/// All passes of the heap, whose seats these are. None owns a shard.
+/// All passes of the heap that these seats belong to. None owns a shard.
 pub fn holders<L: KeyLayout>(
     alloc: Global,
     heap: &Heap<L>,
@@ -83,7 +84,7 @@ pub fn holders<L: KeyLayout>(
     }
 }
 
-// Adds the account lines of the heap, of which this pass carries the whole tale.
+// Adds the account lines of the heap. This pass carries its whole tale.
 fn push_whole<L: KeyLayout>(output: &mut Vec<u8>, pass: Pass<'_, L>) -> Result<(), AllocError>
     requires shape { IsShape pass.heap.shape }
     requires whole { IsWhole pass.view }
@@ -98,7 +99,7 @@ fn push_whole<L: KeyLayout>(output: &mut Vec<u8>, pass: Pass<'_, L>) -> Result<(
     push_accounts(output, &mut WholeHeap::new(whole))
 }
 
-// One look at the heap of which this pass carries the whole tale: steps of the core led to all that it knows.
+// Looks once at the heap whose whole tale this pass carries: steps of the core led to all that it knows.
 fn look<L: KeyLayout>(pass: Pass<'_, L>)
     requires shape { IsShape pass.heap.shape }
     requires whole { IsWhole pass.view }
@@ -111,7 +112,7 @@ fn look<L: KeyLayout>(pass: Pass<'_, L>)
     let _known = WholeHeap::new(whole).accounts(0, 0);
 }
 
-// The replies, and after them the accounts where they are asked for, which the carrier tells.
+// The replies, and after them the accounts that the carrier knows, if they are asked for.
 fn told<L: KeyLayout>(
     mut output: Vec<u8>,
     carrier: PassHolder<'_, L>,
@@ -131,8 +132,8 @@ fn told<L: KeyLayout>(
     Ok(output)
 }
 
-/// What is written for lines that ran: their replies, and after them the accounts, where they are asked for and all
-/// owners could leave.
+/// What is written for lines that ran: their replies, and after them the accounts, if they are asked for and all owners
+/// could leave.
 pub fn gathered<L: KeyLayout>(
     output: Vec<u8>,
     carrier: Option<PassHolder<'_, L>>,

@@ -9,7 +9,7 @@ use sh_output::pages::Pages;
 use sh_shape::Shape;
 use std::marker::Model;
 
-/// A whole heap, as its pages are asked. A contract sees what is seen of the pass that carries its tale.
+/// A whole heap that is asked for the accounts of its pages. Contracts describe it by the pass that carries its tale.
 #[derive(Drop)]
 pub struct WholeHeap<'a, L: KeyLayout> {
     whole: Whole<'a, L>,
@@ -32,7 +32,7 @@ impl<'a, L: KeyLayout> WholeHeap<'a, L> {
     }
 }
 
-// The words that are looked at are noted, and nothing else is new.
+// An account notes the words that it looks at, and changes nothing otherwise.
 impl<'a, L: KeyLayout> Pages for WholeHeap<'a, L> {
     ghost fixed = { false };
 

@@ -14,14 +14,14 @@ use Rattle.sh_models.specs.StepsOutput.{steps_output}
 
 -- ---- mode plain
 
--- from one state of the run to another, the lines are answered somehow, and these are the reply lines
+-- from one state of the run to another, the lines have some answers, and these are the reply lines
 pub record Writes (layout : Layout) (before : Run) (lines : List CallLine) (after : Run) (output : List ℕ) : Type 0
   where
     pub answers : List Answer
     pub ran : Ran layout before lines answers after
     pub is : output ≡ replies_text lines answers
 
--- the output is what mode plain may write for these lines; it is one text alone unless memory is refused
+-- the output is what mode plain may write for these lines; it is a single text unless memory is refused
 abbrev pub IsPlainOutput : Layout → Numbers → Option ℕ → List CallLine → List ℕ → Type 0
 IsPlainOutput layout shape tag lines output =
     (after : Run) × Writes layout (opening_run shape.shards shape.passes tag) lines after output
@@ -35,7 +35,7 @@ pub record IsPlain (text output : List ℕ) : Type 0 where
 
 -- ---- mode steps
 
--- the text is a script of events, and this is what mode steps writes for it, with accounts where they are asked for
+-- the text is a script of events, and this is what mode steps writes for it, with accounts if they are asked for
 pub record IsSteps (asked : Bool) (text output : List ℕ) : Type 0 where
   pub header : Header
   pub lines : List Event

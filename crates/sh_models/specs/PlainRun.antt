@@ -18,8 +18,8 @@ use Rattle.sh_output.specs.declared.answer.Answer.TheVariants as answer
 use Rattle.sh_output.specs.Keys.{key_shown}
 pub use Rattle.sh_output.specs.Results.{done_answer, value_answer, key_answer}
 
--- the tag of the keys in the script, if they have one; the store; for each pass whether it has a shard; for each name
--- that is bound its key, or none where the insert was refused or a post bound it
+-- The tag of the keys in the script, if they have one; the store; for each pass whether it has a shard. For each name
+-- that is bound, its key, or none if the insert was refused or a post bound it.
 pub record Run : Type 0 where
   pub shards : ℕ
   pub tag : Option ℕ
@@ -43,7 +43,7 @@ at_turn run pass = record run { store = record run.store { pass = pass } }
 abbrev pub has_shard : Run → Bool
 has_shard run = slice_index_or run.owners run.store.pass false
 
--- ---- adopt: whoever else adopted the shard
+-- ---- adopt; whether another pass has the shard does not matter
 
 abbrev pub adopt_answer : Run → ℕ → Answer
 adopt_answer run shard =
@@ -67,14 +67,14 @@ leaves run = if has_shard run then record run { owners = slice_set run.owners ru
 
 -- ---- insert
 
--- what the store answers, once the words fit a value and the pass has a shard
+-- what the store returns, once the words fit a value and the pass has a shard
 abbrev pub insert_attempt : Layout → Run → List ℕ → PlainReply ℕ
 insert_attempt layout run words =
     if nat_lt 16 (length words) then refused refusal.TooLong
     else if not (has_shard run) then refused refusal.NoShard
     else insert_reply layout run.store words
 
--- the attempt was answered so, or its memory was refused; the name is bound to the key, if there is one
+-- the attempt has this answer, or its memory was refused; the name is bound to the key, if there is one
 pub record Inserts (layout : Layout) (run : Run) (words : List ℕ) (told : Answer) (next : Run) : Type 0 where
   pub result : Result ℕ Refusal
   pub replied : Replied (insert_attempt layout run words) run.store result next.store
@@ -88,7 +88,7 @@ abbrev pub bound_key : Option (Option ℕ) → Result ℕ Answer
 bound_key (Some (Some key)) = Ok key
 bound_key _ = Err answer.Unbound
 
--- the key that a call speaks of, or what is answered where there is none
+-- the key that a call refers to, or the answer if there is no key
 abbrev pub key_of : Run → Reference → Result ℕ Answer
 key_of run (reference.Key number) = ok_or (key_shown run.tag number) (answer.Refused refusal.BadKey)
 key_of run (reference.Name i) = bound_key (slice_get run.keys i)
@@ -125,7 +125,7 @@ CallDoes layout run (call.Wait name) told next = (told ≡ answer.Done) × (next
 abbrev pub TakesLine : Layout → Run → CallLine → Answer → Run → Type 0
 TakesLine layout run line told next = CallDoes layout (at_turn run line.pass) line.call told next
 
--- the calls that end a run where memory for their entry is refused; an insert is answered then
+-- the calls that end a run if memory for their entry is refused; an insert returns an answer then
 abbrev pub CallEnds : Layout → Run → Call → Type 0
 CallEnds layout run (call.Get r) = MayEnd (get_reply layout) run (key_of run r)
 CallEnds layout run (call.Remove r) = MayEnd (remove_reply layout) run (key_of run r)
@@ -135,7 +135,7 @@ CallEnds layout run _ = ⊥
 abbrev pub EndsAt : Layout → Run → CallLine → Type 0
 EndsAt layout run line = CallEnds layout (at_turn run line.pass) line.call
 
--- these lines are answered so, one after the other
+-- these lines have these answers, one after the other
 abbrev pub Ran : Layout → Run → List CallLine → List Answer → Run → Type 0
 Ran layout run [] [] after = after ≡ run
 Ran layout run [] (a ∷ answers) after = ⊥

@@ -1,5 +1,5 @@
--- What mode steps writes for a script of events: a line for each, and then, where they are asked for, the accounts of
--- the pages.
+-- What mode steps writes for a script of events: a line for each, and then the accounts of the pages, if they are asked
+-- for.
 use Rattle.std.specs.Prelude.{ℕ, List, [], ◌∷◌, ◌++◌, Bool, cond, codes, decimal, Option, Some, None, option_map}
 use Rattle.std.specs.List.{filter_map}
 use Rattle.sh_history.specs.declared.entry.Entry.{Entry}
@@ -21,7 +21,7 @@ use Rattle.sh_output.specs.AccountLines.{accounts_after, accounts_text}
 
 -- ---- the heap's events
 
--- the action that is written so: its key, if it names one, is written with the tag; none where it is not
+-- the action that is written as this one: its key, if it names one, is written with the tag; none if it is not
 abbrev pub action_shown : Option ℕ → Action → Option Action
 action_shown tag (action.EnterGet k) = option_map action.EnterGet (key_shown tag k)
 action_shown tag (action.EnterRemove k) = option_map action.EnterRemove (key_shown tag k)
@@ -34,7 +34,7 @@ action_shown tag a = Some a
 abbrev pub event_shown : Option ℕ → Event → Option Event
 event_shown tag e = option_map (λ (a : Action). record e { action = a }) (action_shown tag e.action)
 
--- the events of the heap that are written so, in order
+-- the events of the heap that are written as these, in order
 abbrev pub events_shown : Option ℕ → List Event → List Event
 events_shown tag lines = filter_map (event_shown tag) lines
 
@@ -71,8 +71,7 @@ abbrev pub event_line : Option ℕ → (pass : ℕ) → ActionKind → Outcome �
 event_line tag pass kind outcome =
     decimal pass ++ codes " " ++ kind_name kind ++ codes " " ++ outcome_text tag outcome ++ codes "\n"
 
--- a line for each event of the script: for an event of the heap by what came of it, which is next, and any other is
--- skipped
+-- a line for each event of the script: for an event of the heap by the next outcome, and any other is skipped
 unfoldable pub event_lines : Option ℕ → List Event → List Outcome → List ℕ
 event_lines tag [] outcomes = []
 event_lines tag (e ∷ lines) outcomes = elim (event_shown tag e) [
@@ -86,7 +85,7 @@ event_lines tag (e ∷ lines) outcomes = elim (event_shown tag e) [
 
 -- ---- the output
 
--- the lines of what came of the events, and then, where they are asked for, the accounts that they leave
+-- the lines of the events' outcomes, and then, if they are asked for, the accounts after the events
 abbrev pub steps_output : Layout → Numbers → Option ℕ → List Event → (asked : Bool) → List ℕ
 steps_output layout shape tag lines asked =
     let plan = plan_of layout shape in

@@ -1,4 +1,4 @@
-//! What a line says of an event.
+//! The text of an event's line.
 ghost use Rattle.std.specs.Prelude.{◌≡◌, ◌++◌, ◌^◌, ◌<◌, OnOk, IfSome};
 ghost use Rattle.sh_models.specs.StepsOutput.{entry_name, entry_key, entry_value, outcome_text, event_line};
 ghost use Rattle.sh_models.specs.StepsKeys.{KeysWithin};
@@ -65,7 +65,7 @@ fn push_outcome(out: &mut Vec<u8>, tag: Option<u8>, outcome: &Outcome) -> Result
     }
 }
 
-/// Adds the line of an event, by its pass, its kind and what came of it. Where there is a tag, a key in it is below
+/// Adds the line of an event, by its pass, its kind and its outcome. If there is a tag, a key in the outcome is below
 /// 2^52.
 pub fn push_event(
     out: &mut Vec<u8>,

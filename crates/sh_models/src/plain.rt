@@ -16,7 +16,7 @@ use sh_script::{Call, CallLine, Fault, Reference};
 use sh_value::{Hold, Refusal, Value};
 use std::alloc::{AllocError, Global};
 
-// As many passes as a shape may have.
+// The most passes that a shape may have.
 const PASSES_MAX: usize = 64;
 
 /// A run on the plain store: the tag of its keys, which passes have a shard, and which key each bound name has.
@@ -30,8 +30,8 @@ pub struct PlainRun<L: KeyLayout> {
 }
 
 impl<L: KeyLayout> PlainRun<L> {
-    /// A run of this many shards and passes, in which nobody has a shard and nothing is bound, with room for this many
-    /// names. Where there is a tag, keys are written with it.
+    /// A run with this number of shards and passes, and with room for this many names. No pass has a shard and no name
+    /// is bound. If there is a tag, keys are written with it.
     pub fn new(
         alloc: Global,
         shards: u32,
@@ -55,8 +55,8 @@ impl<L: KeyLayout> PlainRun<L> {
         })
     }
 
-    /// Runs one line, where there is room for one name more. A get, a remove or a release whose entry is refused memory
-    /// ends the run; an insert is answered then, as any other call is always.
+    /// Runs one line, if there is room for one name more. A get, a remove or a release whose entry is refused memory
+    /// ends the run; an insert then returns the refusal. Any other call always returns an answer.
     pub fn step(&mut self, line: &CallLine) -> Result<Answer, Fault>
         requires pass { line.now.pass < self.old.store.passes }
         requires few { self.old.store.passes ≤ 64 }
@@ -121,7 +121,7 @@ impl<L: KeyLayout> PlainRun<L> {
         Answer::Done
     }
 
-    // What the store answers, once the words fit a value and the pass has a shard.
+    // What the store returns, once the words fit a value and the pass has a shard.
     fn try_insert(&mut self, pass: u32, words: &[u64]) -> Result<u64, Refusal>
         requires own { pass ≡ self.old.store.pass }
         requires few { pass < 64 }
@@ -138,7 +138,7 @@ impl<L: KeyLayout> PlainRun<L> {
         self.store.insert(&value)
     }
 
-    // An insert is answered, also where the memory for its entry is refused: the name is then bound to no key.
+    // An insert has an answer even if the memory for its entry is refused: the name is then bound to no key.
     fn insert(&mut self, pass: u32, words: &[u64]) -> Answer
         requires own { pass ≡ self.old.store.pass }
         requires few { pass < 64 }
@@ -174,7 +174,7 @@ impl<L: KeyLayout> PlainRun<L> {
         }
     }
 
-    // The key that a call speaks of, or what it is answered where there is none.
+    // The key that a call refers to, or the answer to the call if there is no key.
     fn key_of(&self, reference: Reference) -> Result<u64, Answer>
         ensures { result ≡ key_of (run_of self.now.shards self.now.tag self.now.store self.now.owners
             self.now.keys.items) reference }
@@ -265,7 +265,7 @@ impl<L: KeyLayout> PlainRun<L> {
         }
     }
 
-    // Binds the next name, to no key.
+    // Binds the next name to no key.
     fn post(&mut self) -> Answer
         requires name { vec_len self.old.keys < vec_capacity self.old.keys }
         ensures answer { result ≡ Answer.Done }
@@ -281,7 +281,7 @@ impl<L: KeyLayout> PlainRun<L> {
     }
 }
 
-// What a call is answered that tells nothing but its refusal. Where memory for its entry was refused, the run ends.
+// The answer to a call that reports only its refusal. If memory for its entry was refused, the run ends.
 fn told<T: Drop>(replied: Result<T, Refusal>) -> Result<Answer, Fault>
     ensures tells { IfOk result (λ answer. (reply : PlainReply T) (old new : Plain) → Replied reply old replied new
         → (answer ≡ done_answer reply.answer) × (new ≡ with_added old reply.adds)) }

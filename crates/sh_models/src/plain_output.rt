@@ -26,7 +26,7 @@ fn plain_lines<L: KeyLayout>(
     ensures output { IfOk result (λ output. IsPlainOutput L.layout shape tag lines.now output.items) }
     ensures memory { IfErr result (λ fault. fault ≡ Fault.Memory) }
 {
-    // Each line binds one name at most.
+    // Each line binds at most one name.
     let names = lines.len();
     let Ok(mut run) = PlainRun::<L>::new(alloc, shape.shards(), shape.passes(), tag, names) else {
         return Err(Fault::Memory);

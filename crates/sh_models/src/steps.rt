@@ -18,7 +18,7 @@ use sh_step::{Action, Event};
 use sh_value::Refusal;
 use std::alloc::Global;
 
-// The action that is written so.
+// The action that is written as this one, with keys as the heap has them.
 fn action_shown(tag: Option<u8>, action: Action) -> Option<Action>
     ensures { result ≡ action_shown tag action }
 {
@@ -33,7 +33,7 @@ fn action_shown(tag: Option<u8>, action: Action) -> Option<Action>
     }
 }
 
-/// The event of the heap that is written so.
+/// The event of the heap that is written as this one, with keys as the heap has them.
 pub fn event_shown(tag: Option<u8>, event: Event) -> Option<Event>
     ensures { result ≡ event_shown tag event }
 {
@@ -42,7 +42,7 @@ pub fn event_shown(tag: Option<u8>, event: Event) -> Option<Event>
     Some(Event { pass, action })
 }
 
-/// A heap of this shape, which fits the layout.
+/// Opens a heap of this shape, which fits the layout.
 pub fn open<L: KeyLayout>(alloc: Global, shape: Shape) -> Result<World<L>, Fault>
     requires fits { Fits L.layout shape }
     ensures opens { IfOk result (λ world. Opens L.layout shape (Ok world)) }
@@ -73,8 +73,8 @@ fn step<L: KeyLayout>(world: &mut World<L>, event: &Event) -> Result<Outcome, Fa
     }
 }
 
-/// Does what is an event of the heap; a line that is none is skipped. A key in the reply is one of the layout. Where
-/// memory is refused, nothing is done.
+/// Does an event of the heap; a line that is no event of the heap is skipped. A key in the reply is one of the layout.
+/// If memory is refused, nothing is done.
 pub fn do_event<L: KeyLayout>(world: &mut World<L>, event: Option<Event>) -> Result<Outcome, Fault>
     requires shape { IsShape world.old.shape }
     requires fits { Fits L.layout world.old.shape }

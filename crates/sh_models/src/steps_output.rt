@@ -17,7 +17,7 @@ use sh_shape::Shape;
 use sh_step::Event;
 use std::alloc::Global;
 
-// The lines of events on the core, and its accounts where they are asked for.
+// The lines of events on the core, and its accounts if they are asked for.
 fn steps_lines<L: KeyLayout>(
     alloc: Global,
     shape: Shape,
@@ -47,7 +47,7 @@ fn steps_lines<L: KeyLayout>(
     Ok(output)
 }
 
-/// The lines of a script of events, and then the accounts where they are asked for, or the script's fault.
+/// The lines of a script of events, and then the accounts if they are asked for, or the script's fault.
 pub fn steps_output(alloc: Global, text: &[u8], asked: bool) -> Result<Vec<u8>, Fault>
     ensures output { IfOk result (λ output. IsSteps asked text.now output.items) }
     ensures fault { IfErr result (IsFaultOf Mode.Steps text.now) }

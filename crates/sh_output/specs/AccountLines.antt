@@ -9,12 +9,12 @@ use Rattle.sh_core.specs.declared.accounts.Accounts.{Accounts}
 use Rattle.sh_core.specs.Lists.{accounts, lists_of}
 use Rattle.sh_core.specs.Worlds.{run}
 
--- how many of its slots have a value, or none any more
+-- the numbers of its slots that are live, marked and retired
 abbrev pub used_text : Accounts → List ℕ
 used_text a = codes " live " ++ decimal a.live ++ codes " marked " ++ decimal a.marked ++ codes " retired "
     ++ decimal a.retired
 
--- how many are empty
+-- the numbers of its empty slots: the owner's, in a hand, and queued
 abbrev pub empty_text : Accounts → List ℕ
 empty_text a = codes " mine " ++ decimal a.mine ++ codes " hand " ++ decimal a.hand ++ codes " queued "
     ++ decimal a.queued
@@ -35,18 +35,18 @@ abbrev pub shard_text : Numbers → (ℕ → Accounts) → (shard : ℕ) → Lis
 shard_text shape of_page shard = flat_map (λ page. page_text shard page (of_page (page_number shape shard page)))
     (range_with_len 0 (pages_of shape))
 
--- by shards, and then by pages, where each page has these accounts by its number over the whole heap
+-- by shards, and then by pages; each page has these accounts by its number over the whole heap
 abbrev pub accounts_text : Numbers → (ℕ → Accounts) → List ℕ
 accounts_text shape of_page = flat_map (shard_text shape of_page) (range_with_len 0 shape.shards)
 
--- ---- pages that tell their accounts
+-- ---- pages that give their accounts
 
 -- the accounts of each page, by its number over the whole heap, after these events
 abbrev pub accounts_after : Plan → List Event → ℕ → Accounts
 accounts_after plan events = accounts (run plan events) (lists_of plan events)
 
 -- What was known of pages stays known, and the events that lead to what is known are among those that led there before.
--- Where asking changes nothing, it is fixed.
+-- If asking changes nothing, it is the same.
 pub record Later {A : Type 0} (fixed : Bool) (numbers : A → Numbers) (leads : A → List Event → Type 0)
     (says : A → ℕ → Accounts → Type 0) (old new : A) : Type 0 where
   pub is_fixed : fixed ≡ true → new ≡ old

@@ -19,7 +19,7 @@ pub record MovesPiece (left rest : Option (List ℕ)) (old new : List ℕ) (n mo
   pub few : n ≤ most
   pub none : n ≡ 0 → IsAtEnd rest
 
--- the bytes but for these last ones were written
+-- the bytes except these last ones were written
 pub record Wrote (old new : Option (List ℕ)) (bytes rest : List ℕ) : Type 0 where
   pub front : List ℕ
   pub split : bytes ≡ front ++ rest

@@ -20,14 +20,14 @@ abbrev pub IsScriptFault : Mode → List ℕ → Fault → Type 0
 IsScriptFault mode.Steps text f = IsEventsFault text f
 IsScriptFault _ text f = IsCallsFault text f
 
--- an owner may be unable to leave in a mode of the running heap alone
+-- an owner may be unable to leave only in a mode of the running heap
 abbrev pub MayWait : Mode → Type 0
 MayWait mode.Plain = ⊥
 MayWait mode.Steps = ⊥
 MayWait _ = Unit {0}
 
--- memory may be refused and an end may fail at any text, and an owner may be unable to leave at a script; any other
--- fault is the text's
+-- Memory may be refused, and a read or a write may fail, with any text. An owner may be unable to leave with a script.
+-- Any other fault is the text's.
 abbrev pub IsFaultOf : Mode → List ℕ → Fault → Type 0
 IsFaultOf mode text fault.Memory = Unit {0}
 IsFaultOf mode text fault.Io = Unit {0}

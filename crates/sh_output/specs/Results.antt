@@ -1,4 +1,4 @@
--- How the result of a call is told.
+-- How the result of a call is reported.
 use Rattle.std.specs.Prelude.{ℕ, List, Option, Result, Ok, Err}
 use Rattle.sh_value.specs.declared.refusal.Refusal.{Refusal}
 use Rattle.sh_output.specs.declared.answer.Answer.{Answer}

@@ -1,4 +1,4 @@
-//! What lines say of pages.
+//! The text of account lines.
 ghost use Rattle.std.specs.Prelude.{◌≡◌, ◌++◌, ◌<◌, List, OnOk, decimal};
 ghost use Rattle.sh_shape.specs.Shape.{IsShape};
 ghost use Rattle.sh_shape.specs.Places.{page_number, pages_of};
@@ -60,7 +60,7 @@ fn push_account(
     out.extend_from_slice(b"\n")
 }
 
-// Adds the line of a page, where it has a class.
+// Adds the line of a page, if it has a class.
 fn push_page<P: Pages>(
     out: &mut Vec<u8>,
     pages: &mut P,
@@ -103,7 +103,7 @@ fn push_shard<P: Pages>(out: &mut Vec<u8>, pages: &mut P, shard: u32) -> Result<
 }
 
 /// Adds the account lines of the pages with a class, by shards and then by pages. They are the pages' accounts after
-/// whatever events lead to what is known of the heap then.
+/// any events that lead to what is known of the heap then.
 pub fn push_accounts<P: Pages>(out: &mut Vec<u8>, pages: &mut P) -> Result<(), AllocError>
     requires shape { IsShape (P.numbers pages.old) }
     ensures later { Later P.fixed P.numbers P.leads P.says pages.old pages.new }

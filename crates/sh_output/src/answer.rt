@@ -1,4 +1,4 @@
-//! What a call of a script is answered, and how a reply line says it.
+//! The answer to a call of a script, and how a reply line writes it.
 ghost use Rattle.std.specs.Prelude.{◌≡◌, ◌+◌, ◌<◌, ◌≤◌, ◌++◌, length, OnOk, OnErr};
 ghost use Rattle.std.specs.Vec.{vec_capacity, vec_len};
 ghost use Rattle.sh_output.specs.Replies.{call_text, answer_text, reply_line};
@@ -8,10 +8,10 @@ use sh_script::{Call, CallLine};
 use sh_value::{Refusal, Value};
 use std::alloc::AllocError;
 
-/// What a call is answered.
+/// The answer to a call.
 #[derive(Drop, Debug, PartialEq, Eq)]
 pub enum Answer {
-    /// The call was done, and has nothing to tell.
+    /// The call was done, and has no result.
     Done,
     /// The key of an insert.
     Key(u64),
@@ -67,7 +67,7 @@ fn push_refusal(out: &mut Vec<u8>, refusal: Refusal) -> Result<(), AllocError>
     out.extend_from_slice(refusal.name().as_bytes())
 }
 
-/// Adds the reply line of a call. It is refused only where there is no room for the line.
+/// Adds the reply line of a call. It is refused only if there is no room for the line.
 pub fn push_reply(out: &mut Vec<u8>, line: &CallLine, answer: &Answer) -> Result<(), AllocError>
     ensures text { OnOk result (out.new.items ≡ out.old.items ++ reply_line line.now answer.now) }
     ensures room { vec_capacity out.old ≤ vec_capacity out.new }

@@ -1,5 +1,5 @@
-//! Reading a script and writing an output, each by one call after the other. A call that answers an error, be it only
-//! that it was interrupted, ends the run.
+//! Reading a script and writing an output, each by one call after the other. A call that returns an error ends the run,
+//! even if it was only interrupted.
 ghost use Rattle.std.specs.Prelude.{◌≡◌, ℕ, List, ◌<◌, ◌≤◌, OnOk, OnErr, IfOk, IfErr, Some, take};
 ghost use Rattle.std.specs.Io.KnownBytes.{Appends, Consumes};
 ghost use Rattle.sh_output.specs.Ends.{IsEndFault, MovesPiece, ReadsAtMostBytes, WroteBeginning};
@@ -8,10 +8,10 @@ use sh_script::{Fault, SCRIPT_BYTES_MAX};
 use std::alloc::Global;
 use std::io::{Read, Write};
 
-// One more byte than a script may have: a longer text is as wrong as one of this length, and is left unread.
+// One more byte than a script may have: longer texts are wrong too, so the rest is left unread.
 const LIMIT: usize = SCRIPT_BYTES_MAX + 1;
 
-// How many bytes are asked for at a time.
+// The number of bytes that one read asks for.
 const PIECE: usize = 4096;
 
 // Moves at most `most` bytes onto the end of `text`, by one read.
@@ -52,8 +52,8 @@ pub fn read_text<R: Read>(alloc: Global, reader: &mut R) -> Result<Vec<u8>, Faul
     Ok(text)
 }
 
-/// Writes all bytes, by one write after the other. A write that takes no byte is a fault like one that fails; what was
-/// written until then is a beginning of the bytes, and not all of them.
+/// Writes all bytes, by one write after the other. A write that takes no byte is a fault like one that fails. What was
+/// written before the fault is a beginning of the bytes, and not all of them.
 #[tactic(auto, using(crate::proofs::EndLemmas::writes_pieces))]
 pub fn write_text<W: Write>(writer: &mut W, bytes: &[u8]) -> Result<(), Fault>
     ensures ok { OnOk result (Appends (W.contents writer.old) (W.contents writer.new) bytes.now) }

@@ -1,4 +1,4 @@
-//! Keys as a script has them: with the tag of the header, where it has one.
+//! Keys as a script has them: with the tag of the header, if it has one.
 ghost use Rattle.std.specs.Prelude.{◌≡◌, ◌^◌, ◌<◌, IfSome};
 ghost use Rattle.sh_output.specs.Keys.{shown, key_shown};
 
@@ -15,7 +15,7 @@ pub fn shown(tag: Option<u8>, key: u64) -> u64
     }
 }
 
-/// The key of the heap that is written so. With a tag, a number without it is no key.
+/// The key of the heap that is written as this number. With a tag, a number without it is no key.
 #[tactic(auto, using(crate::proofs::KeyLemmas::untags, crate::proofs::KeyLemmas::untags_none))]
 pub fn key_shown(tag: Option<u8>, number: u64) -> Option<u64>
     ensures { result ≡ key_shown tag number }

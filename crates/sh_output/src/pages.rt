@@ -1,4 +1,4 @@
-//! Heaps whose pages tell their accounts.
+//! Heaps that can give the accounts of their pages.
 ghost use Rattle.std.specs.Prelude.{◌≡◌, ℕ, Bool, true, List};
 ghost use Rattle.sh_key.specs.Layout.{Layout};
 ghost use Rattle.sh_shape.specs.Shape.{Numbers};
@@ -18,7 +18,7 @@ use sh_shape::Shape;
 
 /// A heap whose pages can be asked for their accounts. What is known of it may grow as it is asked.
 pub trait Pages {
-    // Asking changes nothing.
+    // True if asking changes nothing.
     ghost fixed: { Bool };
 
     ghost layout: { Layout };
@@ -35,7 +35,7 @@ pub trait Pages {
     fn shape(&self) -> Shape
         ensures { result ≡ numbers self.now };
 
-    /// The accounts of a page: those of the core, after whatever events lead to what is known.
+    /// The accounts of a page: those of the core, after any events that lead to what is known.
     fn accounts(&mut self, shard: u32, page: u32) -> Accounts
         requires there { ShapeHasPage (numbers self.old) shard page }
         ensures later { Later fixed numbers leads says self.old self.new }

@@ -1,5 +1,5 @@
--- The command line: what clap is told of it, and what clap's rules make of the words. The first word is the program's
--- name. clap is told the modes by reference, so they are words that stand somewhere (`Bor`).
+-- The command line: its description for clap, and the result of clap's rules for the words. The first word is the
+-- program's name. clap has the modes by reference, so they are words in borrowed memory (`Bor`).
 use Rattle.std.specs.Prelude.{◌≡◌, ◌≢◌, ◌⊎◌, Bool, true, false, List, [], ◌∷◌, map, Option, Some, None, codes}
 use Rattle.std.specs.Borrow.{Bor}
 use Rattle.clap.specs.Words.{App, Rule, Text, IsAmong, fault_of, first_of, matches_of, new_app, new_rule, one_of, takes}
@@ -26,11 +26,11 @@ IsNoMode word = (mode : Mode) → word ≢ mode_name mode
 abbrev pub all_modes : List Mode
 all_modes = Plain ∷ Heap ∷ Steps ∷ Threads ∷ []
 
--- the words of the modes, wherever they stand
+-- the words of the modes, wherever they are in memory
 abbrev pub NameModes : Bor (List (Bor Text)) → Type 0
 NameModes modes = map (λ w. w.now) modes.now ≡ map mode_name all_modes
 
--- the mode has to be given, and is one of these words
+-- the mode is required, and is one of these words
 abbrev pub mode_rule : Bor (List (Bor Text)) → Rule
 mode_rule modes = record (new_rule (codes "mode")) { required = true; action = Some Set; parser = Some (Names modes) }
 
@@ -42,7 +42,7 @@ accounts_rule = record (new_rule (codes "accounts")) { long = Some (codes "accou
 abbrev pub program_app : App
 program_app = let new = new_app (codes "shardheap") in record new { top = record new.top { has_version = true } }
 
--- what clap is told of the command line
+-- the description of the command line for clap
 abbrev pub command_line : Bor (List (Bor Text)) → App
 command_line modes = with_rule (with_rule program_app (mode_rule modes)) accounts_rule
 
@@ -50,11 +50,11 @@ command_line modes = with_rule (with_rule program_app (mode_rule modes)) account
 abbrev pub mode_word : Bor (List (Bor Text)) → List Text → Option Text
 mode_word modes words = first_of (codes "mode") (matches_of (command_line modes) words)
 
--- what clap makes of the flag
+-- the text that clap gives for the flag
 abbrev pub flag_text : Bor (List (Bor Text)) → List Text → Option Text
 flag_text modes words = one_of (codes "accounts") (matches_of (command_line modes) words)
 
--- a flag is set where its text is "true", and isn't where it has none or "false"
+-- a flag is set if its text is "true", and is not set if it has none or "false"
 pub record Shows (text : Option Text) (flag : Bool) : Type 0 where
   pub none : text ≡ None → flag ≡ false
   pub yes : text ≡ Some (codes "true") → flag ≡ true
@@ -68,8 +68,8 @@ pub record CommandSays (words : List Text) (mode : Mode) (accounts : Bool) : Typ
   pub mode_is : mode_word modes words ≡ Some (mode_name mode)
   pub accounts_is : Shows (flag_text modes words) accounts
 
--- the words are refused with an error of this kind: memory ran out, or clap's rules find this fault; words that the
--- rules take are refused for want of memory alone
+-- The words are refused with an error of this kind: memory ran out, or clap's rules find this fault. Words that the
+-- rules take are refused only for want of memory.
 pub record IsRefused (words : List Text) (kind : ErrorKind) : Type 0 where
   pub modes : Bor (List (Bor Text))
   pub named : NameModes modes

@@ -1,4 +1,4 @@
--- How the program ends, by its words, the bytes that it can read and what it has written.
+-- How the program ends, by its words, the bytes that it can read and those that it has written.
 use Rattle.std.specs.Prelude.{◌≡◌, ◌≢◌, ◌⊎◌, ℕ, Bool, List, [], Option}
 use Rattle.std.specs.Io.KnownBytes.{Appends}
 use Rattle.clap.specs.Words.{Text}
@@ -12,7 +12,7 @@ use Rattle.sh_replay.specs.Output.{WritesOutput, Stops}
 use Rattle.sh_program.specs.Faults.{status_of}
 use Rattle.sh_program.specs.Options.{IsRefused, CommandSays}
 
--- a text is shown: 0 where all of it was written, and 3 where a write failed and a beginning of it was written
+-- a text is shown: 0 if all of it was written, and 3 if a write failed and a beginning of it was written
 abbrev pub ShowsText : (text : List ℕ) → ℕ → (old new : Option (List ℕ)) → Type 0
 ShowsText text status old new = ((status ≡ 0) × Appends old new text) ⊎ ((status ≡ 3) × WroteBeginning old new text)
 
@@ -21,8 +21,8 @@ abbrev pub EndsShown : ℕ → (old new : Option (List ℕ)) → Type 0
 EndsShown status old new =
     ((text : List ℕ) × (text ≢ []) × ShowsText text status old new) ⊎ ((status ≡ 3) × (new ≡ old))
 
--- the exit status where clap gave no options for this reason: that of the text that is shown for help and the version;
--- 3 where memory ran out; and 2 after a mistake in the words
+-- The exit status if clap gave no options for this reason. For help and the version it is that of the text that is
+-- shown. It is 3 if memory ran out, and 2 after a mistake in the words.
 abbrev pub EndsBy : ErrorKind → ℕ → (old new : Option (List ℕ)) → Type 0
 EndsBy DisplayHelp status old new = EndsShown status old new
 EndsBy DisplayVersion status old new = EndsShown status old new

@@ -1,4 +1,4 @@
-//! What the program says of a fault, and what it ends with.
+//! The text and the exit status of a fault.
 ghost use Rattle.std.specs.Prelude.{◌≡◌};
 ghost use Rattle.sh_program.specs.Faults.{status_of};
 
@@ -11,8 +11,8 @@ use std::fmt::Write;
 /// digits, and `Command` or `Unbound`.
 pub const LINE_MAX: usize = 64;
 
-/// The exit status of a run that ended with this fault: 2 where the script is at fault, and 3 where memory, an owner or
-/// a device was.
+/// The exit status of a run that ended with this fault: 2 if the script is at fault, and 3 if memory, an owner or a
+/// device is.
 pub fn status(fault: Fault) -> u8
     ensures { result ≡ status_of fault }
 {
@@ -22,7 +22,8 @@ pub fn status(fault: Fault) -> u8
     }
 }
 
-/// A fault as the program names it on the standard error, with no newline: `shardheap: fault 14 Script line 3 Unbound`.
+/// A fault as the program writes it to the standard error, with no newline: `shardheap: fault 14 Script line 3
+/// Unbound`.
 #[derive(Clone, Copy, Debug)]
 pub struct FaultLine(pub Fault);
 

@@ -23,7 +23,7 @@ fn name(mode: Mode) -> &'static str
     }
 }
 
-/// The mode that is written so.
+/// The mode that is written as this word.
 fn mode_named(word: &str) -> Option<Mode>
     ensures some { IfSome result (λ mode. word.now ≡ mode_name mode) }
     ensures none { IfNone result (IsNoMode word.now) }
@@ -55,7 +55,7 @@ Exit status:
   2  the command line or the script is wrong
   3  memory was refused, an owner could not leave, or a read or a write failed";
 
-// The mode, which has to be given.
+// The mode, which is required.
 fn mode_argument<'a>(alloc: Global, modes: &'a [&'a str]) -> Arg<'a>
     ensures { rule_of result ≡ mode_rule modes.entry }
 {

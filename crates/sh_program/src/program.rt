@@ -17,8 +17,8 @@ use std::io::{Read, Write};
 use std::sync::Wait;
 use std::thread::Threads;
 
-/// Names a fault on one line of `errors`, in one write where the line is taken whole, and gives the exit status. The
-/// status tells it also where `errors` takes nothing.
+/// Names a fault on one line of `errors`, in one write if the line is taken whole, and returns the exit status. The
+/// status reports it even if `errors` takes nothing.
 pub fn report<E: Write>(fault: Fault, errors: &mut E) -> u8
     ensures { result ≡ status_of fault }
 {
@@ -26,7 +26,7 @@ pub fn report<E: Write>(fault: Fault, errors: &mut E) -> u8
     status(fault)
 }
 
-/// Writes help or the version, and gives the exit status: 0 where all of it went out, and 3 where a write failed.
+/// Writes help or the version, and returns the exit status: 0 if all of it was written, and 3 if a write failed.
 fn show_text<W: Write, E: Write>(text: &str, output: &mut W, errors: &mut E) -> u8
     ensures { ShowsText text.now result (W.contents output.old) (W.contents output.new) }
 {
@@ -36,7 +36,7 @@ fn show_text<W: Write, E: Write>(text: &str, output: &mut W, errors: &mut E) -> 
     }
 }
 
-/// Shows why clap gave no options, and gives the exit status: help goes to `output`, a mistake in the words to
+/// Shows why clap gave no options, and returns the exit status: help goes to `output`, a mistake in the words to
 /// `errors`.
 fn show<W: Write, E: Write>(alloc: Global, error: &Error, output: &mut W, errors: &mut E) -> u8
     ensures ends { EndsBy (kind_of error.now) result (W.contents output.old) (W.contents output.new) }
@@ -57,12 +57,12 @@ fn show<W: Write, E: Write>(alloc: Global, error: &Error, output: &mut W, errors
     }
 }
 
-/// Runs the program: the script that `input` gives, in the mode that `words` say, with the replies to `output` and what
-/// is wrong to `errors`. The first word is the program's name. Gives the exit status: 0, also for help and the version;
-/// 2 for a mistake in the words or in the script; and 3 where memory, an owner, a read or a write failed.
+/// Runs the program: the script that `input` gives, in the mode that `words` name. Replies go to `output`, and errors
+/// to `errors`. The first word is the program's name. Returns the exit status: 0, also for help and the version; 2 for
+/// a mistake in the words or in the script; and 3 if memory, an owner, a read or a write failed.
 ///
-/// Nothing of `input` is read for help, for the version and for a mistake in the words, and never more than one byte
-/// more than a script may have.
+/// For help, for the version and for a mistake in the words, nothing of `input` is read. Otherwise at most one byte
+/// more than a script may have is read.
 pub fn run<R: Read, W: Write, E: Write, T: Threads + Wait + Sync>(
     rt: &T,
     alloc: Global,

@@ -1,4 +1,4 @@
-//! What is said where the words of the process cannot be had.
+//! What is reported if the words of the process cannot be read.
 ghost use Rattle.std.specs.Prelude.{◌≡◌, ◌≢◌};
 ghost use Rattle.std.specs.IoError.{error_kind};
 
@@ -7,8 +7,8 @@ use sh_script::Fault;
 use std::io;
 use std::io::{ErrorKind, Write};
 
-/// Names what is wrong where the process's own words could not be had, and gives the exit status: 2 where they are no
-/// text, and 3 where memory ran out.
+/// Reports why the process's own words could not be read, and returns the exit status: 2 if they are not valid text,
+/// and 3 if memory ran out.
 pub fn refuse<E: Write>(error: &io::Error, errors: &mut E) -> u8
     ensures memory { error_kind error.now ≡ ErrorKind.OutOfMemory → result ≡ 3 }
     ensures words { error_kind error.now ≢ ErrorKind.OutOfMemory → result ≡ 2 }

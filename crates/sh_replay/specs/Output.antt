@@ -11,7 +11,7 @@ use Rattle.sh_models.specs.Output.{IsPlain, IsSteps}
 use Rattle.sh_heap_run.specs.HeapOutput.{IsHeap, IsHeapWaiting}
 use Rattle.sh_beside.specs.Law.{IsBesidePlain}
 
--- the text is a script of calls, and this is what mode heap may write for it: what it answers is beside mode plain
+-- the text is a script of calls, and this is what mode heap may write for it: its answers are beside mode plain
 abbrev pub IsHeapAlone : (accounts : Bool) → (text output : List ℕ) → Type 0
 IsHeapAlone accounts text output = (heap : IsHeap true accounts text output) × IsBesidePlain heap
 
@@ -29,7 +29,7 @@ IsWaiting mode.Steps text output = ⊥
 IsWaiting mode.Heap text output = IsHeapWaiting text output
 IsWaiting mode.Threads text output = IsHeapWaiting text output
 
--- what came of a script, and whether an owner could not leave
+-- the result of a script, with whether an owner could not leave
 abbrev pub IsRunOf : Mode → (accounts : Bool) → (text output : List ℕ) → (is_waiting : Bool) → Type 0
 IsRunOf mode accounts text output true = IsWaiting mode text output
 IsRunOf mode accounts text output false = IsOutput mode accounts text output
@@ -52,15 +52,15 @@ pub record Begins (mode : Mode) (accounts : Bool) (text : List ℕ) (old new : O
   pub is_output : IsOutput mode accounts text output ⊎ IsWaiting mode text output
   pub written : WroteBeginning old new output
 
--- What a run that ends with a fault has written: all replies where an owner could not leave; where an end failed,
--- nothing or a beginning of an output, and never a whole one; and else nothing.
+-- What a run that ends with a fault has written: all replies if an owner could not leave; nothing or a beginning of an
+-- output, and never a whole one, if a read or a write failed; and nothing otherwise.
 abbrev pub Stops : Mode → (accounts : Bool) → List ℕ → Fault → Option (List ℕ) → Option (List ℕ) → Type 0
 Stops mode accounts text fault.Waiting old new = WritesReplies mode text old new
 Stops mode accounts text fault.Io old new = Keeps old new ⊎ Begins mode accounts text old new
 Stops mode accounts text f old new = Keeps old new
 
--- what was written where writing ends with a fault: the whole output, which is all replies of a run at whose end an
--- owner could not leave, or a beginning of it, since a write failed
+-- What was written if writing ends with a fault. It is the whole output, which is all replies of a run at whose end an
+-- owner could not leave; or a beginning of it, since a write failed.
 abbrev pub EndsWriting : (output : List ℕ) → (is_waiting : Bool) → Fault → Option (List ℕ) → Option (List ℕ) → Type 0
 EndsWriting output is_waiting fault.Waiting old new = (is_waiting ≡ true) × Appends old new output
 EndsWriting output is_waiting fault.Io old new = WroteBeginning old new output

@@ -19,7 +19,7 @@ use std::io::{Read, Write};
 use std::sync::Wait;
 use std::thread::Threads;
 
-// What a script's run in one thread gives, and whether an owner could not leave at its end.
+// The result of a script's run in one thread, with whether an owner could not leave at its end.
 fn output(alloc: Global, text: &[u8], mode: Mode, accounts: bool) -> Result<Ran, Fault>
     requires { mode ≢ Mode.Threads }
     ensures output { IfOk result (λ r. IsRunOf mode accounts text.now r.output.items r.is_waiting) }
@@ -57,7 +57,7 @@ fn output_gated<R: Threads + Wait + Sync, G: Gate + Sync>(
     }
 }
 
-// Writes what a script's run gave. It is waiting that ends it then, where an owner could not leave.
+// Writes the result of a script's run. If an owner could not leave, the run then ends as waiting.
 fn write_ran<W: Write>(writer: &mut W, ran: &Ran) -> Result<(), Fault>
     ensures ok { OnOk result ((ran.now.is_waiting ≡ false)
         × Appends (W.contents writer.old) (W.contents writer.new) ran.now.output.items) }
@@ -73,10 +73,10 @@ fn write_ran<W: Write>(writer: &mut W, ran: &Ran) -> Result<(), Fault>
 
 /// Reads a script, runs it in one thread, in a mode other than threads, and writes its replies.
 ///
-/// It reads until a read gives no byte, or 1,048,577 bytes, and parses the whole script before anything runs. A fault
-/// is the first fault of the script, or `Memory`, or `Io` where a read or a write failed, or, in mode heap, `Waiting`
-/// where an owner could not leave once all replies were written. The flag asks for accounts, which mode plain has none
-/// of.
+/// It reads until a read gives no byte, or 1,048,577 bytes, and parses the whole script before anything runs. The fault
+/// is the first fault of the script, or `Memory`, or `Io` if a read or a write failed. In mode heap it may also be
+/// `Waiting`, if an owner could not leave once all replies were written. The flag asks for accounts; mode plain has
+/// none.
 pub fn replay_alone<R: Read, W: Write>(
     alloc: Global,
     reader: &mut R,
@@ -86,8 +86,8 @@ pub fn replay_alone<R: Read, W: Write>(
 ) -> Result<(), Fault>
     requires mode { mode ≢ Mode.Threads }
 
-    // Where the run ends well, what was read is a script, and the output of its run was written. Else it ends with a
-    // fault of the script, or, at a script too, with want of memory, a failed end, or an owner that could not leave.
+    // If the run ends well, what was read is a script, and the output of its run was written. Otherwise it ends with a
+    // fault of the script; or, even with a script, with want of memory, a failed end, or an owner that could not leave.
     ensures ends { (input : List ℕ) → R.remaining reader.old ≡ Some input → Replays mode accounts (take 1048577 input)
         result (W.contents writer.old) (W.contents writer.new) }
     ensures reads { ReadsAtMostBytes (R.remaining reader.old) (R.remaining reader.new) 1048577 }
@@ -98,10 +98,10 @@ pub fn replay_alone<R: Read, W: Write>(
 }
 
 /// The same in any mode. In mode threads the lines of each pass run in a thread of their own, and a line that uses a
-/// name waits until it is bound; each worker passes the gate before and after each of its calls. It ends with `Io` too
-/// where a thread can't be started, with nothing written.
+/// name waits until it is bound. Each worker passes the gate before and after each of its calls. If a thread can't be
+/// started, it ends with `Io` too, with nothing written.
 ///
-/// Nothing is promised of a gate that does not return, or of when a thread runs.
+/// Nothing is promised of a gate that does not return, or about when a thread runs.
 pub fn replay_gated<R: Read, W: Write, T: Threads + Wait + Sync, G: Gate + Sync>(
     rt: &T,
     alloc: Global,

@@ -69,7 +69,7 @@ fn heap_lines<L: KeyLayout + Send + Sync, R: Threads + Wait + Sync, G: Gate + Sy
     lines_on(rt, alloc, &heap, seats, tag, lines, asked, gate)
 }
 
-/// What is written for a script of calls on the running heap, where each pass is a thread, or its fault.
+/// What is written for a script of calls on the running heap, with a thread for each pass, or its fault.
 pub fn threads_output<R: Threads + Wait + Sync, G: Gate + Sync>(
     rt: &R,
     alloc: Global,

@@ -39,7 +39,7 @@ two_of (a ∷ ws) = after_first a ws
 abbrev pub none_of : List Word → Result (Unit {0}) Trouble
 none_of ws = if length ws == 0 then Ok tt else Err (trouble.Because cause.Count)
 
--- numbers up to the end of the line, behind those that stand before them
+-- numbers up to the end of the line, after those before them
 abbrev pub numbers_from : List ℕ → List Word → Result (List ℕ) Trouble
 numbers_from front [] = Ok front
 numbers_from front (w ∷ ws) = or_cause cause.Number (number_of w) >>= λ n. numbers_from (front ++ n ∷ []) ws

@@ -30,7 +30,7 @@ binds (call.Insert words) = true
 binds call.Post = true
 binds _ = false
 
--- how many names the lines bind
+-- the number of names that the lines bind
 abbrev pub names_in : List CallLine → ℕ
 names_in lines = length (filter (λ l. binds l.call) lines)
 

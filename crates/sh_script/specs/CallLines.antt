@@ -1,4 +1,4 @@
--- What a line with a call gives as it is read, or the first fault in it: the steps stand in the order of the faults.
+-- What a line with a call gives as it is read, or the first fault in it: the steps are in the order of the faults.
 use Rattle.std.specs.Prelude.{ℕ, ◌==◌, Bool, true, false, not, List, [], ◌∷◌, ◌++◌, drop, Option, Some, None, is_some}
 use Rattle.std.specs.Prelude.{Result, Ok, Err, slice_index, codes, if◌then◌else◌}
 use Rattle.std.specs.Str.{bytes_eq}
@@ -20,9 +20,9 @@ use Rattle.sh_script.specs.declared.calls.Call.{Call}
 use Rattle.sh_script.specs.declared.calls.Call.TheVariants as call
 use Rattle.sh_script.specs.declared.calls.CallLine.{CallLine}
 
--- ---- a call, where these names are bound
+-- ---- a call, when these names are bound
 
--- a name bound before, and where
+-- a name bound before, and its place
 unfoldable pub found_of : List Binding → Word → Result Found Trouble
 found_of names word =
     if is_name word then or_cause cause.Unbound (find_from 0 names word)

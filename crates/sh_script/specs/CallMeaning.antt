@@ -13,7 +13,7 @@ use Rattle.sh_script.specs.declared.calls.Call.{Call}
 use Rattle.sh_script.specs.declared.calls.Call.TheVariants as call
 use Rattle.sh_script.specs.declared.calls.CallLine.{CallLine}
 
--- ---- calls, where these names are bound
+-- ---- calls, when these names are bound
 
 -- the word is a name that is bound, and this is its place and what binds it
 pub record IsBoundName (names : List Binding) (word : Word) (i : ℕ) (by : Binder) : Type 0 where

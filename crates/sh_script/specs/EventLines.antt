@@ -1,4 +1,4 @@
--- What a line with an event gives as it is read, or the first fault in it: the steps stand in the order of the faults.
+-- What a line with an event gives as it is read, or the first fault in it: the steps are in the order of the faults.
 use Rattle.std.specs.Prelude.{ℕ, ◌-◌, ◌==◌, nat_lt, List, [], ◌∷◌, ◌++◌, length, Option, Some, None, Result, Ok, Err}
 use Rattle.std.specs.Prelude.{codes, if◌then◌else◌}
 use Rattle.std.specs.Str.{bytes_eq}
@@ -33,7 +33,7 @@ kind_named word = find (λ k. bytes_eq (kind_name k) word) kinds
 
 -- ---- the arguments
 
--- a number is what the one word says
+-- the number that the only word writes
 abbrev pub number_alone : List Word → Result ℕ Trouble
 number_alone ws = only_of ws >>= λ w. or_cause cause.Number (number_of w)
 

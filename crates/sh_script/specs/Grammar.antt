@@ -1,4 +1,4 @@
--- A script as its lines and what they mean, apart from how it is read. What a line behind the header means is given by
+-- A script as its lines and what they mean, apart from how it is read. What a line after the header means is given by
 -- `means`, from the number of passes, what there was before the line, its words, and what there is after it.
 use Rattle.std.specs.Prelude.{◌≡◌, ◌≢◌, ℕ, ◌+◌, ◌<◌, ◌≤◌, ◌⊎◌, List, [], ◌∷◌, ◌++◌, length, Err}
 use Rattle.std.specs.List.{All}
@@ -46,7 +46,8 @@ pub record SaysMore {S : Type 0} (means : Means S) (before : Read S) (header : H
   pub is : means header.shape.passes before.body words body
   pub now_is : now ≡ with_body before body
 
--- what says something is `version 2` and then a header, or a header at once, and what adds to the body after it
+-- the lines that say something are `version 2` and then a header, or a header at once, and then those that add to the
+-- body
 abbrev pub SaysNext : {S : Type 0} → Means S → Read S → Opening → List Word → Read S → Type 0
 SaysNext means before opening.Unread words now = SaysVersion before words now ⊎ SaysHeader version.One before words now
 SaysNext means before opening.Versioned words now = SaysHeader version.Two before words now
@@ -71,7 +72,7 @@ pub record Says {S : Type 0} (means : Means S) (before : Read S) (line : List �
 
 -- ---- a text
 
--- each line with its newline, and then what stands behind the last newline
+-- each line with its newline, and then the text after the last newline
 abbrev pub spelling : List (List ℕ) → List ℕ → List ℕ
 spelling [] rest = rest
 spelling (l ∷ ls) rest = l ++ 10 ∷ spelling ls rest
@@ -123,7 +124,7 @@ pub record HasBadLine {S : Type 0} (means : Means S) (adds : Adds S) (start : S)
     pub bad_is : after_line adds now bad ≡ Err trouble
     pub is : f ≡ at_line (1 + length before) trouble
 
--- no line has a fault, but the end has
+-- no line has a fault, but the end has one
 pub record HasBadEnd {S : Type 0} (means : Means S) (start : S) (text : List ℕ) (f : Fault) : Type 0 where
   pub lines : List (List ℕ)
   pub rest : List ℕ

@@ -10,7 +10,7 @@ use Rattle.sh_script.specs.declared.header.Header.{Header}
 use Rattle.sh_script.specs.declared.header.Version.{Version}
 use Rattle.sh_script.specs.declared.header.Version.TheVariants as version
 
--- what a layout is called, and which one it is
+-- the name of a layout, and which layout it is
 abbrev pub layout_name : LayoutName → Word
 layout_name layout.Tiny = codes "tiny"
 layout_name layout.Wide = codes "wide"
@@ -21,7 +21,7 @@ layout_of layout.Tiny = tiny
 layout_of layout.Wide = wide
 layout_of layout.Tagged = tagged
 
--- version 2 alone has every layout
+-- only version 2 has every layout
 abbrev pub HasLayout : Version → LayoutName → Type 0
 HasLayout version.One layout.Tagged = ⊥
 HasLayout _ _ = Unit {0}
@@ -31,7 +31,7 @@ pub record IsTag (words : List Word) (tag : ℕ) : Type 0 where
   pub says : words ≡ codes "tag" ∷ decimal tag ∷ []
   pub small : tag < 256
 
--- layout tagged is followed by its tag, and each other layout by nothing, and has none
+-- layout tagged is followed by its tag; any other layout is followed by nothing, and has no tag
 abbrev pub AreTag : LayoutName → List Word → Option ℕ → Type 0
 AreTag layout.Tagged words (Some tag) = IsTag words tag
 AreTag layout.Tagged words None = ⊥

@@ -12,7 +12,7 @@ pub record IsWord (word : Word) : Type 0 where
   pub some : word ≢ []
   pub no_space : All (λ b. b ≢ 32) word
 
--- what stands behind a word: nothing, or a space first
+-- the text after a word: nothing, or a space first
 abbrev pub EndsWord : List ℕ → Type 0
 EndsWord [] = Unit {0}
 EndsWord (b ∷ bs) = b ≡ 32

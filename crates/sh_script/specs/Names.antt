@@ -17,7 +17,7 @@ binding_of b = record { name = b.name.now; by = b.by }
 abbrev pub names_of : List Binding → List Word
 names_of bindings = map (λ b. b.name) bindings
 
--- the first place of a name, where the first of these has place n, and what binds it
+-- the first place of a name, and what binds it; the first of these names has place n
 abbrev pub find_from : ℕ → List Binding → Word → Option Found
 find_from n [] name = None
 find_from n (b ∷ bs) name = if bytes_eq b.name name then Some (record { place = n; by = b.by }) else find_from (n + 1)

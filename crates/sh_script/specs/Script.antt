@@ -1,4 +1,4 @@
--- A whole script as it is read, or its first fault. What a line behind the header adds is given by `adds`, from the
+-- A whole script as it is read, or its first fault. What a line after the header adds is given by `adds`, from the
 -- number of passes and what there was before it.
 use Rattle.std.specs.Prelude.{ℕ, ◌+◌, ◌==◌, nat_lt, List, [], ◌∷◌, length, Result, Ok, Err, slice_index, if◌then◌else◌}
 use Rattle.std.specs.List.{slice_split, list_all}
@@ -56,29 +56,29 @@ after_line adds before line = whole_line line >>= λ words. says adds before wor
 
 -- ---- the script
 
--- the lines of a text that end in a newline, and then what stands after the last newline
+-- the lines of a text that end in a newline, and then the text after the last newline
 abbrev pub pieces_of : List ℕ → List (List ℕ)
 pieces_of text = slice_split is_newline text
 
--- a header has come by the end
+-- a header was read by the end
 abbrev pub headed : {S : Type 0} → ℕ → Opening → S → Result (Header × S) Fault
 headed n opening.Unread body = Err (fault.Script n cause.Header)
 headed n opening.Versioned body = Err (fault.Script n cause.Header)
 headed n (opening.Headed h) body = Ok (h, body)
 
--- nothing stands after the last newline
+-- nothing comes after the last newline
 abbrev pub ended : {S : Type 0} → Read S → ℕ → List ℕ → Result (Header × S) Fault
 ended before n [] = headed n before.opening before.body
 ended before n (b ∷ bs) = Err (fault.Script n (if nat_lt 512 (length (b ∷ bs)) then cause.Size else cause.Cut))
 
--- what the lines from number n on give, or the first fault
+-- the result of the lines from number n on, or the first fault
 abbrev pub read_from : {S : Type 0} → Adds S → Read S → ℕ → List (List ℕ) → Result (Header × S) Fault
 read_from adds before n [] = ended before n []
 read_from adds before n (rest ∷ []) = ended before n rest
 read_from adds before n (line ∷ next ∷ more) = placed n (after_line adds before line) >>= λ now. read_from adds now
     (n + 1) (next ∷ more)
 
--- what a text gives, or its first fault
+-- the result of a text, or its first fault
 abbrev pub script_of : {S : Type 0} → Adds S → S → List ℕ → Result (Header × S) Fault
 script_of adds start text =
     if nat_lt 1048576 (length text) then Err (fault.Script 0 cause.Size)

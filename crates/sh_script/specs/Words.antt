@@ -23,14 +23,14 @@ is_small_letter b = nat_le 97 b && nat_le b 122
 abbrev pub words_in : List ℕ → List Word
 words_in line = filter (λ w. not (length w == 0)) (slice_split is_space line)
 
--- what stands before the first dot, and behind it
+-- the parts before and after the first dot
 abbrev pub is_dot : ℕ → Bool
 is_dot b = b == 46
 
 abbrev pub split_dot : Word → Option (Word × Word)
 split_dot word = option_map (λ i. (take i word, drop (i + 1) word)) (position is_dot word)
 
--- the number that digits go on to, from what stands before them
+-- the number that these digits complete, after n from the digits before them
 abbrev pub number_from : ℕ → Word → Option ℕ
 number_from n [] = Some n
 number_from n (b ∷ bs) = if is_digit b && nat_lt (n * 10 + (b - 48)) (2 ^ 64) then number_from (n * 10 + (b - 48)) bs

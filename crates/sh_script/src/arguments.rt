@@ -22,7 +22,7 @@ pub fn next<'w, 'a>(
     }
 }
 
-/// The number that the next word is and the words after it, or the trouble that it is none.
+/// The number that the next word is and the words after it, or the trouble that the word is no number.
 pub fn next_number<'w, 'a>(
     cause: Cause,
     words: &'w [&'a [u8]],
@@ -50,7 +50,7 @@ pub fn next_pass<'w, 'a>(
     Ok((pass as u32, rest))
 }
 
-/// Finds no word.
+/// Succeeds if there is no word.
 pub fn none(words: &[&[u8]]) -> Result<(), Trouble>
     ensures { Gives (λ u. u) result (none_of (map (λ w. w.now) words.now)) }
 {
@@ -61,7 +61,7 @@ pub fn none(words: &[&[u8]]) -> Result<(), Trouble>
     }
 }
 
-/// The one word that there is.
+/// The only word.
 pub fn only<'a>(words: &[&'a [u8]]) -> Result<&'a [u8], Trouble>
     ensures { Gives (λ w. w.now) result (only_of (map (λ w. w.now) words.now)) }
 {

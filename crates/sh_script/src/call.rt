@@ -157,7 +157,7 @@ fn call<'a>(
     }
 }
 
-/// The line that the words say, and the name that it binds, which is not bound yet.
+/// The line that the words express, and the name that it binds, which is not bound yet.
 #[tactic(auto, unfolding(crate::specs::CallLines::line_of))]
 pub fn line<'a>(
     alloc: Global,

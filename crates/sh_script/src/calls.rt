@@ -2,7 +2,7 @@
 use crate::header::Header;
 use crate::numbers::Numbers;
 
-/// What a call speaks of: a name or a key.
+/// What a call refers to: a name or a key.
 #[derive(Clone, Copy, Debug, PartialEq, Eq)]
 pub enum Reference {
     /// A name, by the order in which the script's names are bound, from 0.

@@ -128,7 +128,7 @@ fn fill(alloc: Global, words: &[&[u8]]) -> Result<Action, Trouble>
     }
 }
 
-// What number j reads of a key: its class, its length, or word j - 2.
+// What read number j of a key reads: its class, its length, or word j - 2.
 fn part(key: u64, number: u64) -> Action
     ensures { result ≡ part_of key number }
 {
@@ -187,7 +187,7 @@ fn action(alloc: Global, kind: ActionKind, words: &[&[u8]]) -> Result<Action, Tr
     }
 }
 
-/// The event that the words say.
+/// The event that the words express.
 #[tactic(auto, unfolding(crate::specs::EventLines::event_of))]
 pub fn event(alloc: Global, passes: u32, words: &[&[u8]]) -> Result<Event, Trouble>
     ensures { Gives (λ e. e) result (event_of passes (map (λ w. w.now) words.now)) }

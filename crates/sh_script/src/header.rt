@@ -36,24 +36,24 @@ pub struct Header {
 /// The versions of scripts.
 #[derive(Clone, Copy, Debug, PartialEq, Eq)]
 pub enum Version {
-    /// Without a line for it.
+    /// Version 1, which has no version line.
     One,
     /// After the line `version 2`.
     Two,
 }
 
-/// How far a script has come to its first call or event.
+/// How far the reading of a script has got before its first call or event.
 #[derive(Clone, Copy, Debug, PartialEq, Eq)]
 pub enum Opening {
-    /// Nothing was said.
+    /// Nothing was read.
     Unread,
-    /// The line `version 2` was said, and the header follows.
+    /// The line `version 2` was read, and the header follows.
     Versioned,
-    /// The header was said, and calls or events follow.
+    /// The header was read, and calls or events follow.
     Headed(Header),
 }
 
-// The shape with these numbers, where it is one that fits the layout.
+// The shape with these numbers, if there is one and it fits the layout.
 fn shape_in<L: KeyLayout>(shards: u64, segments: u64, passes: u64) -> Option<Shape>
     ensures { result ≡ shape_of L.layout (record { shards = shards; segments = segments; passes = passes }) }
 {

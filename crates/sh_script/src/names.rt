@@ -6,7 +6,7 @@ use std::marker::Model;
 /// What binds a name.
 #[derive(Clone, Copy, Debug, PartialEq, Eq)]
 pub enum Binder {
-    /// `insert`, to the key that it answers.
+    /// `insert`, to the key that it returns.
     Insert,
     /// `post`, without a key.
     Post,
@@ -63,14 +63,14 @@ impl<'a> Names<'a> {
         }
     }
 
-    /// Where a name stands, and what bound it, if it is bound.
+    /// The place of a name, and what bound it, if it is bound.
     pub fn find(&self, name: &[u8]) -> Option<Found>
         ensures { result ≡ find_from 0 self.now name.now }
     {
         self.found.get(name).copied()
     }
 
-    /// Binds a name that is not bound, behind the others.
+    /// Binds a name that is not bound, after the others.
     pub fn push(&mut self, name: &'a [u8], by: Binder) -> Result<(), AllocError>
         requires { find_from 0 self.old name.now ≡ None }
         ensures ok { OnOk result (self.new ≡ self.old ++ record { name = name.entry.now; by = by } ∷ []) }

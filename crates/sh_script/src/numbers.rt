@@ -34,7 +34,7 @@ impl Numbers {
         }
     }
 
-    /// Adds a word behind the others.
+    /// Adds a word after the others.
     pub(crate) fn push(&mut self, word: u64) -> Result<(), AllocError>
         ensures ok { OnOk result (self.new ≡ self.old ++ word ∷ []) }
         ensures err { OnErr result (self.new ≡ self.old) }

@@ -17,7 +17,7 @@ fn dot_in(word: &[u8]) -> Option<usize>
     word.iter().position(|b| *b == b'.')
 }
 
-// What stands before the first dot, and behind it, if there is a dot.
+// The parts before and after the first dot, if there is a dot.
 fn split_dot(word: &[u8]) -> Option<(&[u8], &[u8])>
     ensures { option_map (λ p. (p.0.now, p.1.now)) result ≡ split_dot word.now }
 {

@@ -1,4 +1,4 @@
-//! A script is read line by line, whatever its lines say behind the header.
+//! A script is read line by line, whatever its lines after the header contain.
 ghost use Rattle.std.specs.Prelude.{◌≡◌, ◌<◌, ℕ, List, Result, [], ◌∷◌, IfNone, IfSome, length, map};
 ghost use Rattle.std.specs.List.{list_all, position};
 ghost use Rattle.std.specs.Int.{is_in_range};
@@ -19,9 +19,9 @@ pub const LINE_BYTES_MAX: usize = 512;
 /// The most bytes of a script.
 pub const SCRIPT_BYTES_MAX: usize = 1_048_576;
 
-/// What the lines behind the header add up to.
+/// What the lines after the header add up to.
 pub trait ScriptBody<'a>: Drop {
-    // What there is after a line with these words, where the header has so many passes.
+    // What there is after a line with these words, in a heap with this number of passes.
     ghost adds: { ℕ → Self → List Word → Result Self Trouble };
 
     /// Adds a line, whose pass is below the number of passes. After an error it is not used again.
@@ -29,7 +29,7 @@ pub trait ScriptBody<'a>: Drop {
         ensures { GivesNext (adds passes self.old (map (λ w. w.now) words.now)) self.new result };
 }
 
-/// What the lines so far have given.
+/// The result of the lines so far.
 #[derive(Drop)]
 pub struct Read<B> {
     pub opening: Opening,
@@ -92,7 +92,7 @@ fn read_line<'a, B: ScriptBody<'a>>(
     }
 }
 
-// The header and the body, where the text ends as it may.
+// The header and the body, if the text may end here.
 fn end<B: Drop>(read: Read<B>, number: u64, rest: &[u8]) -> Result<(Header, B), Fault>
     ensures { result ≡ ended read number rest.now }
 {
@@ -112,7 +112,7 @@ fn end<B: Drop>(read: Read<B>, number: u64, rest: &[u8]) -> Result<(Header, B), 
 }
 
 #[tactic(auto, using(crate::proofs::Pieces::pieces_none, crate::proofs::Pieces::pieces_some))]
-/// The first line and what stands behind its newline, where there is one.
+/// The first line and the text after its newline, if there is a newline.
 fn split_line(text: &[u8]) -> Option<(&[u8], &[u8])>
     ensures none { IfNone result (pieces_of text.now ≡ text.now ∷ []) }
     ensures some { IfSome result (λ p. pieces_of text.now ≡ p.0.now ∷ pieces_of p.1.now) }

@@ -42,15 +42,15 @@ fn events(alloc: Global, text: &[u8]) -> Result<Events, Fault>
 /// script of more than 1,048,576 bytes is `Size` at line 0, whatever it has otherwise. `Memory` is returned if a growth
 /// was refused.
 pub fn parse_calls(alloc: Global, text: &[u8]) -> Result<Calls, Fault>
-    // What is answered is so.
+    // What is returned is the script of the text.
     ensures calls { IfOk result (λ c. IsCalls text.now c.header c.lines.items) }
     ensures tag { IfOk result (λ c. HasTag c.header.layout c.header.tag) }
     ensures passes { IfOk result (λ c. All (λ l. l.pass < c.header.shape.passes) c.lines.items) }
-    // A line uses, and waits for, no name but those that the lines before it bind.
+    // A line uses, and waits for, only names that the lines before it bind.
     ensures bound { IfOk result (λ c. NamesAreBound c.lines.items) }
     ensures fault { IfErr result (λ f. f ≢ Fault.Memory → IsCallsFault text.now f) }
 
-    // What is so is answered, unless memory runs out.
+    // A text that is a script is returned as one, unless memory runs out.
     ensures only_calls { (header : Header) (calls : List CallLine) → IsCalls text.now header calls
         → GivesCalls result (Ok (header, calls)) }
     ensures only_fault { (f : Fault) → IsCallsFault text.now f
@@ -59,18 +59,18 @@ pub fn parse_calls(alloc: Global, text: &[u8]) -> Result<Calls, Fault>
     calls(alloc, text)
 }
 
-/// The events of a script: its header, and its event lines in order. Keys stand in them as they are written, also where
-/// the header has a tag.
+/// The events of a script: its header, and its event lines in order. Keys are as they are written, even if the header
+/// has a tag.
 ///
-/// Faults are answered as by `parse_calls`.
+/// Faults are returned as by `parse_calls`.
 pub fn parse_events(alloc: Global, text: &[u8]) -> Result<Events, Fault>
-    // What is answered is so.
+    // What is returned is the script of the text.
     ensures events { IfOk result (λ e. IsEvents text.now e.header e.lines.items) }
     ensures tag { IfOk result (λ e. HasTag e.header.layout e.header.tag) }
     ensures passes { IfOk result (λ e. All (λ l. l.pass < e.header.shape.passes) e.lines.items) }
     ensures fault { IfErr result (λ f. f ≢ Fault.Memory → IsEventsFault text.now f) }
 
-    // What is so is answered, unless memory runs out.
+    // A text that is a script is returned as one, unless memory runs out.
     ensures only_events { (header : Header) (events : List Event) → IsEvents text.now header events
         → GivesEvents result (Ok (header, events)) }
     ensures only_fault { (f : Fault) → IsEventsFault text.now f

@@ -35,7 +35,7 @@ impl<T: Drop> From<AllocFailed<T>> for Trouble {
 impl Trouble {
     ghost use Rattle.sh_script.specs.Trouble.{at_line};
 
-    /// The fault that it is at a line, counted from 1.
+    /// The fault of a line, counted from 1, that has this trouble.
     pub fn at(self, line: u64) -> Fault
         ensures { result ≡ at_line line self }
     {

@@ -31,7 +31,7 @@ abbrev pub is_skipped : Outcome → Bool
 is_skipped Skipped = true
 is_skipped _ = false
 
--- a reason is told of what is skipped, and of nothing else
+-- a reason is given for an event that is skipped, and for no other
 abbrev pub TellsWhy : Touched → Outcome → Type 0
 TellsWhy touched outcome = has_reason touched ≡ is_skipped outcome
 
@@ -44,8 +44,8 @@ abbrev pub SaysLast : List ℕ → Option Event → Type 0
 SaysLast text (Some e) = (header : Header) × (rest : List Event) × IsEvents text header (rest ++ e ∷ [])
 SaysLast text None = (header : Header) × IsEvents text header []
 
--- the event is done, as the core's step does it, and told by its line of mode steps; nothing is done and told where
--- there is none
+-- The event is done, as the core's step does it, and its line of mode steps is written. If there is no event, nothing
+-- is done or written.
 abbrev pub DoesSaid : Layout → Option ℕ → KeptWorld → Option Event → KeptWorld → Option (List ℕ) → Type 0
 DoesSaid layout tag before (Some e) after (Some line) = (outcome : Outcome)
     × DoesEvent layout before (event_shown tag e) outcome after
@@ -53,15 +53,15 @@ DoesSaid layout tag before (Some e) after (Some line) = (outcome : Outcome)
 DoesSaid layout tag before None after None = after ≡ before
 DoesSaid layout tag before _ after _ = ⊥
 
--- the world does the last event of the text, and tells of it
+-- the world does the last event of the text, and returns the text on it
 pub record DoesLine (layout : Layout) (tag : Option ℕ) (text : List ℕ) (before after : KeptWorld)
     (told : Option (List ℕ)) : Type 0 where
   pub said : Option Event
   pub says : SaysLast text said
   pub does : DoesSaid layout tag before said after told
 
--- a text that is no script has its first fault, and nothing is done; memory may be refused before the event is done, or
--- after it, to what would be told of it
+-- A text that is no script has its first fault, and nothing is done. Memory may be refused before the event is done, or
+-- after it, for the text on it.
 abbrev pub RefusesLine : Layout → Option ℕ → List ℕ → KeptWorld → KeptWorld → Fault → Type 0
 RefusesLine layout tag text before after fault.Memory = (after ≡ before)
     ⊎ ((line : List ℕ) × DoesLine layout tag text before after (Some line))

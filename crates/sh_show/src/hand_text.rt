@@ -20,7 +20,7 @@ fn push_page_name(out: &mut String, view: &View<'_>, page: u64) -> Result<(), Al
     write!(out, "page {shard}.{page}")
 }
 
-// Writes what a pass has begun, with the event that goes on with it.
+// Writes what a pass has begun, with the event that continues it.
 fn push_hand(out: &mut String, view: &View<'_>, hand: &Hand) -> Result<(), AllocError> {
     match hand {
         Hand::Idle => out.push_str("idle"),
@@ -89,7 +89,7 @@ fn is_release(entry: &Entry, pass: u32, key: u64) -> bool {
     }
 }
 
-// How many holds the pass has on the key.
+// The number of holds that the pass has on the key.
 fn holds_on(view: &View<'_>, pass: u32, key: u64) -> usize {
     let got = view
         .log
@@ -112,7 +112,7 @@ fn is_first_got(view: &View<'_>, pass: u32, key: u64, at: usize) -> bool {
         == Some(at)
 }
 
-// Writes the key, as often as the pass holds it.
+// Writes the key once for each hold of the pass on it.
 fn push_hold(
     out: &mut String,
     view: &View<'_>,
@@ -144,7 +144,7 @@ fn push_holds(out: &mut String, view: &View<'_>, pass: u32, part: &Part) -> Resu
     Ok(())
 }
 
-// Whether there is something to tell of a pass.
+// Whether there is something to write about a pass.
 fn is_busy(part: &Part) -> bool {
     !part.is_idle() || part.owned().is_some() || part.hold_count() > 0
 }

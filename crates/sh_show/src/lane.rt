@@ -39,7 +39,7 @@ fn page_link_owed(part: &Part, page: u64) -> Option<u64> {
     }
 }
 
-/// The link of a slot that is not written yet, and who owes it.
+/// The link of a slot that is not written yet, with the pass that owes it.
 pub fn slot_owed(view: &View<'_>, spot: Spot) -> Option<Owed> {
     let mut pass = 0;
     for part in view.parts {
@@ -51,7 +51,7 @@ pub fn slot_owed(view: &View<'_>, spot: Spot) -> Option<Owed> {
     None
 }
 
-/// The link of a page that is not written yet, and who owes it.
+/// The link of a page that is not written yet, with the pass that owes it.
 pub fn page_owed(view: &View<'_>, page: u64) -> Option<Owed> {
     let mut pass = 0;
     for part in view.parts {
@@ -63,7 +63,7 @@ pub fn page_owed(view: &View<'_>, page: u64) -> Option<Owed> {
     None
 }
 
-/// Writes to what a link leads, of slots or of pages.
+/// Writes the target of a link, of slots or of pages.
 pub fn push_target(out: &mut String, what: &str, link: u64) -> Result<(), AllocError> {
     match Link::of(link) {
         Link::Unwritten => out.push_str(" to nothing"),
@@ -90,8 +90,8 @@ fn link_of(view: &View<'_>, lane: Lane, item: u64) -> (Link, bool) {
     }
 }
 
-// Writes the link of an item, and answers the item that it leads to: `->` where it is written, `~>` where it is only
-// in the hand of the pass that owes it.
+// Writes the link of an item, and returns the item that it leads to: `->` if it is written, `~>` if it is only in the
+// hand of the pass that owes it.
 fn push_link(
     out: &mut String,
     view: &View<'_>,
@@ -113,10 +113,10 @@ fn push_link(
     }
 }
 
-// As many items as a lane may have at most.
+// The most items that a lane may have.
 const ITEMS: u32 = 2048;
 
-/// Writes what is linked from an item on: `1 -> 0 -> end`, or `none`.
+/// Writes the links from an item on: `1 -> 0 -> end`, or `none`.
 pub fn push_lane(
     out: &mut String,
     view: &View<'_>,

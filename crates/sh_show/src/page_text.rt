@@ -13,7 +13,7 @@ use sh_stack::top_item;
 use std::alloc::{AllocError, Global};
 use std::fmt::Write;
 
-// Writes the class of a page, which is blank where it has none.
+// Writes the class of a page, which is blank if it has none.
 fn push_class(out: &mut String, class: Option<u32>) -> Result<(), AllocError>
     requires { IfSome class (λ class. class < class_count) }
 {
@@ -26,7 +26,7 @@ fn push_class(out: &mut String, class: Option<u32>) -> Result<(), AllocError>
     }
 }
 
-// Writes who owns the page's shard, and whether that pass has noted the page's class.
+// Writes which pass owns the page's shard, and whether that pass has noted the page's class.
 fn push_owner(out: &mut String, view: &View<'_>, page: u64) -> Result<(), AllocError> {
     let Some(pass) = view.owner_of(view.shard_of(page)) else {
         return out.push_str("; left");
@@ -58,7 +58,7 @@ fn push_run(out: &mut String, first: u32, last: u32, text: &str) -> Result<(), A
     }
 }
 
-// Writes the slots of the page's class, those that are alike and stand side by side on one line.
+// Writes the slots of the page's class. Neighbours that are alike share a line.
 fn push_slots(
     out: &mut String,
     alloc: Global,
@@ -97,7 +97,7 @@ fn push_lanes(out: &mut String, view: &View<'_>, page: u64) -> Result<(), AllocE
     out.push_str("\n")
 }
 
-// Where the cursor of the page's owner stands.
+// The slot that the cursor of the page's owner is at.
 fn cursor(view: &View<'_>, page: u64) -> Option<u64> {
     let pass = view.owner_of(view.shard_of(page))?;
     view.parts.get(pass)?.cursor(page)

@@ -3,7 +3,7 @@
 /// The condition of an event that does not hold of its pass.
 #[derive(Clone, Copy, Debug, PartialEq, Eq)]
 pub enum Reason {
-    /// The key has another tag than the header says, or none.
+    /// The key has another tag than the header, or none.
     OtherTag,
     /// The key is none of the layout, or names no slot of the heap.
     NoKey,
@@ -17,7 +17,7 @@ pub enum Reason {
     NoClass,
     /// The pass has begun something else.
     Busy,
-    /// The pass has begun nothing with which the event goes on.
+    /// The pass has begun nothing that the event continues.
     NothingBegun,
     /// The pass has as many holds as it may have.
     HoldsFull,
@@ -66,7 +66,7 @@ pub enum Reason {
 }
 
 impl Reason {
-    /// The reason as a trace writes it, behind `skipped: `.
+    /// The reason as a trace writes it, after `skipped: `.
     pub fn text(&self) -> &'static str {
         match self {
             Reason::OtherTag => "the key has not the tag of the header",

@@ -1,11 +1,11 @@
-//! What is said behind the line of an event: why it was skipped, or that it found that there was nothing to do.
+//! What is written after the line of an event: why it was skipped, or that it found nothing to do.
 use crate::touched::Touched;
 use crate::view::View;
 use sh_slots::Spot;
 use sh_step::{ActionKind, Part};
 use sh_word::{Kind, State};
 
-// Whether an end of a generation failed: the slot came to nobody's hand and is not retired.
+// Whether an end of a generation failed: the slot is not retired, and the pass neither owns it nor has it in hand.
 fn has_failed(view: &View<'_>, part: &Part, spot: Spot) -> bool {
     let is_retired = State::of(view.state(spot)).kind() == Kind::Retired;
     part.is_idle() && !part.has_mine(spot) && !is_retired
@@ -30,8 +30,8 @@ fn met(view: &View<'_>, part: &Part, kind: ActionKind, touched: Touched) -> &'st
 }
 
 /// What is written after the line of an event of this kind by the pass. If it was skipped, that is why. If it met a
-/// link that is not written, another pass on the slot or an owner, and so left all as it was, that is said. Otherwise
-/// it is nothing.
+/// link that is not written, another pass on the slot or an owner, and so changed nothing, that is said. Otherwise it
+/// is empty.
 pub fn remark(view: &View<'_>, pass: u32, kind: ActionKind, touched: Touched) -> &'static str {
     if let Touched::Nothing(reason) = touched {
         return reason.text();

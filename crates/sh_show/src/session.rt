@@ -29,7 +29,7 @@ use sh_step::{ActionKind, Event};
 use sh_value::Refusal;
 use std::alloc::{AllocError, Global};
 
-// What an event would touch, in a world of this shape: nothing, for a reason, exactly where it has no row.
+// What an event would touch, in a world of this shape: nothing, with a reason, exactly if it has no row.
 fn touched_in<L: KeyLayout>(world: &World<L>, shape: &Shape, event: &Event) -> Touched
     requires { shape.now ≡ world.now.shape }
     ensures { (w : Modelled) → StandsFor world.now w
@@ -41,7 +41,7 @@ fn touched_in<L: KeyLayout>(world: &World<L>, shape: &Shape, event: &Event) -> T
     }
 }
 
-// Does what is an event of the heap; a line that is none is skipped.
+// Does an event of the heap; a line that is no event of the heap is skipped.
 fn do_event<L: KeyLayout>(
     world: &mut World<L>,
     event: Option<Event>,
@@ -85,7 +85,7 @@ pub struct Session<L: KeyLayout> {
     opening: Vec<u8>,
 }
 
-/// One text behind another.
+/// One text after another.
 pub fn appended(alloc: Global, text: &[u8], line: &[u8]) -> Result<Vec<u8>, AllocError>
     ensures { IfOk result (λ all. all.items ≡ text.now ++ line.now) }
 {
@@ -99,7 +99,7 @@ impl<L: KeyLayout> Session<L> {
     /// The heap of this shape as it opens, whose keys are written with this tag. The opening is the text of a script of
     /// events up to its header, as `heap tiny 1 1 2` and a newline.
     ///
-    /// Refused as `BadShape` where the shape does not fit the layout, and as `Memory` where memory is refused.
+    /// Refused as `BadShape` if the shape does not fit the layout, and as `Memory` if memory is refused.
     pub fn new(
         alloc: Global,
         shape: Shape,
@@ -138,7 +138,7 @@ impl<L: KeyLayout> Session<L> {
         Ok(lines.pop())
     }
 
-    // Does the event, and tells of it.
+    // Does the event, and returns the text on it.
     fn tell(&mut self, alloc: Global, event: Event) -> Result<Told, Fault>
         requires room { HasTagRoom L.layout self.old.tag }
         ensures does { IfOk result (λ told. DoesSaid L.layout self.old.tag self.old.world (Some event) self.new.world
@@ -166,12 +166,13 @@ impl<L: KeyLayout> Session<L> {
         })
     }
 
-    /// Does what the line says, which ends with its newline, and returns the text on it: of the line `0 Adopt 0` that
-    /// pass 0 adopted shard 0, and what the shard is then. A line that says nothing does nothing, and returns `None`.
-    /// An event whose condition does not hold is skipped and changes nothing, and the text says why.
+    /// Does what the line says, which ends with its newline, and returns the text on it. For the line `0 Adopt 0`, the
+    /// text says that pass 0 adopted shard 0, and shows the shard after that. A line that says nothing does nothing,
+    /// and returns `None`. An event whose condition does not hold is skipped and changes nothing, and the text says
+    /// why.
     ///
-    /// A line that is none of a script is refused with its fault, whose number counts from the first line of the
-    /// opening, and does nothing. Where memory is refused, `Memory`, the event may have been done.
+    /// A line that may not be in a script is refused with its fault, whose number counts from the first line of the
+    /// opening, and does nothing. If memory is refused, as `Memory`, the event may have been done.
     pub fn line(&mut self, alloc: Global, line: &[u8]) -> Result<Option<Told>, Fault>
         requires room { HasTagRoom L.layout self.old.tag }
         ensures does { IfOk result (λ told. DoesLine L.layout self.old.tag (self.old.opening.items ++ line.now)

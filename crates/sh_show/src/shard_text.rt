@@ -6,14 +6,14 @@ use sh_stack::top_item;
 use std::alloc::AllocError;
 use std::fmt::Write;
 
-// The page of the shard at which its owner's bell cursor stands.
+// The page of the shard that its owner's bell cursor is at.
 fn bell_cursor(view: &View<'_>, shard: u64) -> Option<u64> {
     let pass = view.owner_of(shard)?;
     let page = view.parts.get(pass)?.bell_cursor()?;
     Some(view.local_of(page))
 }
 
-/// Writes what a shard is: its owner, its bell, and the chain of pages that its owner has yet to follow.
+/// Writes the state of a shard: its owner, its bell, and the chain of pages that its owner has yet to follow.
 pub fn push_shard(out: &mut String, view: &View<'_>, shard: u64) -> Result<(), AllocError> {
     write!(out, "  shard {shard}: ")?;
     match view.owner_of(shard) {

@@ -29,7 +29,7 @@ fn is_in_hand(part: &Part, spot: Spot) -> bool {
     }
 }
 
-// Writes the words of the value that stands in the slot.
+// Writes the words of the value in the slot.
 fn push_value(out: &mut String, view: &View<'_>, spot: Spot) -> Result<(), AllocError> {
     let width = match class_named(view.class_word(spot.page)) {
         Some(class) => width(class),
@@ -62,7 +62,7 @@ fn push_queued(out: &mut String, view: &View<'_>, spot: Spot) -> Result<(), Allo
     }
 }
 
-// Writes who has an empty slot.
+// Writes which pass has an empty slot.
 fn push_whereabouts(out: &mut String, view: &View<'_>, spot: Spot) -> Result<(), AllocError> {
     if let Some(pass) = view.parts.iter().position(|part| part.has_mine(spot)) {
         return write!(out, "; own of pass {pass}");
@@ -73,8 +73,8 @@ fn push_whereabouts(out: &mut String, view: &View<'_>, spot: Spot) -> Result<(),
     push_queued(out, view, spot)
 }
 
-/// The text of a slot of its page's class: its kind, its generation, how many are on it, and where it is or what it
-/// has.
+/// The text of a slot of its page's class: its kind, its generation, the number of passes on it, and where it is or
+/// what it has.
 pub fn slot_text(alloc: Global, view: &View<'_>, spot: Spot) -> Result<String, AllocError> {
     let state = State::of(view.state(spot));
     let kind = state.kind();

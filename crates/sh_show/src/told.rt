@@ -11,8 +11,8 @@ use std::alloc::{AllocError, Global};
 pub struct Told {
     /// Its line as mode steps writes it, with its newline: `0 Adopt moved`.
     pub line: Vec<u8>,
-    /// What stands behind that on the same line: of a skipped event why, of one that left all as it was what it met,
-    /// and nothing of another.
+    /// The text after that on the same line: why an event was skipped, or what an event that changed nothing met. Empty
+    /// for any other event.
     pub remark: &'static str,
     /// The lines of what it touched, as it is after the event, and of the passes.
     pub shown: String,

@@ -20,11 +20,11 @@ pub enum Touched {
     Page(u64),
     /// A slot of a page.
     Slot(Spot),
-    /// The link of a page's slot, at which a cursor stands.
+    /// The link of a page's slot that a cursor is at.
     Link(u64, u64),
     /// A shard.
     Shard(u64),
-    /// A page, by which a shard's bell changes.
+    /// A page that changes a shard's bell.
     PageAndBell(u64),
 }
 
@@ -58,7 +58,7 @@ fn by_move(the_move: &Move) -> Touched
     }
 }
 
-/// What an action by a pass with this part touches: nothing, for a reason, exactly where it has no row.
+/// What an action by a pass with this part touches: nothing, with a reason, exactly if it has no row.
 pub fn touched_by<L: KeyLayout>(shape: &Shape, part: &Part, action: &Action) -> Touched
     ensures { has_reason result ≡ is_none (row (plan_of L.layout shape.now) part.now action.now) }
 {

@@ -11,7 +11,7 @@ use sh_shape::{PAYLOAD_WORDS, Place, SLOT_PLACES, Shape};
 use sh_slots::Spot;
 use sh_step::Part;
 
-// For how many slots a page has places, and how many payload words it has.
+// The number of slots that a page has places for, and the number of its payload words.
 const SLOTS: u64 = SLOT_PLACES as u64;
 
 const PAYLOAD: u64 = PAYLOAD_WORDS as u64;
@@ -61,7 +61,7 @@ impl<'a> View<'a> {
         }
     }
 
-    /// The word at a place; 0 where the heap has no such place.
+    /// The word at a place; 0 if the heap has no such place.
     pub fn word(&self, place: Place) -> u64 {
         if !has_place(&self.shape, place) {
             return 0;
@@ -92,7 +92,7 @@ impl<'a> View<'a> {
         self.word(Place::Link(spot.page, spot.slot))
     }
 
-    /// A word of the value in a slot, by its number, where slots are so wide.
+    /// A word of the value in a slot, by its number, in slots of this width.
     pub fn value_word(&self, spot: Spot, width: u32, number: u64) -> u64 {
         let first = spot.slot.saturating_mul(u64::from(width));
         self.word(Place::Payload(spot.page, first.saturating_add(number)))

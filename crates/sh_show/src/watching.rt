@@ -20,7 +20,7 @@ fn at(number: u64, fault: Fault) -> Fault {
     }
 }
 
-// The next line, with its newline where it has one; the empty line at the end.
+// The next line, with its newline if it has one; the empty line at the end.
 fn next_line<R: BufRead>(alloc: Global, input: &mut R) -> Result<Vec<u8>, Fault> {
     let mut line = Vec::new(alloc);
     match input.read_until(b'\n', &mut line) {
@@ -29,7 +29,7 @@ fn next_line<R: BufRead>(alloc: Global, input: &mut R) -> Result<Vec<u8>, Fault>
     }
 }
 
-// Writes a line of the script again: one that says nothing as it is, and another behind `> `.
+// Writes a line of the script again: one that says nothing as it is, and another after `> `.
 fn echo<W: Write>(output: &mut W, line: &[u8], is_said: bool) -> Result<(), Fault> {
     if is_said {
         write_text(output, b"> ")?;
@@ -37,7 +37,7 @@ fn echo<W: Write>(output: &mut W, line: &[u8], is_said: bool) -> Result<(), Faul
     write_text(output, line)
 }
 
-// Whether a fault of a text of so many lines is that its header is yet to come.
+// Whether a fault of a text of this number of lines is that its header is yet to come.
 fn is_to_come(fault: Fault, lines: u64) -> bool {
     match fault {
         Fault::Script(line, Cause::Header) => line > lines,
@@ -45,7 +45,8 @@ fn is_to_come(fault: Fault, lines: u64) -> bool {
     }
 }
 
-// The header of a text of so many lines, where it is a script of events up to it; none where it is yet to come.
+// The header of a text of this number of lines, if it is a script of events up to it; none if the header is yet to
+// come.
 fn header_of(alloc: Global, lines: u64, text: &[u8]) -> Result<Option<Header>, Fault>
     ensures header { IfOk result (λ header. IfSome header (IsHeadedBy text.now)) }
     ensures tag { IfOk result (λ header. IfSome header (λ h. HasTag h.layout h.tag)) }
@@ -61,7 +62,7 @@ fn header_of(alloc: Global, lines: u64, text: &[u8]) -> Result<Option<Header>, F
     }
 }
 
-// What a script begins with: its header, the lines up to it that say something, and how many lines were read.
+// The beginning of a script: its header, the lines up to it that say something, and the number of lines that were read.
 struct Opening {
     header: Header,
     text: Vec<u8>,
@@ -76,8 +77,8 @@ fn says(line: &[u8]) -> bool {
     }
 }
 
-// Reads the lines up to the header, and writes them again. Lines that say nothing are not kept, so that a script may
-// begin with as many as it likes.
+// Reads the lines up to the header, and writes them again. Lines that say nothing are not kept, so a script may begin
+// with any number of them.
 fn open<R: BufRead, W: Write>(
     alloc: Global,
     input: &mut R,
@@ -114,11 +115,11 @@ fn open<R: BufRead, W: Write>(
             count = count.saturating_add(1);
         }
     }
-    // (no input has so many lines)
+    // (no input has this many lines)
     Err(Fault::Io)
 }
 
-// Writes what is told of an event, and an empty line behind it.
+// Writes the text on an event, and an empty line after it.
 fn write_told<W: Write>(output: &mut W, told: &Told) -> Result<(), Fault> {
     let Some((_, line)) = told.line.as_slice().split_last() else {
         return Ok(());
@@ -133,7 +134,7 @@ fn write_told<W: Write>(output: &mut W, told: &Told) -> Result<(), Fault> {
     write_text(output, b"\n")
 }
 
-// Does a line, and writes what is told of it.
+// Does a line, and writes the text on it.
 fn do_line<L: KeyLayout, W: Write>(
     session: &mut Session<L>,
     alloc: Global,
@@ -154,7 +155,7 @@ fn do_line<L: KeyLayout, W: Write>(
     }
 }
 
-// Does the lines behind the header.
+// Does the lines after the header.
 fn watch_lines<L: KeyLayout, R: BufRead, W: Write>(
     alloc: Global,
     opening: Opening,
@@ -178,12 +179,12 @@ fn watch_lines<L: KeyLayout, R: BufRead, W: Write>(
             return Err(at(number.saturating_add(1), fault));
         }
     }
-    // (no input has so many lines)
+    // (no input has this many lines)
     Err(Fault::Io)
 }
 
 /// Does a script of events, one line after the other as `input` gives them, and writes its trace: each line again, and
-/// behind an event what came of it. Of the script `heap tiny 1 1 2`, `0 Adopt 0` the trace is
+/// after an event its effect. For the lines `heap tiny 1 1 2` and `0 Adopt 0` the trace is
 ///
 /// ```text
 /// > heap tiny 1 1 2
@@ -196,9 +197,9 @@ fn watch_lines<L: KeyLayout, R: BufRead, W: Write>(
 ///
 /// ```
 ///
-/// The first line with a fault ends it, once all lines before it were done and told: `Script` with the line's number,
-/// from 1, and the cause, or `BadShape`. It ends with `Memory` where memory is refused, and with `Io` where a read or a
-/// write fails.
+/// The first line with a fault ends it, once all lines before it were done and written: `Script` with the line's
+/// number, from 1, and the cause, or `BadShape`. It ends with `Memory` if memory is refused, and with `Io` if a read or
+/// a write fails.
 pub fn watch<R: BufRead, W: Write>(
     alloc: Global,
     input: &mut R,

@@ -1,5 +1,5 @@
 //! Which condition of an event does not hold. Each function looks at the conditions of some events, in the order in
-//! which a reader would, and answers the first that does not hold.
+//! which a reader would, and returns the first that does not hold.
 ghost use Rattle.std.specs.Prelude.{◌≤◌};
 ghost use Rattle.sh_shape.specs.Places.{slot_places};
 
@@ -17,7 +17,7 @@ fn unless(holds: bool, reason: Reason) -> Result<(), Reason> {
     if holds { Ok(()) } else { Err(reason) }
 }
 
-// How many slots a page under a class word has, and how wide they are: none where it is blank.
+// The number of slots that a page under a class word has, and their width; both are 0 if the page is blank.
 fn slots_under(class_word: u64) -> (u64, u64)
     ensures { result.0 ≤ slot_places }
 {
@@ -31,7 +31,7 @@ fn key_named<L: KeyLayout>(shape: &Shape, key: u64) -> Result<(), Reason> {
     unless(place_of_key::<L>(shape, key).is_some(), Reason::NoKey)
 }
 
-// What keeps from an event of a hold.
+// Why an event of a hold is not possible.
 fn why_no_use<L: KeyLayout>(shape: &Shape, part: &Part, key: u64) -> Result<(), Reason> {
     key_named::<L>(shape, key)?;
     unless(part.is_idle(), Reason::Busy)?;
@@ -61,7 +61,7 @@ fn why_no_word<L: KeyLayout>(
     unless(number < length, Reason::PastEnd)
 }
 
-// The page of this name, of a shard that the pass owns and has nothing else in hand for.
+// The page of this name, if the pass owns its shard and has begun nothing.
 fn page_touched<L: KeyLayout>(shape: &Shape, part: &Part, name: PageName) -> Result<u64, Reason> {
     let page = page_of_name::<L>(shape, name).ok_or(Reason::NoPage)?;
     unless(part.is_idle(), Reason::Busy)?;
@@ -69,7 +69,7 @@ fn page_touched<L: KeyLayout>(shape: &Shape, part: &Part, name: PageName) -> Res
     Ok(page)
 }
 
-// The same of a slot that is the pass's own.
+// The same for a slot, which has to be the pass's own.
 fn slot_touched<L: KeyLayout>(shape: &Shape, part: &Part, name: SlotName) -> Result<Spot, Reason> {
     let spot = slot_of_name::<L>(shape, name).ok_or(Reason::NoSlot)?;
     unless(part.is_idle(), Reason::Busy)?;
@@ -135,7 +135,7 @@ fn why_no_adopt(shape: &Shape, part: &Part, shard: u64) -> Result<(), Reason> {
     unless(shard < u64::from(shape.shards()), Reason::NoShard)
 }
 
-// What of a shard's pages is still with the pass.
+// Refuses if the pass has a cursor on a page of the shard, or has a page of it armed.
 fn why_pages_stay(shape: &Shape, part: &Part, shard: u64) -> Result<(), Reason> {
     let pages = u64::from(shape.pages());
     for local in 0..pages {
@@ -166,7 +166,7 @@ fn why_no_follow_bell(part: &Part) -> Result<(), Reason> {
     unless(part.bell_cursor().is_some(), Reason::NoBellCursor)
 }
 
-// What keeps from the next step of a filling.
+// Why the next step of a filling is not possible.
 fn why_no_filling(part: &Part, otherwise: Reason) -> Result<(), Reason> {
     match part.hand() {
         Hand::Filling(_, _, _) => Err(otherwise),

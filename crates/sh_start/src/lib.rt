@@ -1,4 +1,4 @@
-//! How a program begins: it is called with the words of its process (`words`), and shows what clap says in place of
+//! How a program begins: it is called with the words of its process (`words`), and shows what clap says instead of
 //! options (`shown`).
 #![tactic(auto)]
 

@@ -1,4 +1,4 @@
-//! What clap says in place of options.
+//! What clap says instead of options.
 ghost use Rattle.std.specs.Prelude.{◌≡◌, ◌≢◌};
 ghost use Rattle.clap.specs.Words.{kind_of};
 ghost use Rattle.sh_start.specs.Shown.{IsShown};
@@ -7,8 +7,8 @@ use clap::Error;
 use clap::error::ErrorKind;
 use std::io::Write;
 
-/// Shows what clap says in place of options, and gives the exit status. Help and the version go to `output`, and the
-/// status is 0, or 3 where a write failed. A mistake in the words goes to `errors`, and the status is 2.
+/// Shows what clap says instead of options, and returns the exit status. Help and the version go to `output`, and the
+/// status is 0, or 3 if a write failed. A mistake in the words goes to `errors`, and the status is 2.
 pub fn show<W: Write, E: Write>(error: &Error, output: &mut W, errors: &mut E) -> u8
     ensures mistake { kind_of error.now ≢ ErrorKind.DisplayHelp → kind_of error.now ≢ ErrorKind.DisplayVersion
         → (result ≡ 2) × (output.new ≡ output.old) }

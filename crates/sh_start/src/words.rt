@@ -16,8 +16,9 @@ pub fn texts(alloc: Global, words: &[String]) -> Result<Vec<&str>, AllocError>
     Ok(texts)
 }
 
-/// What the call gives for the words of the process, the first of which is the program's name. It is not made where the
-/// words cannot be had: the error is `OutOfMemory` where memory ran out, and another where a word is no text.
+/// Returns the result of the call with the words of the process, the first of which is the program's name. It is not
+/// made if the words cannot be read: the error is `OutOfMemory` if memory ran out, and another if a word is not valid
+/// text.
 pub fn with_words<T, R: Env + AllocGlobal, F: FnOnce(&[&str]) -> T>(
     rt: &R,
     call: F,

@@ -1,5 +1,5 @@
 //! The program `sh_trace`: it does the script of events on the standard input, one line at a time, and shows after each
-//! event what it touched. This file joins the process to `sh_show`.
+//! event what it touched. This file connects the process to `sh_show`.
 #![tactic(auto)]
 
 use sh_script::Fault;
@@ -19,7 +19,7 @@ skipped event it says why. The lines of a script are in docs/SCRIPTS.md, \"Lines
 line by line at a terminal.
 ";
 
-// The exit status of a fault: 2 where the script is at fault, else 3.
+// The exit status of a fault: 2 if the script is at fault, otherwise 3.
 fn status(fault: Fault) -> u8 {
     match fault {
         Fault::BadShape | Fault::Script(_, _) => 2,

@@ -12,7 +12,7 @@ use Rattle.sh_workers.specs.declared.worker.Made.{Made}
 use Rattle.sh_workers.specs.Works.{IsWork}
 use Rattle.sh_table.specs.Seats.{Heap}
 
--- the first i lines are answered, and what is left are the calls of the other lines, by which these are the passes
+-- The first i lines have answers, and the calls of the other lines are left. By these calls, these are the passes.
 pub record MergedSoFar (heap : Option Heap) (terms : RunTerms) (tag : Option ℕ) (lines : List CallLine) (i : ℕ)
     (numbers : List (Option ℕ)) (sides : List SeenPass) (rests : List (List Made)) (output : List ℕ) : Type 0 where
   pub answers : List Answer
@@ -26,7 +26,7 @@ pub record MergedSoFar (heap : Option Heap) (terms : RunTerms) (tag : Option ℕ
       → slice_get rests p ≡ Some made → IsWork heap terms tag (drop i lines) p (run.parts p) side made
   pub heard : NamesWereHeard tag (take i lines) answers (orders_of sides)
 
--- all lines are answered so, and these are the passes then
+-- all lines have answers, and these are the passes then
 abbrev pub AllAnswered : Option Heap → RunTerms → Option ℕ → List CallLine → List SeenPass → List ℕ → Type 0
 AllAnswered heap terms tag lines sides output =
     (numbers : List (Option ℕ)) × AnsweredSoFar heap terms tag lines (length lines) numbers sides output

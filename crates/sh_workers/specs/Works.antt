@@ -15,8 +15,8 @@ abbrev pub own_calls : ℕ → List CallLine → List Call
 own_calls p [] = []
 own_calls p (l ∷ ls) = cond (l.pass == p) (l.call ∷ own_calls p ls) (own_calls p ls)
 
--- The pass, whose part was v, made this call, and then it was u. It may have heeded a receipt first, and where the call
--- is on a name that stands for a number it had heard of the insert of its key: that is one of these orders.
+-- The pass, whose part was v, made this call, and then its part was u. It may have heeded a receipt first. If the call
+-- is on a name that is bound to a number, it had heard of the insert of its key: that is one of these orders.
 pub record CallMade (terms : RunTerms) (tag : Option ℕ) (p : ℕ) (orders : List Order) (v : PassPart) (c : Call)
     (m : Made) (u : PassPart) : Type 0 where
   pub begins : PassPart
@@ -32,7 +32,7 @@ CallsMade terms tag p orders v (c ∷ cs) [] w = ⊥
 CallsMade terms tag p orders v (c ∷ cs) (m ∷ ms) w = (u : PassPart) × CallMade terms tag p orders v c m u
     × CallsMade terms tag p orders u cs ms w
 
--- From the part v on, the pass p of this heap made the calls of its own among these lines. It took nobody in.
+-- From the part v on, the pass p of this heap made the calls of its own among these lines. It took in no other pass.
 pub record IsWork (heap : Option Heap) (terms : RunTerms) (tag : Option ℕ) (lines : List CallLine) (p : ℕ)
     (v : PassPart) (side : SeenPass) (made : List Made) : Type 0 where
   pub is : side ≡ record (new_pass heap terms p) { part = side.part; orders = side.orders }

@@ -12,7 +12,7 @@ use std::marker::{Model, PhantomData};
 use std::mem;
 use std::sync::{Condvar, Mutex, Wait};
 
-/// What a name stands for: a number, if its insert was answered one, and then a receipt that tells of the insert of its
+/// What a name is bound to: a number, if its insert returned one, and then a receipt that contains the insert of its
 /// key. A contract sees the number.
 #[derive(Drop)]
 pub struct Binding<B: Room> {
@@ -46,7 +46,7 @@ impl<B: Room> Binding<B> {
         }
     }
 
-    // The pass heeds the receipt, and a receipt of its own, which tells all that this one told, takes its place.
+    // The pass heeds the receipt. A receipt of its own, which contains all that this one contained, takes its place.
     fn heeded<S: Side>(self, side: &mut S) -> Self
         requires heap { (S.seen side.old).heap ≡ B.heap }
         ensures number { result ≡ self }
@@ -98,8 +98,8 @@ impl<B: Room> Names<B> {
         }
     }
 
-    // The number that the name stands for, once the pass heeded what its binding tells. A name that was bound before
-    // the board was closed is still answered.
+    // The number that the name is bound to, once the pass has heeded the receipt of its binding. A name that was bound
+    // before the board was closed still gives its number.
     fn told<S: Side>(&mut self, name: usize, side: &mut S) -> Option<Option<u64>>
         requires heap { (S.seen side.old).heap ≡ B.heap }
         ensures heard { MatchOption result (S.seen side.new ≡ S.seen side.old)
@@ -118,8 +118,9 @@ impl<B: Room> Names<B> {
     }
 }
 
-/// Names that threads bind and wait for. With a name goes a receipt, so who waited for it is answered after the insert
-/// that bound it. Which number it told is compared with the answers afterwards: no contract rests on that.
+/// Names that threads bind and wait for. Each name comes with a receipt, so the insert that bound it happens before
+/// what is returned to a pass that waited for it. Its number is compared with the answers afterwards: no contract
+/// relies on it.
 #[derive(Drop)]
 pub struct Board<B: Room> {
     names: Mutex<Names<B>>,
@@ -142,7 +143,7 @@ impl<B: Room> Board<B> {
         })
     }
 
-    /// Binds a name, and wakes who waits for it.
+    /// Binds a name, and wakes the passes that wait for it.
     pub fn bind<R: Wait>(&self, rt: &R, name: usize, binding: Binding<B>) {
         let mut names = self.names.lock(rt);
         names.bind(name, binding);
@@ -150,8 +151,8 @@ impl<B: Room> Board<B> {
         self.changed.notify_all();
     }
 
-    /// Waits for a name, heeds the receipt that goes with it, and tells the number that it stands for. `None` where the
-    /// board is closed and the name is not bound, or there is no such name.
+    /// Waits for a name, heeds the receipt that comes with it, and returns the number that it is bound to. `None` if
+    /// the board is closed and the name is not bound, or if there is no such name.
     pub fn wait<S: Side, R: Wait>(&self, rt: &R, name: usize, side: &mut S) -> Option<Option<u64>>
         requires heap { (S.seen side.old).heap ≡ B.heap }
         ensures heard { MatchOption result (S.seen side.new ≡ S.seen side.old)
@@ -163,7 +164,7 @@ impl<B: Room> Board<B> {
         names.told(name, side)
     }
 
-    /// Ends all waiting, for good.
+    /// Ends all waiting for good.
     pub fn close<R: Wait>(&self, rt: &R) {
         let mut names = self.names.lock(rt);
         names.is_closed = true;

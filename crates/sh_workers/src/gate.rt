@@ -1,11 +1,11 @@
-//! Gates, at which a test can hold a worker up.
+//! Gates, at which a test can hold up a worker.
 
-/// What a worker passes before and after each of its calls. Calls are numbered from 0, each pass's for itself.
+/// What a worker passes before and after each of its calls. Each pass numbers its calls from 0.
 pub trait Gate {
-    /// Ahead of the call, and of the wait for a name that the call is on.
+    /// Before the call, and before the wait for a name that the call is on.
     fn before(&self, pass: usize, call: usize);
 
-    /// Once the call is answered, and the name that it binds is bound.
+    /// After the call has its answer, and the name that it binds is bound.
     fn after(&self, pass: usize, call: usize);
 }
 

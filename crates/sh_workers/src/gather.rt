@@ -1,4 +1,4 @@
-//! Workers that have ended: their passes, and what each was answered.
+//! Workers that have ended: their passes, and the answers to the calls of each.
 ghost use Rattle.std.specs.Prelude.{◌≡◌, ◌≤◌, ◌∷◌, [], length, map, vec_len, IfOk, IfErr, MatchOption};
 ghost use Rattle.std.specs.Vec.{vec_capacity};
 ghost use Rattle.sh_calls.specs.Parts.{passes_below};
@@ -54,7 +54,7 @@ pub struct Ended<S: Side> {
 }
 
 impl<S: Side> Ended<S> {
-    /// Of nobody yet, with room for this many.
+    /// Of no worker yet, with room for this many.
     pub fn with_capacity(alloc: Global, count: usize) -> Result<Self, AllocError>
         ensures sides { IfOk result (λ ended. (ended.sides.items ≡ []) × (count ≤ vec_capacity ended.sides)) }
         ensures rests { IfOk result (λ ended. (ended.rests.items ≡ []) × (count ≤ vec_capacity ended.rests)) }
@@ -66,7 +66,7 @@ impl<S: Side> Ended<S> {
     }
 }
 
-/// The passes of these workers, and what each made. `Io` where one did not make all its calls.
+/// The passes of these workers, and the calls of each. `Io` if one did not make all its calls.
 pub fn all_ended<S: Side, B: Room>(
     empty: Ended<S>,
     workers: Vec<Worker<S, B>>,

@@ -1,5 +1,5 @@
-//! The threads of mode threads: a worker makes the calls of each pass, the workers wait for one another's names on a
-//! board, and what each was answered is put in the order of the lines. A gate, by which a test holds a worker up, is
+//! The threads of mode threads: a worker makes the calls of each pass, and the workers wait for one another's names on
+//! a board. The answers of all are put in the order of the lines. A gate, by which a test can hold up a worker, is
 //! passed at each call.
 #![tactic(auto)]
 

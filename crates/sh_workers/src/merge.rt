@@ -1,4 +1,4 @@
-//! What all passes were answered, in the order of the script's lines.
+//! The answers of all passes, in the order of the script's lines.
 ghost use Rattle.std.specs.Prelude.{◌≡◌, ◌<◌, map, IfOk, IfErr};
 ghost use Rattle.std.specs.List.{All};
 ghost use Rattle.sh_script.specs.declared.calls.CallLine.{CallLine};
@@ -19,7 +19,7 @@ use std::alloc::Global;
 pub enum Unmerged {
     /// A line found no room.
     NoRoom(NoRoom),
-    /// A call was made with another number than its name was answered.
+    /// A call was made with a number that is not the one its name's insert returned.
     Differ,
 }
 
@@ -44,9 +44,9 @@ impl From<Unmerged> for Fault {
     }
 }
 
-/// The reply lines in the order of the script's lines, and the passes. The number that each name stood for is compared
-/// with what its insert was answered: `Differ` where they differ, which a board that keeps what was bound never comes
-/// to. `NoRoom` where a line finds no room.
+/// Returns the reply lines in the order of the script's lines, and the passes. The number that each call used for its
+/// name is compared with what the insert of the name returned. `Differ` if they differ, which can't happen with a board
+/// that keeps what was bound; `NoRoom` if a line finds no room.
 pub fn merged<S: Side, B: Room>(
     alloc: Global,
     lines: &[CallLine],

@@ -1,4 +1,4 @@
-//! Names one run.
+//! A name for one run.
 use std::marker::Brand;
 
 /// The heap and the script of a run. Each run picks it.

@@ -24,7 +24,7 @@ impl<S: Side, B: Room> Promise<Worker<S, B>> for Number {
     ghost kept_by = { λ p w. w ≡ p.0 };
 }
 
-/// A worker that has ended, having no lines of its own, or the thread of one that may run.
+/// A worker that has ended because it has no lines of its own, or the thread of one that may run.
 #[derive(Drop)]
 pub enum Started<S: Side, B: Room> {
     Here(Worker<S, B>),
@@ -66,8 +66,8 @@ fn ran<S: Side, B: Room, R: Wait, G: Gate>(
     worker
 }
 
-// Starts a worker in a thread of its own, if it has lines; else it ends here. `Io` where it can't be started: the board
-// is then closed.
+// Starts a worker in a thread of its own, if it has lines; otherwise it ends here. `Io` if the thread can't be started:
+// the board is then closed.
 fn start<
     's,
     'e: 's,
@@ -108,8 +108,8 @@ fn start<
     }
 }
 
-/// Runs each worker that has lines in a thread of its own. `Io` where one can't be started: the board is then closed,
-/// and those that run end.
+/// Runs each worker that has lines in a thread of its own. `Io` if one can't be started: the board is then closed, and
+/// those that run end.
 pub fn run_all<S: Side + Send, B: Room + Send + Sync, R: Threads + Wait + Sync, G: Gate + Sync>(
     rt: &R,
     shared: &Shared<'_, G, B>,

@@ -24,12 +24,12 @@ use std::marker::Brand;
 use std::sync::Wait;
 use std::thread::Threads;
 
-// How many names the lines bind.
+// The number of names that the lines bind.
 fn names_in(lines: &[CallLine]) -> usize {
     lines.iter().filter(|line| binds(&line.call)).count()
 }
 
-// How many lines are the pass's own.
+// The number of lines that are the pass's own.
 fn own_lines(lines: &[CallLine], pass: usize) -> usize
     ensures { result ≡ length (own_calls pass lines.now) }
 {
@@ -39,7 +39,7 @@ fn own_lines(lines: &[CallLine], pass: usize) -> usize
         .count()
 }
 
-// A worker for each pass, with room for what its calls are answered.
+// A worker for each pass, with room for the answers to its calls.
 fn workers<S: Side, B: Room>(
     alloc: Global,
     lines: &[CallLine],
@@ -63,8 +63,8 @@ fn workers<S: Side, B: Room>(
     Ok(all)
 }
 
-// The same, for passes and a script that `B` names. All room is taken before a worker starts, but for the text of the
-// replies, which is put together once all have ended.
+// The same, for passes and a script that `B` names. All room is taken before a worker starts, except for the text of
+// the replies, which is built once all have ended.
 fn played<S: Side + Send, B: Room + Send + Sync, R: Threads + Wait + Sync, G: Gate + Sync>(
     rt: &R,
     alloc: Global,
@@ -102,10 +102,10 @@ fn played<S: Side + Send, B: Room + Send + Sync, R: Threads + Wait + Sync, G: Ga
     Ok((output, met(sides)))
 }
 
-/// Runs each pass's lines in a thread of its own, in the order of the script; a line that uses a name waits until it is
-/// bound, and its entry stands behind the insert that bound it. Answers the reply lines in the order of the script's
-/// lines, and the pass that carries the tale of all once all owners have left and all passes have met; none where an
-/// owner could not leave. `Io` where a thread can't be started.
+/// Runs each pass's lines in a thread of its own, in the order of the script. A line that uses a name waits until it is
+/// bound, and its entry comes after the insert that bound it. Returns the reply lines in the order of the script's
+/// lines. Returns also the pass that carries the tale of all once all owners have left and all passes have met; no pass
+/// if an owner could not leave. `Io` if a thread can't be started.
 pub fn threads_lines<S: Side + Send, R: Threads + Wait + Sync, G: Gate + Sync>(
     rt: &R,
     alloc: Global,

@@ -30,7 +30,7 @@ pub struct Shared<'a, G: Gate, B: Room> {
     pub gate: &'a G,
 }
 
-/// A call that was made: the number that its name stood for, if it is on a name, and what it was answered.
+/// A call that was made: the number that its name was bound to, if it is on a name, and its answer.
 #[derive(Drop)]
 pub struct Made {
     pub bound: Option<u64>,
@@ -42,7 +42,7 @@ pub struct Made {
 pub struct Worker<S: Side, B: Room> {
     number: usize,
     side: S,
-    // How many lines it has passed, and how many names they bind.
+    // The number of lines that it has passed, and of names that they bind.
     next: usize,
     names: usize,
     made: Vec<Made>,
@@ -64,8 +64,8 @@ impl<S: Side, B: Room> Model for Worker<S, B> {
         × (length (own_calls w.number B.lines) ≤ vec_capacity w.made) };
 }
 
-// The number that the name of the call stands for: waited for, if the call is on a name, and the pass heeds the receipt
-// that goes with it. A `wait` waits too, but has no number. `None` where the board is closed.
+// The number that the name of the call is bound to: if the call is on a name, the pass waits for it and heeds the
+// receipt that comes with it. A `wait` waits too, but has no number. `None` if the board is closed.
 fn awaited<S: Side, B: Room, R: Wait>(
     rt: &R,
     board: &Board<B>,
@@ -89,8 +89,8 @@ fn awaited<S: Side, B: Room, R: Wait>(
     }
 }
 
-// Binds the name, if the call binds one: to the number that the call was answered, if it was answered one. A receipt of
-// the pass goes with it.
+// Binds the name, if the call binds one, to the number that the call returned, if it returned one. A receipt of the
+// pass comes with it.
 fn bind<S: Side, B: Room, R: Wait>(
     rt: &R,
     board: &Board<B>,
@@ -110,7 +110,7 @@ fn bind<S: Side, B: Room, R: Wait>(
     }
 }
 
-// How many names the call binds.
+// The number of names that the call binds.
 fn names_bound(call: &Call) -> usize
     ensures { result ≤ 1 }
 {
@@ -118,8 +118,8 @@ fn names_bound(call: &Call) -> usize
 }
 
 impl<S: Side, B: Room> Worker<S, B> {
-    // Passes the next line, and makes its call if it is its own. False where there is no line left, or the board is
-    // closed. It takes no memory but what the call takes: the room for what it was answered was taken before.
+    // Passes the next line, and makes its call if it is its own. False if there is no line left, or the board is
+    // closed. It takes no memory except what the call takes: the room for the answer was taken before.
     fn step<R: Wait, G: Gate>(&mut self, rt: &R, shared: &Shared<'_, G, B>) -> bool
         requires lines { shared.now.lines.now ≡ B.lines }
         requires tag { shared.now.tag ≡ B.tag }
@@ -152,7 +152,7 @@ impl<S: Side, B: Room> Worker<S, B> {
         true
     }
 
-    /// Makes the calls that are left, in order. Where it stops before the last, it closes the board.
+    /// Makes the calls that are left, in order. If it stops before the last, it closes the board.
     pub fn run<R: Wait, G: Gate>(&mut self, rt: &R, shared: &Shared<'_, G, B>)
         requires lines { shared.now.lines.now ≡ B.lines }
         requires tag { shared.now.tag ≡ B.tag }
@@ -179,7 +179,7 @@ impl<S: Side, B: Room> Worker<S, B> {
         self.number
     }
 
-    /// A worker that has made no call yet, with room for what its calls are answered.
+    /// A worker that has made no call yet, with room for the answers to its calls.
     pub fn new(number: usize, side: S, made: Vec<Made>) -> Self
         requires side { S.seen side ≡ new_pass B.heap B.terms number }
         requires made { made.items ≡ [] }
@@ -196,7 +196,7 @@ impl<S: Side, B: Room> Worker<S, B> {
         }
     }
 
-    /// Its pass and the calls that it made, where it made all of them.
+    /// Its pass and the calls that it made, if it made all of them.
     pub fn finish(self, count: usize) -> Option<(S, Vec<Made>)>
         requires { count ≡ length B.lines }
         ensures { IfSome result (λ r. IsWork B.heap B.terms B.tag B.lines self (new_part B.heap self)

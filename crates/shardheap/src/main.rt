@@ -1,6 +1,6 @@
 //! The program `shardheap MODE [--accounts]`: it runs the script on the standard input in a mode, and writes the
-//! replies to the standard output. This file joins the process to `sh_program`, which runs over any words, reader and
-//! writers.
+//! replies to the standard output. This file connects the process to `sh_program`, which runs over any words, reader
+//! and writers.
 #![tactic(auto)]
 
 ghost use Rattle.std.specs.Prelude.{IfOk};
