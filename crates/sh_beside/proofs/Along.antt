@@ -38,7 +38,7 @@ pub record Numbering : Type 0 where
   pub number : ℕ → ℕ
   pub one : (i j : ℕ) → number i ≡ number j → i ≡ j
 
--- the call is answered by this reply, whose entry the store gains
+-- the call has this reply, whose entry the store gains
 abbrev pub Told : {A : Type 0} → PlainReply A → Answer → Run → Run → Type 0
 Told reply a run next = (a ≡ done_answer reply.answer)
     × (next ≡ record run { store = with_added run.store reply.adds })
@@ -55,7 +55,7 @@ same_but (answer.Refused r) = refl
 same_but answer.Unbound = refl
 
 module _ (n : Numbering) where
-  -- mode plain's own run, where the keys have these numbers
+  -- mode plain's own run, in which the keys have these numbers
   abbrev pub own : Run → Run
   own run = record run {
     store = record run.store { entries = map (renumbered n.number) run.store.entries };
@@ -137,7 +137,7 @@ module _ (n : Numbering) where
       → CallAlong n.layout (own run) (call.Wait i) a (own next)
   wait_along run next i a h = plainly (own run) (own next) (call.Wait i) a (h.0, ap own h.1)
 
-  -- the same where an entry was added
+  -- the same if an entry was added
   pub own_added : (run : Run) (e : Entry) → own (record run { store = with_added run.store (Some e) })
       ≡ record (own run) { store = with_added (own run).store (Some (renumbered n.number e)) }
   own_added run e = ap (λ (es : List Entry). record (own run) { store = record (own run).store { entries = es } })

@@ -46,7 +46,7 @@ module _ (n : Numbering) (run next : Run) (i : ℕ) (a : Answer) (keys : KeysAre
     abbrev given_hold : List ℕ → PlainReply Hold
     given_hold value = record { answer = Ok (record { key = key }); adds = Some (Got run.store.pass key value) }
 
-    -- what mode plain answers where the pass has room for a hold
+    -- the answer of mode plain if the pass has room for a hold
     own_reply : nat_le 16 (hold_count es run.store.pass) ≡ false → (o : Option (List ℕ)) → present_value es key ≡ o
         → get_reply n.layout (own n run).store (n.number key) ≡ got_reply n.layout (own n run).store (n.number key) o
     own_reply g o p =

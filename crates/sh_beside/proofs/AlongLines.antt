@@ -1,5 +1,5 @@
--- A line beside mode plain is one along with mode plain's own run, where the keys of a history have the numbers in
--- which they were given.
+-- A line beside mode plain is one along with mode plain's own run, if the keys of a history have the numbers in which
+-- they were given.
 use Rattle.std.proofs.Common.{◌≡◌, ℕ, ◌+◌, Bool, true, false, cond, List, [], ◌∷◌, ◌++◌, refl, ap, sym, ◌∙◌, subst}
 use Rattle.std.proofs.Common.{arith}
 use Rattle.std.proofs.Common.{append_assoc, inl, inr, None, slice_set}

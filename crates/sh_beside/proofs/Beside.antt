@@ -1,4 +1,4 @@
--- What mode heap answers is beside mode plain.
+-- The answers of mode heap are beside those of mode plain.
 use Rattle.std.proofs.Common.{◌≡◌, ℕ, zero, suc, ◌<◌, ◌≤◌, ◌==◌, Bool, true, false, List, [], ◌∷◌, ◌++◌, map, refl}
 use Rattle.std.proofs.Common.{sym, subst, arith, eqb-true, Option, Some, None}
 use Rattle.std.specs.Prelude.{replicate, IfSome}

@@ -73,7 +73,7 @@ one_alone : (x y : Entry) (ys rest : List Entry) → x ∷ [] ≡ y ∷ (ys ++ r
 one_alone x y [] rest e = ap (λ z. z ∷ []) (sym (cons_first x y [] rest e))
 one_alone x y (z ∷ zs) rest e = absurd (let h : [] ≡ z ∷ (zs ++ rest) = cons_rest x y [] (z ∷ (zs ++ rest)) e in cc)
 
--- a beginning of a longer list is all of it, or one of the list without its last
+-- a beginning of a longer list is the whole list, or one of the list without its last
 splits : (xs : List Entry) (x : Entry) (front rest : List Entry) → xs ++ x ∷ [] ≡ front ++ rest
     → (front ≡ xs ++ x ∷ []) ⊎ ((left : List Entry) × (xs ≡ front ++ left))
 splits xs x [] rest e = inr (xs, refl)

@@ -44,7 +44,7 @@ got_is pass key (Known (Removed p k)) e is h = absurd is
 got_is pass key (Known (Released p k)) e is h = absurd is
 
 module _ (t : Turn) (r : Reference) (a : Answer) (ready : Ready t (call.Get r) a) where
-  -- mode plain answers this get so, of this key
+  -- the answer of mode plain to this get of this key
   abbrev GetSays : Result ℕ Answer → Type 0
   GetSays k = WherePlaced t.terms.layout t.terms.shape k
       (GetsBeside t.terms.layout (plain_before t) k a (plain_after t)) (plain_before t) a (plain_after t)
@@ -76,7 +76,7 @@ module _ (t : Turn) (r : Reference) (a : Answer) (ready : Ready t (call.Get r) a
         (GetsBeside t.terms.layout (plain_before t) (Ok key) a (plain_after t)) f is none)
 
     module _ (f : is_placed_key t.terms.layout t.terms.shape key ≡ true) where
-      -- what mode plain answers, had the layout this limit
+      -- the answer of mode plain with this limit in the layout
       abbrev GetTells : ℕ → Type 0
       GetTells limit = Tells (get_reply (record t.terms.layout { guard_max = limit })) (plain_before t) (Ok key) a
           (plain_after t)
@@ -104,7 +104,7 @@ module _ (t : Turn) (r : Reference) (a : Answer) (ready : Ready t (call.Get r) a
         roomy : nat_le 16 (hold_count t.before t.pass) ≡ false
         roomy = ap (nat_le 16) (sym (hold_count_by_log t.pass t.v.log t.before ready.log)) ∙ g
 
-        -- what it answers where there is room for a hold, by the value that the key has
+        -- its answer if there is room for a hold, by the value that the key has
         get_by_value : (limit : ℕ) (o : Option (List ℕ)) → present_value t.before key ≡ o
             → (a ≡ done_answer (got_reply (record t.terms.layout { guard_max = limit }) (plain_before t).store key
             o).answer)

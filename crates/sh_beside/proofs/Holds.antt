@@ -12,7 +12,7 @@ use Rattle.sh_history.specs.Log.{Agrees, pass_of, entries_of, is_logged_got_by, 
 use Rattle.sh_history.specs.Log.{is_logged_got_from, is_logged_release_from, logged_hold_count}
 use Rattle.sh_history.proofs.LogLaws.{count_by-cons}
 
--- ---- what a log tells of its entries
+-- ---- what a log says of its entries
 
 same_got : (a k : ℕ) (x : LogEntry) (e : Entry) → Agrees x e → is_logged_got_by a k x ≡ is_got_by a k e
 same_got a k (Known f) e h = ap (is_got_by a k) (sym h)

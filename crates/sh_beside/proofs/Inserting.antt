@@ -44,7 +44,7 @@ of_layout layout (Some n) key e = go (unpacked layout key) refl
 
 module _ (t : Turn) (words : List ℕ) (a : Answer) (room : HasTagRoom t.terms.layout t.tag)
     (ready : Ready t (call.Insert words) a) where
-  -- mode plain's run after the call, if its name stands for this key
+  -- mode plain's run after the call, if its name is bound to this key
   abbrev plain_named : Option ℕ → Run
   plain_named key = state t.terms t.tag t.after t.pass t.owners (t.keys ++ key ∷ [])
 
@@ -135,7 +135,7 @@ module _ (t : Turn) (words : List ℕ) (a : Answer) (room : HasTagRoom t.terms.l
       (λ still. inr (let f = few in grind (arith, nat_tests), ready.owner ∙ ap is_some e, inr is, unnamed_is still))
   inserted few own e (Err _) is h served = absurd h
 
-  -- what comes where the words fit a value
+  -- what follows if the words fit a value
   abbrev Rest : Result ℕ Refusal → Option ℕ → Type 0
   Rest r z = UnlessRefused (needs_shard z) r (Becomes t.v t.w) (ValueInserted t.terms t.pass t.v words r t.w)
 

@@ -44,7 +44,7 @@ same_part v w e = inl (ap (λ (p : PassPart). p.log) e)
 entry_more : (v w : PassPart) (e : LogEntry) → Becomes (with_entry v e) w → More v w true
 entry_more v w e is = (e, ap (λ (p : PassPart). p.log) is)
 
--- a refusal that comes first adds nothing, where such an answer adds no entry
+-- a refusal that comes first adds nothing, if answers with a refusal add no entry
 unless_gains : {A : Type 0} (first : Option Refusal) (v : PassPart) (r : Result A Refusal) (w : PassPart)
     (Unchanged Rest : Type 0) (adds : Result A Refusal → Bool) → (Unchanged → More v w false)
     → ((e : Refusal) → first ≡ Some e → adds (Err e) ≡ false) → (Rest → More v w (adds r))
@@ -111,7 +111,7 @@ remove_first : (b : Bool) (e : Refusal) → cond b None (Some refusal.BadKey) �
 remove_first true e h = absurd (let z : None ≡ Some e = h in cc)
 remove_first false e h = subst (λ z. is_done_or_gone (answer.Refused z) ≡ false) (same_refusal refusal.BadKey e h) refl
 
--- where there is no key no entry is added
+-- if there is no key, no entry is added
 pub no_key : (f : Answer → Bool) → f answer.Unbound ≡ false → f (answer.Refused refusal.BadKey) ≡ false
     → (tag : Option ℕ) (bound : Option ℕ) (r : Reference) (b : Answer) → key_meant tag bound r ≡ Err b → f b ≡ false
 no_key f unbound bad tag bound (reference.Key n) b e = number (key_shown tag n) e where
@@ -131,7 +131,7 @@ key_gains : (k : Result ℕ Answer) (v w : PassPart) (a : Answer) (C : ℕ → A
 key_gains (Err b) v w a C f none some h = subst (More v w) (sym (ap f h.0 ∙ none b refl)) (same_part v w h.1)
 key_gains (Ok key) v w a C f none some h = some key h
 
--- as many entries as the answer says
+-- the number of entries is that which the answer says
 pub gains : (terms : RunTerms) (tag : Option ℕ) (pass : ℕ) (v : PassPart) (c : Call) (bound : Option ℕ) (a : Answer)
     (w : PassPart) → CallAnswers terms tag pass v c bound a w → Gains (adds_entry c a) v.log w.log
 gains terms tag pass v (call.Adopt shard) bound a w h =
@@ -218,7 +218,7 @@ other_last es e q ne = filter-append (λ (x : Entry). pass_of x == q) es (e ∷ 
 abbrev pub LogIs : ℕ → List LogEntry → List Entry → Type 0
 LogIs q log es = AllZip Agrees log (entries_of (λ p. p == q) es)
 
--- where the log after the line has the entries after it, so has the log before it, and what was added agrees
+-- if the log after the line has the entries after it, so has the log before it, and what was added agrees
 pub own_before : (b : Bool) (pass : ℕ) (old new : List LogEntry) (before after : List Entry) → Gains b old new
     → Grown b pass before after → LogIs pass new after → LogIs pass old before
 own_before false pass old new before after (inl e) grown h =

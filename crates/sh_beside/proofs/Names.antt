@@ -1,4 +1,4 @@
--- The names of a script: the numbers that they stand for as they are written, and the keys that these are.
+-- The names of a script: the numbers that they are bound to as they are written, and the keys that these are.
 use Rattle.std.proofs.Common.{◌≡◌, ℕ, zero, suc, ◌+◌, ◌*◌, ◌/◌, ◌%◌, ◌^◌, ◌<◌, Bool, cond, List, [], ◌∷◌, ◌++◌}
 use Rattle.std.proofs.Common.{refl, ap, sym, ◌∙◌, arith, eq-eqb, slice_get, Option, Some, None, Result}
 use Rattle.std.specs.Prelude.{ok_or}
@@ -14,7 +14,7 @@ use Rattle.sh_models.specs.PlainRun.{bound_key}
 use Rattle.sh_calls.specs.Calls.{key_meant, key_for_name}
 use Rattle.sh_calls.specs.Runs.{number_bound}
 
--- a name stands for this key, written as this number
+-- a name is bound to this key, written as this number
 abbrev pub NameIs : Option ℕ → Option ℕ → Option ℕ → Type 0
 NameIs tag None None = Unit {0}
 NameIs tag (Some key) (Some number) = key_shown tag number ≡ Some key

@@ -1,4 +1,4 @@
--- What calls on a key share: what the history says of the key, and what is answered where there is no key.
+-- What calls on a key share: what the history says of the key, and the answer if there is no key.
 use Rattle.std.proofs.Common.{◌≡◌, ℕ, ◌⊎◌, inl, inr, Bool, true, false, List}
 use Rattle.std.proofs.Common.{refl, ap, sym, ◌∙◌, subst, Option, Some, None, Result, Ok, Err}
 use Rattle.std.specs.Prelude.{is_some, nat_lt, IsSome}
@@ -70,7 +70,7 @@ number_here t r = number_bound t.numbers (name_referred r)
 abbrev pub heap_key : Turn → Reference → Result ℕ Answer
 heap_key t r = key_meant t.tag (number_here t r) r
 
--- what is found where there is no key and where there is one is found
+-- what is found both if there is no key and if there is one
 pub by_key : (t : Turn) (r : Reference) (a : Answer) (Does : ℕ → Answer → PassPart → Type 0) (Goal : Type 0)
     → AreNames t.tag t.keys t.numbers
     → ((b : Answer) → key_here t r ≡ Err b → heap_key t r ≡ Err b → a ≡ b → t.w ≡ t.v → Goal)

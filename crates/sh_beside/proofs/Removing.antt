@@ -23,7 +23,7 @@ use Rattle.sh_beside.proofs.OnKeys.{present_here, present_gone, some_value, plac
 use Rattle.sh_beside.proofs.OnKeys.{heap_key, by_key, keyless, placeless}
 
 module _ (t : Turn) (r : Reference) (a : Answer) (ready : Ready t (call.Remove r) a) where
-  -- mode plain answers this remove so, of this key
+  -- the answer of mode plain to this remove of this key
   abbrev RemoveSays : Result ℕ Answer → Type 0
   RemoveSays k = WherePlaced t.terms.layout t.terms.shape k
       (Tells (remove_reply t.terms.layout) (plain_before t) k a (plain_after t)) (plain_before t) a (plain_after t)

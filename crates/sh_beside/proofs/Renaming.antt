@@ -13,7 +13,7 @@ use Rattle.sh_history.proofs.LogLaws.{count_by-cons}
 
 -- ---- the place of a key in the order in which keys were given
 
--- and behind all of them for others
+-- a key that is not among them comes after all of them
 abbrev pub place_in : List ℕ → ℕ → ℕ
 place_in [] key = key
 place_in (k ∷ ks) key = cond (k == key) 0 (suc (place_in ks key))

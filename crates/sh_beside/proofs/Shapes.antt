@@ -59,7 +59,7 @@ release_same layout key v w (Ok x) h = h.1.same.shape
 release_same layout key v w (Err refusal.NotHeld) h = unmoved v w h.1
 release_same layout key v w (Err _) h = absurd h
 
--- ---- what stands of a pass
+-- ---- the standing of a pass
 
 module _ (n : Numbers) where
   knows_still : (s t : Standing) → t ≡ s → KnowsShape n s → KnowsShape n t

@@ -38,7 +38,7 @@ pub record Turn : Type 0 where
   pub keys : List (Option ℕ)
   pub numbers : List (Option ℕ)
 
--- mode plain's run with these entries, where owners and keys are as before
+-- mode plain's run with these entries, with owners and keys as before
 abbrev pub plain_with : Turn → List Entry → Run
 plain_with t es = state t.terms t.tag es t.pass t.owners t.keys
 
@@ -63,7 +63,7 @@ pub record Ready (t : Turn) (c : Call) (a : Answer) : Type 0 where
   pub few : FewHolds t.terms.layout.guard_max t.before
   pub few_after : FewHolds t.terms.layout.guard_max t.after
 
--- the call was answered beside mode plain, and what is known of owners and names after it
+-- the answer to the call is beside mode plain, and what is known of owners and names after it
 pub record Stepped (t : Turn) (c : Call) (a : Answer) : Type 0 where
   pub owners_after : List Bool
   pub keys_after : List (Option ℕ)

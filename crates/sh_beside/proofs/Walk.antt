@@ -43,7 +43,7 @@ nothing_more : (todo : List Entry) → map pass_of todo ≡ [] → todo ≡ []
 nothing_more [] e = refl
 nothing_more (x ∷ xs) e = absurd (let z : pass_of x ∷ map pass_of xs ≡ [] = e in cc)
 
--- the history that there is after the line, and what is left of it
+-- the history that there is after the line, and the entries that are left
 record Goes (b : Bool) (pass : ℕ) (before todo : List Entry) (rest : List ℕ) : Type 0 where
   after : List Entry
   later : List Entry
@@ -188,7 +188,7 @@ module _ (terms : RunTerms) (tag : Option ℕ) where
               let ne : q ≢ l.pass = eqb-false q l.pass e in
               others q ne ∙ (owns.each q below ∙ sym (ap (λ (p : PassPart). is_some p.shard) (there r next l a h q ne)))
 
-  -- mode plain's own run, where the keys of this history have the numbers in which they were given
+  -- mode plain's own run, in which the keys of this history have the numbers in which they were given
   abbrev pub own_of : List Entry → Run → Run
   own_of history run = own (numbering terms.layout terms.shape history) run
 

@@ -1,7 +1,6 @@
 -- Mode heap beside mode plain. The plain map walks the lines along with the running heap, in the keys that the heap
 -- gives. Each answer is what mode plain's own definitions say of its line, with three exceptions, stated here. They are
--- the number of a key, the number of holds at which it is crowded, and when an adopt, a leave or an insert is refused
--- that mode plain would do.
+-- the number of a key, the number of holds at which it is crowded, and some refusals of an adopt, a leave or an insert.
 use Rattle.std.specs.Prelude.{◌≡◌, ℕ, ◌+◌, ◌<◌, ◌≤◌, Bool, true, false, List, [], ◌∷◌, ◌++◌, ◌⊎◌, length}
 use Rattle.std.specs.Prelude.{Option, Some, None, Result, Ok, Err}
 use Rattle.sh_value.specs.declared.refusal.Refusal.{Refusal}

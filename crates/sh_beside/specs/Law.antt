@@ -8,7 +8,7 @@ use Rattle.sh_beside.specs.Beside.{AreBesidePlain}
 use Rattle.sh_beside.specs.Along.{NamesKey, AreAlongPlain}
 
 -- The answers of mode heap in this output are beside those of mode plain. If no line has a key as a number, they go
--- along with mode plain's own run: it gives the same answers, except for the numbers of keys that inserts return.
+-- along with mode plain's own run. Its answers are the same, except for the numbers of keys that inserts return.
 pub record IsBesidePlain {asked : Bool} {text output : List ℕ} (heap : IsHeap true asked text output) : Type 0 where
   pub beside : AreBesidePlain (layout_of heap.header.layout) heap.header.shape heap.header.tag heap.lines
       heap.is_output.told.replies.answers

@@ -125,7 +125,7 @@ module _ (heap : Option Heap) (terms : RunTerms) (tag : Option ℕ) (lines : Lis
         stays = tt;
       }
 
--- nobody carries the tale
+-- no pass carries the tale
 pub ran_to_none : {S : Type 0} (seen : S → SeenPass) (heap : Option Heap) (terms : RunTerms) (tag : Option ℕ)
     (lines : List CallLine) (i : ℕ) (numbers : List (Option ℕ)) (sides : List SeenPass) (output : List ℕ)
     (last : Option Caller) (o : Option S) → OrderedSoFar heap terms tag lines i numbers sides output last

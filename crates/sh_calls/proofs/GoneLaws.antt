@@ -1,4 +1,4 @@
--- A line on a name is answered Gone only where the key was removed before.
+-- A line on a name gets Gone only if the key was removed before.
 use Rattle.std.proofs.Common.{◌≡◌, ◌≢◌, ℕ, zero, suc, ◌+◌, ◌<◌, Bool, true, false, cond, List, [], ◌∷◌, ◌++◌, length}
 use Rattle.std.proofs.Common.{take, map, slice_get, Option, Some, None, Result, Ok, Err, sym, refl, ap, ◌∙◌, subst}
 use Rattle.std.proofs.Common.{arith, append_assoc, append-nil, ⊎_elim}
@@ -55,7 +55,7 @@ record SaysGone (tag : Option ℕ) (pass n : ℕ) (v w : PassPart) (c : Call) : 
   pub shown : key_shown tag n ≡ Some key
   pub log : w.log ≡ v.log ++ Known (Gone pass key) ∷ []
 
--- the name stands for a key
+-- the name is bound to a key
 on_name : (tag : Option ℕ) (n : ℕ) (v w : PassPart) (C : ℕ → Answer → PassPart → Type 0) (o : Option ℕ)
     → OnKey (ok_or o (answer.Refused refusal.BadKey)) v C (answer.Refused refusal.Gone) w
     → (key : ℕ) × (o ≡ Some key) × C key (answer.Refused refusal.Gone) w
@@ -86,7 +86,7 @@ remove_never true e = let z : None ≡ Some refusal.Gone = e in cc
 remove_never false e = let z : Some refusal.BadKey ≡ Some refusal.Gone = e in cc
 
 module _ (terms : RunTerms) (tag : Option ℕ) (pass n : ℕ) (v w : PassPart) where
-  -- a result that is told as Gone is Gone
+  -- a result that is reported as Gone is Gone
   told_gone : {A : Type 0} (tell : Result A Refusal → Answer) (D : Result A Refusal → Type 0)
       → ((x : A) → answer.Refused refusal.Gone ≡ tell (Ok x) → ⊥) → ((e : Refusal) → tell (Err e) ≡ answer.Refused e)
       → (r : Result A Refusal) → answer.Refused refusal.Gone ≡ tell r → D r → D (Err refusal.Gone)
@@ -137,7 +137,7 @@ module _ (terms : RunTerms) (tag : Option ℕ) (pass n : ℕ) (v w : PassPart) w
       absurd none
   says_gone _ i e h = absurd (let z : None ≡ Some i = e in cc)
 
--- a call whose name stands for a number is on a name
+-- a call whose name is bound to a number is on a name
 on_some_name : (numbers : List (Option ℕ)) (c : Call) (n : ℕ) → number_meant numbers c ≡ Some n
     → (i : ℕ) × (name_used c ≡ Some i)
 on_some_name numbers c n e = go (name_used c) refl e where
@@ -288,7 +288,7 @@ named_is_removed alone heap terms tag lines output tale t i l number at said mea
     let come = t.named i l a number at said says.adds meant in
     let f = come.2 in
     let key : says.key ≡ come.0 = same_Some says.key come.0 (sym says.shown ∙ come.1) in
-    -- where its entry stands in the log
+    -- the place of its entry in the log
     let counted = x.counts l.pass in
     let none : length ((opening_calls heap).parts l.pass).log ≡ 0 = refl in
     let begun : length x.step.begins.log ≡ length (x.mid.parts l.pass).log = ap (λ (q : List LogEntry). length q)

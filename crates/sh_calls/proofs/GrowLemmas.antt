@@ -32,7 +32,7 @@ use Rattle.sh_calls.proofs.Newcomers.{length_map}
 abbrev pub KeepsKnown : List LogEntry → List LogEntry → Type 0
 KeepsKnown xs ys = (k : ℕ) (e : Entry) → slice_get xs k ≡ Some (Known e) → slice_get ys k ≡ Some (Known e)
 
--- so many entries more, and what was known stays
+-- the log is longer by one entry or by none, and what was known stays
 abbrev Grows : PassPart → PassPart → Bool → Type 0
 Grows v w b = (length w.log ≡ length v.log + cond b 1 0) × KeepsKnown v.log w.log
 
@@ -60,7 +60,7 @@ filled_keeps key value [] k e at = absurd (none-some (Known e) at)
 filled_keeps key value (x ∷ xs) zero e at = ap (λ (z : LogEntry). Some (filled key value z)) (same_Some x (Known e) at)
 filled_keeps key value (x ∷ xs) (suc k) e at = filled_keeps key value xs k e at
 
--- a refusal that comes first adds nothing, where such an answer adds no entry
+-- a refusal that comes first adds nothing, if answers with a refusal add no entry
 unless : {A : Type 0} (first : Option Refusal) (v : PassPart) (r : Result A Refusal) (w : PassPart)
     (Unchanged Rest : Type 0) (adds : Result A Refusal → Bool) → (Unchanged → Grows v w false)
     → ((e : Refusal) → first ≡ Some e → adds (Err e) ≡ false) → (Rest → Grows v w (adds r))
@@ -132,7 +132,7 @@ remove_first : (b : Bool) (e : Refusal) → cond b None (Some refusal.BadKey) �
 remove_first true e h = absurd (let z : None ≡ Some e = h in cc)
 remove_first false e h = subst (λ z. is_done_or_gone (answer.Refused z) ≡ false) (same_refusal refusal.BadKey e h) refl
 
--- where there is no key no entry is added
+-- if there is no key, no entry is added
 no_key : (f : Answer → Bool) → f answer.Unbound ≡ false → f (answer.Refused refusal.BadKey) ≡ false → (tag : Option ℕ)
     (bound : Option ℕ) (r : Reference) (b : Answer) → key_meant tag bound r ≡ Err b → f b ≡ false
 no_key f unbound bad tag bound (reference.Key n) b e = number (key_shown tag n) e where
@@ -181,7 +181,7 @@ call_grows terms tag pass v (call.Release r) bound a w h = on_key (key_meant tag
 call_grows terms tag pass v call.Post bound a w h = same_part v w h.1
 call_grows terms tag pass v (call.Wait name) bound a w h = same_part v w h.1
 
--- as many entries as the answer says
+-- the number of entries is that which the answer says
 pub grows : (terms : RunTerms) (tag : Option ℕ) (pass : ℕ) (v : PassPart) (c : Call) (bound : Option ℕ) (a : Answer)
     (w : PassPart) → CallAnswers terms tag pass v c bound a w → length w.log ≡ length v.log + cond (adds_entry c a) 1 0
 grows terms tag pass v c bound a w h = (call_grows terms tag pass v c bound a w h).0

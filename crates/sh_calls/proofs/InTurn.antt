@@ -226,19 +226,19 @@ ran_apart heap terms tag lines i numbers sides output s past fits h m =
       ordered = apart;
     }
 
--- what holds of what is seen of the carrier, where there is one
+-- what holds of what is seen of the carrier, if there is one
 some_met : {S : Type 0} {P : S → Type 0} (seen : S → SeenPass) (Q : SeenPass → Type 0) → ((s : S) → P s → Q (seen s))
     → (o : Option S) → IfSome o P → IfSome (option_map seen o) Q
 some_met seen Q f None h = h
 some_met seen Q f (Some s) h = f s h
 
--- the same where there is none
+-- the same if there is none
 none_met : {S : Type 0} {P Q : Type 0} (seen : S → SeenPass) → (P → Q) → (o : Option S) → IfNone o P
     → IfNone (option_map seen o) Q
 none_met seen f None h = f h
 none_met seen f (Some s) h = h
 
--- whose leave was refused, if nobody carries the tale
+-- which leave was refused, if no pass carries the tale
 pub lines_wait : {S : Type 0} (seen : S → SeenPass) (heap : Option Heap) (terms : RunTerms)
     (tag : Option ℕ) (lines : List CallLine) (i : ℕ) (numbers : List (Option ℕ)) (sides : List SeenPass)
     (output : List ℕ) (carrier : Option S) → length lines ≤ i
@@ -254,7 +254,7 @@ lines_wait seen heap terms tag lines i numbers sides output carrier past h stays
           o.3.1;
     })) (λ (e : sides ≡ []). inr (sym h.all ∙ ap length e))) carrier stays
 
--- what the carrier has, if all could meet, and else whose leave was refused, where each pass ran its lines
+-- what the carrier has if all could meet, and otherwise which leave was refused, after each pass ran its lines
 pub lines_ran : {S : Type 0} (seen : S → SeenPass) (heap : Option Heap) (terms : RunTerms) (tag : Option ℕ)
     (lines : List CallLine) (i : ℕ) (numbers : List (Option ℕ)) (sides : List SeenPass) (output : List ℕ)
     (carrier : Option S) → length lines ≤ i → All (λ (l : CallLine). l.pass < terms.shape.passes) lines

@@ -154,7 +154,7 @@ next_waits seen all ys rest its s stays e f waits =
       (stays, waits),
     )
 
--- where nobody carries a tale once all have met, there is no pass
+-- if no pass carries a tale once all have met, there is no pass
 pub none_there : {S : Type 0} (seen : S → SeenPass) (all ys : List S) (left : ℕ) → length ys + left ≡ length all
     → left ≡ 0 → tales_told (map seen ys) ≡ [] → map seen all ≡ []
 none_there seen [] ys left counted none t = refl

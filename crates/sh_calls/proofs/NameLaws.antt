@@ -1,4 +1,4 @@
--- Where passes had heard of names, their inserts come first.
+-- If passes had heard of names, their inserts come first.
 use Rattle.std.proofs.Common.{◌≡◌, ◌≢◌, ℕ, zero, suc, ◌+◌, ◌<◌, ◌≤◌, ◌==◌, Bool, true, false, cond, List, [], ◌∷◌, ◌++◌}
 use Rattle.std.proofs.Common.{length, take, map, slice_get, Option, Some, None, sym, refl, ap, ◌∙◌, subst, arith}
 use Rattle.std.proofs.Common.{append_assoc, eqb-true, ⊎_elim}
@@ -34,7 +34,7 @@ use Rattle.sh_calls.proofs.ListLemmas.{take_past, each_in, within, up_get}
 use Rattle.sh_calls.proofs.OrderLemmas.{times_length, times_here, by_length, by_else}
 use Rattle.sh_calls.proofs.NameLemmas.{some_passes, first_in, counts_after}
 
--- ---- an insert that was heard of stands in the history
+-- ---- an insert that was heard of is in the history
 
 insert_is : (key : ℕ) (x : LogEntry) → is_insert_of (Some key) x ≡ true → (who : ℕ) × (value : List ℕ)
     × (x ≡ Known (Insert who key value))

@@ -62,7 +62,7 @@ some_passes p xs e = let a = Any-from_list_any p xs e in (a.1, (a.0, a.2, a.3), 
 passes_there : {A : Type 0} (p : A → Bool) (xs : List A) (x : A) → Contains xs x → p x ≡ true → list_any p xs ≡ true
 passes_there p xs x c e = list_any-from_Any p xs (c.0, x, c.1, c.2, e)
 
--- ---- lines that are answered
+-- ---- lines and their answers
 
 adding_left : (ls : List CallLine) (bs cs : List Answer) → length ls ≤ length bs
     → adding_passes ls (bs ++ cs) ≡ adding_passes ls bs
@@ -85,7 +85,7 @@ answers_all terms tag before after [] (b ∷ bs) h = absurd h
 answers_all terms tag before after (l ∷ ls) [] h = absurd h
 answers_all terms tag before after (l ∷ ls) (b ∷ bs) h = ap suc (answers_all terms tag h.0 after ls bs h.2)
 
--- the numbers that names stand for are those that the answers told
+-- the numbers that names are bound to are those in the answers
 pub numbers_after : (terms : RunTerms) (tag : Option ℕ) (before after : CallsRun) (ls : List CallLine)
     (bs : List Answer) → LinesAnswered terms tag before ls bs after
     → after.numbers ≡ before.numbers ++ numbers_told ls bs
@@ -156,7 +156,7 @@ counts_after terms tag before after (l ∷ ls) (b ∷ bs) h p =
     let all = times_length p (cond (adds_entry l.call b) (l.pass ∷ []) []) (adding_passes ls bs) in
     omega (arith, rest, one, all)
 
--- the name of a call that stands for a number is one of those that are bound
+-- the name of a call that is bound to a number is one of those that are bound
 pub meant_at : (numbers : List (Option ℕ)) (c : Call) (n : ℕ) → number_meant numbers c ≡ Some n
     → (i : ℕ) × (slice_get numbers i ≡ Some (Some n))
 meant_at numbers c n e = go (name_used c) e where
@@ -197,7 +197,7 @@ pub heard_kept : (tag : Option ℕ) (orders more : List Order) (pass first : ℕ
 heard_kept tag orders more pass first None keeps h = tt
 heard_kept tag orders more pass first (Some n) keeps h = (h.0, keeps _ h.1, h.2)
 
--- what is to be heard of the name of a line, where these passes added entries before, and names stand for these numbers
+-- what a pass has to have heard of the name of a line: these passes added entries before, and names have these numbers
 abbrev HeardAt : (tag : Option ℕ) → List Order → CallLine × List ℕ × List (Option ℕ) → Type 0
 HeardAt tag orders z = HeardOfNumber tag orders z.0.pass (length (times z.0.pass z.1)) (number_meant z.2 z.0.call)
 
@@ -217,7 +217,7 @@ heard_more terms tag before run ls bs orders more l a ran was keeps new i m at =
     long : length bs ≡ length ls
     long = answers_all terms tag before run ls bs ran
 
-    -- the same lines are answered the same
+    -- the same lines have the same answers
     as_was : (ks : List CallLine) → lines ≡ ks → length ks ≤ length bs → (k : CallLine) → k ≡ m
         → HeardAt tag more (k, adding_passes ks bs, numbers_told ks bs)
         → HeardAt tag more (m, adding_passes lines (bs ++ a ∷ []), numbers_told lines (bs ++ a ∷ []))
@@ -256,7 +256,7 @@ heeded_order r side mid e h c = subst (λ (z : SeenPass). Contains z.orders (ord
     (Contains-append_right r.view.orders (map (order_seen side) (heard_in r.view)) (order_seen side h)
     (contains_map (order_seen side) (heard_in r.view) h c)))
 
--- who heeded a receipt that tells of a number had heard of it from then on
+-- a pass that heeded a receipt with the insert of a number had heard of it from then on
 pub heard_by_heeding : (tag : Option ℕ) (r : Caller) (side mid : SeenPass) → Heeds r side mid → (n : Option ℕ)
     → tells_number tag (seen_of_receipt r).heard n ≡ true
     → HeardOfNumber tag mid.orders side.pass (length side.part.log) n
@@ -272,7 +272,7 @@ tells_more tag heard more f (Some n) t =
     let x = some_passes (has_insert (key_shown tag n)) heard t in
     passes_there (has_insert (key_shown tag n)) more x.0 (f x.0 x.1) x.2
 
--- what a pass tells after it heeded a receipt and was answered: all that the receipt told
+-- after a pass heeded a receipt and made a call, its own receipt contains all that the first one contained
 pub tells_on : (tag : Option ℕ) (r : Caller) (side mid now : SeenPass) → Heeds r side mid → SamePass mid now
     → (n : Option ℕ) → tells_number tag (seen_of_receipt r).heard n ≡ true
     → tells_number tag (receipt_seen now).heard n ≡ true
@@ -285,7 +285,7 @@ tells_on tag r side mid now e same n t = tells_more tag (seen_of_receipt r).hear
     (contains_map (λ (o : Order). o.heard) now.orders (order_seen side h) os))
     n t
 
--- a key is shown by the number that it is told as
+-- a key is shown by the number that it is written as
 shown_back : (layout : Layout) (tag : Option ℕ) (key : ℕ) → key < first_key layout + key_count layout
     → HasTagRoom layout tag → key_shown tag (shown tag key) ≡ Some key
 shown_back layout None key small room = refl
@@ -300,7 +300,7 @@ unrefused : {A : Type 0} (first : Option Refusal) (x : A) (Unchanged Rest : Type
 unrefused None x Unchanged Rest h = h
 unrefused (Some e) x Unchanged Rest h = absurd (let z : Ok x ≡ Err e = h.0 in cc)
 
--- a pass that was told a key tells of its insert
+-- the receipt of a pass to which a key was returned contains its insert
 pub tells_own : (terms : RunTerms) (tag : Option ℕ) (pass : ℕ) (v w : PassPart) (c : Call) (bound : Option ℕ)
     (a : Answer) → HasTagRoom terms.layout tag → binds c ≡ true → CallAnswers terms tag pass v c bound a w
     → (rest : List Heard) → tells_number tag (record { pass = pass; log = w.log } ∷ rest) (number_told a) ≡ true

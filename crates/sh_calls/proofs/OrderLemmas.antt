@@ -1,4 +1,4 @@
--- Where whoever added an entry had heard of all entries before it, the history has them in that order.
+-- If each pass that added an entry had heard of all entries before it, the history has them in that order.
 use Rattle.std.proofs.Common.{◌≡◌, ◌≢◌, ℕ, suc, ◌+◌, ◌<◌, ◌≤◌, ◌==◌, cond, List, [], ◌∷◌}
 use Rattle.std.proofs.Common.{◌++◌, length, map, refl, ap, sym, ◌∙◌, subst, arith, append_assoc, length-append}
 use Rattle.std.proofs.Common.{eq-eqb, ne_eqb, inl, inr, ◌⊎◌, ⊎_elim}
@@ -28,7 +28,7 @@ by_here e es = ap (λ b. cond b (e ∷ by (pass_of e) es) (by (pass_of e) es)) (
 pub by_else : (a : ℕ) (e : Entry) (es : List Entry) → pass_of e ≢ a → by a (e ∷ es) ≡ by a es
 by_else a e es ne = ap (λ b. cond b (e ∷ by a es) (by a es)) (ne_eqb (pass_of e) a ne)
 
--- ---- where the pass comes next
+-- ---- the place of the pass's next entry
 
 record Next (a : ℕ) (ts : List ℕ) : Type 0 where
   pub before : List ℕ
@@ -55,7 +55,7 @@ next a (t ∷ ts) l = dite (ℕ_discrete t a)
 
 -- ---- two cuts of one list
 
--- a cut lies before the other's first element, or behind it
+-- a cut lies before the other's first element, or after it
 cuts : (xs ys zs us : List Entry) (b : Entry) → xs ++ ys ≡ zs ++ b ∷ us
     → ((rest : List Entry) × (zs ≡ xs ++ rest)) ⊎ ((rest : List Entry) × (xs ≡ zs ++ b ∷ rest))
 cuts [] ys zs us b e = inl (zs, refl)

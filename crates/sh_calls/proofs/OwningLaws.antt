@@ -1,4 +1,4 @@
--- What it is in a run of calls that a pass becomes the owner of a shard, inserts into it, and leaves it.
+-- The calls by which a pass becomes the owner of a shard, inserts into it, and leaves it, as a run of calls sees them.
 use Rattle.std.proofs.Common.{◌≡◌, ℕ, ◌+◌, ◌<◌, ◌≤◌, true, false, List, refl, sym, ap, subst, ◌∙◌, arith, Option, Some}
 use Rattle.std.proofs.Common.{None, Result, Ok, Err}
 use Rattle.std.specs.Prelude.{nat_le, IfOk, MatchResult}

@@ -1,4 +1,4 @@
--- Which numbers are keys, and of which shard a key is.
+-- Which numbers are keys, and which shard a key is of.
 use Rattle.std.proofs.Common.{◌≡◌, ℕ, ◌<◌, ◌==◌, ◌&&◌, Bool, true, false, refl, sym, ap, subst, ◌∙◌, Option, Some, None}
 use Rattle.std.proofs.Common.{ltb-true, eq-eqb}
 use Rattle.std.specs.Prelude.{nat_lt, IsSome}
@@ -53,7 +53,7 @@ not_placed layout shape key none = go (unpacked layout key) refl
     go None e = placed_by layout shape key None e
     go (Some p) e = inside p e (has_place shape p) refl
 
--- ---- of which shard a key is
+-- ---- the shard of a key
 
 pub unpacks : (layout : Layout) (shape : Numbers) (key : ℕ) (x : Name) → place_named (plan_of layout shape) key ≡ Some x
     → IsSome (unpacked layout key)

@@ -1,4 +1,4 @@
--- What a receipt tells, and what a pass knows that heeded one.
+-- What a receipt contains, and what a pass knows that heeded one.
 use Rattle.std.proofs.Common.{◌≡◌, List, [], ◌∷◌, ◌++◌, map, refl, sym, ap, subst, ◌∙◌, Some}
 use Rattle.sh_key.specs.Layout.{Layout}
 use Rattle.sh_table.specs.declared.view.Told.{Told}

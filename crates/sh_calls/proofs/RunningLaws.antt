@@ -35,7 +35,7 @@ same_tale v w e = record {
   orders = ap (λ (c : Caller). c.view.orders) e;
 }
 
--- what is seen of the pass stays the same but for its part
+-- what is seen of the pass stays the same except for its part
 pub same_of : (layout : Layout) (v w : Caller) (s t : Standing) → w.heap ≡ v.heap → SameTale v.view w.view
     → SamePass (seen_standing layout v s) (seen_standing layout w t)
 same_of layout v w s t heap same = λ i. record {

@@ -1,4 +1,4 @@
--- What the tale of a pass of the running heap tells: one history of all, and which passes it names.
+-- What the tale of a pass of the running heap contains: one history of all, and the passes that it names.
 use Rattle.std.proofs.Common.{◌≡◌, ℕ, zero, suc, ◌<◌, ◌==◌, ◌||◌, Bool, true, false, cond, List, [], ◌∷◌, ◌++◌, map}
 use Rattle.std.proofs.Common.{refl, sym, ap, subst, ◌∙◌, arith}
 use Rattle.std.specs.Prelude.{nat_lt, not}
@@ -37,7 +37,7 @@ none_other passes (e ∷ es) h = go (nat_lt (pass_of e) passes) refl
         in absurd (let z : nat_lt (pass_of e) passes ≡ true = grind (arith, nat_tests) in let y : true ≡ false = sym z
         ∙ is in cc)
 
--- one of the histories of the tale tells all
+-- one of the histories of the tale has all logs
 pub whole_told : (layout : Layout) (v : Caller) (n : Numbers) (history : List Entry) → v.view.shape ≡ n
     → IsTale layout v.view history → All (λ e. pass_of e < v.view.shape.passes) history
     → (w : HasWholeTale (heap_terms layout n) (tale_told (seen_of_caller layout v))) × (w.history ≡ history)

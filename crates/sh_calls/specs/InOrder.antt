@@ -50,7 +50,7 @@ adding_passes [] answers = []
 adding_passes (l ∷ lines) [] = []
 adding_passes (l ∷ lines) (a ∷ answers) = cond (adds_entry l.call a) (l.pass ∷ []) [] ++ adding_passes lines answers
 
--- The entries are in the order of the lines that added them. Those of each pass are in its own order in any case, so
+-- The entries are in the order of the lines that added them. Those of each pass are in its own order in any case. So
 -- the first entry is that of the first line that adds one, the second that of the second, and so on.
 abbrev pub IsInOrder : List CallLine → List Answer → List Entry → Type 0
 IsInOrder lines answers history = map pass_of history ≡ adding_passes lines answers

@@ -38,8 +38,8 @@ abbrev pub IsOfHeap : Option Heap → Option SeenPass → Type 0
 IsOfHeap heap None = Unit {0}
 IsOfHeap heap (Some s) = s.heap ≡ heap
 
--- this pass owns no shard and carries this tale and these orders; the tale is whole: one legal history has exactly the
--- entries that the pass speaks for, and keeps the orders
+-- This pass owns no shard and carries this tale and these orders. The tale is whole: one legal history has exactly the
+-- entries that the pass speaks for, and keeps the orders.
 pub record HasMet (heap : Option Heap) (terms : RunTerms) (s : SeenPass) (tale : List PassTold) (orders : List Order) :
     Type 0 where
   pub carries : CarriesTale heap terms (Some s) tale

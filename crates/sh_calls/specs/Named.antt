@@ -35,8 +35,8 @@ pub record FollowsInsert (history : List Entry) (pass first key : ℕ) : Type 0 
   pub value : List ℕ
   pub inserted : Contains early (Insert inserter key value)
 
--- If a line is on a name that is bound to a number, and adds an entry, the number is that of a key, and the entry comes
--- after the insert of the key.
+-- Let a line be on a name that is bound to a number, and let it add an entry. Then the number is that of a key, and the
+-- entry comes after the insert of the key.
 abbrev pub NamesComeFirst : (tag : Option ℕ) → List CallLine → List Answer → List Entry → Type 0
 NamesComeFirst tag lines answers history = (i : ℕ) (l : CallLine) (a : Answer) (number : ℕ)
     → slice_get lines i ≡ Some l → slice_get answers i ≡ Some a → adds_entry l.call a ≡ true

@@ -62,7 +62,8 @@ fn lines_in_turn<S: Side>(
 }
 
 /// Runs the lines in their order, each with a receipt of the line before. Returns the reply lines, and the pass that
-/// carries the tale of all once all owners have left and all passes have met; no pass if an owner could not leave.
+/// carries the tale of all. All owners have then left and all passes have met; there is no such pass if an owner could
+/// not leave.
 pub fn alone_lines<S: Side>(
     alloc: Global,
     lines: &[CallLine],

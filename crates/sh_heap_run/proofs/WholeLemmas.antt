@@ -1,4 +1,4 @@
--- What more notes leave of what a pass knows that carries the tales of all.
+-- What a pass that carries the tales of all still knows after it noted more.
 use Rattle.std.proofs.Common.{◌≡◌, ℕ, zero, suc, ◌++◌, Bool, true, false, List, [], ◌∷◌, map, refl, sym, ap, ◌∙◌, subst}
 use Rattle.std.proofs.Common.{Option, Some, Result, Ok, Err, OnOk, append-nil}
 use Rattle.std.proofs.lemmas.Option.{same_Some}
@@ -29,7 +29,7 @@ use Rattle.sh_heap_run.specs.WholeAccounts.{LeadsToWhole, PageSaid, HasNumbers}
 use Rattle.sh_heap_run.specs.HeapOutput.{TellsTale, IsHeapOutput}
 use Rattle.sh_calls.specs.Finished.{CarrierRan}
 
--- the history of a view that noted more was one of it before
+-- the history of a view that noted more is a history of the view before
 same_history : (layout : Layout) (v w : View) (history : List Entry) → NotedMore v w → IsHistory layout w history
     → IsHistory layout v history
 same_history layout v w history h k =
@@ -56,7 +56,7 @@ later_whole layout v w heap more =
       };
     }
 
--- the text of the accounts, told by the log of events that lead to all that the pass knows in the end
+-- the text of the accounts by the log of events that lead to all that the pass knows in the end
 pub tells_tale : (layout : Layout) (v w : Caller) (es : List Event) (old new : List ℕ)
     → Later false (λ (c : Caller). c.heap.shape) (λ c es. LeadsToWhole layout c es) (λ c q a. PageSaid layout c q a) v w
     → LeadsToWhole layout w es
@@ -94,7 +94,7 @@ tells_tale layout v w es old new later lw is said =
       },
     )
 
--- the same of a call that may be refused memory
+-- the same for a call that may be refused memory
 pub tells_result : {T E : Type 0} (r : Result T E) (layout : Layout) (v w first : Caller) (old new : List ℕ)
     → first ≡ v
     → Later false (λ (c : Caller). c.heap.shape) (λ c es. LeadsToWhole layout c es) (λ c q a. PageSaid layout c q a)

@@ -1,5 +1,5 @@
--- What modes heap and threads write for a script of calls: the reply lines, and then the accounts of the pages, if they
--- are asked for and every owner could leave.
+-- What modes heap and threads write for a script of calls: the reply lines, and then the accounts of the pages. The
+-- accounts come only if they are asked for and every owner could leave.
 use Rattle.std.specs.Prelude.{◌≡◌, ℕ, Bool, true, false, List, [], ◌++◌, Option, Some}
 use Rattle.sh_key.specs.Layout.{Layout}
 use Rattle.sh_shape.specs.Shape.{Numbers}
@@ -62,8 +62,8 @@ pub record IsStopped (layout : Layout) (shape : Numbers) (tag : Option ℕ) (lin
   pub of_shape : heap.shape ≡ shape
   pub waiting : AreWaiting (Some heap) (heap_terms layout shape) tag lines output
 
--- The text is a script of calls, and these are the replies of a run at whose end a pass was refused when it left its
--- shard: there is no account line then.
+-- The text is a script of calls, and these are the replies of a run of it. At the end of the run a pass was refused
+-- when it left its shard, so there is no account line.
 pub record IsHeapWaiting (text output : List ℕ) : Type 0 where
   pub header : Header
   pub lines : List CallLine

@@ -49,7 +49,7 @@ writes_more layout before mid next lines i l a old new lt is w s e =
           ∙ ap (λ t. t ++ reply_line l a) w.is ∙ sym more.text;
     })
 
--- what holds on success, where there was no error
+-- what holds on success, if there was no error
 pub from_ok : {A E P : Type 0} (r : Result A E) → false ≡ is_err r → OnOk r P → P
 from_ok (Ok x) e h = h
 from_ok (Err x) e h = cc

@@ -18,7 +18,7 @@ piece_fits (x ∷ xs) (suc i) below =
       length-append (codes " " ++ decimal x) (words_text xs),
     )
 
--- where a word's part finds no room behind the words before it, all words find none
+-- if a word's part finds no room after the words before it, all words find none
 pub no_room : {T E : Type 0} (r : Result T E) (words : List ℕ) (i room now before old len part : ℕ) → i < length words
     → part ≤ 1 + length (decimal (slice_index_or words i 0)) → room ≤ now → now < len + part
     → len ≡ old + length (words_text (take i words)) → before ≡ old

@@ -27,7 +27,7 @@ later_next fixed numbers leads says u v w h k = record {
 }
 
 -- from the first state to this one, the first n texts were added, each by the accounts after events that lead here, and
--- what is said of each part stands
+-- what is said of each part still holds
 pub record ToldSoFar {A : Type 0} (fixed : Bool) (numbers : A → Numbers) (leads : A → List Event → Type 0)
     (says : A → ℕ → Accounts → Type 0) (layout : Layout) (text : (ℕ → Accounts) → ℕ → List ℕ)
     (Said : (ℕ → Accounts → Type 0) → (ℕ → Accounts) → ℕ → Type 0) (first now : A) (old out : List ℕ) (n : ℕ) :

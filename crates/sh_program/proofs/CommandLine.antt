@@ -21,7 +21,7 @@ use Rattle.sh_program.specs.Options.{mode_name}
 simple_and_free : (modes : Bor (List (Bor Text))) → is_simple_and_free (command_line modes) ≡ true
 simple_and_free modes = refl
 
--- where clap's rules are exact about the faults, they are so for this command line
+-- this command line is of the kind for which clap's rules are exact about the faults
 pub free : (c : Command) (modes : Bor (List (Bor Text))) → app_of c ≡ command_line modes → is_simple_and_free (app_of c)
     ≡ true
 free c modes is = ap is_simple_and_free is ∙ simple_and_free modes

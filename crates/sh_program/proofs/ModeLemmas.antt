@@ -1,4 +1,4 @@
--- The word that a parse finds for the mode is one of those that clap was told.
+-- The word that a parse finds for the mode is one of those that clap was given.
 use Rattle.std.proofs.Common.{◌≡◌, ◌⊎◌, ◌∙◌, ◌<◌, ◌≤◌, ℕ, zero, suc, Bool, true, false, List, [], ◌∷◌, length}
 use Rattle.std.proofs.Common.{map, is_some, Option, Some, None, not, refl, sym, ap, subst, inl, inr, arith, codes}
 use Rattle.std.proofs.Common.{slice_index, slice_get}

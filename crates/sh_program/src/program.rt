@@ -58,8 +58,8 @@ fn show<W: Write, E: Write>(alloc: Global, error: &Error, output: &mut W, errors
 }
 
 /// Runs the program: the script that `input` gives, in the mode that `words` name. Replies go to `output`, and errors
-/// to `errors`. The first word is the program's name. Returns the exit status: 0, also for help and the version; 2 for
-/// a mistake in the words or in the script; and 3 if memory, an owner, a read or a write failed.
+/// to `errors`. The first word is the program's name. Returns the exit status. It is 0 on success, and for help and the
+/// version. It is 2 for a mistake in the words or in the script, and 3 if memory, an owner, a read or a write failed.
 ///
 /// For help, for the version and for a mistake in the words, nothing of `input` is read. Otherwise at most one byte
 /// more than a script may have is read.

@@ -1,4 +1,4 @@
-//! Runs of the program over words, readers and writers that are made up, and what is looked at of one.
+//! Runs of the program over words, readers and writers that are made up, and checks of a run.
 mod faults;
 mod runs;
 mod words;
@@ -12,12 +12,12 @@ use std::process::Abort;
 use std::sync::Wait;
 use std::thread::Threads;
 
-// What was found is what is wanted. It is a function, since each assertion that is written out is proved anew.
+// Asserts that what was found is what is wanted. It is a function, since each assertion in a test is proved anew.
 fn agree<T: PartialEq + Debug + Drop>(rt: &impl Abort, found: T, wanted: T, of: &str) {
     assert_eq!(rt; found, wanted, "{of}");
 }
 
-// These bytes are the text.
+// Asserts that these bytes are the text.
 fn has_text(rt: &impl Abort, bytes: &[u8], text: &str) {
     assert!(rt; bytes == text.as_bytes(), "{text}");
 }
@@ -30,7 +30,7 @@ struct Run {
     errors: Vec<u8>,
 }
 
-// A run with these words, which may read this.
+// A run with these words, which may read this input.
 fn run_with<R: Read, T: Threads + Wait + Sync>(
     rt: &T,
     alloc: Global,
@@ -47,14 +47,14 @@ fn run_with<R: Read, T: Threads + Wait + Sync>(
     }
 }
 
-// It ended so, and wrote just this.
+// Asserts that the run ended with this status, and wrote exactly this.
 fn wrote(rt: &impl Abort, run: &Run, status: u8, output: &str, errors: &str) {
     agree(rt, run.status, status, errors);
     has_text(rt, run.output.as_slice(), output);
     has_text(rt, run.errors.as_slice(), errors);
 }
 
-/// A device of which each read and each write fails.
+/// A device whose reads and writes all fail.
 #[derive(Drop)]
 struct Broken;
 

@@ -52,8 +52,8 @@ pub record Begins (mode : Mode) (accounts : Bool) (text : List ℕ) (old new : O
   pub is_output : IsOutput mode accounts text output ⊎ IsWaiting mode text output
   pub written : WroteBeginning old new output
 
--- What a run that ends with a fault has written: all replies if an owner could not leave; nothing or a beginning of an
--- output, and never a whole one, if a read or a write failed; and nothing otherwise.
+-- What a run that ends with a fault has written. It is all replies if an owner could not leave. It is nothing or a
+-- beginning of an output, and never a whole one, if a read or a write failed; and otherwise nothing.
 abbrev pub Stops : Mode → (accounts : Bool) → List ℕ → Fault → Option (List ℕ) → Option (List ℕ) → Type 0
 Stops mode accounts text fault.Waiting old new = WritesReplies mode text old new
 Stops mode accounts text fault.Io old new = Keeps old new ⊎ Begins mode accounts text old new

@@ -1,4 +1,4 @@
-//! What takes more than a script and its output.
+//! Tests that need more than a script and its output.
 mod ends;
 mod forged;
 mod gates;
@@ -12,12 +12,12 @@ mod workers;
 use std::fmt::Debug;
 use std::process::Abort;
 
-// What was found is what is wanted. It is a function, since each assertion that is written out is proved anew.
+// Asserts that what was found is what is wanted. It is a function, since each assertion in a test is proved anew.
 fn agree<T: PartialEq + Debug + Drop>(rt: &impl Abort, found: T, wanted: T) {
     assert_eq!(rt; found, wanted);
 }
 
-// It is so.
+// Asserts that the condition holds.
 fn holds(rt: &impl Abort, it: bool) {
     assert!(rt; it);
 }

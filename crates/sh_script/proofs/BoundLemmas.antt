@@ -38,7 +38,7 @@ needs_below names ws (call.Release r) bound x = refers_below names x.word r x.ab
 needs_below names ws call.Post bound x = tt
 needs_below names ws (call.Wait i) bound x = slice_get_within names i _ (x.bound).stands
 
--- it binds one name, where it is an insert or a post
+-- it binds one name if it is an insert or a post
 no_new_name : (names : List Binding) (bound : Option Binding) → bound ≡ None → length (with_name names bound)
     ≡ length names + 0
 no_new_name names bound e = let here : length names ≡ length names + 0 = omega arith in
@@ -63,7 +63,7 @@ binds_next names ws pass (call.Wait i) bound x = no_new_name names bound x.binds
 
 -- ---- one line more
 
--- an element of a list that grew is an old one, with the same ones before it, or the new one, behind the old ones
+-- an element of a list that grew is an old one, with the same ones before it, or the new one, after the old ones
 get_grown : (xs : List CallLine) (y : CallLine) (j : ℕ) (k : CallLine) → slice_get (xs ++ y ∷ []) j ≡ Some k
     → ((slice_get xs j ≡ Some k) × (take j (xs ++ y ∷ []) ≡ take j xs)) ⊎ ((y ≡ k) × (take j (xs ++ y ∷ []) ≡ xs))
 get_grown [] y zero k e = inr (some_is y k e, refl)
@@ -91,7 +91,7 @@ more_names lines l = ap length (filter-append (λ (l : CallLine). binds l.call) 
 
 -- ---- the calls so far
 
--- the names are as many as the lines bind, and are bound before they are needed
+-- the number of names is that of the names that the lines bind, and they are bound before they are needed
 pub record AreBound (h : Header) (calls : CallsSoFar) : Type 0 where
   pub counted : length calls.names ≡ names_in calls.lines
   pub bound : NamesAreBound calls.lines

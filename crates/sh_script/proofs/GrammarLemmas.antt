@@ -1,4 +1,4 @@
--- Reading gives what the grammar says, and (begin start) else.
+-- Reading gives what the grammar says, and (begin start) otherwise.
 use Rattle.std.proofs.Common.{◌≡◌, ℕ, ◌+◌, ◌<◌, ◌≤◌, ◌⊎◌, inl, inr, Bool, true, false, List, [], ◌∷◌, ◌++◌, length}
 use Rattle.std.proofs.Common.{Result, Ok, Err, refl, sym, ap, ap₂, subst, ◌∙◌, nat_lt, arith, lt-ltb, ltb-true}
 use Rattle.std.proofs.Common.{ltb-false}

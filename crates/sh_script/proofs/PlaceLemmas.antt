@@ -19,7 +19,7 @@ use Rattle.sh_script.specs.EventLines.{page_from, slot_from}
 use Rattle.sh_script.proofs.NumberLemmas.{own, both_true, number_is, number_of_decimal}
 use Rattle.sh_script.proofs.Steps.{bind_ok, or_ok, ok_is, some_is}
 
--- ---- where the first dot stands
+-- ---- the place of the first dot
 
 cut_at : (w : Word) (i : ℕ) → i < length w → is_dot (get_or w i 0) ≡ true → w ≡ take i w ++ 46 ∷ drop (i + 1) w
 cut_at w i lt e =

@@ -101,7 +101,7 @@ names_of_calls text (Ok c) h =
     all.bound
 names_of_calls text (Err f) h = tt
 
--- the header has a tag where it may
+-- the header has a tag exactly if its layout has one
 abbrev KeepsTag : {S : Type 0} → Header → S → Type 0
 KeepsTag h s = HasTag h.layout h.tag
 

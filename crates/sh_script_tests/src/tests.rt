@@ -9,13 +9,13 @@ use std::alloc::Global;
 use std::fmt::Debug;
 use std::process::Abort;
 
-// What was found is what is wanted. It is a function, since each assertion that is written out is proved anew; those
-// stand written out by which what follows knows how many lines there are.
+// Asserts that what was found is what is wanted. It is a function, since each assertion in a test is proved anew. A
+// test has an assertion of its own if the lines after it need to know the number of lines.
 fn agree<T: PartialEq + Debug + Drop>(rt: &impl Abort, found: T, wanted: T) {
     assert_eq!(rt; found, wanted);
 }
 
-// It is so.
+// Asserts that the condition holds.
 fn holds(rt: &impl Abort, it: bool) {
     assert!(rt; it);
 }

@@ -1,4 +1,4 @@
--- An event is skipped exactly where it has no row.
+-- An event is skipped exactly if it has no row.
 use Rattle.std.proofs.Common.{◌≡◌, false, refl, sym, ap, ◌∙◌, Option, Some, None, slice_get}
 use Rattle.std.specs.Prelude.{is_none}
 use Rattle.sh_history.specs.declared.entry.Entry.{Entry}
@@ -34,7 +34,7 @@ skips plan w e = go (row_of_event plan w e) where
   go (Some m) = done_is (entry_of e.pass (value_at_place w.words m.place) (m.reply (read w.words m.place)))
   go None = refl
 
--- the row of an event, for a pass with this body and where there is no such pass
+-- the row of an event, for a pass with this body, or none if there is no such pass
 at_body : (plan : Plan) (e : Event) (o : Option Body) → Option Row
 at_body plan e o = elim o as (λ _. Option Row) [ Some p ↦ row plan p e.action | None ↦ None ]
 
@@ -52,7 +52,7 @@ row_of_none plan k w e stands at =
     let here : slice_get w.parts e.pass ≡ None = rw (← stands.parts) at in
     ap (at_body plan e) here
 
--- what a step of this event touched, where it has a reason exactly where the event has no row
+-- what a step of this event touched: it has a reason exactly if the event has no row
 pub tells_why : (layout : Layout) (k k' : KeptWorld) (e : Event) (touched : Touched) (came : Outcome)
     → FromEvents layout k → ((w : World) → StandsFor k w
     → has_reason touched ≡ is_none (row_of_event (plan_of layout k.shape) w e)) → StepsWorld layout k e came k'

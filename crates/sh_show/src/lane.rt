@@ -90,8 +90,8 @@ fn link_of(view: &View<'_>, lane: Lane, item: u64) -> (Link, bool) {
     }
 }
 
-// Writes the link of an item, and returns the item that it leads to: `->` if it is written, `~>` if it is only in the
-// hand of the pass that owes it.
+// Writes the link of an item, and returns the item that it leads to. The link is `->` if it is written, and `~>` if it
+// is only in the hand of the pass that owes it.
 fn push_link(
     out: &mut String,
     view: &View<'_>,

@@ -2,9 +2,9 @@
 //! trace shows its pages, its bell and the passes. For an event that is skipped it shows which condition failed.
 //!
 //! `Session` is a world between two lines, and `watch` reads a script line by line and writes its trace, so it can be
-//! used at a terminal too. It is proved that a line does the event that it says (`does` of `Session::line`), that it is
-//! written as mode steps writes it, and that a reason is given exactly for what is skipped. Everything more that a
-//! trace says is only tested.
+//! used at a terminal too. It is proved that a line does the event that it says (`does` of `Session::line`), and that
+//! it is written as mode steps writes it. It is proved too that a reason is given exactly for what is skipped.
+//! Everything more that a trace says is only tested.
 #![tactic(auto)]
 
 mod class_named;

@@ -5,12 +5,12 @@ use std::fmt::Debug;
 use std::process::Abort;
 use std::test::Fail;
 
-// What was found is what is wanted. It is a function, since each assertion that is written out is proved anew.
+// Asserts that what was found is what is wanted. It is a function, since each assertion in a test is proved anew.
 fn agree<T: PartialEq + Debug + Drop>(rt: &impl Abort, found: T, wanted: T) {
     assert_eq!(rt; found, wanted);
 }
 
-// It is so.
+// Asserts that the condition holds.
 fn holds(rt: &impl Abort, it: bool) {
     assert!(rt; it);
 }
@@ -43,7 +43,7 @@ const OPENED: &str = "> heap tiny 1 1 2
 
 ";
 
-// The trace of a script, and what its run ended with.
+// The trace of a script, and the result of its run.
 fn trace(alloc: Global, script: &str) -> (Result<(), Fault>, Vec<u8>) {
     let mut input = script.as_bytes();
     let mut output = Vec::new(alloc);
@@ -51,7 +51,7 @@ fn trace(alloc: Global, script: &str) -> (Result<(), Fault>, Vec<u8>) {
     (ended, output)
 }
 
-// The trace of these lines behind the opening, as a text: an empty one where the run did not end well.
+// The trace of these lines after the opening, as a text: an empty one if the run did not end well.
 fn trace_of(alloc: Global, lines: &str) -> Result<String, Fail> {
     let script = format!(in alloc; "{OPENING}{lines}")?;
     let (ended, output) = trace(alloc, script.as_str());

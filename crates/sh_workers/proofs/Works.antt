@@ -165,7 +165,7 @@ module _ (heap : Option Heap) (terms : RunTerms) (tag : Option ℕ) (lines : Lis
   pub work_heap : side.heap ≡ heap
   work_heap = ap (λ (z : SeenPass). z.heap) h.is
 
-  -- what it tells once its call was made: of its insert too, if it was one that was answered a key
+  -- its receipt once its call was made contains also its insert, if the call was one that returned a key
   pub work_tells : (mid after : SeenPass) (m : Made) → HasTagRoom terms.layout tag → MayHearName tag m.bound side mid
       → SamePass mid after → CallAnswers mid.terms tag mid.pass mid.part l.call m.bound m.answer after.part
       → (after.heap ≡ heap)

@@ -64,7 +64,7 @@ impl<S: Side, B: Room> Model for Worker<S, B> {
         × (length (own_calls w.number B.lines) ≤ vec_capacity w.made) };
 }
 
-// The number that the name of the call is bound to: if the call is on a name, the pass waits for it and heeds the
+// The number that the name of the call is bound to. If the call is on a name, the pass waits for it and heeds the
 // receipt that comes with it. A `wait` waits too, but has no number. `None` if the board is closed.
 fn awaited<S: Side, B: Room, R: Wait>(
     rt: &R,

@@ -1,4 +1,4 @@
-//! The line of each fault, which goes out in one write, and how a run ends by it.
+//! The line of each fault, which is written in one write, and the exit status that follows it.
 use super::{agree, has_text};
 use sh_program::faults::{FaultLine, fault_line, status};
 use sh_program::program::report;
@@ -40,7 +40,7 @@ fn fault_lines(rt: HostRuntime) -> Result<(), Fail> {
     Ok(())
 }
 
-// The fault is reported by this line, and ends a run so.
+// Asserts that the fault is reported by this line, and ends a run with this status.
 fn is_reported(rt: &impl Abort, alloc: Global, fault: Fault, line: &str, ends_with: u8) {
     let mut errors = Vec::new(alloc);
     agree(rt, report(fault, &mut errors), ends_with, line);
@@ -82,7 +82,7 @@ impl Write for Counting {
     }
 }
 
-// The fault is reported in one write.
+// Asserts that the fault is reported in one write.
 fn goes_out_at_once(rt: &impl Abort, fault: Fault) {
     let mut errors = Counting { writes: 0 };
     agree(rt, report(fault, &mut errors), status(fault), "status");

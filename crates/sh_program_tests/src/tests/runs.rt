@@ -68,7 +68,7 @@ const PLAIN: [&str; 2] = ["shardheap", "plain"];
 /// The line of a device that fails.
 const IO_LINE: &str = "shardheap: fault 15 Io\n";
 
-// A run whose output is broken names its fault.
+// Asserts that a run whose output is broken names its fault.
 fn breaks<R: Read, T: Threads + Wait + Sync + Abort>(
     rt: &T,
     alloc: Global,
@@ -81,7 +81,7 @@ fn breaks<R: Read, T: Threads + Wait + Sync + Abort>(
     has_text(rt, errors.as_slice(), IO_LINE);
 }
 
-// A run whose input and errors are broken ends like one that names its fault.
+// Asserts that a run whose input and errors are broken ends like one that names its fault.
 fn breaks_unnamed<T: Threads + Wait + Sync + Abort>(rt: &T, alloc: Global) {
     let mut output = Vec::new(alloc);
     let status = run(rt, alloc, &PLAIN, &mut Broken, &mut output, &mut Broken);

@@ -6,7 +6,7 @@ use sh_program::options::options;
 use std::alloc::Global;
 use std::process::Abort;
 
-// These words ask for this mode, and for accounts or not.
+// Asserts that these words ask for this mode, and for accounts or not.
 fn asks(rt: &impl Abort, alloc: Global, words: &[&str], mode: Mode, accounts: bool) {
     match options(alloc, words) {
         Ok(asked) => assert!(rt; asked == (mode, accounts)),
@@ -31,7 +31,7 @@ fn options_are_taken(rt: HostRuntime) {
     }
 }
 
-// These words are refused for this reason, and are a mistake or not.
+// Asserts that these words are refused for this reason, and are a mistake or not.
 fn refuses(rt: &impl Abort, alloc: Global, words: &[&str], kind: ErrorKind, is_mistake: bool) {
     match options(alloc, words) {
         Ok(_) => panic!(rt; "{kind:?}"),
@@ -111,7 +111,7 @@ Exit status:
   3  memory was refused, an owner could not leave, or a read or a write failed
 ";
 
-// It wrote the help.
+// Asserts that it wrote the help.
 fn wrote_help(rt: &impl Abort, run: &Run) {
     agree(rt, run.status, 0, "help");
     assert!(rt; run.output.starts_with("Runs a script".as_bytes()));

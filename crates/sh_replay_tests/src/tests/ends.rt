@@ -1,4 +1,4 @@
-//! Ends that fail once and then go on, and ends that move few bytes at a time, in each mode.
+//! Ends that fail once and then continue, and ends that move few bytes at a time, in each mode.
 use super::worked::{EACH_MODE, Worked};
 use super::{agree, holds};
 use sh_replay::{Mode, replay, replay_alone};
@@ -11,7 +11,7 @@ use std::sync::Wait;
 use std::test::Fail;
 use std::thread::Threads;
 
-/// A reader that gives at most so many bytes a read. After so many reads one fails, and those behind it go on.
+/// A reader that gives at most `most` bytes a read. After `left` reads one fails, and those after it succeed.
 #[derive(Drop)]
 pub struct Reading<'a> {
     pub rest: &'a [u8],
@@ -43,8 +43,8 @@ enum Failure {
     TakesNone,
 }
 
-/// A writer that takes so many bytes in its first write, and in each one `grows` more than in the one before. After so
-/// many writes one fails, and those behind it go on.
+/// A writer that takes `most` bytes in its first write, and in each later one `grows` more than in the one before.
+/// After `left` writes one fails, and those after it succeed.
 #[derive(Drop)]
 struct Writing {
     taken: Vec<u8>,
@@ -75,7 +75,7 @@ impl Write for Writing {
     }
 }
 
-/// The script is read by at most so many bytes a read, of which one fails, and nothing is written.
+/// The script is read by at most `most` bytes a read, one of which fails, and nothing is written.
 fn fails_at_read<R: Threads + Wait + Sync + Abort>(
     rt: &R,
     alloc: Global,
@@ -106,7 +106,7 @@ fn fails_at_read<R: Threads + Wait + Sync + Abort>(
     );
 }
 
-/// The output is written by at most so many bytes a write, of which one fails, and a beginning of it has gone out.
+/// The output is written by at most `most` bytes a write, one of which fails, and a beginning of it has gone out.
 fn fails_at_write<R: Threads + Wait + Sync + Abort>(
     rt: &R,
     alloc: Global,
@@ -141,7 +141,7 @@ fn fails_at_write<R: Threads + Wait + Sync + Abort>(
     agree(rt, writer.taken.len(), most.saturating_mul(left));
 }
 
-/// By ends that do not fail, and move at most so many bytes each time, the whole output goes out.
+/// With ends that do not fail, and that move at most `most` bytes each time, the whole output goes out.
 fn goes_out_whole<R: Threads + Wait + Sync + Abort>(
     rt: &R,
     alloc: Global,

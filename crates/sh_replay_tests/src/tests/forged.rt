@@ -1,4 +1,4 @@
-//! Keys that nobody was answered, by all the modes of calls.
+//! Keys that no insert returned, in all the modes of calls.
 use super::{agree, holds};
 use sh_replay::{Mode, replay};
 use std::alloc::Global;
@@ -35,7 +35,7 @@ fn script_of(alloc: Global, command: &str) -> Result<String, Fail> {
     Ok(script)
 }
 
-/// What these lines give: a number that is a key is gone, and any other is a bad key. Also how many are keys.
+/// The output of these lines: a number that is a key is gone, and any other is a bad key. Also the number of keys.
 fn output_of(alloc: Global, command: &str, mode: Mode) -> Result<(String, u64), Fail> {
     let mut output = String::new(alloc);
     let mut keys = 0u64;
@@ -52,7 +52,7 @@ fn output_of(alloc: Global, command: &str, mode: Mode) -> Result<(String, u64), 
     Ok((output, keys))
 }
 
-/// The script's whole output, of which so many lines are of keys.
+/// The script's whole output, in which `wanted` lines are of keys.
 fn expect<R: Threads + Wait + Sync + Abort>(
     rt: &R,
     alloc: Global,
@@ -74,8 +74,8 @@ fn expect<R: Threads + Wait + Sync + Abort>(
     Ok(())
 }
 
-// On the running heap 1,152 of the 20,001 numbers are keys, three generations of 8 pages with 48 slots, and 18,849 are
-// none. The plain store has the layout's 12,288.
+// On the running heap 1,152 of the 20,001 numbers are keys: three generations of 8 pages with 48 slots. The other
+// 18,849 are none. The plain store has the layout's 12,288.
 #[test]
 fn forged_keys_are_bad_or_gone(rt: HostRuntime) -> Result<(), Fail> {
     for command in ["get", "remove"] {

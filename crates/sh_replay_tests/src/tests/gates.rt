@@ -4,17 +4,17 @@ use sh_replay::{Gate, Mode, replay_gated};
 use std::sync::atomic::{AtomicU64, Ordering};
 use std::thread::yield_now;
 
-/// The passes, the calls of each, and how often the gate observes each call.
+/// The passes, and the calls of each.
 const PASSES: usize = 2;
 
 const CALLS: usize = 3;
 
 const TOLD: usize = PASSES * CALLS * 2;
 
-/// How often a gate looks whether another pass has come to a place.
+/// How often a gate looks whether another pass has reached a place.
 const LOOKS: u64 = 10_000_000;
 
-/// A gate that notes when it was told of each call, counted from 1 over all passes.
+/// A gate that notes when it was passed for each call, counted from 1 over all passes.
 #[derive(Drop)]
 struct Notes {
     times: [[AtomicU64; CALLS * 2]; PASSES],
@@ -49,7 +49,7 @@ impl Notes {
         times.get(call * 2 + is_after as usize)
     }
 
-    /// When the gate was told of the call, 0 where it was not.
+    /// When the gate was passed for the call, 0 if it was not.
     fn time(&self, pass: usize, call: usize, is_after: bool) -> u64 {
         match self.told(pass, call, is_after) {
             Some(time) => time.load(Ordering::SeqCst),
@@ -65,7 +65,7 @@ impl Notes {
         }
     }
 
-    /// Looks until the gate was told of the call.
+    /// Looks until the gate was passed for the call.
     fn wait(&self, pass: usize, call: usize, is_after: bool) {
         for _ in 0..LOOKS {
             if self.time(pass, call, is_after) != 0 {
@@ -77,8 +77,8 @@ impl Notes {
     }
 }
 
-// Pass 0 binds a name by its call 1, on which pass 1's call 0 is. Before that call pass 0 looks for pass 1 at its call,
-// ahead of the wait for the name; and after it, for pass 1 behind its call.
+// Pass 0 binds a name by its call 1, and call 0 of pass 1 is on that name. Before its call, pass 0 looks for pass 1
+// before the wait for the name; after its call, it looks for pass 1 after the call of pass 1.
 impl Gate for Notes {
     fn before(&self, pass: usize, call: usize) {
         self.note(pass, call, false);

@@ -1,5 +1,5 @@
 //! Refused memory in each mode. With `rt try --test --fail-alloc N` the N-th allocation of a test is refused; each of
-//! these survives that anywhere.
+//! these tests survives that for any N.
 use super::{agree, holds};
 use sh_replay::{Mode, replay};
 use sh_script::Fault;
@@ -9,8 +9,8 @@ use std::sync::Wait;
 use std::test::Fail;
 use std::thread::Threads;
 
-/// Runs a script twice. One run may be refused memory: then it ends with a fault and nothing written, or it goes on
-/// with the refusal as a reply, by which it writes one of the other outputs. The other run answers as ever.
+/// Runs a script twice. One run may be refused memory: then it ends with a fault and nothing written, or it continues.
+/// It then has the refusal as a reply, and writes one of the other outputs. The other run writes the usual output.
 fn survives<R: Threads + Wait + Sync + Abort>(
     rt: &R,
     alloc: Global,
@@ -56,7 +56,7 @@ fn survives<R: Threads + Wait + Sync + Abort>(
 fn refused_memory_in_mode_plain(rt: HostRuntime) -> Result<(), Fail> {
     let script = "heap tiny 1 1 2\n0 adopt 0\n0 insert a 7\n1 get a\n1 read a\n1 release a\n";
     let output = "0 adopt ok\n0 insert 4096\n1 get ok\n1 read 1 7\n1 release ok\n";
-    // Where the insert is refused.
+    // If the insert is refused.
     let other =
         "0 adopt ok\n0 insert refused 8 Memory\n1 get unbound\n1 read unbound\n1 release unbound\n";
     survives(&rt, rt.alloc(), Mode::Plain, script, output, &[other]);
@@ -74,8 +74,8 @@ const OWNERS_OUTPUT: &str =
     1 release ok\n1 remove ok\n0 post ok\n0 post ok\n0 post ok\n0 post ok\n0 post ok\n0 post ok\n\
     page 0.0 class 0 live 1 marked 0 retired 0 mine 0 hand 0 queued 47\n";
 
-// What is written where the first adoption is refused, where the first insert is, which opens a segment, and where the
-// second adoption is.
+// What is written if the first adoption is refused, if the first insert is, which opens a segment, and if the second
+// adoption is.
 const OWNERS_REFUSED: [&str; 3] = [
     "0 adopt refused 8 Memory\n0 insert refused 10 NoShard\n0 leave refused 10 NoShard\n0 post ok\n1 wait ok\n\
     1 adopt ok\n1 insert 4096\n1 get unbound\n1 read unbound\n1 release unbound\n1 remove unbound\n\
@@ -117,9 +117,9 @@ fn refused_memory_in_mode_threads(rt: HostRuntime) -> Result<(), Fail> {
     Ok(())
 }
 
-/// Runs the script of two owners once. It ends well, and the output is as ever, or the one in which this growth was
-/// refused and told as a reply. So it must be where an allocation of that growth is refused: `scripts/refuse-memory`
-/// has their numbers.
+/// Runs the script of two owners once. It ends well, and the output is the usual one, or the one in which this growth
+/// was refused and reported as a reply. It must be the latter if an allocation of that growth is refused:
+/// `scripts/refuse-memory` has their numbers.
 fn tells<R: Threads + Wait + Sync + Abort>(rt: &R, alloc: Global, mode: Mode, growth: usize) {
     let mut reader = OWNERS.as_bytes();
     let mut out = Vec::new(alloc);

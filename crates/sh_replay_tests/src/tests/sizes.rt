@@ -25,7 +25,7 @@ const EVENTS_OUTPUT: &str =
     "0 Adopt moved\n0 Read moved\n0 SetClass moved\n0 Fill moved\n0 Publish Insert 4096 0\n\
     page 0.0 class 7 live 1 marked 0 retired 0 mine 2 hand 0 queued 0\n";
 
-/// A script of so many times 64 bytes, whose lines that say something are its first and its last ones.
+/// A script of `pieces` times 64 bytes, whose lines that say something are its first and its last ones.
 fn script_of(alloc: Global, pieces: usize, last: &str) -> Result<String, AllocError> {
     let mut script = String::from_str(alloc, HEADER)?;
     for _ in 2..pieces {
@@ -35,7 +35,7 @@ fn script_of(alloc: Global, pieces: usize, last: &str) -> Result<String, AllocEr
     Ok(script)
 }
 
-/// The modes, with the last lines of a script of each and what these give.
+/// The modes, with the last lines of a script of each and the output of these.
 const WORKED: [(Mode, &str, &str); 4] = [
     (Mode::Plain, CALLS, REPLIES),
     (Mode::Heap, CALLS, REPLIES_AND_ACCOUNTS),
@@ -45,7 +45,7 @@ const WORKED: [(Mode, &str, &str); 4] = [
 
 #[test]
 fn a_script_of_several_reads_is_run(rt: HostRuntime) -> Result<(), Fail> {
-    // One read takes 4,096 bytes at most.
+    // One read takes at most 4,096 bytes.
     for pieces in [64, 65, 200] {
         for (mode, last, output) in WORKED {
             for most in [1_000_000, 4095, 7] {
@@ -79,7 +79,7 @@ fn a_script_of_the_limit_is_run_and_one_byte_more_is_a_fault(rt: HostRuntime) ->
         agree(&rt, result, Ok(()));
         agree(&rt, out.as_slice(), output.as_bytes());
 
-        // Of what is longer, one byte more than a script may have is read.
+        // Of a longer text, one byte more than a script may have is read.
         let size = Err(Fault::Script(0, Cause::Size));
         for unread in 0..3 {
             script.push_str("\n")?;

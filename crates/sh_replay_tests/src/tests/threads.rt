@@ -4,7 +4,7 @@ use sh_replay::{Gate, Mode, replay_gated};
 use std::sync::atomic::{AtomicBool, AtomicU64, Ordering};
 use std::thread::yield_now;
 
-/// A gate at which each of two passes looks for the other, so often at most.
+/// A gate at which each of two passes looks for the other, at most `LOOKS` times.
 #[derive(Drop)]
 struct Meeting {
     here: [AtomicBool; 2],

@@ -17,7 +17,7 @@ const OUTCOMES_AND_ACCOUNTS: &str =
     "0 Adopt moved\n0 Read moved\n0 SetClass moved\n0 Fill moved\n0 Publish Insert 4096 0\n1 Enter Got 4096 0\n\
     page 0.0 class 7 live 1 marked 0 retired 0 mine 2 hand 0 queued 0\n";
 
-/// A mode, a script of it, and all that its run writes where accounts are asked for.
+/// A mode, a script of it, and all that its run writes if accounts are asked for.
 #[derive(Clone, Copy)]
 pub struct Worked {
     pub mode: Mode,

@@ -1,4 +1,4 @@
-//! Workers in threads: they wait for names, and end where one stops.
+//! Workers in threads: they wait for names, and end if one stops.
 ghost use Rattle.std.specs.Prelude.{◌≡◌, ◌<◌};
 ghost use Rattle.std.specs.List.{All};
 ghost use Rattle.sh_script.specs.declared.calls.CallLine.{CallLine};
@@ -39,7 +39,7 @@ fn replies<R: Threads + Wait + Sync, G: Gate + Sync>(
     Ok(output)
 }
 
-// What is told of a name by a board of two names, of which the first is bound to nothing, once it is closed.
+// The number that a closed board of two names returns for a name. The first name is bound to no number.
 fn told_once_closed<S: Side, B: Room, R: Wait>(
     rt: &R,
     alloc: Global,
@@ -115,7 +115,7 @@ fn names_are_waited_for(rt: HostRuntime) {
     );
 }
 
-// The second pass waits for a name that the first would bind after a wait for one that nobody binds.
+// The second pass waits for a name that the first would bind after a wait for one that no pass binds.
 #[test]
 fn a_worker_that_stops_ends_the_others(rt: HostRuntime) {
     let lines = [

@@ -89,8 +89,8 @@ fn each_command(rt: HostRuntime) {
     holds(&rt, matches!(calls.lines[8].call, Call::Leave));
 }
 
-// The search for a name takes no longer where many are bound: as many as a script of 1,048,576 bytes has room for,
-// where each is n and its number.
+// The search for a name takes no longer if many are bound. Here they are as many as a script of 1,048,576 bytes has
+// room for, each named n and its number.
 #[test]
 fn many_names(rt: HostRuntime) -> Result<(), Fail> {
     let alloc = rt.alloc();

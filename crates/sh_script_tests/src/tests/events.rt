@@ -65,7 +65,7 @@ fn each_event(rt: HostRuntime) -> Result<(), Fail> {
     Ok(())
 }
 
-// Keys stand as they are written, also under a tag.
+// Keys are as they are written, even if the header has a tag.
 #[test]
 fn keys_keep_their_tags(rt: HostRuntime) {
     let text =

@@ -22,14 +22,14 @@ fn faults_have_their_text(rt: HostRuntime) -> Result<(), Fail> {
     Ok(())
 }
 
-// The lines behind `heap tiny 1 1 1`.
+// The lines after `heap tiny 1 1 1`.
 fn after_header(alloc: Global, lines: &[u8]) -> Result<Vec<u8>, AllocError> {
     let mut text = Vec::from_slice(alloc, b"heap tiny 1 1 1\n")?;
     text.extend_from_slice(lines)?;
     Ok(text)
 }
 
-// Lines of calls behind a header, which is line 1, and the line that is at fault.
+// Lines of calls after a header, which is line 1, and the line that is at fault.
 const CALLS_WITH_A_FAULT: [(&[u8], u64, Cause); 27] = [
     (b"0 adopt 00\n", 2, Cause::Number),
     (b"x adopt 0\n", 2, Cause::Number),
@@ -86,7 +86,7 @@ fn call_lines_with_a_fault(rt: HostRuntime) -> Result<(), Fail> {
     Ok(())
 }
 
-// The same of lines of events.
+// The same for lines of events.
 const EVENTS_WITH_A_FAULT: [(&[u8], u64, Cause); 45] = [
     (b"x Tie\n", 2, Cause::Number),
     (b"00 Tie\n", 2, Cause::Number),
@@ -164,7 +164,7 @@ fn event_lines_with_a_fault(rt: HostRuntime) -> Result<(), Fail> {
     Ok(())
 }
 
-// A header, and then a line that begins so and goes on to so many bytes, with a newline where it is asked for.
+// A header, and then a line of this length with this first and this last byte, and a newline if it is asked for.
 fn long_line(
     alloc: Global,
     first: u8,

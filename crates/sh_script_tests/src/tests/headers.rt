@@ -9,7 +9,7 @@ fn header_of(alloc: Global, text: &[u8]) -> Option<Header> {
     }
 }
 
-// A script of a header alone, and what its header says: layout, shards, segments, passes and tag.
+// A script with only a header, and what its header says: layout, shards, segments, passes and tag.
 const ACCEPTED: [(&[u8], Layout, [u32; 3], Option<u8>); 9] = [
     (b"heap tiny 4 2 64\n", Layout::Tiny, [4, 2, 64], None),
     (b"heap wide 128 2 1\n", Layout::Wide, [128, 2, 1], None),
@@ -78,7 +78,7 @@ fn a_version_line_changes_nothing_else(rt: HostRuntime) {
     agree(&rt, with, without);
 }
 
-// Scripts whose first line, or the one behind a version line, is no header, and that line.
+// Scripts whose first line, or the one after a version line, is no header, and the number of that line.
 const NO_HEADERS: [(&[u8], u64); 23] = [
     (b"", 1),
     (b"\n; no more\n", 3),

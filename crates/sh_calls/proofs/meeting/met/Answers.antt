@@ -27,7 +27,7 @@ loop-side-preserved g c =
       counted = omega (arith, was.counted, c.in-Some.ensures.steps.1, length-append y (c.in-Some.side ∷ []));
     }
 
--- what holds in any case holds where there is none
+-- what holds in any case holds if there is none
 in_any_case : {A P : Type 0} (o : Option A) → P → IfNone o P
 in_any_case None p = p
 in_any_case (Some x) p = tt

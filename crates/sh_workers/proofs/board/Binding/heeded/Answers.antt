@@ -1,7 +1,7 @@
 use Rattle.sh_workers.proofs.Boards.{binding_left}
 use Rattle.sh_workers.proofs.board.Binding.heeded.Goals as goal
 
--- its own receipt tells all that it heeded
+-- its own receipt contains all that it heeded
 pub invariant_of-result : goal.invariant_of-result
 invariant_of-result g c =
     let room = g.B.Room in

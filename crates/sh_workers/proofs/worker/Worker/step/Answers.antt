@@ -48,7 +48,7 @@ push_reserved-requires g c =
     was.made.items c.self.invariant.0 l at own in
     omega (arith, few, was.made.ok.0, c.self.invariant.2)
 
--- the receipt that goes with the name tells of the insert
+-- the receipt that comes with the name contains the insert
 pub bind-requires-clause-tells : goal.bind-requires-clause-tells
 bind-requires-clause-tells g c =
     let room = g.B.Room in
