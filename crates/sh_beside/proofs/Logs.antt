@@ -1,4 +1,4 @@
--- What a call leaves of the log of its pass, and what that says of the log before it.
+-- What a call does to the log of its pass, and what that says of the log before it.
 use Rattle.std.proofs.Common.{◌≡◌, ◌≢◌, ℕ, ◌==◌, ◌⊎◌, inl, inr, Bool, true, false, cond, List, [], ◌∷◌, ◌++◌, map, refl}
 use Rattle.std.proofs.Common.{ap, sym, ◌∙◌, subst, append-nil, eq-eqb, ne_eqb, Option, Some, None}
 use Rattle.std.proofs.Common.{Result, Ok, Err}

@@ -1,4 +1,4 @@
--- A history under other numbers of its keys says the same of them.
+-- A history with other numbers for its keys says the same of them.
 use Rattle.std.proofs.Common.{◌≡◌, ℕ, suc, ◌-◌, ◌==◌, ◌&&◌, ◌||◌, Bool, true, false, cond, List, []}
 use Rattle.std.proofs.Common.{◌∷◌, ◌++◌, map, refl, ap, sym, ◌∙◌, arith, Some, None, eq-eqb}
 use Rattle.std.proofs.Common.{ne_eqb, eqb-true}

@@ -24,8 +24,8 @@ abbrev pub state : RunTerms → Option ℕ → List Entry → ℕ → List Bool 
 state terms tag entries pass owners keys = run_of terms.shape.shards tag
     (record { entries = entries; pass = pass; passes = terms.shape.passes }) owners keys
 
--- the part of the pass and the history, before the call and after it, and before it the owners, the keys of names and
--- the numbers as which these are written
+-- The part of the pass and the history, before the call and after it. The owners, the keys of names and the numbers as
+-- which these are written, before it.
 pub record Turn : Type 0 where
   pub terms : RunTerms
   pub tag : Option ℕ

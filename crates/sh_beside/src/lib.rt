@@ -1,5 +1,5 @@
-//! Mode heap beside mode plain: the law that the replies of a script on the running heap are those of the plain store,
-//! up to the numbers of keys and to what only a running heap refuses. It is about definitions, so there is no code.
+//! Mode heap beside mode plain: the law that a script has the same replies on the running heap as on the plain store.
+//! The exceptions are keys' numbers and what only a running heap refuses. It is about definitions, so no code is here.
 #![tactic(auto)]
 
 pub mod law;

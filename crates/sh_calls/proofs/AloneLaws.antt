@@ -95,7 +95,7 @@ order_cut history who p s h b pass few own =
       own = omega (arith, mine, own);
     }
 
--- ---- a line more
+-- ---- one more line
 
 pub orders_only : (last : Option Caller) (side mid : SeenPass) → HeedsLast last side mid
     → mid ≡ record side { part = mid.part; orders = mid.orders }

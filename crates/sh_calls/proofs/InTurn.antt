@@ -1,4 +1,4 @@
--- All passes in one thread: a line more, and the end.
+-- All passes in one thread: one more line, and the end.
 use Rattle.std.proofs.Common.{◌≡◌, ◌≢◌, ℕ, zero, suc, ◌+◌, ◌<◌, ◌≤◌, true, false, List, [], ◌∷◌, ◌++◌, length, take}
 use Rattle.std.proofs.Common.{set, map, slice_get, Option, Some, None, sym, refl, ap, ◌∙◌, subst, arith, IfSome}
 use Rattle.std.proofs.Common.{length-set, ◌⊎◌, inl, inr, ⊎_elim, add-one}
@@ -30,7 +30,7 @@ use Rattle.sh_calls.proofs.LineLemmas.{one_more, part_here, part_there}
 use Rattle.sh_calls.proofs.Newcomers.{newcomers_length, newcomers_get, length_map}
 use Rattle.sh_table.specs.Seats.{Heap}
 
--- ---- a line more
+-- ---- one more line
 
 abbrev pub begins_alone : (heap : Option Heap) (terms : RunTerms) (tag : Option ℕ) (lines : List CallLine)
     (sides : List SeenPass) → sides ≡ new_passes heap terms terms.shape.passes

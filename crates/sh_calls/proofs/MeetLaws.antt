@@ -77,7 +77,7 @@ orders_snoc [] s = append-nil s.orders
 orders_snoc (x ∷ xs) s = ap (λ (z : List Order). x.orders ++ z) (orders_snoc xs s)
     ∙ sym (append_assoc x.orders (orders_of xs) s.orders)
 
--- the carrier has heard of what the passes heard of that met it
+-- the carrier has heard of all that the passes that met it heard of
 pub orders_more : {S : Type 0} (seen : S → SeenPass) (ys : List S) (x : S) (side r : SeenPass) (o : Option SeenPass)
     → CarriesOrders o (orders_of (map seen ys)) → SamePass (seen x) side → MeetsCarrier o side r
     → CarriesOrders (Some r) (orders_of (map seen (ys ++ x ∷ [])))

@@ -100,7 +100,7 @@ first_of p (e ∷ es) l = dite (ℕ_discrete (pass_of e) p)
       none = by_else p e n.fore ne ∙ n.none;
     })
 
--- the pass had heard of the insert, and has an entry more
+-- the pass had heard of the insert, and has one more entry
 follows : (history : List Entry) (pass first key who : ℕ) (value : List ℕ) (h : Heard)
     → Before history (record { heard = h; carrier = pass; length = first })
     → Contains h.log (Known (Insert who key value)) → first < length (by pass history)
@@ -130,7 +130,7 @@ follows history pass first key who value h b c more =
 
 -- ---- lines on names
 
--- the entry of a line is one more of its pass
+-- the entry of a line is one more entry of its pass
 adding_at : (ls : List CallLine) (bs : List Answer) (i : ℕ) (l : CallLine) (a : Answer) → slice_get ls i ≡ Some l
     → slice_get bs i ≡ Some a → adds_entry l.call a ≡ true
     → (rest : List ℕ) × (adding_passes ls bs ≡ adding_passes (take i ls) bs ++ l.pass ∷ rest)

@@ -1,4 +1,4 @@
--- What was heard of names: a line more, and a receipt more.
+-- What was heard of names: one more line, and one more receipt.
 use Rattle.std.proofs.Common.{◌≡◌, ◌≢◌, ℕ, zero, suc, ◌+◌, ◌*◌, ◌/◌, ◌%◌, ◌^◌, ◌<◌, ◌≤◌, Bool, true, false, cond, List}
 use Rattle.std.proofs.Common.{[], ◌∷◌, ◌++◌, length, take, set, map, slice_get, Option, Some, None, Result, Ok, Err}
 use Rattle.std.proofs.Common.{sym, refl, ap, ◌∙◌, subst, arith, append_assoc, append-nil, eq-eqb, ⊎_elim}
@@ -201,7 +201,7 @@ heard_kept tag orders more pass first (Some n) keeps h = (h.0, keeps _ h.1, h.2)
 abbrev HeardAt : (tag : Option ℕ) → List Order → CallLine × List ℕ × List (Option ℕ) → Type 0
 HeardAt tag orders z = HeardOfNumber tag orders z.0.pass (length (times z.0.pass z.1)) (number_meant z.2 z.0.call)
 
--- a line more
+-- one more line
 pub heard_more : (terms : RunTerms) (tag : Option ℕ) (before run : CallsRun) (ls : List CallLine) (bs : List Answer)
     (orders more : List Order) (l : CallLine) (a : Answer) → LinesAnswered terms tag before ls bs run
     → NamesWereHeard tag ls bs orders → KeepsOrders orders more

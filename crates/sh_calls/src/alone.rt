@@ -61,9 +61,8 @@ fn lines_in_turn<S: Side>(
     Ok((output, Some(carrier)))
 }
 
-/// Runs the lines in their order, each with a receipt of the line before. Returns the reply lines, and the pass that
-/// carries the tale of all. All owners have then left and all passes have met; there is no such pass if an owner could
-/// not leave.
+/// Runs the lines in their order, each with a receipt of the line before. Then all owners leave and all passes meet.
+/// Returns the reply lines and the pass that carries the tale of all; no pass if an owner could not leave.
 pub fn alone_lines<S: Side>(
     alloc: Global,
     lines: &[CallLine],

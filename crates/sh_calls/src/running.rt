@@ -9,7 +9,7 @@ use sh_shard::Shard;
 use sh_value::{Hold, Refusal, Value};
 use std::alloc::Global;
 
-// What a pass knows is the `Standing` before a call, and it owns no shard after the call: `shape` states both.
+// The contract of `shape` states what a pass knows before a call, and that it owns no shard after the call.
 impl<'a, L: KeyLayout> Calls for Pass<'a, L> {
     ghost seen = { λ p. seen_of_caller L.layout p };
 
@@ -54,7 +54,7 @@ impl<'a, L: KeyLayout> Calls for Pass<'a, L> {
     }
 }
 
-// What an owner knows is the `Standing` before a call: `shape` states it.
+// The contract of `shape` states what an owner knows before a call.
 impl<'a, L: KeyLayout> Calls for Shard<'a, L> {
     ghost seen = { λ s. seen_of_shard L.layout s };
 

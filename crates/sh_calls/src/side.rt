@@ -23,8 +23,7 @@ pub trait Side: Drop {
         ensures does { AdoptAnswers (seen self.old).terms (seen self.old).part shard result (seen self.new).part }
         ensures same { SamePass (seen self.old) (seen self.new) };
 
-    /// Leaves its shard. Refused as `NoShard` if it owns none, and as `Waiting` if others have begun to free slots of
-    /// the shard.
+    /// Leaves its shard. Refused as `NoShard` if it owns none, and as `Waiting` if others have begun to free its slots.
     fn leave(&mut self) -> Result<(), Refusal>
         ensures does { LeaveAnswers (seen self.old).part result (seen self.new).part }
         ensures same { SamePass (seen self.old) (seen self.new) };

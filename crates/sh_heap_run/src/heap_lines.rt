@@ -1,5 +1,4 @@
-//! The calls of a script on a running heap: the heap is opened, the lines are run, and the passes gather what they
-//! know.
+//! The calls of a script on a running heap: the heap is opened, the lines are run, and the passes meet at the end.
 ghost use Rattle.std.specs.Prelude.{◌≡◌, ◌++◌, ℕ, Bool, List, IfOk, IfErr, OnOk, Option, Some, map, option_map};
 ghost use Rattle.sh_shape.specs.Shape.{IsShape, Fits};
 ghost use Rattle.sh_step.specs.declared.action.Event.{Event};

@@ -32,7 +32,7 @@ impl<'a, L: KeyLayout> WholeHeap<'a, L> {
     }
 }
 
-// An account notes the words that it looks at, and changes nothing otherwise.
+// Asking for accounts notes the words that are looked at, and changes nothing otherwise.
 impl<'a, L: KeyLayout> Pages for WholeHeap<'a, L> {
     ghost fixed = { false };
 

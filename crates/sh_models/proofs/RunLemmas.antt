@@ -1,4 +1,4 @@
--- Runs on the plain store, one line more.
+-- Runs on the plain store: one more line.
 use Rattle.std.proofs.Common.{◌≡◌, ℕ, ◌+◌, ◌<◌, List, [], ◌∷◌, ◌++◌, length, take, get_or, refl, sym, ap, subst, ◌∙◌}
 use Rattle.std.proofs.Common.{append_assoc, append-nil, false, Result, Ok, Err, OnOk}
 use Rattle.std.specs.Prelude.{is_err}

@@ -75,7 +75,7 @@ module _ (bound : ℕ) (plan : Plan) (w : World) (below : (k : ℕ) (n : Name) �
   row_within a p (move.Publish x v) at may = below _ _ (fills a p x v may.0 at may.1)
   row_within a p _ at may = tt
 
-  -- what came of an event
+  -- the outcome of an event
   outcome_within : (e : Event) → KeysWithin bound (outcome_of plan w e)
   outcome_within e = part (slice_get w.parts e.pass) refl where
     by : (o : Outcome) → outcome_of plan w e ≡ o → KeysWithin bound o → KeysWithin bound (outcome_of plan w e)

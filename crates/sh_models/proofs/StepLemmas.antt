@@ -1,4 +1,4 @@
--- Lines of events, one more.
+-- Lines of events: one more line.
 use Rattle.std.proofs.Common.{◌≡◌, ℕ, List, [], ◌∷◌, ◌++◌, refl, sym, ap, subst, ◌∙◌, append_assoc, append-nil, Option}
 use Rattle.std.proofs.Common.{Some, None}
 use Rattle.std.proofs.lemmas.List.Elements.{filter_map-append}
@@ -16,7 +16,7 @@ use Rattle.sh_core.proofs.Words.Steps.{run_snoc}
 use Rattle.sh_models.specs.StepsKeys.{DoesEvent}
 use Rattle.sh_models.specs.StepsOutput.{event_shown, events_shown, event_line, event_lines}
 
--- what comes of a line, and what it leaves
+-- the outcome of a line, and the world after it
 abbrev outcome_at : Plan → World → Option Event → Outcome
 outcome_at plan w (Some e) = outcome_of plan w e
 outcome_at plan w None = Skipped
@@ -40,7 +40,7 @@ before_is tag e es = go (event_shown tag e) refl where
 abbrev line_of : Option ℕ → Event → Outcome → List ℕ
 line_of tag e o = event_line tag e.pass (kind_of_action e.action) o
 
--- the lines of an event and of those behind it
+-- the lines of an event and of those after it
 abbrev line_at : Option ℕ → Event → Option Event → List Event → List Outcome → List ℕ
 line_at tag e s lines outcomes = elim s as (λ _. List ℕ) [
   | Some _ ↦ elim outcomes as (λ _. List ℕ)
@@ -60,7 +60,7 @@ unfolding event_lines outcomes_from
 last_line plan w tag e (Some m) = append-nil (line_of tag e (outcome_of plan w m))
 last_line plan w tag e None = append-nil (line_of tag e Skipped)
 
--- one line more
+-- one more line
 lines_more : (plan : Plan) (w : World) (tag : Option ℕ) (es : List Event) (e : Event)
     → event_lines tag (es ++ e ∷ []) (outcomes_from plan w (events_shown tag (es ++ e ∷ [])))
     ≡ event_lines tag es (outcomes_from plan w (events_shown tag es))
@@ -103,7 +103,7 @@ shown_more tag es e = filter_map-append (event_shown tag) es (e ∷ [])
       go (Some m) = refl
       go None = refl
 
--- what is kept after one line more
+-- what is kept after one more line
 stands_more : (layout : Layout) (k next : KeptWorld) (es : List Event) (s : Option Event) (o : Outcome)
     → let plan = plan_of layout k.shape in StandsFor k (run plan es) → DoesEvent layout k s o next
     → (next.shape ≡ k.shape) × StandsFor next (run plan (es ++ one s)) × (o ≡ outcome_at plan (run plan es) s)

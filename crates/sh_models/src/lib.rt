@@ -1,5 +1,5 @@
-//! Modes plain and steps: the calls of a script on the plain store, which keeps the history of its answers, and the
-//! events of a script on the core, step by step. Neither needs the running heap.
+//! Modes plain and steps. In mode plain the calls of a script run on the plain store, which keeps the history of its
+//! answers. In mode steps the events of a script run on the core, step by step. Neither needs the running heap.
 #![tactic(auto)]
 
 pub mod event_line;

@@ -6,7 +6,7 @@ use Rattle.std.proofs.KnownBytes.{Appends-nil, Appends-trans, Consumes-trans}
 use Rattle.std.specs.Io.KnownBytes.{Appends, Consumes, IsAtEnd, Keeps}
 use Rattle.sh_output.specs.Ends.{MovesPiece, ReadsAtMostBytes, Wrote, WroteBeginning}
 
--- a text as long as may be is the front of what the reader had
+-- a text of the greatest length is the front of what the reader had
 pub full : (a b : Option (List ℕ)) (text : List ℕ) (limit : ℕ) → Consumes a b text → length text ≡ limit
     → ((input : List ℕ) → a ≡ Some input → text ≡ take limit input)
 full None b text limit h e = λ input is. cc
@@ -17,7 +17,7 @@ full (Some x) (Some y) text limit h e = λ input is. let same : x ≡ input = cc
 take_short : (xs : List ℕ) (n : ℕ) → length xs ≤ n → take n xs ≡ xs
 take_short xs n h = take_all n xs h
 
--- and so is a shorter one, at the reader's end
+-- so is a shorter one, at the reader's end
 pub at_end : (a b : Option (List ℕ)) (text : List ℕ) (limit : ℕ) → Consumes a b text → IsAtEnd b → length text ≤ limit
     → ((input : List ℕ) → a ≡ Some input → text ≡ take limit input)
 at_end None b text limit h e le = λ input is. cc

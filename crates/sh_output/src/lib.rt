@@ -1,5 +1,5 @@
-//! What the modes of a run share, on no heap: the modes by their names, how a script is read and an output written, and
-//! what a call of a script may be answered. Replies, keys and the accounts of pages are written as lines here.
+//! What the modes of a run share that needs no heap: the modes by their names, how a script is read and an output
+//! written, and the answers to calls. Replies, keys and the accounts of pages are written as lines here.
 #![tactic(auto)]
 
 pub mod account_line;

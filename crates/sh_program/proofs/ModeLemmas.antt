@@ -30,7 +30,7 @@ is_none : {X : Type 0} (o : Option X) → not (is_some o) ≡ true → o ≡ Non
 is_none None e = refl
 is_none (Some x) e = cc
 
--- an argument with a simple rule that speaks of no other argument
+-- an argument with a simple rule that names no other argument
 plain_arg : (a : Arg) → (rule_of a).is_simple ≡ true → (rule_of a).is_free ≡ true → IsPlainArg a × (a.val_delim ≡ None)
 plain_arg a simple free =
     let p = both _ _ simple in
@@ -51,7 +51,7 @@ apart : (xs ys : Text) → slice_index xs 0 ≡ 109 → (slice_index ys 0 ≡ 0)
     ⊎ ((slice_index ys 0 ≡ 104) ⊎ (slice_index ys 0 ≡ 118)) → xs ≡ ys → ⊥
 apart xs ys m h e = other_letter _ _ m h (ap (λ (t : Text). slice_index t 0) e)
 
--- the first of some words of which all pass
+-- the first of some words, all of which have a property
 first_passes : (P : Text → Type 0) (vs : List (Bor Text)) → All (λ v. P v.now) vs
     → is_some (option_map (λ s. s.now) (slice_get vs 0)) ≡ true
     → (t : Text) × (option_map (λ s. s.now) (slice_get vs 0) ≡ Some t) × P t

@@ -22,8 +22,7 @@ pub fn status(fault: Fault) -> u8
     }
 }
 
-/// A fault as the program writes it to the standard error, with no newline: `shardheap: fault 14 Script line 3
-/// Unbound`.
+/// A fault as one line of the standard error, without its newline: `shardheap: fault 14 Script line 3 Unbound`.
 #[derive(Clone, Copy, Debug)]
 pub struct FaultLine(pub Fault);
 

@@ -48,7 +48,7 @@ numbers_give (n ∷ ns) front h =
     rw (number_of_decimal n small) (numbers_give ns (front ++ n ∷ []) (All-tail IsSmall n ns h)
     ∙ ap (λ xs. Ok xs) (append_assoc front (n ∷ []) ns))
 
--- there are as many numbers as words
+-- the numbers are as many as the words
 pub numbers_count : (ws : List Word) (front all : List ℕ) → numbers_from front ws ≡ Ok all → length all
     ≡ length front + length ws
 numbers_count [] front all e = let same : length front ≡ length all = ap (λ (xs : List ℕ). length xs)

@@ -61,7 +61,7 @@ binds_next names ws pass (call.Release r) bound x = no_new_name names bound x.bi
 binds_next names ws pass call.Post bound x = one_new_name names bound _ x.binds_name
 binds_next names ws pass (call.Wait i) bound x = no_new_name names bound x.binds_none
 
--- ---- one line more
+-- ---- one more line
 
 -- an element of a list that grew is an old one, with the same ones before it, or the new one, after the old ones
 get_grown : (xs : List CallLine) (y : CallLine) (j : ℕ) (k : CallLine) → slice_get (xs ++ y ∷ []) j ≡ Some k

@@ -12,7 +12,7 @@ use Rattle.sh_script.specs.Words.{number_from, number_of, is_digit}
 use Rattle.sh_script.specs.Meaning.{IsNumber}
 use Rattle.sh_script.proofs.Steps.{guarded, unless}
 
--- the number that digits go on to, however large
+-- the number that digits complete, however large
 abbrev pub value_from : ℕ → List ℕ → ℕ
 value_from n [] = n
 value_from n (b ∷ bs) = value_from (n * 10 + (b - 48)) bs

@@ -1,4 +1,4 @@
--- What each line keeps, a whole script keeps.
+-- A whole script keeps what each of its lines keeps.
 use Rattle.std.proofs.Common.{◌≡◌, ℕ, List, [], ◌∷◌, inl, inr, refl, sym, subst}
 use Rattle.sh_script.specs.Words.{Word}
 use Rattle.sh_script.specs.HeaderMeaning.{IsHeader}

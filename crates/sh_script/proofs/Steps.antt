@@ -14,7 +14,7 @@ use Rattle.sh_script.specs.declared.fault.Cause.{Cause}
 use Rattle.sh_script.specs.declared.trouble.Trouble.{Trouble}
 use Rattle.sh_script.specs.declared.fault.Fault.{Fault}
 
--- what two steps gave, the first gave to the second
+-- if two steps succeed, the second succeeds with the result of the first
 pub bind_ok : {A B E : Type 0} (r : Result A E) (f : A → Result B E) (y : B) → (r >>= f) ≡ Ok y → (x : A) × (r ≡ Ok x)
     × (f x ≡ Ok y)
 bind_ok (Ok x) f y e = (x, refl, e)

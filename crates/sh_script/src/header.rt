@@ -53,7 +53,7 @@ pub enum Opening {
     Headed(Header),
 }
 
-// The shape with these numbers, if there is one and it fits the layout.
+// The shape with these numbers, if they are a shape and it fits the layout.
 fn shape_in<L: KeyLayout>(shards: u64, segments: u64, passes: u64) -> Option<Shape>
     ensures { result ≡ shape_of L.layout (record { shards = shards; segments = segments; passes = passes }) }
 {
@@ -75,7 +75,7 @@ fn shape(layout: Layout, shards: u64, segments: u64, passes: u64) -> Option<Shap
     }
 }
 
-// The number of 8 bits behind the word `tag`.
+// The number of 8 bits after the word `tag`.
 fn tag(words: &[&[u8]]) -> Option<u8>
     ensures { result ≡ tag_of (map (λ w. w.now) words.now) }
 {
@@ -86,7 +86,7 @@ fn tag(words: &[&[u8]]) -> Option<u8>
     u8::try_from(number(tag)?).ok()
 }
 
-// The layout of this name, and the tag that the words behind the shape give. Only version 2 has `tagged`, and only
+// The layout of this name, and the tag that the words after the shape give. Only version 2 has `tagged`, and only
 // `tagged` has a tag.
 fn layout_and_tag(version: Version, name: &[u8], words: &[&[u8]]) -> Option<(Layout, Option<u8>)>
     ensures { result ≡ layout_and_tag version name.now (map (λ w. w.now) words.now) }

@@ -37,10 +37,10 @@ fn events(alloc: Global, text: &[u8]) -> Result<Events, Fault>
 
 /// The calls of a script: its header, and its call lines in order.
 ///
-/// For a text that is no script it returns the first fault: of the first line that has one, the first in the order of
-/// `Cause`, with the line's number from 1. If the header is well formed and its shape is refused, that is `BadShape`. A
-/// script of more than 1,048,576 bytes is `Size` at line 0, whatever it has otherwise. `Memory` is returned if a growth
-/// was refused.
+/// For a text that is no script it returns the fault of the first line that has one, with the line's number from 1. Of
+/// several faults in a line it is the first in the order of `Cause`. If the header is well formed and its shape is
+/// refused, that is `BadShape`. A script of more than 1,048,576 bytes is `Size` at line 0, whatever else is wrong with
+/// it. `Memory` is returned if a growth was refused.
 pub fn parse_calls(alloc: Global, text: &[u8]) -> Result<Calls, Fault>
     // What is returned is the script of the text.
     ensures calls { IfOk result (λ c. IsCalls text.now c.header c.lines.items) }

@@ -29,9 +29,9 @@ fn met(view: &View<'_>, part: &Part, kind: ActionKind, touched: Touched) -> &'st
     }
 }
 
-/// What is written after the line of an event of this kind by the pass. If it was skipped, that is why. If it met a
-/// link that is not written, another pass on the slot or an owner, and so changed nothing, that is said. Otherwise it
-/// is empty.
+/// What is written after the line of an event of this kind by the pass. It is the reason if the event was skipped. It
+/// is what the event met if that was a link that is not written, another pass on the slot or an owner, so that nothing
+/// changed. Otherwise it is empty.
 pub fn remark(view: &View<'_>, pass: u32, kind: ActionKind, touched: Touched) -> &'static str {
     if let Touched::Nothing(reason) = touched {
         return reason.text();

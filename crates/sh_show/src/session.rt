@@ -166,10 +166,9 @@ impl<L: KeyLayout> Session<L> {
         })
     }
 
-    /// Does what the line says, which ends with its newline, and returns the text on it. For the line `0 Adopt 0`, the
-    /// text says that pass 0 adopted shard 0, and shows the shard after that. A line that says nothing does nothing,
-    /// and returns `None`. An event whose condition does not hold is skipped and changes nothing, and the text says
-    /// why.
+    /// Does what the line says, which ends with its newline, and returns the text on it. For `0 Adopt 0` the text says
+    /// that pass 0 adopted shard 0, and shows the shard. A line that says nothing does nothing, and returns `None`. An
+    /// event whose condition does not hold is skipped and changes nothing, and the text says why.
     ///
     /// A line that may not be in a script is refused with its fault, whose number counts from the first line of the
     /// opening, and does nothing. If memory is refused, as `Memory`, the event may have been done.

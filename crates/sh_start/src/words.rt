@@ -16,9 +16,8 @@ pub fn texts(alloc: Global, words: &[String]) -> Result<Vec<&str>, AllocError>
     Ok(texts)
 }
 
-/// Returns the result of the call with the words of the process, the first of which is the program's name. It is not
-/// made if the words cannot be read: the error is `OutOfMemory` if memory ran out, and another if a word is not valid
-/// text.
+/// The result of the call with the words of the process, the first of which is the program's name. If the words can't
+/// be read, it is not made, and the error is `OutOfMemory` if memory ran out, or another if a word is not valid text.
 pub fn with_words<T, R: Env + AllocGlobal, F: FnOnce(&[&str]) -> T>(
     rt: &R,
     call: F,

@@ -1,4 +1,4 @@
--- A line more whose answer is put among the replies.
+-- One more line, whose answer is put among the replies.
 use Rattle.std.proofs.Common.{◌≡◌, ◌≢◌, ℕ, zero, suc, ◌+◌, ◌<◌, ◌≤◌, eq-eqb, ne_eqb, Bool, cond, List, [], ◌∷◌, ◌++◌}
 use Rattle.std.proofs.Common.{length, take, drop, set, slice_get, Option, Some, sym, refl, ap, ◌∙◌, subst, arith}
 use Rattle.std.proofs.Common.{length-set, add-one}
@@ -78,7 +78,7 @@ passed heap terms tag rest l p v side ms ne h =
     let Q : List Call → Type 0 = λ cs. CallsMade terms tag p side.orders v cs ms side.part in
     record { is = h.is; calls = subst Q (own_there p l rest ne) h.calls }
 
--- ---- a line more
+-- ---- one more line
 
 module _ (heap : Option Heap) (terms : RunTerms) (tag : Option ℕ) (lines : List CallLine) (i : ℕ)
     (numbers : List (Option ℕ)) (sides : List SeenPass) (rests : List (List Made)) (output : List ℕ)

@@ -1,4 +1,4 @@
--- A line more for a worker.
+-- One more line for a worker.
 use Rattle.std.proofs.Common.{◌≡◌, ◌≢◌, ℕ, zero, suc, ◌+◌, eqb, eq-eqb, ne_eqb, append-nil, Bool, true, false, cond}
 use Rattle.std.proofs.Common.{List, [], ◌∷◌, ◌++◌, length, take, slice_get, Some, Option, sym, refl, ap, ◌∙◌, subst}
 use Rattle.std.proofs.Common.{◌<◌, ◌==◌, arith, map, add-one}

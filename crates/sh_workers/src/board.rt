@@ -118,9 +118,8 @@ impl<B: Room> Names<B> {
     }
 }
 
-/// Names that threads bind and wait for. Each name comes with a receipt, so the insert that bound it happens before
-/// what is returned to a pass that waited for it. Its number is compared with the answers afterwards: no contract
-/// relies on it.
+/// Names that threads bind and wait for. With each name comes a receipt, so the insert that bound it happens before
+/// what is returned to a pass that waited. Its number is compared with the answers later: no contract relies on it.
 #[derive(Drop)]
 pub struct Board<B: Room> {
     names: Mutex<Names<B>>,
@@ -128,7 +127,7 @@ pub struct Board<B: Room> {
 }
 
 impl<B: Room> Board<B> {
-    /// A board of this many names, of which none is bound.
+    /// A board of this many names, none of which is bound.
     pub fn new(alloc: Global, count: usize) -> Result<Board<B>, AllocError> {
         let mut names = Vec::with_capacity(alloc, count)?;
         for _ in 0..count {

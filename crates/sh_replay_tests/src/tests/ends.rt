@@ -206,7 +206,7 @@ fn a_write_that_fails_once_ends_the_run(rt: HostRuntime) -> Result<(), Fail> {
 
 #[test]
 fn a_long_output_goes_out_by_short_writes(rt: HostRuntime) -> Result<(), Fail> {
-    // 29,000 bytes, of which the first write takes 1, the next one 4, then 7, and so on.
+    // 29,000 bytes: the first write takes 1, the next one 4, then 7, and so on.
     let mut script = String::from_str(rt.alloc(), "heap tiny 1 1 1\n")?;
     let mut output = String::new(rt.alloc());
     for _ in 0..1000 {

@@ -10,8 +10,8 @@ use std::thread::Threads;
 /// The last number that is tried; the greatest key of tiny is 16,383.
 const LAST: u64 = 20_000;
 
-/// Whether the number is a key of `heap tiny 1 1 1`: of a generation from 1 to 3, shard 0, one of the pages 0 to 7, and
-/// one of the slots 0 to 47.
+/// Whether the number is a key of `heap tiny 1 1 1`. Such keys have a generation from 1 to 3, shard 0, a page from 0 to
+/// 7, and a slot from 0 to 47.
 fn is_key_of_the_heap(number: u64) -> bool {
     let generation = number / 4096;
     let shard = number / 1024 % 4;

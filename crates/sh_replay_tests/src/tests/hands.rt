@@ -9,7 +9,7 @@ use sh_shape::Shape;
 use sh_shard::Shard;
 use std::process::Abort;
 
-// The accounts of a page of this class, or of none, of which all slots are queued.
+// The accounts of a page of this class, or of none, whose slots are all queued.
 fn empty(class: Option<u32>, queued: u32) -> Accounts {
     Accounts {
         class,

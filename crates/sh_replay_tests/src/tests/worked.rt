@@ -1,7 +1,7 @@
 //! A script for each mode, and all that its run writes.
 use sh_replay::Mode;
 
-/// Calls of two passes, of which the second waits for a name of the first.
+/// Calls of two passes; the second waits for a name of the first.
 const CALLS: &str = "heap tiny 1 1 2\n0 adopt 0\n0 insert a 7\n1 get a\n1 read a\n1 release a\n";
 
 const REPLIES: &str = "0 adopt ok\n0 insert 4096\n1 get ok\n1 read 1 7\n1 release ok\n";

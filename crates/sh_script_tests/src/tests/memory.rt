@@ -5,7 +5,7 @@ use sh_value::Value;
 use std::test::Fail;
 
 // With `rt try --test --fail-alloc N` the N-th allocation is refused. Each list of a script outgrows a room of 4, 8 and
-// 16: the words of a line, those of a value, the names and the map of them, and the lines.
+// 16. The lists are the words of a line, those of a value, the names, the map of them, and the lines.
 
 const CALLS: &[u8] = b"heap tiny 1 1 1\n\
     0 insert a 0 1 2 3 4 5 6 7 8 9 10 11 12 13 14 15 16\n\
