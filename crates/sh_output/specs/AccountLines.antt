@@ -46,7 +46,7 @@ abbrev pub accounts_after : Plan → List Event → ℕ → Accounts
 accounts_after plan events = accounts (run plan events) (lists_of plan events)
 
 -- What was known of pages stays known, and the events that lead to what is known are among those that led there before.
--- If asking changes nothing, it is the same.
+-- If asking changes nothing, the state stays the same.
 pub record Later {A : Type 0} (fixed : Bool) (numbers : A → Numbers) (leads : A → List Event → Type 0)
     (says : A → ℕ → Accounts → Type 0) (old new : A) : Type 0 where
   pub is_fixed : fixed ≡ true → new ≡ old

@@ -31,7 +31,7 @@ is_shape n =
 abbrev pub fits : Layout → Numbers → Bool
 fits l n = nat_le n.shards (2 ^ l.shard_bits) && nat_le (segment_pages * n.segments) (2 ^ l.page_bits)
 
--- the shape with these numbers, if they are one for the layout
+-- the shape with these numbers, if it is one that fits the layout
 abbrev pub shape_of : Layout → Numbers → Option Numbers
 shape_of l n = if is_shape n && fits l n then Some n else None
 
