@@ -12,30 +12,30 @@ use sh_judge::record::Record;
 use sh_key::KeyLayout;
 use std::alloc::Global;
 
-/// What is left to do by hand.
+/// What a pass has left to do by hand.
 #[derive(Clone, Copy, Debug, PartialEq, Eq)]
 pub enum Task {
-    /// It entered the slot of this key to remove it: whether there is a value it learns when it marks.
+    /// It entered the slot of this key to remove it. It learns whether there is a value when it marks.
     Removing(u64, Span),
-    /// All is answered, and it has yet to end.
+    /// The result is known, and the remaining steps have yet to run.
     Ending,
 }
 
-/// A pass that owns a shard or does not, or stopped in the middle.
+/// A pass: one that owns no shard, one that owns a shard, or one that stopped in the middle of a call.
 #[derive(Drop)]
 pub enum Actor<'a, L: KeyLayout, H: Home> {
     /// It owns no shard.
     Lone(Lone<'a, L, H>),
     /// It owns a shard.
     Owner(Owner<'a, L, H>),
-    /// It goes on by hand.
+    /// It runs step by step, by hand.
     Stopped(Stopped<'a, L, H>, Task),
-    /// It takes its turn. Between turns it is never so.
+    /// It takes its turn. No actor is in this state between turns.
     Moving,
 }
 
 impl<'a, L: KeyLayout, H: Home> Actor<'a, L, H> {
-    /// Whether it goes on by hand.
+    /// Whether it runs step by step, by hand.
     pub fn is_stopped(&self) -> bool {
         match self {
             Actor::Stopped(_, _) => true,
@@ -51,7 +51,7 @@ impl<'a, L: KeyLayout, H: Home> Actor<'a, L, H> {
         }
     }
 
-    /// The pass, where it owns no shard and has begun nothing.
+    /// The pass, if it owns no shard and has begun nothing.
     pub fn into_lone(self) -> Option<Lone<'a, L, H>> {
         match self {
             Actor::Lone(lone) => Some(lone),
@@ -59,7 +59,7 @@ impl<'a, L: KeyLayout, H: Home> Actor<'a, L, H> {
         }
     }
 
-    /// It has done the next step of what it began by hand.
+    /// Does the next step of what it began by hand, and returns the actor after it.
     pub fn gone_on(self, record: &mut Record, moments: &Moments) -> Self {
         match self {
             Actor::Stopped(stopped, task) => by_hand::go_on(stopped, task, record, moments),
@@ -67,7 +67,7 @@ impl<'a, L: KeyLayout, H: Home> Actor<'a, L, H> {
         }
     }
 
-    /// It has tried to leave its shard.
+    /// Tries to leave its shard, and returns the actor after that.
     pub fn left(self, record: &mut Record) -> Self {
         match self {
             Actor::Owner(owner) => owning::leave(owner, record),
@@ -75,7 +75,7 @@ impl<'a, L: KeyLayout, H: Home> Actor<'a, L, H> {
         }
     }
 
-    /// It has filled a shard that nobody owned, with values of so many words.
+    /// Fills a shard that nobody owns with values of `len` words, and returns the actor after that.
     pub fn filled(
         self,
         alloc: Global,

@@ -5,16 +5,16 @@ use std::alloc::{AllocError, Global};
 use std::sync::atomic::{AtomicBool, Ordering};
 use std::sync::{Mutex, MutexGuard, Wait};
 
-// How many keys stand on a board.
+// The number of places on a board, each for one key.
 const PLACES: u64 = 16;
 
-/// A board on which threads leave keys for one another, each with a receipt that tells of its insert. A place is locked
-/// while a key is looked at.
+/// A board on which threads leave keys for one another, each with a receipt that covers its insert. A place is locked
+/// while a thread looks at its key.
 #[derive(Drop)]
 pub struct Board<'r, R: Wait, H: Home> {
     rt: &'r R,
     places: Vec<Mutex<Option<Letter<H>>>>,
-    /// When calls were made.
+    /// The clock that dates the calls.
     pub moments: Moments,
     stop: AtomicBool,
 }
@@ -34,17 +34,17 @@ impl<'r, R: Wait, H: Home> Board<'r, R, H> {
         })
     }
 
-    // The place that a number names.
+    // The place with this number, modulo the number of places.
     fn place(&self, number: u64) -> Option<&Mutex<Option<Letter<H>>>> {
         self.places.get((number % PLACES) as usize)
     }
 
-    /// Leaves a key for others at some place, and answers what stood there.
+    /// Leaves a key for others at a place, and returns the letter that was there.
     pub fn leave(&self, number: u64, letter: Letter<H>) -> Option<Letter<H>> {
         self.place(number)?.lock(self.rt).replace(letter)
     }
 
-    /// What stands at some place, for nobody else meanwhile.
+    /// Locks a place, and returns the guard of its letter.
     pub fn look(&self, number: u64) -> Option<MutexGuard<'_, Option<Letter<H>>>> {
         Some(self.place(number)?.lock(self.rt))
     }

@@ -1,4 +1,4 @@
-//! Turns by hand: a removal, a get or a release of which each step is a turn of its own, so that others go on between.
+//! Turns by hand: each step of a removal, get or release is a turn of its own, so that others can act between steps.
 use crate::actor::{Actor, Task};
 use crate::board::Board;
 use crate::home::Home;
@@ -15,7 +15,7 @@ use sh_step::Action;
 use sh_value::Hold;
 use std::sync::Wait;
 
-/// Begins something by hand.
+/// Begins a get, a release or a removal by hand.
 pub fn begin<'a, R: Wait, L: KeyLayout, H: Home>(
     mut lone: Lone<'a, L, H>,
     record: &mut Record,
@@ -34,7 +34,7 @@ pub fn begin<'a, R: Wait, L: KeyLayout, H: Home>(
     }
 }
 
-// Does a step, and answers when it was done; none where it was not.
+// Does a step, and returns the span of time that it took, or `None` if its condition did not hold.
 fn act<L: KeyLayout, H: Home>(
     stopped: &mut Stopped<'_, L, H>,
     record: &mut Record,
@@ -49,8 +49,8 @@ fn act<L: KeyLayout, H: Home>(
     Some(moments.since(begin))
 }
 
-// Enters the slot of a key, to get it. Where the pass can be had again at once, it has a hold; else it was refused, as
-// gone or as crowded, which a caller by hand is not told.
+// Enters the slot of a key, to get it. If the pass has nothing left to do after that step, it has a hold. Otherwise the
+// get was refused as gone or as crowded, and the step does not return which.
 fn get<'a, L: KeyLayout, H: Home>(
     mut stopped: Stopped<'a, L, H>,
     record: &mut Record,
@@ -72,7 +72,7 @@ fn get<'a, L: KeyLayout, H: Home>(
     }
 }
 
-// Gives back the first of its holds.
+// Releases the first of the pass's holds.
 fn release<'a, L: KeyLayout, H: Home>(
     mut stopped: Stopped<'a, L, H>,
     record: &mut Record,
@@ -109,7 +109,7 @@ fn remove<'a, L: KeyLayout, H: Home>(
     }
 }
 
-// Marks the slot that it entered to remove its key. Where there is nothing to mark, the key was gone as it entered.
+// Marks the slot that the pass entered to remove its key. If there is nothing to mark, the key was gone at the entry.
 fn mark<L: KeyLayout, H: Home>(
     stopped: &mut Stopped<'_, L, H>,
     record: &mut Record,
@@ -129,7 +129,7 @@ fn mark<L: KeyLayout, H: Home>(
     }
 }
 
-// The pass again, where nothing is left to do.
+// Returns the pass to its plain state, if nothing is left to do.
 fn end<'a, L: KeyLayout, H: Home>(
     stopped: Stopped<'a, L, H>,
     record: &mut Record,
@@ -143,7 +143,7 @@ fn end<'a, L: KeyLayout, H: Home>(
     }
 }
 
-/// Does the next step of what was begun.
+/// Does the next step of what the pass began.
 pub fn go_on<'a, L: KeyLayout, H: Home>(
     mut stopped: Stopped<'a, L, H>,
     task: Task,

@@ -6,7 +6,7 @@ use sh_judge::dice::Dice;
 use sh_key::KeyLayout;
 use std::sync::Wait;
 
-// One turn of one of the passes. False where something was found.
+// Takes one turn of one of the passes. False if the pass found a fault.
 fn turn<R: Wait, L: KeyLayout, H: Home>(
     workers: &mut [Worker<'_, L, H>],
     board: &Board<'_, R, H>,
@@ -24,8 +24,8 @@ fn turn<R: Wait, L: KeyLayout, H: Home>(
     worker.record().fault().is_none()
 }
 
-/// Passes take so many turns in one thread, in an order that the dice give, or as many as there are until somebody
-/// finds something.
+/// The passes of one thread take `steps` turns, in an order that the dice give. They stop early if any thread finds a
+/// fault.
 pub fn run<R: Wait, L: KeyLayout, H: Home>(
     workers: &mut [Worker<'_, L, H>],
     board: &Board<'_, R, H>,

@@ -1,4 +1,4 @@
-//! The end of a round: all that was begun is ended, all passes meet, and what they were answered is judged.
+//! The end of a round: it ends all that was begun, joins all passes, and judges what their calls returned.
 use crate::home::Home;
 use crate::lone::Lone;
 use crate::moments::Moments;
@@ -16,7 +16,7 @@ use sh_pass::Pass;
 use sh_shape::{Shape, class_of};
 use std::alloc::Global;
 
-// Ends what was begun by hand, gives most holds back, and leaves each shard.
+// Ends what was begun by hand, releases most holds, and leaves each shard.
 fn settle<L: KeyLayout, H: Home>(
     workers: &mut [Worker<'_, L, H>],
     moments: &Moments,
@@ -33,7 +33,7 @@ fn settle<L: KeyLayout, H: Home>(
     }
 }
 
-// Fills each shard with values of some length, and answers their class.
+// Fills each shard with values of one random length, and returns their class.
 fn fill<L: KeyLayout, H: Home>(
     workers: &mut [Worker<'_, L, H>],
     moments: &Moments,
@@ -47,7 +47,7 @@ fn fill<L: KeyLayout, H: Home>(
     class_of(len).unwrap_or(0)
 }
 
-// Takes the logs of a pass to those of the others, and its counts. Its fault is the round's.
+// Adds the log and the counts of a pass to those of the others. A fault of the pass is a fault of the round.
 fn take_in(record: Record, counts: &mut Counts, lines: &mut Vec<Line>) -> Result<(), Fault> {
     if let Some(fault) = record.fault() {
         return Err(fault);
@@ -61,14 +61,14 @@ fn take_in(record: Record, counts: &mut Counts, lines: &mut Vec<Line>) -> Result
     Ok(())
 }
 
-// What the passes have that have met: the one of them that carries the tales of all, and the lines of all their logs.
+// The passes joined so far: the one that carries the tales of all, and the lines of all their logs.
 #[derive(Drop)]
 struct Gathered<'a, L: KeyLayout, H: Home> {
     carrier: Option<Lone<'a, L, H>>,
     lines: Vec<Line>,
 }
 
-// The carrier, once it has met one more, or that one where it is the first.
+// The carrier joined with one more pass, or that pass if it is the first.
 fn joined<'a, L: KeyLayout, H: Home>(
     carrier: Option<Lone<'a, L, H>>,
     lone: Lone<'a, L, H>,
@@ -80,7 +80,7 @@ fn joined<'a, L: KeyLayout, H: Home>(
 }
 
 impl<'a, L: KeyLayout, H: Home> Gathered<'a, L, H> {
-    // Meets one more pass, where it owns nothing and has begun nothing.
+    // Joins one more pass. A worker that still owns a shard or has begun a call gives no pass, which is a fault.
     fn meet(&mut self, lone: Option<Lone<'a, L, H>>) -> Result<(), Fault> {
         let Some(lone) = lone else {
             return Err(Fault::Wrong(Wrong::Apart));
@@ -89,7 +89,7 @@ impl<'a, L: KeyLayout, H: Home> Gathered<'a, L, H> {
         Ok(())
     }
 
-    // Takes in one more worker.
+    // Adds one more worker: its log, its counts and its pass.
     fn gather(&mut self, worker: Worker<'a, L, H>, counts: &mut Counts) -> Result<(), Fault> {
         let (lone, record) = worker.finish();
         let taken = take_in(record, counts, &mut self.lines);
@@ -99,7 +99,7 @@ impl<'a, L: KeyLayout, H: Home> Gathered<'a, L, H> {
     }
 }
 
-// All passes, which have met.
+// Joins all passes.
 fn gather_all<'a, L: KeyLayout, H: Home>(
     alloc: Global,
     workers: Vec<Worker<'a, L, H>>,
@@ -115,7 +115,7 @@ fn gather_all<'a, L: KeyLayout, H: Home>(
     Ok(gathered)
 }
 
-// Judges the lines of the first key, counts its slot, and answers the lines of the other keys.
+// Judges the lines of the first key, counts its slot, and returns the lines of the other keys.
 fn judge_key<'l, L: KeyLayout>(
     alloc: Global,
     shape: &Shape,
@@ -153,7 +153,7 @@ fn judge_all<L: KeyLayout>(
     Ok(tally)
 }
 
-// Compares the accounts of a page with what the answers say of it.
+// Compares the accounts of a page with those that follow from what the calls returned.
 fn audit_page<L: KeyLayout>(
     whole: &mut Whole<'_, L>,
     tally: &Tally,
@@ -181,7 +181,7 @@ fn audit_page<L: KeyLayout>(
     Ok(())
 }
 
-// Compares the accounts of each page with what the answers say of it.
+// Compares the accounts of each page with those that follow from what the calls returned.
 fn audit<L: KeyLayout>(
     whole: &mut Whole<'_, L>,
     shape: &Shape,
@@ -197,7 +197,7 @@ fn audit<L: KeyLayout>(
     Ok(())
 }
 
-// Judges the lines, and compares the accounts of each page with what they say of it.
+// Judges the lines, and compares the accounts of each page with those that follow from them.
 fn judge_whole<L: KeyLayout>(
     alloc: Global,
     whole: &mut Whole<'_, L>,
@@ -211,7 +211,7 @@ fn judge_whole<L: KeyLayout>(
     audit(whole, &shape, &tally, class, counts)
 }
 
-// Judges what all passes were answered, of which one carries the tale.
+// Judges what the calls of all passes returned. The carrier has the tales of all.
 fn judge_carrier<L: KeyLayout>(
     alloc: Global,
     carrier: Pass<'_, L>,
@@ -225,7 +225,7 @@ fn judge_carrier<L: KeyLayout>(
     }
 }
 
-// Judges what the workers were answered, where all shards are filled with values of the class.
+// Judges what the calls of the workers returned. All shards are filled with values of the class.
 fn judge_workers<L: KeyLayout, H: Home>(
     alloc: Global,
     workers: Vec<Worker<'_, L, H>>,
@@ -239,7 +239,7 @@ fn judge_workers<L: KeyLayout, H: Home>(
     }
 }
 
-/// Ends a round, and answers how often what was answered.
+/// Ends a round, and returns how often each result was returned.
 pub fn ended<L: KeyLayout, H: Home>(
     alloc: Global,
     moments: &Moments,

@@ -4,7 +4,7 @@ ghost use Rattle.std.specs.Prelude.{◌≡◌, Some};
 use sh_pass::Receipt;
 use std::marker::{Brand, PhantomData};
 
-/// The heap of a round. Each round picks it, and all that has this name is of that heap.
+/// Names the heap of a round. Each round chooses its heap, and every item with this type parameter is of that heap.
 pub trait Home {
     ghost use Rattle.std.specs.Prelude.{Option};
     ghost use Rattle.sh_table.specs.Seats.{Heap};
@@ -27,7 +27,7 @@ pub struct HomeReceipt<H: Home> {
 }
 
 impl<H: Home> HomeReceipt<H> {
-    /// The receipt.
+    /// Wraps a receipt of that heap.
     pub fn new(receipt: Receipt) -> Self
         requires { H.heap ≡ Some receipt.heap }
     {
@@ -37,7 +37,7 @@ impl<H: Home> HomeReceipt<H> {
         }
     }
 
-    /// The receipt again.
+    /// Returns the receipt inside.
     pub fn into_receipt(self) -> Receipt
         ensures { H.heap ≡ Some result.heap }
     {
@@ -46,7 +46,7 @@ impl<H: Home> HomeReceipt<H> {
     }
 }
 
-/// A key, with a receipt of the thread that inserted it, or of one that heeded such a receipt.
+/// A key, with a receipt of the thread that inserted it, or of one that heeded that thread's receipt.
 #[derive(Drop)]
 pub struct Letter<H: Home> {
     pub key: u64,

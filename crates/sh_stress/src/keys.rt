@@ -7,7 +7,7 @@ use sh_judge::dice::Dice;
 use sh_judge::record::Record;
 use sh_key::{KeyLayout, Parts};
 
-// The number of one of the holds, if there is one.
+// The number of one of the holds, chosen at random, if there is any.
 fn some_hold(record: &Record, dice: &mut Dice) -> Option<u64> {
     let holds = record.holds();
     if holds == 0 {
@@ -16,7 +16,7 @@ fn some_hold(record: &Record, dice: &mut Dice) -> Option<u64> {
     Some(dice.below(holds))
 }
 
-// The key of the value that may stand next in the slot of this key, or, for the last one, in the next slot.
+// The key after this one in the same slot, or in the next slot if this one is the slot's last.
 fn next_key<L: KeyLayout>(key: u64) -> u64 {
     let Some(parts) = L::unpack(key) else {
         return key;
@@ -32,7 +32,7 @@ fn next_key<L: KeyLayout>(key: u64) -> u64 {
     }
 }
 
-/// Does a turn on keys: one that somebody left, if there is one, or one that it holds. Others do nothing.
+/// Takes a turn on a key that a thread left, if there is one, or on a key that the pass holds. Other turns do nothing.
 pub fn take_turn<L: KeyLayout, U: User>(
     user: &mut U,
     record: &mut Record,

@@ -23,7 +23,7 @@ pub struct Lone<'a, L: KeyLayout, H: Home> {
 }
 
 impl<'a, L: KeyLayout, H: Home> Lone<'a, L, H> {
-    /// The pass.
+    /// Wraps a pass of that heap.
     pub fn new(pass: Pass<'a, L>) -> Self
         requires { H.heap ≡ Some pass.heap }
     {
@@ -33,7 +33,7 @@ impl<'a, L: KeyLayout, H: Home> Lone<'a, L, H> {
         }
     }
 
-    /// The pass again.
+    /// Returns the pass inside.
     pub fn into_pass(self) -> Pass<'a, L>
         ensures { H.heap ≡ Some result.heap }
     {
@@ -41,7 +41,7 @@ impl<'a, L: KeyLayout, H: Home> Lone<'a, L, H> {
         pass
     }
 
-    /// Becomes the owner of a shard.
+    /// Adopts a shard. A refusal returns the pass.
     pub fn adopt(self, alloc: Global, shard: u64) -> Result<Owner<'a, L, H>, (Self, Refusal)> {
         match Shard::adopt(alloc, self.into_pass(), shard) {
             Ok(shard) => Ok(Owner::new(shard)),
@@ -49,28 +49,28 @@ impl<'a, L: KeyLayout, H: Home> Lone<'a, L, H> {
         }
     }
 
-    /// Goes on by hand.
+    /// Lets the pass run step by step, by hand.
     pub fn begin(self) -> Stopped<'a, L, H> {
         Stopped::new(self.into_pass().begin())
     }
 
-    /// Two passes meet: the first one now carries both tales.
+    /// Joins two passes. The first one then carries both tales.
     pub fn join(self, other: Self) -> Self {
         Lone::new(sh_gather::join(self.into_pass(), other.into_pass()))
     }
 
-    /// A receipt of all that it was answered, and of all that it heard of others.
+    /// A receipt of all that its calls returned, and of all receipts that it heeded.
     pub fn receipt(&mut self) -> HomeReceipt<H> {
         HomeReceipt::new(self.pass.receipt())
     }
 
-    /// Everything that the receipt covers happens before what the caller is answered from now on.
+    /// Everything that the receipt covers happens before each later reply to this pass.
     pub fn heed(&mut self, told: HomeReceipt<H>) {
         self.pass.heed(told.into_receipt());
     }
 
-    /// The key at some place of the board, once its receipt was heeded. A receipt of its own, which tells as much,
-    /// stands there then.
+    /// Heeds the receipt at a place of the board, and returns the key there. It replaces the receipt by one of its own,
+    /// which covers all that the former one covers.
     pub fn look<R: Wait>(&mut self, board: &Board<'_, R, H>, number: u64) -> Option<u64> {
         let mut place = board.look(number)?;
         let Letter { key, told } = place.take()?;

@@ -1,11 +1,11 @@
-//! The program `sh_stress`: threads work on heaps of the library, each by its own random choices, and what they were
-//! answered is judged. It is also the longer example of how the library is used, on its public calls alone.
+//! The program `sh_stress`: threads work on heaps of the library, each by its own random choices, and the program
+//! judges what their calls returned. It is also the longer example of how to use the library, by public calls alone.
 //!
-//! A run is rounds. In a round a heap is opened (`round`), and each thread takes turns with a few passes (`crew`,
-//! `worker`). They get, read, remove and release keys that others left on a board (`using`). They adopt and leave
-//! shards and insert (`owning`), and stop in the middle of removals (`by_hand`). Then all is ended, the passes meet,
-//! and the heap is whole (`ending`). The answers are put in an order that is a legal history (`order`, `judge`), and
-//! the accounts of each page are those of that history (`tally`).
+//! A run has rounds. A round opens a heap (`round`), and each thread takes turns with a few passes (`crew`, `worker`).
+//! They get, read, remove and release keys that others left on a board (`using`). They adopt and leave shards, insert
+//! (`owning`), and stop in the middle of removals (`by_hand`). Then the round ends all calls and joins the passes, so
+//! that the heap is whole (`ending`). It puts the results in an order that is a legal history (`order`, `judge`), and
+//! compares the accounts of each page with that history (`tally`).
 #![tactic(auto)]
 
 mod actor;

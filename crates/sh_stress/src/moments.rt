@@ -11,19 +11,19 @@ pub struct Moments {
 }
 
 impl Moments {
-    /// A clock that nobody has looked at.
+    /// A clock that has given no moment yet.
     pub const fn new() -> Moments {
         Moments {
             next: AtomicU64::new(1),
         }
     }
 
-    /// A moment of its own. Of two calls of which one ended before the other began, it has the earlier one.
+    /// The next moment, which no other call returns. A call that ends before another begins returns the earlier moment.
     pub fn next(&self) -> u64 {
         self.next.fetch_add(1, Ordering::SeqCst)
     }
 
-    /// How long a call took that began at this moment and has ended.
+    /// The span from this moment to a new one: the time of a call that began then and has ended.
     pub fn since(&self, begin: u64) -> Span
         ensures { result.begin ≡ begin }
     {

@@ -6,13 +6,13 @@ use std::alloc::{AllocError, Global};
 /// What the command line asks for.
 #[derive(Clone, Copy, Debug, PartialEq, Eq)]
 pub struct Options {
-    /// How many threads.
+    /// The number of threads.
     pub threads: u32,
-    /// How many passes each thread has.
+    /// The number of passes of each thread.
     pub passes: u32,
-    /// How many turns each thread takes in a round.
+    /// The number of turns that each thread takes in a round.
     pub steps: u64,
-    /// How many rounds.
+    /// The number of rounds.
     pub rounds: u64,
     /// The seed of all choices.
     pub seed: u64,
@@ -123,7 +123,7 @@ fn options_of(matches: &ArgMatches<'_>) -> Options {
     }
 }
 
-/// What a command line asks for, whose first word is the program's name. An error is clap's.
+/// Reads the options of a command line, whose first word is the program's name. An error is clap's.
 pub fn read_options<'a>(alloc: Global, words: &'a [&'a str]) -> Result<Options, Error> {
     let matches = command(alloc)?.try_get_matches_from(words)?;
     Ok(options_of(&matches))

@@ -20,7 +20,7 @@ pub struct Owner<'a, L: KeyLayout, H: Home> {
 }
 
 impl<'a, L: KeyLayout, H: Home> Owner<'a, L, H> {
-    /// The owner of this shard.
+    /// Wraps a shard of that heap.
     pub fn new(shard: Shard<'a, L>) -> Self
         requires { H.heap ≡ Some shard.pages.owner.heap }
     {
@@ -44,18 +44,18 @@ impl<'a, L: KeyLayout, H: Home> Owner<'a, L, H> {
         }
     }
 
-    /// A receipt of all that it was answered, and of all that it heard of others.
+    /// A receipt of all that its calls returned, and of all receipts that it heeded.
     pub fn receipt(&mut self) -> HomeReceipt<H> {
         HomeReceipt::new(self.shard.receipt())
     }
 
-    /// Everything that the receipt covers happens before what the caller is answered from now on.
+    /// Everything that the receipt covers happens before each later reply to this owner.
     pub fn heed(&mut self, told: HomeReceipt<H>) {
         self.shard.heed(told.into_receipt());
     }
 
-    /// The key at some place of the board, once its receipt was heeded. A receipt of its own, which tells as much,
-    /// stands there then.
+    /// Heeds the receipt at a place of the board, and returns the key there. It replaces the receipt by one of its own,
+    /// which covers all that the former one covers.
     pub fn look<R: Wait>(&mut self, board: &Board<'_, R, H>, number: u64) -> Option<u64> {
         let mut place = board.look(number)?;
         let Letter { key, told } = place.take()?;

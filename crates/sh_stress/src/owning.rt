@@ -1,4 +1,4 @@
-//! Turns of owners: shards change hands, and values come into them.
+//! Turns of owners: they adopt and leave shards, and insert values.
 ghost use Rattle.std.specs.Prelude.{◌≤◌};
 
 use crate::actor::Actor;
@@ -19,7 +19,7 @@ use sh_value::Refusal;
 use std::alloc::Global;
 use std::sync::Wait;
 
-// As many slots as the two segments of a shard may have.
+// The greatest number of slots that the two segments of a shard may have.
 const MOST_SLOTS: u32 = 768;
 
 /// Tries to adopt a shard.
@@ -64,7 +64,7 @@ pub fn leave<'a, L: KeyLayout, H: Home>(
     }
 }
 
-// Inserts a value of so many words, and answers its key; none where it was refused.
+// Inserts a value of `len` words, and returns its key, or `None` if the insert was refused.
 fn put<L: KeyLayout, H: Home>(
     owner: &mut Owner<'_, L, H>,
     record: &mut Record,
@@ -94,7 +94,7 @@ fn put<L: KeyLayout, H: Home>(
     }
 }
 
-/// Inserts a value of any length and leaves its key on the board, with a receipt; the key that stood there is removed.
+/// Inserts a value of any length and leaves its key on the board, with a receipt. Removes the key that was there.
 pub fn insert<R: Wait, L: KeyLayout, H: Home>(
     owner: &mut Owner<'_, L, H>,
     record: &mut Record,
@@ -115,7 +115,7 @@ pub fn insert<R: Wait, L: KeyLayout, H: Home>(
     }
 }
 
-/// Adopts a shard that nobody owns, inserts values of so many words until it is full, and leaves it.
+/// Adopts a shard that nobody owns, inserts values of `len` words until it is full, and leaves it.
 pub fn fill<'a, L: KeyLayout, H: Home>(
     alloc: Global,
     lone: Lone<'a, L, H>,

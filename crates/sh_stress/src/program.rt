@@ -13,10 +13,10 @@ use std::io::Write;
 use std::sync::Wait;
 use std::thread::Threads;
 
-// After how many rounds progress is told.
+// The number of rounds between two reports of progress.
 const ROUNDS_TOLD: u64 = 100;
 
-// Shows why clap gave no options, unless memory was refused, and gives the exit status.
+// Writes why clap returned no options, unless memory was refused, and returns the exit status.
 fn refuse<W: Write, E: Write>(error: &Error, output: &mut W, errors: &mut E) -> u8 {
     match error.kind() {
         ErrorKind::OutOfMemory => 3,
@@ -24,7 +24,7 @@ fn refuse<W: Write, E: Write>(error: &Error, output: &mut W, errors: &mut E) -> 
     }
 }
 
-// The plan of a round.
+// The plan of a round, by the options and the dice.
 fn plan(options: &Options, dice: &mut Dice) -> Plan {
     Plan {
         threads: options.threads,
@@ -35,8 +35,8 @@ fn plan(options: &Options, dice: &mut Dice) -> Plan {
     }
 }
 
-// Plays the round of this number: with a layout of which slots have few generations and holds, and with one of which
-// they have many, in turn.
+// Plays the round of this number. Rounds take turns between a layout with few generations and holds per slot, and one
+// with many.
 fn play_one<R: Threads + Wait + Sync>(
     rt: &R,
     alloc: Global,
@@ -52,7 +52,7 @@ fn play_one<R: Threads + Wait + Sync>(
     }
 }
 
-// Tells how far it has come, now and then.
+// Writes the progress, now and then.
 fn tell<E: Write>(round: u64, counts: &Counts, errors: &mut E) {
     if round % ROUNDS_TOLD == ROUNDS_TOLD - 1 {
         let judged = counts.of(Count::Entries);
@@ -79,7 +79,7 @@ fn play_all<E: Write, R: Threads + Wait + Sync>(
     Ok(counts)
 }
 
-// Says what was found in which round, and gives the exit status.
+// Writes which fault was found in which round, and returns the exit status.
 fn report<E: Write>(options: &Options, round: u64, fault: Fault, errors: &mut E) -> u8 {
     let seed = options.seed;
     let _ = writeln!(errors, "sh_stress: seed {seed}, round {round}: {fault}");
@@ -89,7 +89,7 @@ fn report<E: Write>(options: &Options, round: u64, fault: Fault, errors: &mut E)
     }
 }
 
-// Plays all rounds and tells the counts, or what was found.
+// Plays all rounds, and writes the counts or the fault that was found.
 fn run_with<W: Write, E: Write, R: Threads + Wait + Sync>(
     rt: &R,
     alloc: Global,
@@ -107,8 +107,8 @@ fn run_with<W: Write, E: Write, R: Threads + Wait + Sync>(
     }
 }
 
-/// Runs the program, and gives the exit status: 0 where nothing was found, 1 where something was, 2 for a mistake in
-/// the words, and 3 where memory or a write failed. The first word is the program's name.
+/// Runs the program, and returns the exit status: 0 if it found no fault, 1 if it found one, 2 for a mistake in the
+/// words, and 3 if memory was refused or a write failed. The first word is the program's name.
 pub fn run<W: Write, E: Write, R: Threads + Wait + Sync>(
     rt: &R,
     alloc: Global,

@@ -1,4 +1,4 @@
-//! A round: a heap of its own, on which threads work, until all is joined and judged.
+//! A round: threads work on a heap of its own, until all passes are joined and all results judged.
 ghost use Rattle.std.specs.Prelude.{◌≡◌, Some};
 ghost use Rattle.std.specs.List.{All};
 ghost use Rattle.sh_pass.specs.Passes.{Caller};
@@ -21,18 +21,18 @@ use std::sync::Wait;
 use std::thread;
 use std::thread::Threads;
 
-/// How a round goes.
+/// The sizes of a round.
 #[derive(Clone, Copy, Debug, PartialEq, Eq)]
 pub struct Plan {
-    /// How many threads.
+    /// The number of threads.
     pub threads: u32,
-    /// How many passes each thread has.
+    /// The number of passes of each thread.
     pub passes: u32,
-    /// How many shards the heap has.
+    /// The number of shards of the heap.
     pub shards: u32,
-    /// How many segments a shard has.
+    /// The number of segments of a shard.
     pub segments: u32,
-    /// How many turns each thread takes.
+    /// The number of turns that each thread takes.
     pub steps: u64,
 }
 
@@ -44,7 +44,7 @@ fn unopened(refusal: Refusal) -> Fault {
     }
 }
 
-// The passes, which are of the heap that `H` names.
+// Wraps passes as those of the heap that `H` names.
 fn named<'a, L: KeyLayout, H: Home>(
     alloc: Global,
     passes: Vec<Pass<'a, L>>,
@@ -93,7 +93,7 @@ fn workers<'a, L: KeyLayout, H: Home>(
     Ok(workers)
 }
 
-// All workers take their turns, those of each thread in that thread, by the board.
+// Runs all workers, those of each thread in that thread. They share the board.
 fn work<L: KeyLayout + Send, H: Home + Send + Sync, R: Threads + Wait + Sync>(
     rt: &R,
     plan: &Plan,
@@ -113,7 +113,7 @@ fn work<L: KeyLayout + Send, H: Home + Send + Sync, R: Threads + Wait + Sync>(
     );
 }
 
-// A round of these passes, by the board.
+// A round of these passes, which share the board.
 fn worked_on<'a, L: KeyLayout + Send, H: Home + Send + Sync, R: Threads + Wait + Sync>(
     rt: &R,
     alloc: Global,
@@ -144,7 +144,7 @@ fn worked<'a, L: KeyLayout + Send, H: Home + Send + Sync, R: Threads + Wait + Sy
     worked_on(rt, alloc, plan, lones, &board, dice)
 }
 
-/// Plays a round, and answers how often what was answered.
+/// Plays a round, and returns how often each result was returned.
 pub fn play<L: KeyLayout + Send, R: Threads + Wait + Sync>(
     rt: &R,
     alloc: Global,

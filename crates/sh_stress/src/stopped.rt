@@ -1,4 +1,4 @@
-//! A pass that goes on by hand, one step at a time.
+//! A pass that runs by hand, one step at a time.
 ghost use Rattle.std.specs.Prelude.{◌≡◌, Some};
 
 use crate::home::Home;
@@ -27,12 +27,12 @@ impl<'a, L: KeyLayout, H: Home> Stopped<'a, L, H> {
         }
     }
 
-    /// Does one step: whether its condition held.
+    /// Does one step, and returns whether its condition held.
     pub fn act(&mut self, action: &Action) -> bool {
         self.busy.act(action)
     }
 
-    /// Does the next step of what ends a removal, a release or a refused get. False where nothing is left to do.
+    /// Does the next step that ends a removal, a release or a refused get. False if nothing is left to do.
     pub fn go_on(&mut self) -> bool {
         let steps = [
             Action::Drop,
@@ -50,7 +50,7 @@ impl<'a, L: KeyLayout, H: Home> Stopped<'a, L, H> {
         false
     }
 
-    /// The pass again, where it has begun nothing that it has yet to end.
+    /// Returns the plain pass, if it has ended all that it began. Otherwise returns itself.
     pub fn end(self) -> Result<Lone<'a, L, H>, Self> {
         let Stopped { busy, home: _ } = self;
         match busy.end() {

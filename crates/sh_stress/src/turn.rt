@@ -4,9 +4,9 @@ use sh_judge::dice::Dice;
 /// A turn of a pass.
 #[derive(Clone, Copy, Debug, PartialEq, Eq)]
 pub enum Turn {
-    /// Gets a key that somebody left.
+    /// Gets a key that a thread left on the board.
     Get,
-    /// Gets a key that somebody left by a guard, and reads it.
+    /// Gets a key that a thread left on the board by a guard, and reads its value.
     Glance,
     /// Gets a number that may be a key.
     Guess,
@@ -14,7 +14,7 @@ pub enum Turn {
     Read,
     /// Releases a hold.
     Release,
-    /// Removes a key that somebody left.
+    /// Removes a key that a thread left on the board.
     Remove,
     /// Removes a key that it holds.
     RemoveHeld,

@@ -1,4 +1,4 @@
-//! Calls on keys, with what is noted of their answers.
+//! Calls on keys, which note their results in the record.
 use crate::moments::Moments;
 use crate::user::User;
 use sh_judge::counts::Count;
@@ -7,7 +7,7 @@ use sh_judge::line::{Span, Told};
 use sh_judge::record::Record;
 use sh_value::{Hold, Refusal, Value};
 
-/// Takes a hold on a number, which may be no key where it was guessed.
+/// Takes a hold on a key. A guessed number may be no key.
 pub fn get<U: User>(user: &mut U, record: &mut Record, moments: &Moments, key: u64, guessed: bool) {
     let begin = moments.next();
     let answer = user.get(key);
@@ -74,7 +74,7 @@ pub fn remove<U: User>(user: &mut U, record: &mut Record, moments: &Moments, key
     }
 }
 
-/// Reads what one of its holds is on.
+/// Reads the value of one of the holds.
 pub fn read<U: User>(user: &mut U, record: &mut Record, number: u64) {
     let Some(held) = record.hold(number) else {
         return;
@@ -85,7 +85,7 @@ pub fn read<U: User>(user: &mut U, record: &mut Record, number: u64) {
     }
 }
 
-/// Gives one of its holds back.
+/// Releases one of the holds.
 pub fn release<U: User>(user: &mut U, record: &mut Record, moments: &Moments, number: u64) {
     let Some(held) = record.hold(number) else {
         return;

@@ -1,4 +1,4 @@
-//! A pass, with what is kept of it.
+//! A pass with its record.
 ghost use Rattle.std.specs.Prelude.{◌≤◌};
 
 use crate::actor::{Actor, Task};
@@ -18,7 +18,7 @@ use std::alloc::Global;
 use std::mem;
 use std::sync::Wait;
 
-// As many steps as something begun by hand has, and its end.
+// The greatest number of steps of a call by hand, with its end.
 const STEPS_BY_HAND: u32 = 9;
 
 /// A pass that takes turns.
@@ -31,7 +31,7 @@ pub struct Worker<'a, L: KeyLayout, H: Home> {
 }
 
 impl<'a, L: KeyLayout, H: Home> Worker<'a, L, H> {
-    /// A pass that has done nothing, in a heap of so many shards.
+    /// A pass that has done nothing, in a heap with this number of shards.
     pub fn new(alloc: Global, lone: Lone<'a, L, H>, number: u32, shards: u64) -> Self {
         Worker {
             actor: Actor::Lone(lone),
@@ -41,7 +41,7 @@ impl<'a, L: KeyLayout, H: Home> Worker<'a, L, H> {
         }
     }
 
-    /// What is kept of it.
+    /// Its record.
     pub fn record(&self) -> &Record {
         &self.record
     }
@@ -90,17 +90,17 @@ impl<'a, L: KeyLayout, H: Home> Worker<'a, L, H> {
         }
     }
 
-    // The actor, which moves until another one is put there.
+    // Takes the actor out. It is `Moving` until another one is put there.
     fn moving(&mut self) -> Actor<'a, L, H> {
         mem::replace(&mut self.actor, Actor::Moving)
     }
 
-    // The actor is this one again.
+    // Puts the actor back.
     fn put(&mut self, actor: Actor<'a, L, H>) {
         self.actor = actor;
     }
 
-    // The turn of a pass that stopped in the middle: it stands, or does its next step.
+    // The turn of a pass that stopped in the middle: it does nothing, or does its next step.
     fn stopped_turn(
         &mut self,
         stopped: Stopped<'a, L, H>,
@@ -115,7 +115,7 @@ impl<'a, L: KeyLayout, H: Home> Worker<'a, L, H> {
         by_hand::go_on(stopped, task, &mut self.record, moments)
     }
 
-    // What the actor is after its turn.
+    // The actor after its turn.
     fn turned<R: Wait>(
         &mut self,
         actor: Actor<'a, L, H>,
@@ -153,7 +153,7 @@ impl<'a, L: KeyLayout, H: Home> Worker<'a, L, H> {
         }
     }
 
-    // Gives back one of its holds.
+    // Releases one of its holds.
     fn release(&mut self, moments: &Moments, number: u64) {
         match &mut self.actor {
             Actor::Lone(lone) => using::release(lone, &mut self.record, moments, number),
@@ -162,7 +162,7 @@ impl<'a, L: KeyLayout, H: Home> Worker<'a, L, H> {
         }
     }
 
-    /// Gives back all its holds except a few.
+    /// Releases about two thirds of its holds.
     pub fn release_most(&mut self, moments: &Moments, dice: &mut Dice) {
         for number in (0..self.record.holds()).rev() {
             if !dice.once_in(3) {
@@ -171,7 +171,7 @@ impl<'a, L: KeyLayout, H: Home> Worker<'a, L, H> {
         }
     }
 
-    /// Leaves its shard, if it has one. Nobody has begun anything, so that nothing is waited for.
+    /// Leaves its shard, if it has one. No pass has a call open, so a refusal to leave is a fault.
     pub fn retire(&mut self) {
         let left = self.moving().left(&mut self.record);
         self.put(left);
@@ -189,7 +189,7 @@ impl<'a, L: KeyLayout, H: Home> Worker<'a, L, H> {
         self.put(filled);
     }
 
-    /// Fills each shard, of which nobody owns one, with values of so many words.
+    /// Fills each shard with values of `len` words. Nobody owns a shard.
     pub fn fill(&mut self, moments: &Moments, len: usize)
         requires { len ≤ 16 }
     {
@@ -198,7 +198,7 @@ impl<'a, L: KeyLayout, H: Home> Worker<'a, L, H> {
         }
     }
 
-    /// The pass, where it owns nothing and has begun nothing, with what is kept of it.
+    /// The pass, if it owns nothing and has begun nothing, with its record.
     pub fn finish(self) -> (Option<Lone<'a, L, H>>, Record) {
         let Worker {
             actor,
