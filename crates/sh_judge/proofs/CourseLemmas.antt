@@ -1,4 +1,4 @@
--- What is decided of a key.
+-- Lemmas on the course of a key.
 use Rattle.std.proofs.Common.{◌≡◌, ◌∙◌, ℕ, ◌≤◌, ◌⊎◌, inl, inr, true, false, List, Option, Some, None, get_or, refl, sym}
 use Rattle.std.proofs.Common.{subst, ap, arith}
 use Rattle.std.specs.Prelude.{All}
@@ -25,13 +25,13 @@ no_insert Removed none = refl
 no_insert Marked none = refl
 no_insert Released none = refl
 
--- where no answer needs the value, none is an insert
+-- if no answer needs the value, none is an insert
 pub none_inserted : (lines : List Line) → All (λ (line : Line). needs_value line.told ≡ false) lines
     → list_any tells_insert lines ≡ false
 none_inserted lines none = list_any_none tells_insert lines
     (λ i d below. no_insert (get_or lines i d).told (none i d below))
 
--- what is so of a point is so of each later one
+-- if a call has begun by a point, it has begun by each later point
 pub begun_later : (line : Line) (p q : Point) → time p ≤ time q → IsBegun line p → IsBegun line q
 begun_later line p q later begun = omega arith
 
@@ -46,7 +46,7 @@ pub used_later : (lines : List Line) (p q : Point) → time p ≤ time q
 used_later lines p q later used = λ i d below is.
     begun_later (get_or lines i d) p q later (used i d below is)
 
--- where nobody used the value, all who did had begun
+-- if no line uses the value, then each line that does has begun
 pub none_used : (lines : List Line) (p : Point) → All (λ (line : Line). is_use line.told ≡ false) lines
     → All (λ (line : Line). is_use line.told ≡ true → IsBegun line p) lines
 none_used lines p none = λ i d below is. absurd (true≢false (sym is ∙ none i d below))

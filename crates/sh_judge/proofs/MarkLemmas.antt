@@ -18,7 +18,7 @@ abbrev pub FirstMarks : ℕ → List Placed → List Entry → Type 0
 FirstMarks n placed history = (i : ℕ) (line : Line) → i < n → slice_get (map line_of placed) i ≡ Some line
     → line.told ≡ Marked → is_removed (take (i + 1) history) line.key ≡ true
 
--- one line more
+-- the same of one line more
 pub one_more_mark : (n : ℕ) (placed : List Placed) (history : List Entry) (at : Placed)
     → slice_get placed n ≡ Some at
     → (at.line.now.told ≡ Marked → is_removed (take (n + 1) history) at.line.now.key ≡ true)
@@ -42,7 +42,7 @@ one_more_mark n placed history at stands last before = λ i line below is told.
         subst (λ (l : Line). is_removed (take (n + 1) history) l.key ≡ true) (sym same)
         (last (ap (λ (l : Line). l.told) (sym same) ∙ told))
 
--- all of them
+-- the marks among all lines are removed
 pub all_marks : (n : ℕ) (placed : List Placed) (history : List Entry) → length placed ≤ n
     → FirstMarks n placed history → MarksAreRemoved (map line_of placed) history
 all_marks n placed history all first = λ i line is told.

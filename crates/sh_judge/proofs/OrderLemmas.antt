@@ -1,4 +1,4 @@
--- Placed lines that stand in the order of their points are a history that keeps to the times of the calls.
+-- Placed lines in the order of their points are a history that keeps to the times of the calls.
 use Rattle.std.proofs.Common.{◌≡◌, ℕ, ◌<◌, ◌≤◌, Bool, true, false, inl, inr, List, [], ◌∷◌, length, get_or, map, refl}
 use Rattle.std.proofs.Common.{sym, subst, ◌∙◌, arith}
 use Rattle.std.proofs.lemmas.List.{get_or-map, length-map}
@@ -28,7 +28,7 @@ not_above : (a b : ℕ) (t : Bool) → t ≡ false → (a < b → t ≡ true) �
 not_above a b t off on =
     elim (leb_tells b a) [ inl h ↦ h.1 | inr h ↦ absurd (true≢false (sym (on h.1) ∙ off)) ]
 
--- what is sorted by an order that tells apart where a number falls, does not fall in that number
+-- if a list is sorted by an order that sees each fall of a number, that number does not fall along the list
 pub rises_by_key : {X K : Type 0} (key : X → K) (n : X → ℕ) (R : K → K → Ordering) → IsTotalOrder R
     → ((x y : X) → n y < n x → is_lt (R (key y) (key x)) ≡ true) → (xs : List X) → IsSortedByKey key R xs
     → IsNonDecreasingBy n xs

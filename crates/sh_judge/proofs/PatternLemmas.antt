@@ -10,7 +10,7 @@ use Rattle.sh_judge.specs.Pattern.{mixed_word, pattern_word}
 behind : (serial place : ℕ) → 0 < place → pattern_word serial place ≡ mixed_word serial place
 behind serial place h = grind (arith, nat_tests)
 
--- one more word is written
+-- the pattern after one more word is written
 pub one_more_word : (serial place w : ℕ) (words : List ℕ) → 0 < place → place < length words
     → ((k : ℕ) → k < place → slice_index words k ≡ pattern_word serial k) → w ≡ mixed_word serial place
     → (k : ℕ) → k < place + 1 → slice_index (slice_set words place w) k ≡ pattern_word serial k

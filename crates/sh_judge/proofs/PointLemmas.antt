@@ -1,4 +1,4 @@
--- Points that are told apart by their order are told apart by their times.
+-- Points that differ in their order differ in their times.
 use Rattle.std.proofs.Common.{◌≡◌, ℕ, ◌+◌, ◌*◌, ◌<◌, ◌≤◌, true, inl, inr, refl, subst, arith}
 use Rattle.std.proofs.lemmas.Bool.Decides.{nat_tests, leb_tells}
 use Rattle.std.specs.Ordering.{is_lt, nat_cmp, ordering_then}
@@ -44,6 +44,6 @@ module _ (R : Point → Point → Ordering)
   falls_at m n After After r s h = moments (record { moment = n; edge = After; rank = s })
       (record { moment = m; edge = After; rank = r }) (omega arith)
 
-  -- what comes earlier is less in an order by moments and then by edges
+  -- the earlier point is less in an order by moments and then by edges
   pub falls_in_time : (x y : Point) → time y < time x → is_lt (R y x) ≡ true
   falls_in_time x y h = falls_at y.moment x.moment y.edge x.edge y.rank x.rank h

@@ -4,7 +4,7 @@ use Rattle.sh_judge.specs.declared.counts.Count.{Count}
 use Rattle.sh_judge.specs.declared.counts.Count.TheVariants as count
 use Rattle.sh_judge.specs.declared.counts.Counts.{Counts}
 
--- where the number of each stands
+-- the place of the number of each
 abbrev pub place_of : Count → ℕ
 place_of count.Inserts = 0
 place_of count.Fulls = 1
@@ -36,16 +36,16 @@ place_of count.Queued = 24
 abbrev pub number_of : Counts → Count → ℕ
 number_of counts count = slice_index counts.numbers (place_of count)
 
--- the number, or the greatest of 64 bits where it is above that
+-- the number, or the greatest number of 64 bits if it is above that
 abbrev pub saturated : ℕ → ℕ
 saturated n = min n (2 ^ 64 - 1)
 
--- this was counted so many times more, and nothing else
+-- the counts after this was counted `more` times, and nothing besides
 abbrev pub counted : Count → ℕ → Counts → Counts
 counted count more counts =
     record counts { numbers = slice_set counts.numbers (place_of count) (saturated (number_of counts count + more)) }
 
--- of each thing as many were counted as by both
+-- of each thing the count is the sum of both
 abbrev pub CountsBoth : (one other both : Counts) → Type 0
 CountsBoth one other both =
     (count : Count) → number_of both count ≡ saturated (number_of one count + number_of other count)

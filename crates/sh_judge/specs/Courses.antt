@@ -1,4 +1,4 @@
--- What is decided of a key by the answers on it, and where each answer may stand.
+-- The course of a key that follows from the answers on it, and the points that each answer may have.
 use Rattle.std.specs.Prelude.{◌≡◌, ◌⊎◌, ℕ, ◌*◌, ◌<◌, ◌≤◌, ⊤, Bool, true, false, List, All, Option, Some, slice_get}
 use Rattle.std.specs.Option.{MatchOption}
 use Rattle.std.specs.List.{list_any}
@@ -24,7 +24,7 @@ is_insert _ = false
 abbrev pub tells_insert : Line → Bool
 tells_insert line = is_insert line.told
 
--- the answer is given only to one who found the value
+-- the answer is given only to a call that found the value
 abbrev pub is_use : Told → Bool
 is_use (Got value) = true
 is_use Crowded = true
@@ -40,22 +40,23 @@ pub record IsRemover (lines : List Line) (place : ℕ) : Type 0 where
   pub stands : slice_get lines place ≡ Some line
   pub says : SaysRemoved line.told
 
--- the point comes when a call had begun
+-- the point comes after the call began
 abbrev pub IsBegun : Line → Point → Type 0
 IsBegun line point = 2 * line.span.begin < time point
 
--- the point does not come before an insert, where there was one
+-- the point does not come before the insert, if there was one
 abbrev pub FollowsInsert : Option Point → Point → Type 0
 FollowsInsert inserted point = MatchOption inserted ⊤ (λ insert. time insert ≤ time point)
 
--- just before the first end of a call whose answer needs the value
+-- a line says that the key was inserted, and the point is just before a moment: no call whose answer needs the value
+-- ended before that moment
 pub record IsInsertPoint (lines : List Line) (point : Point) : Type 0 where
   pub told : list_any tells_insert lines ≡ true
   pub before : point ≡ record { moment = point.moment; edge = Before; rank = rank.Insert }
   pub last : All (λ (line : Line). needs_value line.told ≡ true → point.moment ≤ line.span.end) lines
 
--- the line at a place removed the key, at a point: it says so, and had begun by then, as had all who found the value,
--- which was inserted
+-- the line at a place removed the key, at a point: it says so, and its call had begun by then. So had all calls that
+-- found the value, and the insert, if there was one, came no later
 pub record IsRemoval (lines : List Line) (inserted : Option Point) (place : ℕ) (point : Point) : Type 0 where
   pub remover : IsRemover lines place
   pub is_rank : point.rank ≡ rank.Remove
@@ -63,20 +64,20 @@ pub record IsRemoval (lines : List Line) (inserted : Option Point) (place : ℕ)
   pub behind : FollowsInsert inserted point
   pub used : All (λ (use' : Line). is_use use'.told ≡ true → IsBegun use' point) lines
 
--- what is decided of a key by all lines on it: it was inserted exactly where a line says so, and where none was chosen
--- as the one that removed it, no line says that it did
+-- the course follows from all lines on the key: it has an insert exactly if a line says so. If it has no remover, no
+-- line says `Removed`
 pub record IsCourse (lines : List Line) (course : Course) : Type 0 where
   pub inserted : MatchOption course.inserted (list_any tells_insert lines ≡ false) (IsInsertPoint lines)
   pub removed : MatchOption course.removed (All (λ (line : Line). ¬ (line.told ≡ Removed)) lines)
       (λ removed. IsRemoval lines course.inserted removed.0 removed.1)
 
--- the point is that of a key that is gone since it was removed
+-- the point is that of an answer that the key is gone, after the removal
 pub record IsLate (course : Course) (line : Line) (point : Point) : Type 0 where
   pub is_rank : point.rank ≡ rank.Late
   pub begun : IsBegun line point
   pub behind : MatchOption course.removed ⊤ (λ removed. time removed.1 ≤ time point)
 
--- the point is that of a key that is gone since it is yet to be inserted
+-- the point is that of an answer that the key is gone, before the insert
 pub record IsEarly (course : Course) (line : Line) (point : Point) : Type 0 where
   pub is_rank : point.rank ≡ rank.Early
   pub begun : IsBegun line point
@@ -84,13 +85,13 @@ pub record IsEarly (course : Course) (line : Line) (point : Point) : Type 0 wher
   pub is_insert : course.inserted ≡ Some insert
   pub ahead : time point ≤ time insert
 
--- the point is that of a get which found the value
+-- the point is that of a get that found the value
 pub record IsFound (course : Course) (line : Line) (point : Point) : Type 0 where
   pub begun : IsBegun line point
   pub behind : FollowsInsert course.inserted point
 
--- where an answer of this kind stands: who removed the key at the point of the removal, and any other who says so
--- behind it
+-- the point of an answer of this kind: the line that removed the key has the point of the removal, and each other line
+-- that says it was removed has no earlier point
 abbrev pub IsPointOf : Course → (place : ℕ) → Line → Told → Point → Type 0
 IsPointOf course place line (Inserted value) point =
     MatchOption course.inserted (IsBegun line point) (λ insert. point ≡ insert)

@@ -1,4 +1,4 @@
--- Which histories the answers of a heap may be.
+-- The histories that fit the answers of a heap.
 use Rattle.std.specs.Prelude.{◌≡◌, ℕ, ◌<◌, ◌≤◌, Bool, if◌then◌else◌, List, Some, None, length, slice_index_or}
 use Rattle.std.specs.List.{AllZip}
 use Rattle.std.specs.List.Sorted.{IsPermutation}
@@ -19,17 +19,17 @@ entry_told is_remover issued pass key Removed = entry.Removed pass key
 entry_told is_remover issued pass key Marked = if is_remover then entry.Removed pass key else entry.Gone pass key
 entry_told is_remover issued pass key Released = entry.Released pass key
 
--- the entry that a line stands for. What a get gave that was never read is the value that was issued; who marked a key
--- by hand removed it, or found it removed
+-- the entry of a line. A get whose value was never read has the value that was issued. A mark by hand removed the key,
+-- or found it removed
 abbrev pub entry_of_line : Bool → List ℕ → Line → Entry
 entry_of_line is_remover issued line = entry_told is_remover issued line.pass line.key line.told
 
--- the line may stand for the entry
+-- the entry may be that of the line
 abbrev pub IsEntryOf : Line → Entry → Type 0
 IsEntryOf line e = (is_remover : Bool) × (issued : List ℕ) × (e ≡ entry_of_line is_remover issued line)
 
--- the history has an entry for each line, in an order that keeps to the times of the calls: none began only when one
--- that stands behind it had ended. A mark by hand stands for the removal of its key, or for a Gone behind it
+-- the history has an entry for each line, in an order that keeps to the times of the calls: no call began after one
+-- behind it had ended. A mark by hand is the entry that removed its key, or a `Gone` behind that entry
 pub record IsHistoryOf (lines : List Line) (history : List Entry) : Type 0 where
   pub ordered : List Line
   pub each_once : IsPermutation lines ordered

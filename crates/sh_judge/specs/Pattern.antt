@@ -1,4 +1,4 @@
--- The values that are stored: each of their words tells which value it belongs to.
+-- The values that are stored: each of their words shows which value it belongs to.
 use Rattle.std.specs.Prelude.{◌≡◌, ℕ, ◌+◌, ◌*◌, ◌%◌, ◌^◌, ◌<◌, ◌==◌, if◌then◌else◌, List, length, slice_index}
 use Rattle.std.specs.Int.{w64, rotate_left}
 

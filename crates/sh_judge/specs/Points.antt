@@ -13,7 +13,7 @@ edge_number After = 1
 abbrev pub time : Point → ℕ
 time point = 2 * point.moment + edge_number point.edge
 
--- the point comes after a call began, and before it was answered
+-- the point comes after a call began, and before it returned
 pub record IsWithin (point : Point) (span : Span) : Type 0 where
   pub begun : 2 * span.begin < time point
   pub not_ended : time point ≤ 2 * span.end

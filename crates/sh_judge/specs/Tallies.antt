@@ -10,11 +10,11 @@ use Rattle.sh_judge.specs.declared.tally.PageTally.{PageTally}
 use Rattle.sh_judge.specs.declared.tally.Tally.{Tally}
 use Rattle.sh_judge.specs.Pages.{with_slot}
 
--- where a page stands among those of all shards
+-- the place of a page among those of all shards
 abbrev pub page_place : Tally → (shard page : ℕ) → ℕ
 page_place tally shard page = shard * tally.pages_of_shard + page
 
--- the slot that the key names is counted with those of its page, as the history says of the key
+-- the slot that the key names is counted with those of its page, by the history of the key
 pub record CountsSlot (layout : Layout) (old new : Tally) (key : ℕ) (history : List Entry) : Type 0 where
   pub parts : Parts
   pub is_key : unpacked layout key ≡ Some parts
@@ -24,7 +24,7 @@ pub record CountsSlot (layout : Layout) (old new : Tally) (key : ℕ) (history :
       (with_slot (is_removed history key) (holds_on history key) (parts.generation == layout.gen_max) page)
   pub pages_of_shard : new.pages_of_shard ≡ old.pages_of_shard
 
--- the key was inserted, and is none of the layout or names no page of the heap
+-- the key was inserted, but is no key of the layout or names no page of the heap
 pub record NamesNoPage (layout : Layout) (tally : Tally) (key : ℕ) (history : List Entry) : Type 0 where
   pub issued : IsSome (value_of history key)
   pub none : (parts : Parts) → unpacked layout key ≡ Some parts

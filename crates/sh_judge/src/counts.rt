@@ -1,11 +1,11 @@
-//! How often what was answered.
+//! How often each result was returned.
 ghost use Rattle.std.specs.Prelude.{◌≡◌};
 ghost use Rattle.sh_judge.specs.Counts.{counted, number_of, CountsBoth};
 ghost use Rattle.sh_judge.specs.declared.counts.Count.{Count};
 
 use std::fmt;
 
-/// What is counted.
+/// A thing that is counted.
 #[derive(Clone, Copy, Debug, PartialEq, Eq)]
 pub enum Count {
     Inserts,
@@ -70,14 +70,14 @@ pub struct Counts {
 }
 
 impl Counts {
-    /// Nothing was counted yet.
+    /// Counts of 0.
     pub fn new() -> Counts
         ensures { (count : Count) → number_of result count ≡ 0 }
     {
         Counts { numbers: [0; 25] }
     }
 
-    /// Counts so many more, up to the greatest number of 64 bits.
+    /// Counts `more` of a thing, up to the greatest number of 64 bits.
     pub fn add(&mut self, count: Count, more: u64)
         ensures { self.new ≡ counted count more self.old }
     {
@@ -94,7 +94,7 @@ impl Counts {
         self.add(count, 1);
     }
 
-    /// Adds what another counted.
+    /// Adds the counts of another, up to the greatest number of 64 bits each.
     pub fn take_in(&mut self, other: &Counts)
         ensures { CountsBoth self.old other.now self.new }
     {
@@ -103,7 +103,7 @@ impl Counts {
         }
     }
 
-    /// How many.
+    /// The number of a thing.
     pub fn of(&self, count: Count) -> u64
         ensures { result ≡ number_of self.now count }
     {

@@ -24,14 +24,14 @@ impl Dice {
         }
     }
 
-    /// Any word, which serves as a seed too.
+    /// Any word. It can serve as a seed too.
     pub fn word(&mut self) -> u64
         ensures { (result, shown self.new) ≡ next_u64 (shown self.old) }
     {
         self.rng.next_u64()
     }
 
-    /// A number below the limit, which is not 0: what is left of the next word.
+    /// A number below the limit, which is not 0: the remainder of the next word.
     pub fn below(&mut self, limit: u64) -> u64
         requires { 0 < limit }
         ensures less { result < limit }
@@ -41,7 +41,7 @@ impl Dice {
         self.word() % limit
     }
 
-    /// True once in so many times. The number of times is not 0.
+    /// True once in `times` calls, at random. `times` is not 0.
     pub fn once_in(&mut self, times: u64) -> bool
         requires { 0 < times }
         ensures value { IsTrue result ↔ ((next_u64 (shown self.old)).0 % times ≡ 0) }

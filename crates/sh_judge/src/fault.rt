@@ -1,8 +1,8 @@
-//! What a run may find.
+//! The faults that a run may find.
 use sh_value::Refusal;
 use thiserror::Error;
 
-/// What was asked of the heap.
+/// What a call asked of the heap.
 #[derive(Clone, Copy, Debug, PartialEq, Eq)]
 pub enum Call {
     /// A heap, with its passes.
@@ -26,37 +26,37 @@ pub enum Call {
 /// Something that no heap may do.
 #[derive(Clone, Copy, Debug, PartialEq, Eq, Error)]
 pub enum Wrong {
-    /// A call was refused for a reason that cannot be.
+    /// A call was refused for a reason that is impossible there.
     #[error("pass {0} was refused {1:?} as {2:?}, which cannot be")]
     Refused(u32, Call, Refusal),
-    /// A first step by hand was not done, though nothing stood against it.
+    /// The first step by hand was not done, though its condition held.
     #[error("pass {0} could not begin {1:?} by hand")]
     Unbegun(u32, Call),
-    /// The words that were read belong to no one value.
+    /// The words that were read do not all belong to one value.
     #[error("pass {0} read a torn value under key {1}")]
     Torn(u32, u64),
     /// A value changed while it was held.
     #[error("the value under key {1} changed while pass {0} held it")]
     Changed(u32, u64),
-    /// What a pass began by hand does not come to an end.
+    /// A call that a pass began by hand does not end.
     #[error("what pass {0} began by hand does not end")]
     Endless(u32),
     /// An owner cannot leave, though no other caller has begun anything.
     #[error("pass {0} waits to leave its shard, though nobody has begun a free")]
     Waits(u32),
-    /// The answers on a key have no order that is legal and keeps to the moments at which they were given.
+    /// The answers on a key have no order that is legal and keeps to the moments of their calls.
     #[error("no order of the answers on key {0} is legal")]
     NoOrder(u64),
-    /// A key was answered that is none of the layout.
+    /// An insert returned a number that is no key of the layout.
     #[error("{0} was inserted and is no key")]
     NoKey(u64),
-    /// Not all passes met.
+    /// Not all passes are joined.
     #[error("not all passes met")]
     Apart,
-    /// A page has a slot, or may be had, where the owner of its shard was answered that the shard is full.
+    /// A page has a slot left or is blank, though an insert in its shard was refused as full.
     #[error("page {0}.{1} has room in a shard that was full")]
     Room(u32, u32),
-    /// The accounts of a page are not those of the answers.
+    /// The accounts of a page are not those that follow from the answers.
     #[error("the accounts of page {0}.{1} are wrong")]
     Accounts(u32, u32),
 }
@@ -64,7 +64,7 @@ pub enum Wrong {
 /// Why a round ended early.
 #[derive(Clone, Copy, Debug, PartialEq, Eq, Error)]
 pub enum Fault {
-    /// Something wrong was found.
+    /// The heap did something wrong.
     #[error("{0}")]
     Wrong(Wrong),
     /// Memory was refused.

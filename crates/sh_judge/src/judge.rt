@@ -1,7 +1,7 @@
-//! What all passes were answered, judged key by key.
+//! The judge of the answers to all passes, key by key.
 //!
-//! Each rule of a legal history speaks of one key alone. So the history of all passes is legal exactly where, for each
-//! key, the answers on it are.
+//! Each rule of a legal history is about one key alone. So the history of all passes is legal exactly if the history of
+//! each key is.
 ghost use Rattle.std.specs.Prelude.{◌≡◌, ◌⊎◌, IfOk, IfErr, IfSome, IsTrue, length, map};
 ghost use Rattle.sh_history.specs.History.{Legal};
 ghost use Rattle.sh_judge.specs.Histories.{entry_of_line, IsHistoryOf};
@@ -35,7 +35,7 @@ impl From<AllocError> for Fault {
     }
 }
 
-// The value that the key was inserted with. Where there is none, `check` refuses all that needs one.
+// The value that the key was inserted with. If there is none, `check` refuses each entry that needs one.
 fn value_inserted(lines: &[Line]) -> Value {
     for line in lines {
         if let Told::Inserted(value) = &line.told {
@@ -45,7 +45,7 @@ fn value_inserted(lines: &[Line]) -> Value {
     crate::pattern::value(0, 0)
 }
 
-// The entry that a line stands for.
+// The entry of a line.
 fn entry(line: &Line, is_remover: bool, issued: &Value) -> Entry
     ensures { result ≡ entry_of_line is_remover issued.now line.now }
 {
@@ -62,7 +62,7 @@ fn entry(line: &Line, is_remover: bool, issued: &Value) -> Entry
     }
 }
 
-// The lines in the order of their points. None where a point lies outside the time of its call.
+// The lines in the order of their points, or `None` if a point is outside the time of its call.
 fn in_order<'a>(
     alloc: Global,
     lines: &'a [Line],
@@ -87,7 +87,7 @@ fn in_order<'a>(
     Ok(Some(all))
 }
 
-// The entries that these lines stand for, in this order.
+// The entries of these lines, in this order.
 fn history(alloc: Global, placed: &[Placed], issued: &Value) -> Result<Vec<Entry>, AllocError>
     ensures { IfOk result (λ entries. entries.items ≡ map (entry_of_placed issued.now) placed.now) }
 {
@@ -98,7 +98,7 @@ fn history(alloc: Global, placed: &[Placed], issued: &Value) -> Result<Vec<Entry
     Ok(entries)
 }
 
-// Whether each mark by hand stands for the removal of its key, or behind it.
+// Whether the entry of each mark by hand is the removal of its key, or is behind it.
 fn marks_are_removed(placed: &[Placed], entries: &[Entry]) -> bool
     requires { length entries.now ≡ length placed.now }
     ensures { IsTrue result → MarksAreRemoved (map line_of placed.now) entries.now }
@@ -111,8 +111,8 @@ fn marks_are_removed(placed: &[Placed], entries: &[Entry]) -> bool
     true
 }
 
-/// The history of a key, by all lines on it: an order that keeps to the times of their calls, in which they are legal.
-/// A key that was marked by hand is removed by then, by this mark or by an entry before it.
+/// The history of a key, from all lines on it: a legal order that keeps to the times of their calls. With the entry of
+/// a mark by hand the key is removed, by this entry or by one before it. Returns `NoOrder` if it finds no such order.
 pub fn judged(
     alloc: Global,
     key: u64,

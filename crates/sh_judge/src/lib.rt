@@ -1,6 +1,6 @@
-//! How the answers that the threads of a stress run get are judged. There are records of what was answered and when,
-//! and an order of the answers that keeps to the times of their calls. A check says whether that order is a legal
-//! history, and what a page holds by it. And there are the dice by which the threads choose what they call.
+//! The judge of a stress run. It keeps records of what the calls of each thread returned and when, and puts these
+//! answers in an order that keeps to the times of the calls. A check returns whether that order is a legal history, and
+//! what a page holds by it. The dice, by which the threads choose their calls, are here too.
 #![tactic(auto)]
 
 pub mod counts;

@@ -1,12 +1,12 @@
-//! What a pass was answered, and when.
+//! The answers to a pass, with their times.
 use sh_value::Value;
 
 /// The moments between which a call was made.
 #[derive(Clone, Copy, Debug, PartialEq, Eq)]
 pub struct Span {
-    /// Before the call began.
+    /// A moment before the call began.
     pub begin: u64,
-    /// After it was answered.
+    /// A moment after it returned.
     pub end: u64,
 }
 
@@ -15,11 +15,11 @@ pub struct Span {
 pub enum Told {
     /// The value was inserted.
     Inserted(Value),
-    /// A hold was got; the value, if it was read.
+    /// A hold was got. It has the value, if that was read.
     Got(Option<Value>),
     /// The key names no present value.
     Gone,
-    /// The key has as many holds as it may have.
+    /// The key has the greatest number of holds.
     Crowded,
     /// The key was removed.
     Removed,
@@ -32,12 +32,12 @@ pub enum Told {
 /// One line of a pass's log.
 #[derive(Drop, Debug, PartialEq, Eq)]
 pub struct Line {
-    /// Who was answered.
+    /// The number of the pass that called.
     pub pass: u32,
-    /// On which key.
+    /// The key.
     pub key: u64,
-    /// When.
+    /// The time of the call.
     pub span: Span,
-    /// What.
+    /// The answer.
     pub told: Told,
 }

@@ -1,8 +1,8 @@
 //! An order of the answers on one key, by the times of their calls.
 //!
-//! The insert is put as late as it may be: before the first answer ends that needs the value. A get is put as early as
-//! it may be, a release as late. The removal is put as early as it may be: after each answer that needs the value. So
-//! where any order is legal and keeps to the times, this one does.
+//! The insert is as late as it may be: just before the first end of a call whose answer needs the value. A get is as
+//! early as it may be, and a release as late. The removal is as early as it may be: after each answer that needs the
+//! value. So if any order is legal and keeps to the times, this one is and does.
 ghost use Rattle.std.specs.Prelude.{◌≡◌, ◌≤◌, ◌⊎◌, true, false, All, IsTrue, IfSome, IfNone};
 ghost use Rattle.std.specs.List.{list_any};
 ghost use Rattle.std.specs.Option.{MatchOption};
@@ -13,12 +13,12 @@ ghost use Rattle.sh_judge.specs.declared.line.Line.{Line as AnyLine};
 use crate::line::{Line, Told};
 use crate::point::{Point, Rank};
 
-/// What is decided of one key: when it was inserted, and which line removed it, and when.
+/// The course of one key: when it was inserted, which line removed it, and when.
 #[derive(Clone, Copy, Debug, PartialEq, Eq)]
 pub struct Course {
-    /// The point of its insert; none where nobody inserted it.
+    /// The point of its insert, or `None` if it was not inserted.
     pub inserted: Option<Point>,
-    /// The place of the line that removed it among the lines on the key, and the point.
+    /// The place, among the lines on the key, of the line that removed it, and the point of the removal.
     pub removed: Option<(usize, Point)>,
 }
 
@@ -32,7 +32,7 @@ fn needs_value(told: &Told) -> bool
     }
 }
 
-// Whether the answer is given only to one who found the value.
+// Whether the answer is given only to a call that found the value.
 fn is_use(told: &Told) -> bool
     ensures { result ≡ is_use told.now }
 {
@@ -89,7 +89,7 @@ fn earliest(line: &Line, inserted: Option<Point>, rank: Rank) -> Point
     }
 }
 
-// The last point at which a get was begun or the key was inserted.
+// The last of the earliest points of all gets that found the value, or `None` if there is no such get.
 fn last_use(lines: &[Line], inserted: Option<Point>) -> Option<Point>
     ensures { MatchOption result (All (λ (line : AnyLine). is_use line.told ≡ false) lines.now)
         (λ point. All (λ (line : AnyLine). is_use line.told ≡ true → IsBegun line point) lines.now) }
@@ -129,8 +129,8 @@ fn first_mark(lines: &[Line], last_use: Option<Point>) -> Option<usize>
     first.map(|(place, _)| place)
 }
 
-// The line that removed the key, of those that say so or, where none does, of those that marked it by hand and had not
-// ended when the value was last used, the first that began.
+// The place of the line that removed the key: the first that says so. If none does, it is the mark by hand that began
+// first, of those that had not ended when the value was last used.
 fn remover(lines: &[Line], last_use: Option<Point>) -> Option<usize>
     ensures some { IfSome result (IsRemover lines.now) }
     ensures none { IfNone result (All (λ (line : AnyLine). ¬ (line.told ≡ Told.Removed)) lines.now) }
@@ -141,7 +141,7 @@ fn remover(lines: &[Line], last_use: Option<Point>) -> Option<usize>
     }
 }
 
-// The line that removed the key, and the point, as early as it may be: after each answer that needs the value.
+// The place of the line that removed the key, and the point, as early as it may be: after each use of the value.
 fn removed(lines: &[Line], inserted: Option<Point>) -> Option<(usize, Point)>
     ensures { MatchOption result (All (λ (line : AnyLine). ¬ (line.told ≡ Told.Removed)) lines.now)
         (λ removed. IsRemoval lines.now inserted removed.0 removed.1) }
@@ -155,7 +155,7 @@ fn removed(lines: &[Line], inserted: Option<Point>) -> Option<(usize, Point)>
     }
 }
 
-/// What is decided of a key by these lines, all that there are on it.
+/// Decides the course of a key by these lines, which are all lines on it.
 pub fn decide(lines: &[Line]) -> Course
     ensures { IsCourse lines.now result }
 {
@@ -166,7 +166,7 @@ pub fn decide(lines: &[Line]) -> Course
     }
 }
 
-// After the removal.
+// The first point after the removal at which the call had begun.
 fn late(line: &Line, course: Course) -> Point
     ensures { IsLate course line.now result }
 {
@@ -177,7 +177,7 @@ fn late(line: &Line, course: Course) -> Point
     }
 }
 
-// The point of an answer that the key is gone: before the insert where the call had begun by then, else after the
+// The point of an answer that the key is gone: before the insert if the call had begun by then, otherwise after the
 // removal.
 fn gone(line: &Line, course: Course) -> Point
     ensures { IsEarly course line.now result ⊎ IsLate course line.now result }
@@ -189,7 +189,7 @@ fn gone(line: &Line, course: Course) -> Point
     }
 }
 
-// How many holds there are on the key at this point.
+// The number of holds on the key at this point.
 fn holds_at(lines: &[Line], inserted: Option<Point>, point: Point) -> u64 {
     let got = lines
         .iter()
@@ -204,7 +204,7 @@ fn holds_at(lines: &[Line], inserted: Option<Point>, point: Point) -> u64 {
     (got as u64).saturating_sub(released as u64)
 }
 
-// The point of a get that is refused as crowded: of the points at which it may stand, one at which there are most
+// The point of a get that is refused as crowded: of the points that it may have, the one with the greatest number of
 // holds.
 fn crowded(lines: &[Line], line: &Line, inserted: Option<Point>) -> Point
     ensures begun { IsBegun line.now result }

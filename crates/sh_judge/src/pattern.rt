@@ -1,4 +1,4 @@
-//! Values of which each word tells which value it belongs to.
+//! Values each word of which shows which value it belongs to.
 ghost use Rattle.std.specs.Prelude.{◌≡◌, ◌≤◌, ◌↔◌, IsTrue, length};
 ghost use Rattle.sh_judge.specs.Pattern.{mixed_word, IsPatternOf, IsPattern};
 
@@ -7,7 +7,7 @@ use sh_value::Value;
 // An odd number with many bits, so that words of different values differ.
 const SPREAD: u64 = 0x9e37_79b9_7f4a_7c15;
 
-// The word of the value with this serial number that stands at a place behind the first.
+// The word of the value with this serial number at a place behind the first.
 #[tactic(auto, unfolding(crate::specs::Pattern::mixed_word))]
 fn word(serial: u64, place: u64) -> u64
     ensures { result ≡ mixed_word serial place }
@@ -18,7 +18,7 @@ fn word(serial: u64, place: u64) -> u64
         .rotate_left(29)
 }
 
-/// The value with this serial number, of so many words.
+/// The value with this serial number, of `len` words.
 pub fn value(serial: u64, len: usize) -> Value
     requires { len ≤ 16 }
     ensures len { length result ≡ len }

@@ -14,10 +14,10 @@ pub enum Edge {
     After,
 }
 
-/// In which order answers on one key stand that are decided at one edge of a moment.
+/// The order of answers on one key that are decided at one edge of a moment.
 #[derive(Clone, Copy, Debug, PartialEq, Eq, PartialOrd, Ord)]
 pub enum Rank {
-    /// A key is gone that is yet to be inserted.
+    /// The key is gone, since it is yet to be inserted.
     Early,
     /// An insert.
     Insert,
@@ -27,13 +27,13 @@ pub enum Rank {
     Crowded,
     /// A removal.
     Remove,
-    /// A key is gone that was removed.
+    /// The key is gone, since it was removed.
     Late,
     /// A release.
     Release,
 }
 
-/// A point between two moments. Points are ordered as they come.
+/// A point between two moments. The order of points is that of their times.
 #[derive(Clone, Copy, Debug, PartialEq, Eq, PartialOrd, Ord)]
 pub struct Point {
     moment: u64,

@@ -1,4 +1,4 @@
-//! What is kept of a pass: what it was answered, what it holds, and what was found wrong.
+//! The record of a pass: what its calls returned, what it holds, and which fault was found.
 ghost use Rattle.std.specs.Prelude.{◌≡◌, ◌≢◌, ℕ, ◌<◌, ◌≤◌, ◌↔◌, ◌⊎◌, [], List, IsTrue, Some, None, swap_remove};
 ghost use Rattle.std.specs.Prelude.{vec_len, slice_get};
 ghost use Rattle.std.specs.Bool.{OnTrue, OnFalse};
@@ -14,7 +14,7 @@ use crate::pattern;
 use sh_value::{HOLDS_MAX, Hold, Refusal, Value};
 use std::alloc::Global;
 
-/// A hold, and the line of the log that tells of it.
+/// A hold, and the place of its line in the log.
 #[derive(Clone, Copy, Debug, PartialEq, Eq)]
 pub struct Held {
     /// The hold.
@@ -27,7 +27,7 @@ pub struct Held {
 pub struct Record {
     /// The number of the pass.
     pub pass: u32,
-    /// How often it was answered what.
+    /// How often each result was returned.
     pub counts: Counts,
     lines: Vec<Line>,
     holds: Vec<Held>,
@@ -35,7 +35,7 @@ pub struct Record {
 }
 
 impl Record {
-    /// Of a pass that has done nothing.
+    /// The record of a pass that has done nothing.
     pub fn new(alloc: Global, pass: u32) -> Record
         ensures pass { result.pass ≡ pass }
         ensures no_lines { result.lines.items ≡ [] }
@@ -60,14 +60,14 @@ impl Record {
         }
     }
 
-    /// Notes something wrong.
+    /// Notes that the heap did something wrong.
     pub fn find(&mut self, wrong: Wrong)
         ensures { self.new ≡ record self.old { fault = first_fault self.old (Fault.Wrong wrong) } }
     {
         self.fail(Fault::Wrong(wrong));
     }
 
-    /// Notes a refusal that cannot be, or that memory was refused.
+    /// Notes an impossible refusal, or that memory was refused.
     pub fn refused(&mut self, call: Call, refusal: Refusal)
         ensures { let fault = refusal_fault self.old.pass call refusal in
             self.new ≡ record self.old { fault = first_fault self.old fault } }
@@ -78,7 +78,7 @@ impl Record {
         }
     }
 
-    /// Notes that something could not be begun by hand.
+    /// Notes that a call could not be begun by hand.
     pub fn unbegun(&mut self, call: Call)
         ensures { let fault = Fault.Wrong (Wrong.Unbegun self.old.pass call) in
             self.new ≡ record self.old { fault = first_fault self.old fault } }
@@ -86,7 +86,7 @@ impl Record {
         self.find(Wrong::Unbegun(self.pass, call));
     }
 
-    /// Notes that what was begun by hand does not end.
+    /// Notes that a call that was begun by hand does not end.
     pub fn endless(&mut self)
         ensures { let fault = Fault.Wrong (Wrong.Endless self.old.pass) in
             self.new ≡ record self.old { fault = first_fault self.old fault } }
@@ -94,7 +94,7 @@ impl Record {
         self.find(Wrong::Endless(self.pass));
     }
 
-    /// Notes that leaving a shard was refused though nobody had begun anything.
+    /// Notes that an owner could not leave its shard, though no pass had a call open.
     pub fn waits(&mut self)
         ensures { let fault = Fault.Wrong (Wrong.Waits self.old.pass) in
             self.new ≡ record self.old { fault = first_fault self.old fault } }
@@ -128,7 +128,7 @@ impl Record {
         }
     }
 
-    /// Notes a hold that was got: a line tells of it, and the hold names that line.
+    /// Notes a hold that was got: adds a line, and keeps its place with the hold.
     pub fn got(&mut self, hold: Hold, span: Span)
         ensures hold { HasHold self.old self.new hold span ⊎ (self.new.fault ≡ first_fault self.old Fault.Memory) }
         ensures counts { self.new.counts ≡ counted Count.Gets 1 self.old.counts }
@@ -145,14 +145,14 @@ impl Record {
         }
     }
 
-    /// Whether it has as many holds as a pass may have.
+    /// Whether it has the greatest number of holds of a pass.
     pub fn is_full(&self) -> bool
         ensures { IsTrue result ↔ (16 ≤ vec_len self.now.holds) }
     {
         self.holds.len() >= HOLDS_MAX
     }
 
-    /// How many holds it has.
+    /// The number of its holds.
     pub fn holds(&self) -> u64
         ensures { result ≡ vec_len self.now.holds }
     {
@@ -178,7 +178,7 @@ impl Record {
         }
     }
 
-    // The value that was read of a hold, as its line tells.
+    // The value that was read of a hold, by its line.
     fn value_read(&self, held: Held) -> Option<&Value>
         ensures { option_copied result ≡ value_read self.now held }
     {
@@ -207,7 +207,8 @@ impl Record {
         }
     }
 
-    /// Notes a value that was read: all its words belong to one value, and it is the one that was read before.
+    /// Notes a value that was read. It is a fault if its words do not all belong to one value, or if it differs from
+    /// the value that was read before.
     pub fn read(&mut self, held: Held, value: Value)
         ensures { Reads self.old self.new held value }
     {

@@ -1,4 +1,4 @@
-//! What the answers say of the pages.
+//! What the pages must hold by the answers.
 ghost use Rattle.std.specs.Prelude.{◌≡◌, ◌==◌, ◌↔◌, IsTrue, IfOk, IfErr, OnOk, OnErr, IsSome, slice_get};
 ghost use Rattle.sh_history.specs.History.{value_of};
 ghost use Rattle.sh_judge.specs.Pages.{IsAsTallied, HasNoRoom, with_slot};
@@ -12,14 +12,14 @@ use sh_key::{KeyLayout, Parts};
 use sh_shape::{CLASS_COUNT, Shape, slots};
 use std::alloc::{AllocError, Global};
 
-/// How many slots of a page must be of a kind.
+/// The number of slots of a page that must be of each kind.
 #[derive(Clone, Copy, Debug, PartialEq, Eq)]
 pub struct PageTally {
-    /// With a value that was inserted and not removed.
+    /// Slots with a value that was inserted and not removed.
     pub live: u64,
-    /// With a value that was removed and is held.
+    /// Slots with a value that was removed and is held.
     pub marked: u64,
-    /// Of which the last value was removed and is not held.
+    /// Slots whose last value was removed and is not held.
     pub retired: u64,
 }
 
@@ -31,7 +31,7 @@ pub struct Tally {
 }
 
 impl Tally {
-    /// Of a heap in which nothing was inserted.
+    /// The tallies of a heap in which nothing was inserted.
     pub fn new(alloc: Global, shape: &Shape) -> Result<Tally, AllocError>
         ensures { IfOk result (λ tally. CountsNothing shape.now tally) }
     {
@@ -50,7 +50,7 @@ impl Tally {
         })
     }
 
-    // Where a page stands.
+    // The place of a page.
     fn place(&self, shard: u32, page: u32) -> usize
         ensures { result ≡ page_place self.now shard page }
     {
@@ -61,7 +61,7 @@ impl Tally {
 
     /// Counts the slot of a key, by the history of the key.
     pub fn add<L: KeyLayout>(&mut self, key: u64, history: &[Entry]) -> Result<(), Fault>
-        // Of a key that was not inserted there is no slot.
+        // A key that was not inserted has no slot.
         ensures not_issued { value_of history.now key ≡ None → self.new ≡ self.old }
         ensures issued { OnOk result
             (IsSome (value_of history.now key) → CountsSlot L.layout self.old self.new key history.now) }
@@ -96,8 +96,8 @@ impl Tally {
     }
 }
 
-// Counts the slot of a key of which this is known. A slot whose value was removed and is not held is empty, but for one
-// that has had its last value.
+// Counts the slot of a key by these facts. A slot whose value was removed and is not held is empty, unless the value
+// was its last one.
 fn count<L: KeyLayout>(page: &mut PageTally, parts: Parts, removed: bool, holds: usize)
     ensures { page.new ≡ with_slot removed holds (parts.generation == L.layout.gen_max) page.old }
 {
@@ -110,8 +110,8 @@ fn count<L: KeyLayout>(page: &mut PageTally, parts: Parts, removed: bool, holds:
     }
 }
 
-/// Whether a page of a shard that was full for this class has no room for it: it has a class, and where that is the
-/// same no slot is left. A page of another class may have slots that its owner has yet to collect.
+/// Whether a page of a shard that was full for this class has no room for it: the page has another class, or it has
+/// this class and no queued slot. A page of another class may have slots that its owner has yet to collect.
 pub fn is_filled(accounts: &Accounts, class: u32) -> bool
     ensures { IsTrue result ↔ HasNoRoom accounts.now class }
 {
@@ -121,7 +121,7 @@ pub fn is_filled(accounts: &Accounts, class: u32) -> bool
     }
 }
 
-/// Whether the accounts of a page are those of its tally, add up to the slots of its class, and nothing of it is an
+/// Whether the accounts of a page are those of its tally and add up to the slots of its class, and no slot is an
 /// owner's or in a hand.
 pub fn agrees(accounts: &Accounts, tally: PageTally) -> bool
     ensures { IsTrue result ↔ IsAsTallied accounts.now tally }

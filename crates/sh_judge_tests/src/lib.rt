@@ -1,4 +1,4 @@
-//! Tests of what judges the stress program.
+//! Tests of the judge of the stress program.
 #![tactic(auto)]
 
 #[cfg(test)]

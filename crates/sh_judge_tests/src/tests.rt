@@ -1,4 +1,4 @@
-//! What the judge finds, by examples.
+//! Examples of histories, with what the judge finds in each.
 use sh_core::Accounts;
 use sh_judge::judge::judged;
 use sh_judge::line::{Line, Span, Told};
@@ -9,7 +9,7 @@ use std::alloc::Global;
 use std::process::Abort;
 use std::test::Fail;
 
-// It is so.
+// Asserts that the condition holds.
 fn holds(rt: &impl Abort, it: bool) {
     assert!(rt; it);
 }
@@ -95,8 +95,8 @@ fn two_removals_are_found(rt: HostRuntime) {
     holds(&rt, !is_legal(rt.alloc(), &lines));
 }
 
-// Two mark the key by hand, and one of them removes it: the one that may still do so when the key is got for the last
-// time.
+// Two passes mark the key by hand, and one of them removes it: the one that may still do so when the key is got for the
+// last time.
 #[test]
 fn one_of_two_marks_removes(rt: HostRuntime) {
     let legal = [
@@ -115,8 +115,8 @@ fn one_of_two_marks_removes(rt: HostRuntime) {
     holds(&rt, !is_legal(rt.alloc(), &too_late));
 }
 
-// A mark that was answered before another call removed the key found it removed by nobody, though the key was not yet
-// inserted when it began; nor did it find a key gone that is got later.
+// A mark returned before another call removed the key, so that no removal explains it, though the key was not inserted
+// when it began. A mark also cannot find a key gone that is got later.
 #[test]
 fn a_mark_before_the_removal_is_found(rt: HostRuntime) {
     let before = [
@@ -145,7 +145,7 @@ fn a_release_without_a_hold_is_found(rt: HostRuntime) {
     holds(&rt, !is_legal(rt.alloc(), &lines));
 }
 
-// A key may have 4 holds. With 3 passes there must be 2 at least, where another is crowded out.
+// A key may have 4 holds. With 3 passes, at least 2 holds are needed before a get may be refused as crowded.
 #[test]
 fn crowded_needs_holds(rt: HostRuntime) {
     let lines = [
@@ -162,7 +162,7 @@ fn crowded_needs_holds(rt: HostRuntime) {
     );
 }
 
-// A get that is refused as crowded may stand where others hold the key, and not only where its call began.
+// A get that is refused as crowded may have any point in its call at which others hold the key, not only the first.
 #[test]
 fn a_crowded_get_stands_where_most_hold(rt: HostRuntime) {
     let lines = [
