@@ -1,4 +1,4 @@
--- What a line of a script of events does to a world.
+-- The effect of a line of a script of events on a world.
 use Rattle.std.specs.Prelude.{◌≡◌, ◌⊎◌, ℕ, Bool, true, false, List, [], ◌∷◌, ◌++◌, Option, Some, None}
 use Rattle.sh_key.specs.Layout.{Layout}
 use Rattle.sh_shape.specs.Shape.{Numbers, Fits}
@@ -16,7 +16,7 @@ use Rattle.sh_models.specs.StepsKeys.{DoesEvent}
 use Rattle.sh_show.specs.declared.touched.Touched.{Touched}
 use Rattle.sh_show.specs.declared.touched.Touched.TheVariants.{Nothing}
 
--- why a heap of this shape is not opened: it does not fit the layout, or memory is refused
+-- the fault if a heap of this shape is not opened: it does not fit the layout, or memory is refused
 abbrev pub RefusesHeap : Layout → Numbers → Fault → Type 0
 RefusesHeap layout shape fault.BadShape = ¬ Fits layout shape
 RefusesHeap layout shape fault.Memory = Fits layout shape

@@ -104,7 +104,7 @@ fn holds_on(view: &View<'_>, pass: u32, key: u64) -> usize {
     got.saturating_sub(released)
 }
 
-// Whether the pass got the key first by this entry.
+// Whether this entry is the first get of the key by the pass.
 fn is_first_got(view: &View<'_>, pass: u32, key: u64, at: usize) -> bool {
     view.log
         .iter()
@@ -130,7 +130,7 @@ fn push_hold(
     }
 }
 
-// Writes the keys that the pass holds, in the order in which it got them first.
+// Writes the keys that the pass holds, in the order of its first gets.
 fn push_holds(out: &mut String, view: &View<'_>, pass: u32, part: &Part) -> Result<(), AllocError> {
     let mut at = 0;
     for entry in view.log {

@@ -7,7 +7,7 @@ use sh_step::Part;
 use std::alloc::AllocError;
 use std::fmt::Write;
 
-/// What is linked.
+/// What the links join.
 #[derive(Clone, Copy)]
 pub enum Lane {
     /// The slots of a page, by its number over the whole heap.
@@ -72,7 +72,7 @@ pub fn push_target(out: &mut String, what: &str, link: u64) -> Result<(), AllocE
     }
 }
 
-// What the link of an item says, and whether it is only owed yet.
+// The link of an item, and whether a pass still owes it.
 fn link_of(view: &View<'_>, lane: Lane, item: u64) -> (Link, bool) {
     let (word, owed) = match lane {
         Lane::Slots(page) => {

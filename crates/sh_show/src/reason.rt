@@ -5,7 +5,7 @@
 pub enum Reason {
     /// The key has another tag than the header, or none.
     OtherTag,
-    /// The key is none of the layout, or names no slot of the heap.
+    /// The key is no key of the layout, or names no slot of the heap.
     NoKey,
     /// The heap has no such page.
     NoPage,
@@ -19,7 +19,7 @@ pub enum Reason {
     Busy,
     /// The pass has begun nothing that the event continues.
     NothingBegun,
-    /// The pass has as many holds as it may have.
+    /// The pass has the greatest number of holds.
     HoldsFull,
     /// The pass has no hold on the key.
     NotHeld,

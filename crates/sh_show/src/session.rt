@@ -77,7 +77,7 @@ fn event_line(
     Ok(line)
 }
 
-/// A world, and the lines with which its script began, up to the header.
+/// A world, with the lines of its script up to the header.
 #[derive(Drop)]
 pub struct Session<L: KeyLayout> {
     world: World<L>,
@@ -96,8 +96,8 @@ pub fn appended(alloc: Global, text: &[u8], line: &[u8]) -> Result<Vec<u8>, Allo
 }
 
 impl<L: KeyLayout> Session<L> {
-    /// The heap of this shape as it opens, whose keys are written with this tag. The opening is the text of a script of
-    /// events up to its header, as `heap tiny 1 1 2` and a newline.
+    /// Opens a heap of this shape, whose keys are written with this tag. The opening is the text of a script of events
+    /// up to its header, such as `heap tiny 1 1 2` and a newline.
     ///
     /// Refused as `BadShape` if the shape does not fit the layout, and as `Memory` if memory is refused.
     pub fn new(

@@ -14,11 +14,11 @@ pub struct Told {
     /// The text after that on the same line: why an event was skipped, or what an event that changed nothing met. Empty
     /// for any other event.
     pub remark: &'static str,
-    /// The lines of what it touched, as it is after the event, and of the passes.
+    /// The lines on what it touched, as that is after the event, and on the passes.
     pub shown: String,
 }
 
-// Writes what the event touched, as it is after it.
+// Writes what the event touched, as that is after the event.
 fn push_touched(
     out: &mut String,
     alloc: Global,
@@ -37,7 +37,7 @@ fn push_touched(
     }
 }
 
-/// The lines of what an event touched, and of the passes.
+/// The lines on what an event touched, and on the passes.
 pub fn shown_text(alloc: Global, view: &View<'_>, touched: Touched) -> Result<String, AllocError> {
     let mut text = String::new(alloc);
     push_touched(&mut text, alloc, view, touched)?;

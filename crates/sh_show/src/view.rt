@@ -1,5 +1,5 @@
-//! What a trace looks at: the words of a world by their places, the passes' parts and the log. Pages are numbered over
-//! the whole heap.
+//! The view of a trace on a world: the words by their places, the parts of the passes, and the log. Pages are numbered
+//! over the whole heap.
 ghost use Rattle.std.specs.Prelude.{◌≡◌, true};
 ghost use Rattle.sh_shape.specs.Places.{IsPlace};
 
@@ -38,7 +38,7 @@ fn has_place(shape: &Shape, place: Place) -> bool
 /// A world, as a trace looks at it.
 #[derive(Clone, Copy)]
 pub struct View<'a> {
-    /// How many shards, segments and passes there are.
+    /// The numbers of shards, segments and passes.
     pub shape: Shape,
     /// What each pass has of its own.
     pub parts: &'a [Part],
@@ -121,7 +121,7 @@ impl<'a> View<'a> {
             .position(|part| part.owned() == Some(shard))
     }
 
-    /// A key as a script has it.
+    /// A key as a script writes it.
     pub fn key(&self, key: u64) -> u64 {
         match self.tag {
             Some(tag) if key < KEYS_END => Tagged::tag(key, tag),

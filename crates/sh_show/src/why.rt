@@ -12,7 +12,7 @@ use sh_step::names::{page_of_name, place_of_key, slot_of_name};
 use sh_step::{Action, PageName, Part, SlotName};
 use sh_value::Value;
 
-// Refused for this reason, unless it holds.
+// Returns this reason as an error, unless the condition holds.
 fn unless(holds: bool, reason: Reason) -> Result<(), Reason> {
     if holds { Ok(()) } else { Err(reason) }
 }
@@ -205,7 +205,7 @@ fn why_not<L: KeyLayout>(shape: &Shape, part: &Part, action: &Action) -> Result<
     }
 }
 
-/// Why an action that may not be done is skipped.
+/// The reason why an action that may not be done is skipped.
 pub fn reason<L: KeyLayout>(shape: &Shape, part: &Part, action: &Action) -> Reason {
     match why_not::<L>(shape, part, action) {
         Ok(()) => Reason::NothingBegun,

@@ -1,5 +1,5 @@
-//! Tests of traces: what they say of events, of links that are not written, of holds and tags, and which reason follows
-//! an event that is skipped.
+//! Tests of traces: what they say about events, about links that are not written, and about holds and tags, and which
+//! reason follows an event that is skipped.
 #![tactic(auto)]
 
 #[cfg(test)]
