@@ -9,11 +9,11 @@ use Rattle.sh_load.specs.declared.fault.Fault.{Fault}
 use Rattle.sh_load.specs.declared.fault.Fault.TheVariants.{Late}
 use Rattle.sh_load.specs.Outcomes.{saturated, time_of, longest}
 
--- a sum that was saturated before saturates alike
+-- saturating a part of a sum first does not change the saturated sum
 pub saturated_more : (a b : ℕ) → saturated (saturated a + b) ≡ saturated (a + b)
 saturated_more a b = omega arith
 
--- so does one that wrapped
+-- the same of a sum that wraps
 pub wrapped_more : (a b : ℕ) → (a % 2 ^ 64 + b) % 2 ^ 64 ≡ (a + b) % 2 ^ 64
 wrapped_more a b = omega arith
 
@@ -44,7 +44,7 @@ time_more outcomes i d time next within is more =
     more ∙ ap (λ n. max n (time_of (get_or outcomes i d))) is
     ∙ sym (fold_more (λ time outcome. max time (time_of outcome)) 0 outcomes i d within)
 
--- the same, where the outcome's part is known
+-- the same, if the outcome's part is known
 pub count_next : (f : Result Outcome Fault → ℕ) (outcomes : List (Result Outcome Fault)) (i : ℕ)
     (d : Result Outcome Fault) (count next part : ℕ) → i < length outcomes → count
     ≡ saturated (sum_by f (take i outcomes)) → f (get_or outcomes i d) ≡ part → next ≡ saturated (count + part)
@@ -65,7 +65,7 @@ pub time_next : (outcomes : List (Result Outcome Fault)) (i : ℕ) (d : Result O
 time_next outcomes i d time next part within is known more =
     time_more outcomes i d time next within is (more ∙ ap (λ n. max time n) (sym known))
 
--- an outcome is no fault, or one fault
+-- an outcome that is `Ok` is no fault
 pub no_fault : (outcomes : List (Result Outcome Fault)) (i : ℕ) (d : Result Outcome Fault) (outcome : Outcome)
     (fault : Fault) → i < length outcomes → get_or outcomes i d ≡ Ok outcome
     → slice_get outcomes i ≡ Some (Err fault) → ⊥
@@ -81,7 +81,7 @@ one_fault outcomes i d one other within is got =
     let both : Some (Err one) ≡ Some (Err other) = sym (there ∙ ap Some is) ∙ got in
     cc
 
--- faults that are all of one kind stay so, with one more outcome that is of that kind if it is a fault
+-- if all faults so far are `Late`, they are so with one more outcome, if that is no other fault
 pub met_more : (outcomes : List (Result Outcome Fault)) (i : ℕ) (late next : Bool)
     → ((k : ℕ) (fault : Fault) → k < i → slice_get outcomes k ≡ Some (Err fault) → (fault ≡ Late) × (late ≡ true))
     → (late ≡ true → next ≡ true)

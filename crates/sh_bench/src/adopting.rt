@@ -46,7 +46,7 @@ struct Moments {
 }
 
 impl Moments {
-    // How long adopting or leaving took, where the shard was left at `end`.
+    // The time that adopting or leaving took, if the shard was left at `end`.
     fn spent(&self, end: Instant, workload: Workload) -> Duration {
         match workload {
             Workload::Adopt => self.adopted.duration_since(self.begin),
@@ -79,7 +79,7 @@ fn use_shard<L: KeyLayout>(
     })
 }
 
-// The pass, which was an owner until now, and how long adopting or leaving took.
+// The pass, which was an owner until now, and the time that adopting or leaving took.
 fn timed<'a, L: KeyLayout>(
     rt: &impl Clock,
     pass: Pass<'a, L>,
@@ -90,7 +90,7 @@ fn timed<'a, L: KeyLayout>(
     Ok((pass, moments.spent(end, workload)))
 }
 
-// The owner uses its shard, which was about to be adopted at `begin`, and leaves it.
+// The owner uses its shard, whose adoption began at `begin`, and leaves it.
 fn use_and_leave<'a, L: KeyLayout>(
     rt: &impl Clock,
     mut owner: Shard<'a, L>,
@@ -119,7 +119,7 @@ fn hand_over<'a, L: KeyLayout>(
     Ok((Job { pass, shard }, Outcome::of(spent, 1, 0)))
 }
 
-// Fills the shard with the values that stand, one for each key, and leaves it.
+// Fills the shard with the live values, one for each key, and leaves it.
 fn fill<'a, L: KeyLayout>(
     alloc: Global,
     samples: &Samples,
@@ -132,7 +132,7 @@ fn fill<'a, L: KeyLayout>(
     Ok(Job { pass, shard })
 }
 
-// The job, once so many values that stand were inserted.
+// Inserts `values` live values, and returns the job.
 fn filled_with<'a, L: KeyLayout>(
     alloc: Global,
     samples: &Samples,
@@ -143,7 +143,7 @@ fn filled_with<'a, L: KeyLayout>(
     fill(alloc, samples, job, live.as_mut_slice())
 }
 
-// The job, once the values that stand were inserted and its shard has changed hands.
+// Inserts the live values, adopts and leaves the shard once, and returns the job.
 fn prepared<'a, L: KeyLayout>(
     rt: &impl Clock,
     alloc: Global,
@@ -176,7 +176,7 @@ fn turns<L: KeyLayout>(
     Ok(outcome)
 }
 
-// What one thread does: it prepares its shard, and measures once all threads have.
+// What one thread does: it prepares its shard, and measures after all threads have done so.
 fn work_with<L: KeyLayout>(
     rt: &impl Clock,
     alloc: Global,

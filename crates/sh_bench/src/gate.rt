@@ -1,14 +1,15 @@
-//! Where threads wait for each other, by looking again and again: a thread that sleeps would wake up late.
+//! A gate at which threads wait for each other in a loop that looks again and again. A thread that slept would wake up
+//! late.
 ghost use Rattle.std.specs.Prelude.{◌≡◌, IfErr};
 
 use sh_load::fault::Fault;
 use std::hint::spin_loop;
 use std::sync::atomic::{AtomicU64, Ordering};
 
-/// How often a thread looks before it gives up. At some ten nanoseconds a look this is seconds.
+/// The number of looks before a thread gives up. At some ten nanoseconds a look these take seconds.
 pub const LOOKS: u64 = 400_000_000;
 
-/// The threads start once all of them have come here.
+/// A gate that opens when all threads have reached it.
 pub struct Gate {
     arrived: AtomicU64,
     threads: u64,
@@ -35,7 +36,7 @@ impl Gate {
         }
     }
 
-    /// Waits until all threads have come. `Late` where one stays away.
+    /// Waits until all threads have reached the gate. Returns `Late` if one does not come in time.
     pub fn pass(&self) -> Result<(), Fault>
         ensures { IfErr result (λ fault. fault ≡ Fault.Late) }
     {

@@ -1,4 +1,4 @@
-//! Workloads of passes that own nothing, each in a thread of its own: which keys they go through, and what is looked at
+//! Workloads of passes that own nothing, each in a thread of its own: the keys that they go through, and the checks
 //! afterwards.
 use crate::gate::Gate;
 use crate::lots::{Job, Lot, filled_lots, standing};
@@ -37,7 +37,7 @@ impl<L: KeyLayout> Work for User<'_, '_, L> {
     }
 }
 
-// The keys of all lots, each once, in the order in which they are gone through.
+// The keys of all lots, each once, in the order in which the passes go through them.
 fn walk_of<L: KeyLayout>(alloc: Global, lots: &[Lot<'_, L>]) -> Result<Vec<u64>, AllocError> {
     let mut walk = Vec::new(alloc);
     for lot in lots {
@@ -63,14 +63,14 @@ fn lengthen(walk: &mut Vec<u64>) -> Result<(), AllocError> {
     Ok(())
 }
 
-// The walk through all lots, which goes through them again where they are few.
+// The walk through all lots, repeated if their keys are few.
 fn long_walk<L: KeyLayout>(alloc: Global, lots: &[Lot<'_, L>]) -> Result<Vec<u64>, AllocError> {
     let mut walk = walk_of(alloc, lots)?;
     lengthen(&mut walk)?;
     Ok(walk)
 }
 
-// How many of the values of all lots stand as they were inserted.
+// The number of values of all lots that are as they were inserted.
 fn all_standing<L: KeyLayout>(lots: &mut [Lot<'_, L>], samples: &Samples) -> Result<u64, Fault> {
     let mut found = 0u64;
     for lot in lots.iter_mut() {
@@ -91,7 +91,7 @@ pub fn demand(options: &Options) -> Demand {
     }
 }
 
-// The lots of the owners of so many shards, which take the last passes.
+// The lots of the owners of `shards` shards, which take the last passes.
 fn owned_lots<'a, L: KeyLayout>(
     alloc: Global,
     options: &Options,
@@ -106,7 +106,7 @@ fn owned_lots<'a, L: KeyLayout>(
     filled_lots(alloc, owners, samples, options.live)
 }
 
-// So many users, which take the last passes and go through the keys of the walk.
+// One user for each of `threads` threads. They take the last passes, and go through the keys of the walk.
 fn users<'a, 'w, L: KeyLayout>(
     alloc: Global,
     passes: &mut Vec<Pass<'a, L>>,
@@ -134,7 +134,7 @@ fn measure_walk<L: KeyLayout + Send + Sync, R: Threads + Clock + Sync>(
     work::measure(rt, alloc, options, options.threads, users)
 }
 
-// Measures users of the values of the lots, and looks then how many of these stand.
+// Measures users of the values of the lots, and then counts the values that are as they were inserted.
 fn measure_lots<L: KeyLayout + Send + Sync, R: Threads + Clock + Sync>(
     rt: &R,
     alloc: Global,
@@ -149,8 +149,8 @@ fn measure_lots<L: KeyLayout + Send + Sync, R: Threads + Clock + Sync>(
     Ok(outcome)
 }
 
-/// Measures passes that use the values of one owner, which stands by: the last passes become owners of so many shards,
-/// and those before them use the values.
+/// Measures passes that use the values of one owner thread, which is idle meanwhile. The last passes become owners of
+/// `shards` shards, and those before them use the values.
 pub fn measure<L: KeyLayout + Send + Sync, R: Threads + Clock + Sync>(
     rt: &R,
     alloc: Global,

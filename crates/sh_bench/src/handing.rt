@@ -20,10 +20,10 @@ use std::rt::Clock;
 use std::thread::Threads;
 use std::time::Instant;
 
-// How many values a producer's shard has room for at least: a few times those that are on their way.
+// The least number of values that a producer's shard has room for: a few times those that are on their way.
 const ROOM: usize = 4096;
 
-// What a thread of a pair is.
+// The role of a thread of a pair.
 #[derive(Clone, Copy)]
 enum Side {
     // It owns the shard with this number, and inserts.
@@ -40,7 +40,7 @@ struct Job<'a, 'r, L: KeyLayout> {
     side: Side,
 }
 
-// Inserts a value, and where the shard is full waits until something was freed.
+// Inserts a value. If the shard is full, waits until a slot is freed.
 fn insert_in_time<L: KeyLayout>(owner: &mut Shard<'_, L>, value: &Value) -> Result<u64, Fault> {
     for _look in 0..LOOKS {
         match owner.insert(value) {
@@ -209,7 +209,7 @@ fn measure_rings<L: KeyLayout + Send + Sync, R: Threads + Clock + Sync>(
     work::measure(rt, alloc, options, 2 * options.threads, jobs)
 }
 
-/// Measures pairs of threads, of which one inserts and the other removes.
+/// Measures pairs of threads, one of which inserts and the other removes.
 pub fn measure<L: KeyLayout + Send + Sync, R: Threads + Clock + Sync>(
     rt: &R,
     alloc: Global,

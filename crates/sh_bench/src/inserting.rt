@@ -21,10 +21,10 @@ use std::rt::Clock;
 use std::thread::Threads;
 use std::time::Instant;
 
-// So many values are inserted, and then removed.
+// The number of values that are inserted and then removed together.
 const BATCH: usize = 1000;
 
-// Inserts as many values as there are keys, and removes them; one of the two is measured.
+// Inserts a value for each key, and removes them. One of the two is measured.
 fn one_batch<L: KeyLayout>(
     rt: &impl Clock,
     lot: &mut Lot<'_, L>,
@@ -67,7 +67,7 @@ fn batches<L: KeyLayout>(
     Ok(outcome.then(one_batch(rt, lot, samples, rest, workload)?))
 }
 
-// Inserts so many values, and removes none.
+// Inserts `operations` values, and removes none.
 fn fill<L: KeyLayout>(
     rt: &impl Clock,
     alloc: Global,
@@ -83,7 +83,7 @@ fn fill<L: KeyLayout>(
     Ok(Outcome::of(start.elapsed(rt)?, operations, sum))
 }
 
-// Removes the value of the key and inserts this one, of which it answers the key.
+// Removes the value of the key, inserts this one, and returns its key.
 fn churn_one<L: KeyLayout>(
     owner: &mut Shard<'_, L>,
     key: u64,
@@ -93,7 +93,7 @@ fn churn_one<L: KeyLayout>(
     owner.insert(value)
 }
 
-// Goes through the places, in each of which a value is removed and another of its length inserted.
+// Goes through the places, and at each one removes the value and inserts another of its length.
 fn churn_each<L: KeyLayout>(
     lot: &mut Lot<'_, L>,
     samples: &Samples,
@@ -159,7 +159,7 @@ fn measure_lot<L: KeyLayout>(
     Ok(outcome)
 }
 
-// Measures the shards of one thread, which have their turns one after the other.
+// Measures the shards of one thread, one after the other.
 fn measure_lots<L: KeyLayout>(
     rt: &impl Clock,
     alloc: Global,
@@ -203,7 +203,7 @@ impl<L: KeyLayout> Work for Job<'_, L> {
     }
 }
 
-// The jobs of the threads, each with passes for so many shards.
+// The jobs of the threads, each with passes for `shards` shards.
 fn jobs<'a, L: KeyLayout>(
     alloc: Global,
     passes: &mut Vec<Pass<'a, L>>,
@@ -237,7 +237,7 @@ pub fn demand(options: &Options) -> Demand {
     }
 }
 
-/// Measures owners, each in a thread of its own and with so many shards.
+/// Measures owners, each in a thread of its own with `shards` shards.
 pub fn measure<L: KeyLayout + Send + Sync, R: Threads + Clock + Sync>(
     rt: &R,
     alloc: Global,

@@ -26,10 +26,10 @@ pub struct Job<'a, L: KeyLayout> {
     pub first_shard: u64,
 }
 
-// A large prime: the walk over a list in steps of it comes to each place once, unless the list has a multiple of it.
+// A large prime: a walk over a list in steps of this size reaches each place once, unless the length is a multiple.
 const STRIDE: usize = 7919;
 
-/// A mixed order of so many places.
+/// A mixed order of `places` places.
 pub fn mixed_order(alloc: Global, places: usize) -> Result<Vec<usize>, AllocError>
     ensures count { IfOk result (λ order. vec_len order ≡ places) }
     ensures within { IfOk result (λ order. All (λ place. place < places) order.items) }
@@ -75,7 +75,7 @@ pub fn remove_each<L: KeyLayout>(owner: &mut Shard<'_, L>, keys: &[u64]) -> Resu
     Ok(())
 }
 
-/// Adopts a shard and fills it with so many values.
+/// Adopts a shard and fills it with `values` values.
 pub fn filled_lot<'a, L: KeyLayout>(
     alloc: Global,
     pass: Pass<'a, L>,
@@ -109,7 +109,7 @@ fn add_lot<'a, L: KeyLayout>(
     Ok(())
 }
 
-/// Adopts a shard for each pass of the job, and fills them with so many values in all.
+/// Adopts a shard for each pass of the job, and fills them with `values` values in all.
 pub fn filled_lots<'a, L: KeyLayout>(
     alloc: Global,
     job: Job<'a, L>,
@@ -129,7 +129,7 @@ pub fn filled_lots<'a, L: KeyLayout>(
     Ok(lots)
 }
 
-/// The share that the part with this number has of a whole: all shares together are the whole.
+/// The share of a whole that the part with this number has. The sum of all shares is the whole.
 pub fn share(whole: usize, parts: usize, number: usize) -> usize
     ensures is { 0 < parts → result ≡ share_of whole parts number }
     ensures all { 0 < parts → shares whole parts parts ≡ whole }
@@ -147,7 +147,7 @@ pub fn share(whole: usize, parts: usize, number: usize) -> usize
     }
 }
 
-// Whether this value stands under the key.
+// Whether the key has this value.
 fn stands<L: KeyLayout>(
     owner: &mut Shard<'_, L>,
     key: u64,
@@ -159,7 +159,7 @@ fn stands<L: KeyLayout>(
     Ok(found == *value)
 }
 
-/// How many of the values stand as they were inserted.
+/// The number of values that are as they were inserted.
 pub fn standing<L: KeyLayout>(lot: &mut Lot<'_, L>, samples: &Samples) -> Result<u64, Refusal>
     ensures { IfOk result (λ found. found ≤ vec_len lot.old.keys) }
 {

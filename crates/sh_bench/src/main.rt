@@ -1,8 +1,8 @@
 //! The program `sh_bench WORKLOAD`: it measures what calls of the library cost.
 //!
-//! What is the same in each run with the same words, counts and checks, is written to the standard output, and times to
-//! the standard error. What is set up before and looked at afterwards is not in the times. This file joins the process
-//! to `program`.
+//! The counts and checks, which are the same in each run with the same words, go to the standard output. The times go
+//! to the standard error, and leave out the setup before and the checks afterwards. This file joins the process to
+//! `program`.
 #![tactic(auto)]
 
 mod adopting;

@@ -58,7 +58,7 @@ fn may_have_more(workload: Workload) -> bool {
     }
 }
 
-// How large the heap is. `TooMany` where a thread needs more shards than it may have.
+// The size of the heap. `TooMany` if a thread needs more shards than it may have.
 fn plan<L: KeyLayout>(options: &Options) -> Result<Plan, Fault> {
     let plan = plan_for::<L>(&demand(options))?;
     if plan.shards > 1 && !may_have_more(options.workload) {
@@ -67,7 +67,7 @@ fn plan<L: KeyLayout>(options: &Options) -> Result<Plan, Fault> {
     Ok(plan)
 }
 
-// Measures with these passes, of whose threads each that owns has so many shards.
+// Measures with these passes. Each thread of owners has `shards` shards.
 fn measure_passes<L: KeyLayout + Send + Sync, R: Threads + Clock + Sync>(
     rt: &R,
     alloc: Global,
@@ -95,8 +95,8 @@ fn measure_on<L: KeyLayout + Send + Sync, R: Threads + Clock + Sync>(
     measure_passes(rt, alloc, options, &mut passes, plan.shards)
 }
 
-/// Measures the workload of the options. `TooMany` where the values do not fit one heap, or more than one shard of a
-/// thread that may have but one.
+/// Measures the workload of the options. Returns `TooMany` if the values do not fit one heap, or if they do not fit the
+/// one shard of a thread that may have only one.
 pub fn measure<R: Threads + Clock + Sync>(
     rt: &R,
     alloc: Global,

@@ -1,4 +1,4 @@
-//! Passes, and owners, for callers that give up where they are refused: what a call hands back then is let go.
+//! Passes and owners, for callers that give up when they are refused: these functions drop what a refused call returns.
 ghost use Rattle.std.specs.Prelude.{◌≡◌, MatchResult, Ok, Err};
 ghost use Rattle.sh_pass.specs.Passes.{Caller, newcomers};
 ghost use Rattle.sh_shard.specs.Shards.{AdoptServes, LeaveServes, Sharded};
@@ -11,7 +11,7 @@ use sh_shard::Shard;
 use sh_value::Refusal;
 use std::alloc::Global;
 
-/// All passes of the heap, whose seats these are.
+/// All passes of the heap that has these seats.
 pub fn passes_of<L: KeyLayout>(
     alloc: Global,
     heap: &Heap<L>,
@@ -44,7 +44,7 @@ pub fn adopted<'a, L: KeyLayout>(
     }
 }
 
-/// The pass that an owner is again once it has left.
+/// Leaves the owner's shard, and returns the pass.
 pub fn left<'a, L: KeyLayout>(owner: Shard<'a, L>) -> Result<Pass<'a, L>, Refusal>
     ensures { MatchResult result
         (λ pass. LeaveServes owner.entry (Ok pass))
@@ -56,7 +56,7 @@ pub fn left<'a, L: KeyLayout>(owner: Shard<'a, L>) -> Result<Pass<'a, L>, Refusa
     }
 }
 
-/// An owner of the shard that has inserted the values of the first places, one for each key that is asked for.
+/// Adopts the shard, inserts the values of the first places, one for each key, and returns the owner.
 pub fn filled<'a, L: KeyLayout>(
     alloc: Global,
     pass: Pass<'a, L>,

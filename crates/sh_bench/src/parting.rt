@@ -1,4 +1,4 @@
-//! What threads are given, and what is made of what they give back.
+//! Parts the passes among threads, and joins the outcomes of the threads.
 ghost use Rattle.std.specs.Prelude.{◌≡◌, ◌++◌, reverse, min, vec_len, IfOk, IfErr};
 ghost use Rattle.sh_load.specs.Outcomes.{AllTogether, TellsOf};
 
@@ -8,7 +8,7 @@ use sh_load::outcome::{NOTHING, Outcome};
 use sh_pass::Pass;
 use std::alloc::{AllocError, Global};
 
-/// Takes this many passes out of those that are left, or as many as there are: the last ones, the last one first.
+/// Takes `count` passes out of those that are left, or all if there are fewer: the last ones, the last one first.
 pub fn taken<'a, L: KeyLayout>(
     alloc: Global,
     passes: &mut Vec<Pass<'a, L>>,
@@ -26,8 +26,8 @@ pub fn taken<'a, L: KeyLayout>(
     Ok(part)
 }
 
-/// What all threads did at the same time, or the first fault. A thread that waited too long is reported last: what it
-/// waited for has a fault of its own.
+/// The joint outcome of all threads, which ran at the same time, or the first fault. `Late` is returned only if there
+/// is no other fault: what a thread waited for may have a fault of its own.
 pub fn together(outcomes: &[Result<Outcome, Fault>]) -> Result<Outcome, Fault>
     ensures all { IfOk result (AllTogether outcomes.now) }
     ensures fault { IfErr result (TellsOf outcomes.now) }

@@ -12,7 +12,7 @@ use std::io::Write;
 use std::rt::Clock;
 use std::thread::Threads;
 
-// What is the same in each run.
+// Writes the counts, which are the same in each run.
 fn tell_counts<W: Write>(options: &Options, outcome: &Outcome, output: &mut W) -> io::Result<()> {
     let (workload, layout) = (
         workload::name(options.workload),
@@ -25,7 +25,7 @@ fn tell_counts<W: Write>(options: &Options, outcome: &Outcome, output: &mut W) -
     )
 }
 
-// How long it took: the longest thread, in all and for one of its operations.
+// Writes the time of the slowest thread, in all and for one operation.
 fn tell_times<E: Write>(options: &Options, outcome: &Outcome, errors: &mut E) -> io::Result<()> {
     let each = outcome.nanoseconds.saturating_mul(10) / (options.operations as u64).max(1);
     let nanoseconds = outcome.nanoseconds;

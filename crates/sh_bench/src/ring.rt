@@ -7,10 +7,10 @@ use std::alloc::{AllocError, Global};
 use std::hint::spin_loop;
 use std::sync::atomic::{AtomicU64, Ordering};
 
-/// How many keys may be on their way.
+/// The greatest number of keys on their way.
 pub const PLACES: usize = 1024;
 
-/// A ring: a place is 0 where it is free, and else a key that is on its way.
+/// A ring of places. A place is 0 if it is free, and otherwise a key that is on its way.
 #[derive(Drop)]
 pub struct Ring {
     words: Vec<AtomicU64>,
@@ -36,7 +36,7 @@ impl Ring {
         })
     }
 
-    /// Hands over a key, the one with this number. `Late` where its place does not come free.
+    /// Hands over the key with this number. Returns `Late` if its place does not become free in time.
     pub fn put(&self, number: usize, key: u64) -> Result<(), Fault>
         ensures { IfErr result (λ fault. fault ≡ Fault.Late) }
     {
@@ -51,7 +51,7 @@ impl Ring {
         Err(Fault::Late)
     }
 
-    /// Takes over the key with this number. `Late` where it does not come.
+    /// Takes over the key with this number. Returns `Late` if it does not come in time.
     pub fn take(&self, number: usize) -> Result<u64, Fault>
         ensures key { IfOk result (λ key. key ≢ 0) }
         ensures late { IfErr result (λ fault. fault ≡ Fault.Late) }

@@ -1,7 +1,6 @@
-//! What a pass that owns nothing does with each key, over and over: get and release, get, read and release, and
-//! receipts.
+//! The loops of a pass that owns nothing over the keys: get and release, get, read and release, and receipts.
 //!
-//! Each loop is compiled by itself: in one function they would have to share its registers.
+//! Each loop is a function of its own: in one function they would share its registers.
 ghost use Rattle.std.specs.Prelude.{◌≡◌, IfOk};
 
 use crate::gate::Gate;
@@ -15,7 +14,7 @@ use sh_value::{Refusal, Value};
 use std::rt::Clock;
 use std::time::Instant;
 
-// Takes a hold on each key and gives it back. Answers the sum of the keys held.
+// Takes a hold on each key and releases it. Returns the sum of the keys held.
 #[inline(never)]
 fn get_each<L: KeyLayout>(pass: &mut Pass<'_, L>, keys: &[u64]) -> Result<u64, Refusal> {
     let mut sum = 0u64;
@@ -36,7 +35,7 @@ fn sum_of(value: &Value) -> u64 {
     sum
 }
 
-// Reads the value of each key under a hold. Answers the sum of the words.
+// Reads the value of each key under a hold. Returns the sum of the words.
 #[inline(never)]
 fn read_each<L: KeyLayout>(pass: &mut Pass<'_, L>, keys: &[u64]) -> Result<u64, Refusal> {
     let mut sum = 0u64;
@@ -63,7 +62,7 @@ fn read_each_into<L: KeyLayout>(pass: &mut Pass<'_, L>, keys: &[u64]) -> Result<
     Ok(sum)
 }
 
-// Takes a hold that keeps its place on each key, and gives it back.
+// Takes a guard, which is a hold that keeps its place, on each key, and releases it.
 #[inline(never)]
 fn guard_each<L: KeyLayout>(pass: &mut Pass<'_, L>, keys: &[u64]) -> Result<u64, Refusal> {
     let mut sum = 0u64;
@@ -75,7 +74,7 @@ fn guard_each<L: KeyLayout>(pass: &mut Pass<'_, L>, keys: &[u64]) -> Result<u64,
     Ok(sum)
 }
 
-// Reads the value of each key into one value, under a hold that keeps its place.
+// Reads the value of each key into one value, under a guard.
 #[inline(never)]
 fn read_each_guarded<L: KeyLayout>(pass: &mut Pass<'_, L>, keys: &[u64]) -> Result<u64, Refusal> {
     let mut value = Value::empty();
@@ -89,7 +88,7 @@ fn read_each_guarded<L: KeyLayout>(pass: &mut Pass<'_, L>, keys: &[u64]) -> Resu
     Ok(sum)
 }
 
-// Gives a receipt for each key and heeds it. Answers the sum of the keys.
+// Gives a receipt for each key and heeds it. Returns the sum of the keys.
 #[inline(never)]
 fn heed_each<L: KeyLayout>(pass: &mut Pass<'_, L>, keys: &[u64]) -> u64 {
     let mut sum = 0u64;

@@ -1,4 +1,4 @@
-//! What threads have to do, and how it is measured: each does its work in a thread of its own.
+//! The works of threads, and how they are measured: each runs in a thread of its own.
 use crate::gate::Gate;
 use crate::parting::together;
 use sh_load::fault::Fault;
@@ -9,9 +9,9 @@ use std::rt::Clock;
 use std::thread;
 use std::thread::Threads;
 
-/// What one thread has to do.
+/// The work of one thread.
 pub trait Work: Drop {
-    /// Does it, and answers what was measured: what is measured begins once all threads have come to the gate.
+    /// Does the work, and returns what was measured. The measured part begins when all threads have reached the gate.
     fn run<C: Clock>(
         self,
         rt: &C,
@@ -21,7 +21,7 @@ pub trait Work: Drop {
     ) -> Result<Outcome, Fault>;
 }
 
-/// Measures the works of so many threads, each in a thread of its own.
+/// Measures the works, each in a thread of its own. The gate is for `threads` threads.
 pub fn measure<W: Work + Send, R: Threads + Clock + Sync>(
     rt: &R,
     alloc: Global,

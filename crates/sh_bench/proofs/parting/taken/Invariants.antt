@@ -1,7 +1,7 @@
 use Rattle.std.proofs.Common.{◌≡◌, ◌++◌, min, reverse, vec_len}
 use Rattle.sh_bench.proofs.parting.taken.Given as goal
 
--- so many were taken, if there were as many, and they are the last ones
+-- `_n` passes were taken, or all if there were fewer, and they are the last ones
 abbrev pub invariant-loop-n : goal.invariant-loop-n
 invariant-loop-n g l = record {
   count : vec_len l.part ≡ min l._n (vec_len l.fn.passes);

@@ -5,7 +5,7 @@ use Rattle.sh_load.specs.declared.fault.Fault.TheVariants.{Late}
 use Rattle.sh_load.specs.Outcomes.{saturated, operations_of, answered_of, standing_of, longest}
 use Rattle.sh_bench.proofs.parting.together.Given as goal
 
--- the counts are those of the outcomes so far, of which none is a fault but that a thread waited for too long
+-- the counts are those of the outcomes so far, none of which is a fault other than `Late`
 abbrev pub invariant-loop-outcome : goal.invariant-loop-outcome
 invariant-loop-outcome l = record {
   operations : l.all.operations ≡ saturated (sum_by operations_of (take l.outcome-index l.outcomes));
