@@ -1,4 +1,4 @@
--- What an argument's rule says of the argument.
+-- Facts about an argument that follow from its rule.
 use Rattle.std.proofs.Common.{◌≡◌, is_some, not, true, false}
 use Rattle.clap.specs.Words.{rule_of}
 use Rattle.clap.specs.Walk.{is_empty}
@@ -6,7 +6,7 @@ use Rattle.clap.specs.declared.builder.arg.Arg.{Arg}
 use Rattle.clap.proofs.SimpleLemmas.{is_false}
 use Rattle.clap.proofs.WalkLemmas.{both}
 
--- an argument with a simple rule is none of the subcommands too
+-- an argument with a simple rule is not global, so subcommands do not have it
 pub is_local : (a : Arg) → (rule_of a).is_simple ≡ true → a.global ≡ false
 is_local a simple =
     let overrides = both (is_empty a.overrides.items) _ simple in

@@ -1,4 +1,4 @@
--- How the reading of a command line ends.
+-- The result of reading a command line.
 use Rattle.std.proofs.Common.{◌≡◌, ◌⊎◌, ◌∙◌, List, [], Option, true, ℕ, inl, refl, sym, subst, ap, ap₂, codes}
 use Rattle.clap.specs.Words.{AddsArg, App, Rule, Text, IsAmong, HasMatchesOf, app_of, fault_of, first_of, first_value}
 use Rattle.clap.specs.Words.{found_of, is_simple, is_simple_and_free, matches_of, one_of, one_text, rows_of, rule_of}
@@ -14,7 +14,7 @@ use Rattle.sh_load.specs.BenchLine.{IsRefused, NameLayouts, NameWorkloads, Words
 use Rattle.sh_load.specs.CommandLine.{ReadsLengths, ReadsNumber, ReadsNumbers}
 use Rattle.sh_load.proofs.ArgumentLemmas.{is_local}
 
--- a command with one argument more, which has a simple rule
+-- the app of a command with one argument more, which has a simple rule
 pub added : (app : App) (command more : Command) (argument : Arg) (rule : Rule) → AddsArg command argument more
     → app_of command ≡ app → rule_of argument ≡ rule → rule.is_simple ≡ true → app_of more ≡ with_rule app rule
 added app command more argument rule adds is rule_is simple =
@@ -26,7 +26,7 @@ simple_and_free workloads layouts = refl
 simple : (workloads layouts : Words) → is_simple (bench_line workloads layouts) ≡ true
 simple workloads layouts = refl
 
--- where clap's rules are exact about the faults, they are so for this command line
+-- this command line is one for which clap's rules are exact about the faults
 pub free : (c : Command) (workloads layouts : Words) → app_of c ≡ bench_line workloads layouts
     → is_simple_and_free (app_of c) ≡ true
 free c workloads layouts is = ap is_simple_and_free is ∙ simple_and_free workloads layouts
@@ -54,7 +54,7 @@ pub text_is : (workloads layouts : Words) (words : List Text) (m : ArgMatches)
     → (id : Text) → one_text (found_of m) id ≡ one_of id (matches_of (bench_line workloads layouts) words)
 text_is workloads layouts words m rows id = one_text-rows (found_of m) id ∙ ap (one_of id) rows
 
--- the numbers of the same texts
+-- options that read the numbers of the texts of `f` read those of the texts of `g`, if the texts are equal
 pub numbers_by : (f g : Text → Option Text) (options : Options) → ((id : Text) → f id ≡ g id) → ReadsNumbers f options
     → ReadsNumbers g options
 numbers_by f g options same reads = record {

@@ -5,14 +5,14 @@ use Rattle.std.proofs.lemmas.Nat.{div-add-mod'}
 use Rattle.std.proofs.Math.Nat.{le-mul_of_pos_right}
 use Rattle.sh_load.specs.Plans.{filled_up_to, filled_pages}
 
--- of a positive size there are no more parts than there are things
+-- if the size of a part is positive, there are no more parts than things
 pub ceil_le : (n size : ℕ) → 0 < size → div_ceil n size ≤ n
 ceil_le n size some =
     let whole = div-add-mod' n size in
     let more : n / size ≤ n / size * size = le-mul_of_pos_right (n / size) some in
     omega (arith, whole, more)
 
--- values of one more length
+-- the pages of values of one more length
 pub filled_more : (words each : ℕ) → 1 ≤ words
     → filled_up_to words each ≡ filled_up_to (words - 1) each + filled_pages words each
 unfolding filled_up_to

@@ -7,7 +7,7 @@ use Rattle.sh_load.specs.declared.layout.Layout.{Layout}
 use Rattle.sh_load.specs.declared.layout.Layout.TheVariants as layout
 use Rattle.sh_load.specs.Names.{layout_name, workload_name}
 
--- what gets, by the fourth letter, and what reads, by the sixth
+-- the workload that gets, by the fourth letter, and the one that reads, by the sixth
 abbrev getting : (fourth : ℕ) → Workload
 getting fourth = if fourth == 45 then workload.GetGuard else workload.Get
 
@@ -17,7 +17,7 @@ reading sixth =
     else if sixth == 103 then workload.ReadGuard
     else workload.Read
 
--- the workload with this first and this third letter, and this fourth and this sixth one if it has so many
+-- the workload with this first and this third letter, and with this fourth and this sixth letter if it has these
 abbrev lettered : (first third fourth sixth : ℕ) → Workload
 lettered first third fourth sixth =
     if first == 103 then getting fourth

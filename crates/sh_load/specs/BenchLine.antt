@@ -1,6 +1,6 @@
--- The command line of the bench: what clap is told of it, with each option's default and its bounds, and what clap's
--- rules make of the words. The first word is the program's name. clap is told the names of workloads and layouts by
--- reference, so they are words that stand somewhere (`Bor`).
+-- The command line of the bench: what clap gets as its definition, with each option's default and its bounds, and the
+-- options that follow from the words by clap's rules. The first word is the program's name. clap gets the names of
+-- workloads and layouts by reference, so they are borrowed words (`Bor`).
 use Rattle.std.specs.Prelude.{◌≡◌, ◌⊎◌, ℕ, List, [], ◌∷◌, map, Some, codes, true}
 use Rattle.std.specs.Borrow.{Bor}
 use Rattle.clap.specs.Words.{App, Rule, Text, IsAmong, fault_of, first_of, matches_of, new_app, new_rule, one_of, takes}
@@ -26,7 +26,7 @@ all_workloads = workload.Get ∷ workload.Read ∷ workload.ReadInto ∷ workloa
 abbrev pub all_layouts : List Layout
 all_layouts = layout.Wide ∷ layout.Tagged ∷ layout.Deep ∷ []
 
--- words, wherever they stand
+-- borrowed words
 abbrev pub Words : Type 0
 Words = Bor (List (Bor Text))
 
@@ -45,7 +45,7 @@ workload_rule words = record (new_rule (codes "workload")) {
   parser = Some (Names words);
 }
 
--- the layout is one of these words, and wide where none is given
+-- the layout is one of these words, and wide if none is given
 abbrev pub layout_rule : Words → Rule
 layout_rule words = record (new_rule (codes "layout")) {
   long = Some (codes "layout");
@@ -58,7 +58,7 @@ layout_rule words = record (new_rule (codes "layout")) {
 abbrev pub mixed_rule : Rule
 mixed_rule = record (new_rule (codes "mixed")) { long = Some (codes "mixed"); action = Some SetTrue }
 
--- an option that is a number from a least to a most one, and the usual one where none is given
+-- an option that is a number from `least` to `most`, and `usual` if none is given
 abbrev pub number_rule : Text → (least most : ℕ) → (usual : Text) → Rule
 number_rule id least most usual = record (new_rule id) {
   long = Some id;
@@ -71,7 +71,7 @@ number_rule id least most usual = record (new_rule id) {
 abbrev pub bench_app : App
 bench_app = let new = new_app (codes "sh_bench") in record new { top = record new.top { has_version = true } }
 
--- the numbers, each with its least, its most and its usual one
+-- the numbers, each with its least, its greatest and its usual one
 abbrev pub with_numbers : App → App
 with_numbers app = with_rule (with_rule (with_rule (with_rule (with_rule (with_rule app
     (number_rule (codes "threads") 1 16 (codes "1")))
@@ -81,7 +81,7 @@ with_numbers app = with_rule (with_rule (with_rule (with_rule (with_rule (with_r
     (number_rule (codes "freed") 0 10000000 (codes "0")))
     (number_rule (codes "passes") 1 64 (codes "1"))
 
--- what clap is told of the command line
+-- the definition of the command line that clap gets
 abbrev pub bench_line : (workloads layouts : Words) → App
 bench_line workloads layouts = with_numbers (with_rule (with_rule (with_rule bench_app (workload_rule workloads))
     (layout_rule layouts)) mixed_rule)
@@ -101,8 +101,8 @@ pub record LineSays (words : List Text) (options : Options) : Type 0 where
       → options.layout ≡ l
   pub numbers : ReadsNumbers (λ id. one_of id (matches_of (bench_line workloads layouts) words)) options
 
--- the words are refused with an error of this kind: memory ran out, or clap's rules find this fault; words that the
--- rules take are refused for want of memory alone
+-- the words are refused with an error of this kind: memory ran out, or clap's rules find this fault. Words in which the
+-- rules find no fault are refused only for lack of memory
 pub record IsRefused (words : List Text) (kind : ErrorKind) : Type 0 where
   pub workloads : Words
   pub layouts : Words

@@ -1,4 +1,4 @@
--- The command line: which text of clap's matches is which number.
+-- The command line: the numbers that the texts of clap's matches are.
 use Rattle.std.specs.Prelude.{◌≡◌, ℕ, Option, Some, None, codes}
 use Rattle.std.specs.Str.Parse.{digits_value, without_leading_plus}
 use Rattle.clap.specs.Words.{Text, IsUnsignedIn}
@@ -6,12 +6,12 @@ use Rattle.sh_load.specs.declared.samples.Lengths.{Lengths}
 use Rattle.sh_load.specs.declared.samples.Lengths.TheVariants.{Each, Mixed}
 use Rattle.sh_load.specs.declared.options.Options.{Options}
 
--- the text is a number up to a most, and this is the number; 0 stands for no text
+-- if the text is a number up to `most`, `n` is that number; without a text it is 0
 pub record ReadsNumber (text : Option Text) (most n : ℕ) : Type 0 where
   pub none : text ≡ None → n ≡ 0
   pub some : (t : Text) → text ≡ Some t → IsUnsignedIn 0 most t → n ≡ digits_value 10 (without_leading_plus t)
 
--- values are mixed where the flag is set, and else each has the number of words that the other text is
+-- values are mixed if the flag is set, and otherwise each has the number of words that the other text is
 pub record ReadsLengths (flag words : Option Text) (lengths : Lengths) : Type 0 where
   pub set : flag ≡ Some (codes "true") → lengths ≡ Mixed
   pub unset : flag ≡ Some (codes "false") → (n : ℕ) × (lengths ≡ Each n) × ReadsNumber words 16 n

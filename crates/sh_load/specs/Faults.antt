@@ -1,10 +1,10 @@
--- What is said of a fault.
+-- The text of a fault.
 use Rattle.std.specs.Prelude.{ℕ, List, codes}
 use Rattle.sh_value.specs.Refusal.{refusal_name}
 use Rattle.sh_load.specs.declared.fault.Fault.{Fault}
 use Rattle.sh_load.specs.declared.fault.Fault.TheVariants.{Refused, Memory, Io, Late, TooMany}
 
--- what is said of a fault
+-- the text of a fault
 abbrev pub fault_text : Fault → List ℕ
 fault_text (Refused refusal) = refusal_name refusal
 fault_text Memory = codes "memory ran out"

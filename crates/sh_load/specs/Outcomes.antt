@@ -1,21 +1,21 @@
--- What threads have done: the sums of their counts, and the longest of their times.
+-- The outcomes of threads: the sums of their counts, and the longest of their times.
 use Rattle.std.specs.Prelude.{◌≡◌, ◌≢◌, ℕ, ◌+◌, ◌-◌, ◌%◌, ◌^◌, ◌<◌, min, max, List, length, fold, sum_by, Some}
 use Rattle.std.specs.Prelude.{slice_get, Contains, Result, Ok, Err}
 use Rattle.sh_load.specs.declared.outcome.Outcome.{Outcome}
 use Rattle.sh_load.specs.declared.fault.Fault.{Fault}
 use Rattle.sh_load.specs.declared.fault.Fault.TheVariants.{Late}
 
--- the number, or the greatest of 64 bits where it is above that
+-- the number, or the greatest number of 64 bits if it is above that
 abbrev pub saturated : ℕ → ℕ
 saturated n = min n (2 ^ 64 - 1)
 
--- the counts of both are those of one and those of the other
+-- the counts of both are the sums of the counts of one and of the other
 pub record CountsBoth (one other both : Outcome) : Type 0 where
   pub operations : both.operations ≡ saturated (one.operations + other.operations)
   pub sum : both.sum ≡ (one.sum + other.sum) % 2 ^ 64
   pub standing : both.standing ≡ saturated (one.standing + other.standing)
 
--- what a thread did, and nothing where it met a fault
+-- the number of operations of a thread, which is 0 if it met a fault; the other counts below likewise
 abbrev pub operations_of : Result Outcome Fault → ℕ
 operations_of (Ok outcome) = outcome.operations
 operations_of (Err fault) = 0
@@ -44,7 +44,7 @@ pub record AllTogether (outcomes : List (Result Outcome Fault)) (all : Outcome) 
   pub standing : all.standing ≡ saturated (sum_by standing_of outcomes)
   pub time : all.nanoseconds ≡ longest outcomes
 
--- a thread met the fault; where it is that a thread waited for too long, no thread met another
+-- a thread met the fault; if it is `Late`, no thread met another fault
 pub record TellsOf (outcomes : List (Result Outcome Fault)) (fault : Fault) : Type 0 where
   pub met : Contains outcomes (Err fault)
   pub alone : fault ≡ Late

@@ -1,4 +1,4 @@
--- How large a heap is that has room for values.
+-- The size of a heap that has room for values.
 use Rattle.std.specs.Prelude.{◌≡◌, ℕ, zero, suc, ◌+◌, ◌*◌, ◌/◌, ◌<◌, ◌≤◌, max}
 use Rattle.std.specs.Int.{div_ceil}
 use Rattle.std.specs.Option.{option_map_or}
@@ -10,27 +10,27 @@ use Rattle.sh_load.specs.declared.plan.Plan.{Plan}
 use Rattle.sh_load.specs.declared.samples.Lengths.{Lengths}
 use Rattle.sh_load.specs.declared.samples.Lengths.TheVariants.{Each, Mixed}
 
--- how many pages so many values of so many words fill
+-- the number of pages that `values` values of `words` words fill
 abbrev pub filled_pages : (words values : ℕ) → ℕ
 filled_pages words values = option_map_or (λ class. div_ceil values (slots class)) (class_of words) 0
 
--- how many pages values of each length from 1 to a greatest one fill, of which there are so many each
+-- the number of pages that `each` values of each length from 1 to `greatest` fill
 unfoldable pub filled_up_to : (greatest each : ℕ) → ℕ
 filled_up_to zero each = 0
 filled_up_to (suc words) each = filled_up_to words each + filled_pages (suc words) each
 
--- how many pages values fill; where lengths are mixed, so many more of each length as make up for the remainder
+-- the number of pages that values fill; mixed values count as `values / 16 + 1` of each length, to cover the remainder
 abbrev pub pages_filled : Lengths → ℕ → ℕ
 pages_filled (Each words) values = filled_pages words values
 pages_filled Mixed values = filled_up_to 16 (values / 16 + 1)
 
--- how many values one shard has room for, where each owner's thread has so many shards: its part of the values, those
--- that come and go, and 16 for remainders
+-- the number of values that one shard has room for, if each owner's thread has `shards` shards: its part of the values,
+-- those that come and go, and 16 for remainders
 abbrev pub values_in : Demand → (shards : ℕ) → ℕ
 values_in demand shards = demand.values / shards + demand.more + 16
 
--- the shape where each owner's thread has so many shards: more pages than the values of a shard fill, a pass for each
--- shard and each other, and no fewer passes than are asked for
+-- the shape if each owner's thread has `shards` shards: more pages than the values of a shard fill, a pass for each
+-- shard and for each other thread, and no fewer passes than are asked for
 abbrev pub shape_for : Demand → (shards : ℕ) → Numbers
 shape_for demand shards = record {
   shards = demand.owners * shards;
@@ -51,6 +51,6 @@ pub record IsPlanFor (layout : Layout) (demand : Demand) (plan : Plan) : Type 0 
   pub possible : IsPossible layout plan.shape
   pub fewest : (n : ℕ) → 1 ≤ n → n < plan.shards → IsPossible layout (shape_for demand n) → ⊥
 
--- with none of the numbers of shards from 1 to 64 a heap is possible
+-- no heap is possible with any number of shards from 1 to 64
 abbrev pub HasNoPlan : Layout → Demand → Type 0
 HasNoPlan layout demand = (n : ℕ) → 1 ≤ n → n ≤ 64 → IsPossible layout (shape_for demand n) → ⊥

@@ -3,12 +3,12 @@ use Rattle.std.specs.Prelude.{◌≡◌, ℕ, ◌+◌, ◌*◌, ◌%◌, ◌<◌
 use Rattle.sh_load.specs.declared.samples.Lengths.{Lengths}
 use Rattle.sh_load.specs.declared.samples.Lengths.TheVariants.{Each, Mixed}
 
--- how many words the value at a place has: as many as each, or from 1 to 16 in turn
+-- the number of words of the value at a place: that of each value, or from 1 to 16 in turn
 abbrev pub length_at : Lengths → ℕ → ℕ
 length_at (Each words) place = min words 16
 length_at Mixed place = place % 16 + 1
 
--- the value at a place: as many words as one there has, which count up from 16 times the place, of 16 in a row
+-- the value at a place: its length is that of the place, and its words count up from `place % 16 * 16`
 pub record IsSample (lengths : Lengths) (place : ℕ) (value : List ℕ) : Type 0 where
   pub length_is : length value ≡ length_at lengths place
   pub words_are : (k : ℕ) → k < length value → slice_index value k ≡ place % 16 * 16 + k

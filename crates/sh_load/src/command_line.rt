@@ -86,7 +86,7 @@ fn with_numbers<'a>(alloc: Global, command: Command<'a>) -> Result<Command<'a>, 
         ))
 }
 
-// The workload, which has to be given.
+// The workload, which is required.
 fn workload_argument<'a>(alloc: Global, workloads: &'a [&'a str]) -> Arg<'a>
     ensures { rule_of result ≡ workload_rule workloads.entry }
 {
@@ -162,7 +162,7 @@ fn lengths(matches: &ArgMatches<'_>) -> Lengths
     }
 }
 
-// The workload that is named. A parse that succeeds has one of the names, so that the last two are never taken.
+// The workload that is named. A parse that succeeds has one of the names, so the last two branches are never taken.
 fn workload_of(matches: &ArgMatches<'_>) -> Workload
     ensures { (w : AnyWorkload) → first_value (found_of matches.now) (codes "workload") ≡ Some (workload_name w)
         → result ≡ w }
@@ -207,13 +207,13 @@ fn chosen(matches: &ArgMatches<'_>, workload: Workload, layout: Layout) -> Optio
     }
 }
 
-/// What a command line asks for, whose first word is the program's name. An error is clap's: its own for words that its
-/// rules refuse, for `--help` and for `--version`, and `OutOfMemory`.
+/// Reads the options of a command line, whose first word is the program's name. An error is clap's: its own for words
+/// that its rules refuse, for `--help` and for `--version`, and `OutOfMemory`.
 ///
-/// The workload is required. Where nothing else is said, the layout is `wide`, one thread does 1,000 operations, values
-/// have one word, one stands, none is freed, and the heap has one pass at least. There are from 1 to 16 threads, 1 to
-/// 1,000,000,000 operations, 0 to 16 words, 1 to 10,000,000 values that stand, 0 to 10,000,000 that are freed, and
-/// 1 to 64 passes.
+/// The workload is required. By default the layout is `wide`, one thread does 1,000 operations, values have one word,
+/// one is live, none is freed, and the heap has at least one pass. There are from 1 to 16 threads, 1 to 1,000,000,000
+/// operations, 0 to 16 words, 1 to 10,000,000 values that are live, 0 to 10,000,000 that are freed, and 1 to 64
+/// passes.
 pub fn options_of<'a>(alloc: Global, words: &'a [&'a str]) -> Result<Options, Error>
     ensures ok { IfOk result (λ options. LineSays (map (λ w. w.now) words.entry.now) options) }
     ensures err { IfErr result (λ e. IsRefused (map (λ w. w.now) words.entry.now) (kind_of e)) }

@@ -1,10 +1,10 @@
-//! What a workload asks of a heap.
+//! The demand of a workload on a heap.
 ghost use Rattle.std.specs.Prelude.{◌≤◌};
 
 use crate::samples::Lengths;
 
-/// How many owners a workload has, how many other passes, how many values each owner keeps, and how many more it has
-/// now and then in one shard.
+/// The numbers of owners and of other passes of a workload, and of the values that each owner keeps. `more` is the
+/// number of further values that it has now and then in one shard.
 #[derive(Clone, Copy)]
 pub struct Demand {
     pub owners: usize,

@@ -1,4 +1,4 @@
-//! What may keep a measurement from being taken.
+//! The reasons why a measurement may fail.
 ghost use Rattle.std.specs.Prelude.{◌≡◌};
 ghost use Rattle.sh_load.specs.Faults.{fault_text};
 ghost use Rattle.sh_load.specs.declared.fault.Fault.TheVariants as fault;
@@ -14,7 +14,7 @@ pub enum Fault {
     Refused(Refusal),
     /// Memory ran out.
     Memory,
-    /// The clock could not be read, or the output not written.
+    /// The clock could not be read, or the output could not be written.
     Io,
     /// A thread waited for another for too long.
     Late,
@@ -55,7 +55,7 @@ impl From<io::Error> for Fault {
 }
 
 impl Fault {
-    /// What is said of it.
+    /// The text that the program writes.
     pub fn text(&self) -> &'static str
         ensures { result.now ≡ fault_text self.now }
     {

@@ -1,8 +1,8 @@
-//! The layouts of keys that are measured. `Tiny` is not: its slots are spent after three values each.
+//! The layouts of keys that are measured. `Tiny` is not among them: its slots are spent after three values each.
 ghost use Rattle.std.specs.Prelude.{◌≡◌, IfSome, IfNone};
 ghost use Rattle.sh_load.specs.Names.{IsNoLayout, layout_name};
 
-/// Which layout the keys have.
+/// The layout of the keys.
 #[derive(Clone, Copy, Debug, PartialEq, Eq)]
 pub enum Layout {
     /// Keys of `sh_key::Wide`.
@@ -13,7 +13,7 @@ pub enum Layout {
     Deep,
 }
 
-/// How a layout is written.
+/// The name of a layout.
 pub fn name(layout: Layout) -> &'static str
     ensures { result.now ≡ layout_name layout }
 {
@@ -24,7 +24,7 @@ pub fn name(layout: Layout) -> &'static str
     }
 }
 
-/// The layout that is written so.
+/// The layout with this name.
 pub fn layout_named(word: &str) -> Option<Layout>
     ensures some { IfSome result (λ l. word.now ≡ layout_name l) }
     ensures none { IfNone result (IsNoLayout word.now) }

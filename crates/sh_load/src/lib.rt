@@ -1,5 +1,5 @@
-//! What a run of the bench is asked for: its command line, the workloads and layouts, the values that it stores, and a
-//! shape with room for them. And what it reports: the counts and times of its threads.
+//! The input and output of a run of the bench: its command line, the workloads and layouts, the values that it stores,
+//! and a shape with room for them, and the counts and times of its threads, which it reports.
 #![tactic(auto)]
 
 pub mod command_line;

@@ -5,7 +5,8 @@ use crate::layout::Layout;
 use crate::samples::Lengths;
 use crate::workload::Workload;
 
-/// As many values as may be asked for. In layout `Deep` one shard has room for them all, if they have one word.
+/// The greatest number of values that may be asked for. In layout `Deep` one shard has room for all of them, if they
+/// have one word.
 pub const MOST_VALUES: u64 = 10_000_000;
 
 /// What is measured, and how much of it.
@@ -13,16 +14,16 @@ pub const MOST_VALUES: u64 = 10_000_000;
 pub struct Options {
     pub workload: Workload,
     pub layout: Layout,
-    /// In `hand` pairs of threads.
+    /// The number of threads. In `hand` it is the number of pairs of threads.
     pub threads: usize,
-    /// How many operations each thread does.
+    /// The number of operations of each thread.
     pub operations: usize,
     pub lengths: Lengths,
-    /// How many values stand: in `get` and `read` in all, else for each thread.
+    /// The number of live values: in all in `get` and `read`, and otherwise for each thread.
     pub live: usize,
-    /// How many slots each leaver puts back.
+    /// The number of slots that each owner puts back before it leaves.
     pub freed: usize,
-    /// How many passes the heap has at least.
+    /// The least number of passes of the heap.
     pub passes: usize,
     ghost threads_within: { threads ≤ 16 },
     ghost operations_within: { operations ≤ 1000000000 },

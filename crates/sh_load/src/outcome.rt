@@ -1,24 +1,25 @@
-//! What a thread has measured.
+//! The outcome of a thread.
 ghost use Rattle.std.specs.Prelude.{◌≡◌, ◌+◌, max};
 ghost use Rattle.std.specs.Duration.{as_nanos};
 ghost use Rattle.sh_load.specs.Outcomes.{CountsBoth, saturated};
 
 use std::time::Duration;
 
-/// The time that a thread spent, and what it has done and seen, which is the same in each run with the same options.
+/// The time that a thread spent, and the counts of what it did and saw. The counts are the same in each run with the
+/// same options.
 #[derive(Clone, Copy)]
 pub struct Outcome {
     /// Nanoseconds in the calls that are measured.
     pub nanoseconds: u64,
-    /// How many measured operations were done.
+    /// The number of measured operations.
     pub operations: u64,
-    /// The sum of what they answered, keys or words, as a number that wraps.
+    /// The sum of the keys or words that they returned, as a number that wraps.
     pub sum: u64,
-    /// How many values stood at the end as they were inserted.
+    /// The number of values that were as they were inserted at the end.
     pub standing: u64,
 }
 
-/// Nothing was done yet.
+/// The outcome of doing nothing.
 pub const NOTHING: Outcome = Outcome {
     nanoseconds: 0,
     operations: 0,
@@ -27,7 +28,7 @@ pub const NOTHING: Outcome = Outcome {
 };
 
 impl Outcome {
-    /// This many operations that took a time and answered a sum.
+    /// The outcome of this number of operations, which took this time and returned this sum.
     pub fn of(spent: Duration, operations: usize, sum: u64) -> Outcome
         ensures { result ≡ record
             { nanoseconds = saturated (as_nanos spent); operations = operations; sum = sum; standing = 0 } }
@@ -40,7 +41,7 @@ impl Outcome {
         }
     }
 
-    /// What one thread did, and then did.
+    /// The outcome of one thread that did this, and then `next`.
     pub fn then(self, next: Outcome) -> Outcome
         ensures counts { CountsBoth self next result }
         ensures time { result.nanoseconds ≡ saturated (self.nanoseconds + next.nanoseconds) }
@@ -51,7 +52,7 @@ impl Outcome {
         }
     }
 
-    /// What two threads did at the same time: of their times the longer counts.
+    /// The outcome of two threads that ran at the same time. Its time is the longer of the two.
     pub fn beside(self, other: Outcome) -> Outcome
         ensures counts { CountsBoth self other result }
         ensures time { result.nanoseconds ≡ max self.nanoseconds other.nanoseconds }

@@ -1,4 +1,4 @@
-//! How large a heap a workload needs.
+//! The size of the heap that a workload needs.
 ghost use Rattle.std.specs.Prelude.{◌≡◌, ℕ, ◌*◌, ◌≤◌, IfOk, IfErr, MatchOption};
 ghost use Rattle.sh_shape.specs.Classes.{class_of, slots};
 ghost use Rattle.sh_load.specs.Plans.{HasNoPlan, IsPlanFor, IsPossible, filled_pages, filled_up_to, pages_filled};
@@ -10,21 +10,21 @@ use crate::samples::Lengths;
 use sh_key::KeyLayout;
 use sh_shape::{SEGMENT_PAGES, Shape, classes, fits};
 
-/// The shape of the heap, and how many shards each owner's thread has, one after the other: one, unless its values need
-/// more pages than a shard has.
+/// The shape of the heap, and the number of shards that each owner's thread has, one after the other. It is 1, unless
+/// the values need more pages than a shard has.
 #[derive(Clone, Copy)]
 pub struct Plan {
     pub shape: Shape,
     pub shards: usize,
 }
 
-// How many pages a segment has.
+// The number of pages of a segment.
 const SEGMENT: usize = SEGMENT_PAGES as usize;
 
-// As many shards as a thread's values are parted among at most: each has a pass, and a heap has 64.
+// The greatest number of shards for the values of a thread: each shard needs a pass, and a heap has 64.
 const MOST_SHARDS: usize = 64;
 
-// The pages that this many values of so many words fill.
+// The number of pages that `values` values of `words` words fill.
 fn pages_of(words: usize, values: usize) -> usize
     ensures is { result ≡ filled_pages words values }
     ensures room { (class : ℕ) → class_of words ≡ Some class → values ≤ result * slots class }
@@ -36,7 +36,7 @@ fn pages_of(words: usize, values: usize) -> usize
     }
 }
 
-// The pages that values of all lengths fill, of which each length has this many.
+// The number of pages that `each` values of each length from 1 to 16 words fill.
 fn pages_of_mixed(each: usize) -> usize
     requires { each ≤ 30000000 }
     ensures { result ≡ filled_up_to 16 each }
@@ -48,7 +48,7 @@ fn pages_of_mixed(each: usize) -> usize
     pages
 }
 
-// The pages that these values fill.
+// The number of pages that these values fill.
 fn pages(lengths: Lengths, values: usize) -> usize
     requires { values ≤ 30000000 }
     ensures { result ≡ pages_filled lengths values }
@@ -79,7 +79,7 @@ fn plan_with<L: KeyLayout>(demand: &Demand, shards: usize) -> Option<Plan>
     }
 }
 
-/// The plan with the fewest shards. `TooMany` where there is none.
+/// The plan with the fewest shards. Returns `TooMany` if there is none.
 pub fn plan_for<L: KeyLayout>(demand: &Demand) -> Result<Plan, Fault>
     ensures plan { IfOk result (IsPlanFor L.layout demand.now) }
     ensures none { IfErr result (λ fault. (fault ≡ Fault.TooMany) × HasNoPlan L.layout demand.now) }

@@ -7,17 +7,17 @@ use crate::fault::Fault;
 use sh_value::{Value, WORDS_MAX};
 use std::alloc::Global;
 
-/// How long values are.
+/// The lengths of values.
 #[derive(Clone, Copy, Debug, PartialEq, Eq)]
 pub enum Lengths {
     /// All have this many words.
     Each(usize),
-    /// Each length from 1 to 16 words comes as often as the others.
+    /// The lengths from 1 to 16 words come in turn.
     Mixed,
 }
 
 impl Lengths {
-    /// How many words the value at a place has, at most 16.
+    /// The number of words of the value at a place, at most 16.
     pub fn at(self, place: usize) -> usize
         ensures is { result ≡ length_at self place }
         ensures few { result ≤ 16 }
@@ -36,7 +36,7 @@ pub struct Samples {
     ghost sixteen: { vec_len values ≡ 16 },
 }
 
-// The value at a place, of 16 in a row: its words count up from 16 times the place.
+// The value at a place: its words count up from `place % 16 * 16`.
 fn sample(lengths: Lengths, place: usize) -> Result<Value, Fault>
     ensures is { IfOk result (IsSample lengths place) }
     ensures fits { IsOk result }

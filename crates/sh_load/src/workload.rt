@@ -1,8 +1,8 @@
-//! What is measured.
+//! The workloads that are measured.
 ghost use Rattle.std.specs.Prelude.{◌≡◌, IfSome, IfNone};
 ghost use Rattle.sh_load.specs.Names.{IsNoWorkload, workload_name};
 
-/// What the threads do, over and over.
+/// The work that the threads do, over and over.
 #[derive(Clone, Copy, Debug, PartialEq, Eq)]
 pub enum Workload {
     /// A pass gets a key and releases it.
@@ -15,7 +15,7 @@ pub enum Workload {
     GetGuard,
     /// The same as `ReadInto`, by a hold that keeps its place.
     ReadGuard,
-    /// An owner inserts, beside as many values as stand.
+    /// An owner inserts, beside the live values.
     Insert,
     /// An owner fills its shard: it inserts, and nothing is removed.
     Fill,
@@ -33,7 +33,7 @@ pub enum Workload {
     Heed,
 }
 
-/// How a workload is written.
+/// The name of a workload.
 pub fn name(workload: Workload) -> &'static str
     ensures { result.now ≡ workload_name workload }
 {
@@ -54,7 +54,7 @@ pub fn name(workload: Workload) -> &'static str
     }
 }
 
-/// The workload that is written so.
+/// The workload with this name.
 pub fn workload_named(word: &str) -> Option<Workload>
     ensures some { IfSome result (λ w. word.now ≡ workload_name w) }
     ensures none { IfNone result (IsNoWorkload word.now) }
