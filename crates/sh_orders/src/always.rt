@@ -1,4 +1,4 @@
-//! What holds in every state.
+//! The assertions that hold in every state.
 use crate::pages::{Page, pages, state_of};
 use sh_core::World;
 use sh_history::{Entry, check};
@@ -9,7 +9,7 @@ use std::alloc::Global;
 use std::process::Abort;
 use std::test::Fail;
 
-// The six kinds fill the page.
+// Asserts that the six kinds of slots add up to the page's slots.
 fn assert_filled(rt: &impl Abort, page: &Page) {
     let accounts = page.accounts;
     let counted = accounts
@@ -22,7 +22,7 @@ fn assert_filled(rt: &impl Abort, page: &Page) {
     assert_eq!(rt; counted, page.slots, "{accounts:?}");
 }
 
-// While the pass holds the key, its slot is live or marked in the key's generation.
+// Asserts that, if the pass holds the key, its slot is live or marked in the key's generation.
 fn assert_held(rt: &impl Abort, world: &World<Tiny>, part: &Part, key: u64) {
     if !part.has_hold(key) {
         return;
@@ -34,7 +34,7 @@ fn assert_held(rt: &impl Abort, world: &World<Tiny>, part: &Part, key: u64) {
     assert_eq!(rt; parts.generation, state.generation);
 }
 
-/// Asserts that the log is legal, that the six kinds fill each page, and that what is held stands.
+/// Asserts that the log is legal, that the six kinds add up to the slots of each page, and that held values are there.
 pub fn assert_always(rt: &impl Abort, alloc: Global, world: &World<Tiny>) -> Result<(), Fail> {
     let passes = world.shape().passes();
     let log = world.log();

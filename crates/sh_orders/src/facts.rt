@@ -1,24 +1,24 @@
-//! What may be so of a heap.
+//! Facts that may hold of a heap.
 use sh_accounts::page;
 use sh_core::{Accounts, World};
 use sh_history::Entry;
 use sh_key::Tiny;
 use sh_step::Part;
 
-/// What may be so of a heap. Its pages are the first ones of their shards.
+/// A fact that may hold of a heap. Its pages are the first ones of their shards.
 #[derive(Drop, Debug)]
 pub enum Fact {
     /// The log has this entry.
     Logged(Entry),
     /// The shard's page has this class.
     Class(u32, u32),
-    /// So many slots of the shard's page are live.
+    /// The number of live slots of the shard's page.
     Live(u32, u32),
-    /// So many slots of the shard's page are the owner's.
+    /// The number of slots of the shard's page that are the owner's.
     Mine(u32, u32),
-    /// So many slots of the shard's page are queued.
+    /// The number of queued slots of the shard's page.
     Queued(u32, u32),
-    /// So many slots of the shard's page are retired.
+    /// The number of retired slots of the shard's page.
     Retired(u32, u32),
     /// The pass owns this shard.
     Owns(u32, u64),
@@ -26,7 +26,7 @@ pub enum Fact {
     Armed(u32, u64, bool),
     /// The pass has this cursor on the heap's first page.
     Cursor(u32, Option<u64>),
-    /// The word of this number is this.
+    /// The word with this number has this value.
     Word(usize, u64),
 }
 
@@ -49,7 +49,7 @@ fn part(world: &World<Tiny>, pass: u32) -> Option<&Part> {
 }
 
 impl Fact {
-    // Whether the accounts are so.
+    // Whether the fact holds of the accounts of its page.
     fn is_so_of_page(&self, accounts: &Accounts) -> bool {
         match self {
             Fact::Live(_, count) => accounts.live == *count,
@@ -60,7 +60,7 @@ impl Fact {
         }
     }
 
-    // Whether the pass's part is so.
+    // Whether the fact holds of its pass's part.
     fn is_so_of_part(&self, part: &Part) -> bool {
         match self {
             Fact::Owns(_, shard) => part.owned() == Some(*shard),
@@ -70,7 +70,7 @@ impl Fact {
         }
     }
 
-    /// Whether it is so.
+    /// Whether the fact holds.
     pub fn is_so(&self, world: &World<Tiny>) -> bool {
         match self {
             Fact::Logged(entry) => world.log().contains(entry),
@@ -93,7 +93,7 @@ impl Fact {
     }
 }
 
-/// Whether all of these are so.
+/// Whether all of these facts hold.
 pub fn are_so(facts: &[Fact], world: &World<Tiny>) -> bool {
     for fact in facts {
         if !fact.is_so(world) {

@@ -1,8 +1,8 @@
 //! Small programs of two and three passes, in every order of their single steps.
 //!
-//! The crate has tests alone. A program brings a heap to a state and then says which calls each pass makes. `walk` runs
-//! all orders of their steps through the core. In each end state what was begun is ended and what was freed is
-//! collected, and then no slot is lost or there twice.
+//! The crate has only tests. A program brings a heap to a state and then gives the calls of each pass. `walk` runs all
+//! orders of their steps through the core. In each end state it ends all calls and collects all freed slots, and then
+//! asserts that no slot is lost or there twice.
 #![tactic(auto)]
 
 #[cfg(test)]

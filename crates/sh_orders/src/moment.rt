@@ -1,4 +1,4 @@
-//! Where a program stands.
+//! The state of a program.
 use crate::program::Program;
 use sh_core::World;
 use sh_key::Tiny;
@@ -6,12 +6,12 @@ use sh_step::enabled;
 use std::alloc::Global;
 use std::test::Fail;
 
-/// A heap, and how far each pass is in its part of a program.
+/// A heap, and the progress of each pass in its part of a program.
 #[derive(Drop)]
 pub struct Moment {
     /// The heap.
     pub world: World<Tiny>,
-    // For each pass, behind which event of the program it is.
+    // For each pass, the number of the first event that it has yet to consider.
     behind: Vec<usize>,
 }
 
@@ -29,7 +29,7 @@ impl Moment {
         Ok(Moment { world, behind })
     }
 
-    /// The heap after the passes did one step each time that their number stands in this order.
+    /// The heap after the passes did their steps in this order, one for each number of a pass in it.
     pub fn after(alloc: Global, program: &Program, order: &[u32]) -> Result<Moment, Fail> {
         let mut moment = Moment::first(alloc, program)?;
         for pass in order {
@@ -51,7 +51,7 @@ impl Moment {
         None
     }
 
-    /// Has the pass do its next step, and tells whether there is one.
+    /// Lets the pass do its next step, and returns whether there is one.
     pub fn go_on(&mut self, program: &Program, pass: u32) -> Result<bool, Fail> {
         let Some(number) = self.next(program, pass) else {
             return Ok(false);

@@ -14,9 +14,9 @@ pub struct Page {
     pub shard: u32,
     /// Its number there.
     pub page: u32,
-    /// What its slots are.
+    /// The numbers of its slots by kind.
     pub accounts: Accounts,
-    /// How many slots its class has.
+    /// The number of slots of its class.
     pub slots: u32,
 }
 

@@ -2,13 +2,13 @@
 use crate::steps::Steps;
 use sh_shape::Shape;
 
-/// A heap that is brought to a state, step by step, and what its passes do from there, in whatever order.
+/// A heap, the steps that bring it to a state, and the steps of its passes from there, in any order of the passes.
 #[derive(Drop)]
 pub struct Program {
     /// The heap.
     pub shape: Shape,
-    /// What is done first, in this order.
+    /// The steps that are done first, in this order.
     pub before: Steps,
-    /// What each pass does then, in its own order.
+    /// The steps that each pass does then, in its own order.
     pub then: Steps,
 }

@@ -1,4 +1,4 @@
-//! Ending what was begun, and finding every slot again.
+//! Ends all calls, and finds every slot again.
 use crate::always::assert_always;
 use crate::pages::{Page, pages, state_at};
 use sh_core::{Outcome, World};
@@ -12,10 +12,10 @@ use std::alloc::{AllocError, Global};
 use std::process::Abort;
 use std::test::Fail;
 
-// How many steps what a hand holds may take to its end: a value has at most 16 words.
+// The greatest number of steps that end the call of a pass: a value has at most 16 words.
 const HAND_STEPS: u32 = 20;
 
-// What a pass with this hand has to do next.
+// The action that a pass with this hand must do next.
 fn due(hand: &Hand) -> Option<Action> {
     match hand {
         Hand::Idle => None,
@@ -36,12 +36,12 @@ fn due(hand: &Hand) -> Option<Action> {
     }
 }
 
-// Has the pass do the action, and tells whether its condition held.
+// Lets the pass do the action, and returns whether its condition held.
 fn does(world: &mut World<Tiny>, pass: u32, action: Action) -> Result<bool, Refusal> {
     Ok(world.step(&Event { pass, action })? != Outcome::Skipped)
 }
 
-// Has the pass end what it has begun.
+// Lets the pass end what it has begun.
 fn end_hand(world: &mut World<Tiny>, pass: u32) -> Result<(), Refusal> {
     for _ in 0..HAND_STEPS {
         let Some(part) = world.parts().get(pass as usize) else {
@@ -55,7 +55,7 @@ fn end_hand(world: &mut World<Tiny>, pass: u32) -> Result<(), Refusal> {
     Ok(())
 }
 
-// Has the pass release all its holds on the key.
+// Lets the pass release all its holds on the key.
 fn release(world: &mut World<Tiny>, pass: u32, key: u64) -> Result<(), Refusal> {
     for _ in 0..HOLDS_MAX {
         if !does(world, pass, Action::DropHold(key))? {
@@ -77,7 +77,7 @@ fn keys(alloc: Global, world: &World<Tiny>) -> Result<Vec<u64>, AllocError> {
     Ok(keys)
 }
 
-// Has the pass release all its holds on these keys.
+// Lets the pass release all its holds on these keys.
 fn release_all(world: &mut World<Tiny>, pass: u32, keys: &[u64]) -> Result<(), Refusal> {
     for key in keys {
         release(world, pass, *key)?;
@@ -96,7 +96,7 @@ fn owner(world: &World<Tiny>, shard: u32) -> Option<u32> {
     None
 }
 
-// Has the first pass without a shard adopt the shard, if nobody owns it.
+// Lets the first pass without a shard adopt the shard, if nobody owns it.
 fn adopt(world: &mut World<Tiny>, shard: u32) -> Result<(), Refusal> {
     for pass in 0..world.shape().passes() {
         if owner(world, shard).is_none() {
@@ -106,7 +106,7 @@ fn adopt(world: &mut World<Tiny>, shard: u32) -> Result<(), Refusal> {
     Ok(())
 }
 
-// Has the pass follow the page's cursor to the end.
+// Lets the pass follow the page's cursor to the end.
 fn follow(world: &mut World<Tiny>, pass: u32, page: &Page) -> Result<(), Refusal> {
     for _ in 0..SLOT_PLACES {
         does(world, pass, Action::Follow(page.name()))?;
@@ -114,7 +114,7 @@ fn follow(world: &mut World<Tiny>, pass: u32, page: &Page) -> Result<(), Refusal
     Ok(())
 }
 
-// Has the owner collect all that was put on the page.
+// Lets the owner collect all that was put on the page.
 fn collect(world: &mut World<Tiny>, pass: u32, page: &Page) -> Result<(), Refusal> {
     does(world, pass, Action::ReadPage(page.name()))?;
     follow(world, pass, page)?;
@@ -122,7 +122,7 @@ fn collect(world: &mut World<Tiny>, pass: u32, page: &Page) -> Result<(), Refusa
     follow(world, pass, page)
 }
 
-// Has the owner follow the bell's cursor to the end.
+// Lets the owner follow the bell's cursor to the end.
 fn follow_bell(world: &mut World<Tiny>, pass: u32) -> Result<(), Refusal> {
     for _ in 0..world.shape().pages() {
         does(world, pass, Action::FollowBell)?;
@@ -130,14 +130,14 @@ fn follow_bell(world: &mut World<Tiny>, pass: u32) -> Result<(), Refusal> {
     Ok(())
 }
 
-// Has the owner collect all that was put on its bell.
+// Lets the owner collect all that was put on its bell.
 fn answer(world: &mut World<Tiny>, pass: u32) -> Result<(), Refusal> {
     follow_bell(world, pass)?;
     does(world, pass, Action::TakeBell)?;
     follow_bell(world, pass)
 }
 
-// Has the owner fill each slot of the page that is its own.
+// Lets the owner fill each slot of the page that is its own.
 fn fill(world: &mut World<Tiny>, pass: u32, page: &Page) -> Result<(), Refusal> {
     for slot in 0..page.slots {
         let value = Value::new(&[])?;
@@ -147,7 +147,7 @@ fn fill(world: &mut World<Tiny>, pass: u32, page: &Page) -> Result<(), Refusal> 
     Ok(())
 }
 
-// No pass is on a slot of the page, and each slot of its class has a value or is retired.
+// Asserts that no pass is on a slot of the page, and that each slot of its class has a value or is retired.
 fn assert_found(rt: &impl Abort, world: &World<Tiny>, page: &Page) {
     for slot in 0..SLOT_PLACES {
         let state = state_at(world, page.shard, page.page, slot).expect(rt, "it is a slot");
@@ -158,7 +158,7 @@ fn assert_found(rt: &impl Abort, world: &World<Tiny>, page: &Page) {
     assert_eq!(rt; found, page.slots, "{accounts:?}");
 }
 
-// Has the owner of a page's shard collect the page and fill what it found.
+// Lets the owner of a page's shard collect the page and fill the slots that it found.
 fn use_page(rt: &impl Abort, world: &mut World<Tiny>, page: &Page) -> Result<(), Refusal> {
     adopt(world, page.shard)?;
     let pass = owner(world, page.shard).expect(rt, "a shard that was left can be adopted");
@@ -167,7 +167,7 @@ fn use_page(rt: &impl Abort, world: &mut World<Tiny>, page: &Page) -> Result<(),
     fill(world, pass, page)
 }
 
-// The pass can leave, if it owns a shard.
+// Asserts that the pass can leave, if it owns a shard.
 fn assert_leaves(rt: &impl Abort, world: &mut World<Tiny>, pass: u32) -> Result<(), Refusal> {
     let part = world
         .parts()
@@ -179,7 +179,7 @@ fn assert_leaves(rt: &impl Abort, world: &mut World<Tiny>, pass: u32) -> Result<
     Ok(())
 }
 
-/// Asserts that nothing is lost. Each pass ends what it has begun and releases its holds; the owner collects each page
+/// Asserts that no slot is lost. Each pass ends what it has begun and releases its holds. The owner collects each page
 /// and fills each slot of its own. Then each slot has one value or is retired, and the owners can leave.
 pub fn assert_settles(rt: &impl Abort, alloc: Global, mut world: World<Tiny>) -> Result<(), Fail> {
     let keys = keys(alloc, &world)?;

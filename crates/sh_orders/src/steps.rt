@@ -1,5 +1,5 @@
-//! The steps of calls. Each call is listed by the longest way that it can go: a pass goes over the actions whose
-//! condition does not hold of its own part, so it goes the way that its hand says, as a caller does.
+//! The steps of calls. Each call is listed by the longest way that it can take. A pass skips the actions whose
+//! condition does not hold of its own part, so it takes the way of its hand, as a caller does.
 use sh_step::{Action, Event, PageName, SlotName};
 use sh_value::Value;
 use std::alloc::Global;
@@ -20,12 +20,12 @@ pub fn slot(number: u64) -> SlotName {
     }
 }
 
-// Adds what a pass does, and tells whether memory was given for it.
+// Adds an action of a pass, and returns whether there was memory for it.
 fn push(events: &mut Vec<Event>, pass: u32, action: Action) -> bool {
     events.push(Event { pass, action }).is_ok()
 }
 
-// Adds the insert of a word, and tells whether memory was given for it.
+// Adds the insert of a word, and returns whether there was memory for it.
 fn push_insert(events: &mut Vec<Event>, pass: u32, slot: SlotName, word: u64) -> bool {
     let value = Value::from(word);
     push(events, pass, Action::FillSlot(slot, value))
@@ -33,7 +33,7 @@ fn push_insert(events: &mut Vec<Event>, pass: u32, slot: SlotName, word: u64) ->
         && push(events, pass, Action::Publish)
 }
 
-/// What passes do, each in the order of the list.
+/// The steps of passes, each pass in the order of the list.
 #[derive(Drop)]
 pub struct Steps {
     events: Vec<Event>,
@@ -42,7 +42,7 @@ pub struct Steps {
 }
 
 impl Steps {
-    /// Nothing.
+    /// No steps.
     pub fn new(alloc: Global) -> Steps {
         Steps {
             events: Vec::new(alloc),
@@ -50,7 +50,7 @@ impl Steps {
         }
     }
 
-    /// These, where memory was given for each of them.
+    /// These steps, or a failure if memory was refused for one of them.
     pub fn complete(self) -> Result<Steps, Fail> {
         if self.refused {
             return Err(Fail::new("memory was refused for a step"));
@@ -63,7 +63,7 @@ impl Steps {
         &self.events
     }
 
-    /// And then the pass does the action.
+    /// Adds that the pass does the action.
     pub fn does(mut self, pass: u32, action: Action) -> Steps {
         if !push(&mut self.events, pass, action) {
             self.refused = true;
@@ -71,7 +71,7 @@ impl Steps {
         self
     }
 
-    /// And then the pass removes the key, up to where it has the empty slot.
+    /// Adds that the pass removes the key, up to the step that gives it the empty slot.
     pub fn empties(self, pass: u32, key: u64) -> Steps {
         self.does(pass, Action::EnterRemove(key))
             .does(pass, Action::Mark)
@@ -79,7 +79,7 @@ impl Steps {
             .does(pass, Action::Finish)
     }
 
-    /// And then the pass puts the empty slot that it has, if it is another's, on its page, and rings if it must.
+    /// Adds that the pass puts the empty slot that it has, if it is another's, on its page, and rings if it must.
     pub fn gives_back(self, pass: u32) -> Steps {
         self.does(pass, Action::Put)
             .does(pass, Action::Tie)
@@ -87,12 +87,12 @@ impl Steps {
             .does(pass, Action::RingTie)
     }
 
-    /// And then the pass removes the key.
+    /// Adds that the pass removes the key.
     pub fn removes(self, pass: u32, key: u64) -> Steps {
         self.empties(pass, key).gives_back(pass)
     }
 
-    /// And then the pass gets the key.
+    /// Adds that the pass gets the key.
     pub fn gets(self, pass: u32, key: u64) -> Steps {
         self.does(pass, Action::EnterGet(key))
             .does(pass, Action::Drop)
@@ -100,21 +100,21 @@ impl Steps {
             .gives_back(pass)
     }
 
-    /// And then the pass releases a hold on the key.
+    /// Adds that the pass releases a hold on the key.
     pub fn releases(self, pass: u32, key: u64) -> Steps {
         self.does(pass, Action::DropHold(key))
             .does(pass, Action::Finish)
             .gives_back(pass)
     }
 
-    /// And then the pass reads the class, the length and the one word of the value of a key that it holds.
+    /// Adds that the pass reads the class, the length and the one word of the value of a key that it holds.
     pub fn reads(self, pass: u32, key: u64) -> Steps {
         self.does(pass, Action::ReadClass(key))
             .does(pass, Action::ReadLength(key))
             .does(pass, Action::ReadWord(key, 0))
     }
 
-    /// And then the pass inserts the word in a slot of its own.
+    /// Adds that the pass inserts the word in a slot of its own.
     pub fn inserts(mut self, pass: u32, slot: SlotName, word: u64) -> Steps {
         if !push_insert(&mut self.events, pass, slot, word) {
             self.refused = true;
@@ -122,7 +122,7 @@ impl Steps {
         self
     }
 
-    /// And then the pass inserts so many values of one word in the first slots of the first page, which are its own.
+    /// Adds that the pass inserts `values` values of one word in the first slots of the first page, which are its own.
     pub fn inserts_first(mut self, pass: u32, values: u64) -> Steps {
         for number in 0..values {
             if !push_insert(&mut self.events, pass, slot(number), number) {
@@ -132,19 +132,19 @@ impl Steps {
         self
     }
 
-    /// And then the pass takes what was put on the page, and follows it at most so many times.
+    /// Adds that the pass takes what was put on the page, and follows it at most `times` times.
     pub fn collects(self, pass: u32, page: PageName, times: u32) -> Steps {
         self.does(pass, Action::Take(page))
             .follows(pass, page, times)
     }
 
-    /// And then the pass arms the page, and follows what it took at most so many times.
+    /// Adds that the pass arms the page, and follows what it took at most `times` times.
     pub fn arms(self, pass: u32, page: PageName, times: u32) -> Steps {
         self.does(pass, Action::Arm(page))
             .follows(pass, page, times)
     }
 
-    // And then the pass follows the page's cursor, at most so many times.
+    // Adds that the pass follows the page's cursor, at most `times` times.
     fn follows(mut self, pass: u32, page: PageName, times: u32) -> Steps {
         for _ in 0..times {
             if !push(&mut self.events, pass, Action::Follow(page)) {
@@ -154,7 +154,7 @@ impl Steps {
         self
     }
 
-    /// And then the pass takes the bell, and follows it at most so many times.
+    /// Adds that the pass takes the bell, and follows it at most `times` times.
     pub fn answers(self, pass: u32, times: u32) -> Steps {
         let mut steps = self.does(pass, Action::TakeBell);
         for _ in 0..times {
@@ -165,19 +165,19 @@ impl Steps {
         steps
     }
 
-    /// And then the pass adopts the shard, if nobody owns it, and reads its first page.
+    /// Adds that the pass adopts the shard, if nobody owns it, and reads its first page.
     pub fn adopts(self, pass: u32, shard: u64) -> Steps {
         self.does(pass, Action::Adopt(shard))
             .does(pass, Action::ReadPage(PageName { shard, page: 0 }))
     }
 
-    /// And then the pass adopts the shard and gives its first page a class.
+    /// Adds that the pass adopts the shard and gives its first page a class.
     pub fn opens(self, pass: u32, shard: u64, class: u64) -> Steps {
         self.adopts(pass, shard)
             .does(pass, Action::SetClass(PageName { shard, page: 0 }, class))
     }
 
-    /// And then the pass puts a slot of its own on its page.
+    /// Adds that the pass puts a slot of its own on its page.
     pub fn puts(self, pass: u32, slot: SlotName) -> Steps {
         self.does(pass, Action::PutSlot(slot))
             .does(pass, Action::Tie)

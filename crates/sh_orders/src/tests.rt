@@ -21,17 +21,17 @@ const FIRST: u64 = 4096;
 // The key of the slot after it.
 const SECOND: u64 = 4097;
 
-// How much greater the key of a slot is in its next generation.
+// The difference between the keys of a slot in two generations, one after the other.
 const GENERATION: u64 = 4096;
 
-// Pass 0 owns the shard, and its first page has this many values of one word, in its first slots, of three.
+// Pass 0 owns the shard, and its first page of three slots has `values` values of one word, in its first slots.
 fn opened(alloc: Global, values: u64) -> Steps {
     Steps::new(alloc)
         .opens(0, 0, WIDEST)
         .inserts_first(0, values)
 }
 
-// Walks what passes do with a heap of this shape that was brought to a state, and prints the counts.
+// Walks the steps of passes on a heap of this shape that was brought to a state, and prints the counts.
 fn walked(
     rt: &(impl Abort + Print),
     alloc: Global,
@@ -53,24 +53,24 @@ fn walked(
     Ok(walked)
 }
 
-// What was found is what is wanted. It is a function, since each assertion that is written out is proved anew.
+// Asserts that two values are equal. It is a function, since each assertion in the text is proved anew.
 fn agree<T: PartialEq + Debug + Drop>(rt: &impl Abort, found: T, wanted: T) {
     assert_eq!(rt; found, wanted);
 }
 
-// So many orders lead to a state in which all of these are so.
+// Asserts that `orders` orders lead to an end state in which all of these facts hold.
 fn leads(rt: &impl Abort, walked: &Walked, facts: &[Fact], orders: u64) {
     agree(rt, walked.orders_with(facts), orders);
 }
 
-// Each of these counts some orders.
+// Asserts that none of these counts is 0.
 fn are_some(rt: &impl Abort, counts: &[u64]) {
     for count in counts {
         agree(rt, *count > 0, true);
     }
 }
 
-// There are so many orders.
+// Asserts that there are `orders` orders.
 fn has_orders(rt: &impl Abort, walked: &Walked, orders: u64) {
     agree(rt, walked.orders(), orders);
 }

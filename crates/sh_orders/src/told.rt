@@ -1,4 +1,4 @@
-//! What a state is, as a text.
+//! The text of a state.
 use crate::moment::Moment;
 use crate::program::Program;
 use sh_history::Entry;
@@ -11,7 +11,7 @@ use std::fmt::Write;
 // The class word of a page without a class, which is its first word.
 const BLANK: u64 = 0;
 
-// The words that are not as they were when the heap opened.
+// Writes the words that differ from those of the heap as it opened.
 fn tell_words(text: &mut String, words: &[u64], opening: &[u64]) -> Result<(), AllocError> {
     for (number, (word, first)) in words.iter().zip(opening).enumerate() {
         if word != first {
@@ -21,7 +21,7 @@ fn tell_words(text: &mut String, words: &[u64], opening: &[u64]) -> Result<(), A
     Ok(())
 }
 
-// What a part has of a page.
+// Writes what a part has of a page.
 fn tell_page(text: &mut String, part: &Part, page: u64) -> Result<(), AllocError> {
     let class = part.class_noted(page);
     let cursor = part.cursor(page);
@@ -35,7 +35,7 @@ fn tell_page(text: &mut String, part: &Part, page: u64) -> Result<(), AllocError
     Ok(())
 }
 
-// What a part has of a key.
+// Writes what a part has of a key.
 fn tell_key(text: &mut String, part: &Part, key: u64) -> Result<(), AllocError> {
     let held = part.has_hold(key);
     let class_word = part.class_word_of(key);
@@ -43,7 +43,7 @@ fn tell_key(text: &mut String, part: &Part, key: u64) -> Result<(), AllocError> 
     write!(text, " key {key} {held} {class_word:?} {length:?}")
 }
 
-// What a part has, of the pages with a class and of the keys that the log knows.
+// Writes what a part has, of the pages with a class and of the keys in the log.
 fn tell_part(
     text: &mut String,
     part: &Part,
@@ -68,9 +68,9 @@ fn tell_part(
     Ok(())
 }
 
-/// All of a state that a later step or check looks at: which event each pass does next, the words, what the parts have,
-/// and the whole log. So two states with one text go on in the same ways, to the same ends. The order in the lists of a
-/// part is left out, and so are the words of a value that it read: no condition looks at them.
+/// The text of all that a later step or check reads of a state: the next event of each pass, the words, what the parts
+/// have, and the whole log. So two states with one text have the same further steps and the same ends. The text leaves
+/// out the order in the lists of a part and the words of a value that it read: no condition reads them.
 pub fn told(
     alloc: Global,
     program: &Program,

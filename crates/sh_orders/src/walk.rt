@@ -1,4 +1,4 @@
-//! Walking all orders of a program's steps.
+//! Walks all orders of a program's steps.
 use crate::always::assert_always;
 use crate::facts::{Fact, are_so};
 use crate::moment::Moment;
@@ -13,12 +13,12 @@ use std::collections::btree_map::Entry;
 use std::process::Abort;
 use std::test::Fail;
 
-// A state, by one order that leads to it.
+// A state, given by one order that leads to it.
 #[derive(Drop)]
 struct State {
-    // Whose step is first, whose is second, and on.
+    // The numbers of the passes, one for each step in order.
     order: Vec<u32>,
-    // How many orders lead to it.
+    // The number of orders that lead to it.
     orders: u64,
 }
 
@@ -27,26 +27,26 @@ struct State {
 pub struct End {
     /// The heap.
     pub world: World<Tiny>,
-    /// How many orders lead to it.
+    /// The number of orders that lead to it.
     pub orders: u64,
 }
 
-/// What came of a walk.
+/// The result of a walk.
 #[derive(Drop)]
 pub struct Walked {
-    /// How many states were met: of those after one number of steps each is counted once.
+    /// The number of states that were met. States after the same number of steps are counted once each.
     pub states: u64,
     /// The end states.
     pub ends: Vec<End>,
 }
 
 impl Walked {
-    /// How many orders there are.
+    /// The number of orders.
     pub fn orders(&self) -> u64 {
         self.orders_with(&[])
     }
 
-    /// How many orders lead to an end state in which all of these are so.
+    /// The number of orders that lead to an end state in which all of these facts hold.
     pub fn orders_with(&self, facts: &[Fact]) -> u64 {
         let mut orders = 0u64;
         for end in &self.ends {
@@ -58,7 +58,7 @@ impl Walked {
     }
 }
 
-// Who walks a program.
+// The fixed input of a walk.
 #[derive(Drop)]
 struct Walker<'p> {
     alloc: Global,
@@ -67,7 +67,7 @@ struct Walker<'p> {
 }
 
 impl Walker<'_> {
-    // Puts the state after a further step of the pass among the next ones, and tells whether there is such a step.
+    // Puts the state after a further step of the pass among the next ones, and returns whether there is a further step.
     fn step(
         &self,
         rt: &impl Abort,
@@ -98,7 +98,7 @@ impl Walker<'_> {
         Ok(true)
     }
 
-    // Puts the states after one further step among the next ones, and tells whether there are any.
+    // Puts the states after one further step among the next ones, and returns whether there are any.
     fn go_on(
         &self,
         rt: &impl Abort,
@@ -112,7 +112,7 @@ impl Walker<'_> {
         Ok(goes_on)
     }
 
-    // The end state, once it is seen that it settles.
+    // Asserts that the end state settles, and returns it.
     fn end(&self, rt: &impl Abort, state: &State) -> Result<End, Fail> {
         let order = state.order.as_slice();
         let settling = Moment::after(self.alloc, self.program, order)?;
@@ -141,8 +141,8 @@ impl Walker<'_> {
     }
 }
 
-/// Walks all orders in which the passes can do their steps, one number of steps after the other. A state that two
-/// orders of one length lead to is walked on from once.
+/// Walks all orders in which the passes can do their steps, one number of steps after the other. If two orders of one
+/// length lead to the same state, the walk continues from it only once.
 pub fn walk(rt: &impl Abort, alloc: Global, program: &Program) -> Result<Walked, Fail> {
     let opening = World::new(alloc, program.shape)?;
     let walker = Walker {

@@ -11,11 +11,11 @@ const HEAD: usize = 1;
 // The bell of a heap of one shard, which has eight pages.
 const BELL: usize = 1561;
 
-// What a bell says on which the first page is.
+// The word of a bell on which the first page is.
 const RUNG: u64 = 1;
 
-// Of two that free into an armed page the one that puts first rings, so it makes eight steps and the other six. Of the
-// orders of eight steps and six steps 2289 have the fifth one of the eight before the fifth one of the six.
+// Two passes free into an armed page. The one that puts first rings, so it makes eight steps and the other six. In 2289
+// orders of eight and six steps the fifth of the eight comes before the fifth of the six.
 #[test]
 fn one_of_two_frees_rings(rt: HostRuntime) -> Result<(), Fail> {
     let before = opened(rt.alloc(), 2).arms(0, PAGE, 0);
@@ -26,8 +26,8 @@ fn one_of_two_frees_rings(rt: HostRuntime) -> Result<(), Fail> {
     Ok(())
 }
 
-// A free into a page that was armed before it puts rings: one order. Where it puts first, arming takes the slot, and
-// following it twice finds the link once it is stored: in three of four orders.
+// A free rings if the page was armed before its put, which is one order. If it puts first, arming takes the slot, and
+// one of two follows finds the link if it is stored by then: in three of four orders.
 #[test]
 fn arming_beside_a_free(rt: HostRuntime) -> Result<(), Fail> {
     let before = opened(rt.alloc(), 1).empties(1, FIRST);
@@ -40,8 +40,8 @@ fn arming_beside_a_free(rt: HostRuntime) -> Result<(), Fail> {
     Ok(())
 }
 
-// A removal into an armed page, an owner that answers its bell and collects, and a visitor. The owner finds the slot
-// with the ring or without it, and one that collects before the ring has the page armed until it answers the bell.
+// A removal into an armed page, an owner that takes its bell and collects, and a visitor. The owner finds the slot with
+// the ring or without it. If it collects before the ring, the page stays armed until it takes the bell.
 #[test]
 fn a_removal_beside_an_owner_that_answers_and_collects(rt: HostRuntime) -> Result<(), Fail> {
     let before = opened(rt.alloc(), 1).arms(0, PAGE, 0);
@@ -59,8 +59,8 @@ fn a_removal_beside_an_owner_that_answers_and_collects(rt: HostRuntime) -> Resul
     Ok(())
 }
 
-// Two frees beside an owner that answers the bell and arms the page again: the page waits for no ring that does not
-// come, since in each end the owner can leave once it has answered.
+// Two frees beside an owner that takes the bell and arms the page again. The page never waits for a ring that does not
+// come: in each end state the owner can leave after it has taken the bell.
 #[test]
 fn two_frees_beside_an_owner_that_arms_again(rt: HostRuntime) -> Result<(), Fail> {
     let before = opened(rt.alloc(), 2).arms(0, PAGE, 0);
@@ -85,8 +85,8 @@ const SECOND_PAGE: PageName = PageName { shard: 0, page: 1 };
 // The key of its first slot: a page more.
 const THERE: u64 = FIRST + 64;
 
-// The first slot of a page is filled and freed by a pass, which rings; the owner hears it, collects the slot, fills it
-// again and arms the page again.
+// The owner fills the first slot of a page, and a pass frees it and rings. The owner takes the bell, collects the slot,
+// fills it again and arms the page again.
 fn freed_once(before: Steps, pass: u32, page: PageName, key: u64) -> Steps {
     let slot = SlotName {
         shard: page.shard,
@@ -131,8 +131,8 @@ fn two_rings_under_a_follow(rt: HostRuntime) -> Result<(), Fail> {
     Ok(())
 }
 
-// Two owners each remove the other's value, and then answer their bells and collect. Who takes its page last finds its
-// slot there, since the other had removed before it took its own: so there is no order in which both lack one.
+// Two owners each remove the other's value, and then take their bells and collect. The one that takes its page last
+// finds its slot there, since the other had removed before it took its own. So in no order both lack a slot.
 #[test]
 fn two_owners_free_each_others_values(rt: HostRuntime) -> Result<(), Fail> {
     let other = PageName { shard: 1, page: 0 };

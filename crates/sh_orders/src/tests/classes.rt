@@ -7,9 +7,9 @@ use std::test::Fail;
 // The class of four slots, one more than the widest one has.
 const FOUR_SLOTS: u64 = 6;
 
-// An owner removes what another holds, collects, and gives the page another class if all of it is its own. By hand
-// there are nine orders: three in which the hold goes first; three in which the owner takes before the holder puts, and
-// so keeps the class; and of three in which it takes later one in which it meets a link that is not stored.
+// An owner removes what another pass holds, collects, and changes the page's class if all slots are its own. Counted by
+// hand there are nine orders: in three the hold goes first. In three the owner takes before the holder puts, and so
+// keeps the class. In three it takes later, and in one of these it meets a link that is not stored.
 #[test]
 fn a_class_changes_beside_a_late_release(rt: HostRuntime) -> Result<(), Fail> {
     let before = opened(rt.alloc(), 1).gets(1, FIRST);

@@ -5,8 +5,8 @@ use sh_step::Action;
 use std::test::Fail;
 
 // The owner leaves and another pass adopts and collects, while a third one puts a slot and ties it. The page has two
-// slots that the owner put. By hand there are 38 orders: 6 in which the adopter finds the shard taken, 6 in which it
-// takes the page before the put, and 26 in which it takes it later and follows three times.
+// slots that the owner put. Counted by hand there are 38 orders: in 6 the adopter finds the shard taken, in 6 it takes
+// the page before the put, and in 26 it takes it later and follows three times.
 #[test]
 fn a_shard_changes_hands_between_put_and_tie(rt: HostRuntime) -> Result<(), Fail> {
     let before = opened(rt.alloc(), 1)
@@ -25,8 +25,8 @@ fn a_shard_changes_hands_between_put_and_tie(rt: HostRuntime) -> Result<(), Fail
     Ok(())
 }
 
-// A shard that is left has one owner at most. Of ten orders two have both adopters before the leave, so that nobody
-// owns the shard; in the others each is as often the owner.
+// A shard that is left has at most one owner. In two of ten orders both adopters come before the leave, so that nobody
+// owns the shard. In the other eight each of them is the owner in four.
 #[test]
 fn one_of_two_adopters_owns(rt: HostRuntime) -> Result<(), Fail> {
     let before = opened(rt.alloc(), 0)
@@ -47,8 +47,8 @@ fn one_of_two_adopters_owns(rt: HostRuntime) -> Result<(), Fail> {
     Ok(())
 }
 
-// An owner whose value is removed while another visits it leaves where the visitor frees the slot. Where it frees the
-// slot itself it has a slot of its own, and keeps the shard.
+// An owner removes its value while another pass visits it. If the visitor frees the slot, the owner leaves. If the
+// owner frees the slot itself, it has a slot of its own, and keeps the shard.
 #[test]
 fn an_owner_with_a_slot_of_its_own_stays(rt: HostRuntime) -> Result<(), Fail> {
     let before = opened(rt.alloc(), 1).puts(0, slot(1)).puts(0, slot(2));

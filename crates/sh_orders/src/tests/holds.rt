@@ -5,8 +5,8 @@ use sh_history::Entry;
 use sh_value::Value;
 use std::test::Fail;
 
-// A value's last hold frees it where it is released after the removal gave its count back. That is one order of four:
-// in the other three it is released before.
+// A value's last hold frees it if it is released after the removal gave its count back. That is one order of four: in
+// the other three it is released before.
 #[test]
 fn a_last_hold_frees(rt: HostRuntime) -> Result<(), Fail> {
     let before = opened(rt.alloc(), 1).gets(1, FIRST);
@@ -18,9 +18,9 @@ fn a_last_hold_frees(rt: HostRuntime) -> Result<(), Fail> {
     Ok(())
 }
 
-// A key may have four holds and has three. Two passes get it while one hold is released: the second get is crowded
-// where the release comes after both. Then the crowded one gives its count back before the release or after it, so of
-// eight orders four have a crowded get.
+// A key may have four holds and has three. Two passes get it while one hold is released: the second get is crowded if
+// the release comes after both. Then the crowded one gives its count back before the release or after it, so four of
+// eight orders have a crowded get.
 #[test]
 fn a_fifth_hold_is_crowded(rt: HostRuntime) -> Result<(), Fail> {
     let before = opened(rt.alloc(), 1)
@@ -40,7 +40,7 @@ fn a_fifth_hold_is_crowded(rt: HostRuntime) -> Result<(), Fail> {
     Ok(())
 }
 
-// A get that is crowded is on the slot for a moment, and so may be the one that frees it.
+// A get that is crowded is on the slot for a moment, so it may be the one that frees the slot.
 #[test]
 fn a_crowded_get_beside_a_removal(rt: HostRuntime) -> Result<(), Fail> {
     let before = opened(rt.alloc(), 1)
@@ -76,8 +76,8 @@ fn a_crowded_get_beside_a_removal(rt: HostRuntime) -> Result<(), Fail> {
     Ok(())
 }
 
-// A value can be got once it is published. A get that enters before finds nothing, and gives its count back at any time
-// later: that makes nine orders, and one in which it enters last.
+// A value can be got after it is published. A get that enters before finds nothing, and gives its count back at any
+// later time: that makes nine orders. In one more order it enters last.
 #[test]
 fn a_get_beside_an_insert(rt: HostRuntime) -> Result<(), Fail> {
     let before = opened(rt.alloc(), 0);
@@ -95,7 +95,7 @@ fn a_get_beside_an_insert(rt: HostRuntime) -> Result<(), Fail> {
     Ok(())
 }
 
-// What is held and read stays, though it is removed and the owner uses again what it finds.
+// A held value can be read, though it is removed and the owner reuses each slot that it finds.
 #[test]
 fn a_held_value_is_read_beside_its_removal(rt: HostRuntime) -> Result<(), Fail> {
     let before = opened(rt.alloc(), 1).gets(1, FIRST);

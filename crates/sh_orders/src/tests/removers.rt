@@ -4,8 +4,8 @@ use crate::steps::{Steps, slot};
 use sh_history::Entry;
 use std::test::Fail;
 
-// Of two that remove one key one is answered that it did, and the other that it is gone. By hand there are 21 orders
-// in which the first one marks first: 6 where both entered before that mark, and 15 where the other entered later.
+// Two passes remove one key: one removes it, and the other finds it gone. Counted by hand there are 21 orders in which
+// the first one marks first: in 6 both entered before that mark, and in 15 the other entered later.
 #[test]
 fn one_of_two_removers_removes(rt: HostRuntime) -> Result<(), Fail> {
     let before = opened(rt.alloc(), 1);
@@ -22,7 +22,7 @@ fn one_of_two_removers_removes(rt: HostRuntime) -> Result<(), Fail> {
     Ok(())
 }
 
-// Whoever is the last on a slot that is marked frees it: the owner for itself, another onto the page.
+// The last pass on a slot that is marked frees it: the owner keeps it, and any other pass puts it on the page.
 #[test]
 fn the_last_of_three_visitors_frees(rt: HostRuntime) -> Result<(), Fail> {
     let before = opened(rt.alloc(), 1);
@@ -40,7 +40,7 @@ fn the_last_of_three_visitors_frees(rt: HostRuntime) -> Result<(), Fail> {
     Ok(())
 }
 
-// A visitor that found its key gone may be the last one on the slot in the generation after.
+// A visitor that found its key gone may be the last pass on the slot in the next generation.
 #[test]
 fn a_late_visitor_frees_the_next_generation(rt: HostRuntime) -> Result<(), Fail> {
     let second = FIRST + GENERATION;
@@ -61,7 +61,7 @@ fn a_late_visitor_frees_the_next_generation(rt: HostRuntime) -> Result<(), Fail>
     Ok(())
 }
 
-// A slot whose last generation ends is nobody's, whoever was the last one on it.
+// A slot whose last generation ends is nobody's, no matter which pass was the last on it.
 #[test]
 fn a_last_generation_retires(rt: HostRuntime) -> Result<(), Fail> {
     let second = FIRST + GENERATION;

@@ -3,8 +3,8 @@ use crate::facts::Fact;
 use crate::steps::{PAGE, Steps, slot};
 use std::test::Fail;
 
-// Two frees go on independently of each other where nobody arms and nobody collects: six steps and six steps can be
-// ordered in 924 ways.
+// Two frees run independently of each other if nobody arms and nobody collects: six steps and six steps have 924
+// orders.
 #[test]
 fn two_frees_do_not_wait_for_each_other(rt: HostRuntime) -> Result<(), Fail> {
     let before = opened(rt.alloc(), 2);
@@ -15,8 +15,9 @@ fn two_frees_do_not_wait_for_each_other(rt: HostRuntime) -> Result<(), Fail> {
     Ok(())
 }
 
-// Two passes put a slot each and tie it, while the owner takes the page and follows it twice. By hand: it takes before
-// both puts in 6 orders, between them in 58, after both in 48; and in 20 of those each link is stored as it is read.
+// Two passes put a slot each and tie it, while the owner takes the page and follows it twice. Counted by hand, it takes
+// before both puts in 6 orders, between them in 58, and after both in 48. In 20 of those 48 each link is stored when it
+// is read.
 #[test]
 fn two_frees_under_a_follow(rt: HostRuntime) -> Result<(), Fail> {
     let before = opened(rt.alloc(), 2).empties(1, FIRST).empties(2, SECOND);
@@ -30,9 +31,9 @@ fn two_frees_under_a_follow(rt: HostRuntime) -> Result<(), Fail> {
     Ok(())
 }
 
-// A slot that was put and collected before is put again, on top of another, while the owner collects: what its link
-// said before is not read again. By hand there are seven orders: three in which the owner takes before the put, and
-// four in which it takes later, two of which have the link stored before it is read first.
+// A slot that was put and collected before is put again, on top of another, while the owner collects: its old link is
+// not read again. Counted by hand there are seven orders. In three the owner takes before the put, and in four later.
+// In two of these four the link is stored before it is first read.
 #[test]
 fn a_slot_is_put_again_under_a_follow(rt: HostRuntime) -> Result<(), Fail> {
     let before = opened(rt.alloc(), 2)
