@@ -1,4 +1,4 @@
-//! What a reader of the library's front page would try, call by call.
+//! Tests of the calls that a reader of the library's front page would try first.
 ghost use Rattle.std.specs.Prelude.{◌≡◌};
 
 mod filling;
@@ -19,12 +19,12 @@ use std::process::Abort;
 // The key of the first value of a heap of layout `Wide`: generation 1 of slot 0 of page 0 of shard 0.
 const FIRST_KEY: u64 = 16_777_216;
 
-// What was found is what is wanted. It is a function, since each assertion that is written out is proved anew.
+// Asserts that two values are equal. It is a function, since each assertion in the text is proved anew.
 fn agree<T: PartialEq + Debug + Drop>(rt: &impl Abort, found: T, wanted: T) {
     assert_eq!(rt; found, wanted);
 }
 
-// A heap of one shard of one segment, with so many passes.
+// A heap of one shard of one segment, with `passes` passes.
 fn opened(rt: &impl Abort, alloc: Global, passes: u32) -> (Heap<Wide>, Seats<Wide>)
     ensures { result.1 ≡ result.0 }
 {
@@ -32,7 +32,7 @@ fn opened(rt: &impl Abort, alloc: Global, passes: u32) -> (Heap<Wide>, Seats<Wid
     Heap::<Wide>::open(alloc, shape).expect(rt, "a heap")
 }
 
-// The owner of its shard, and a pass that looks values up.
+// The owner of its shard, and a pass that looks up values.
 fn owner_and_reader<'a>(
     rt: &impl Abort,
     alloc: Global,

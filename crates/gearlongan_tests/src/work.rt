@@ -82,7 +82,7 @@ fn passes_of<'a>(
     Ok(passes)
 }
 
-/// Runs all tasks. Returns how many values the heap has then, or `None` if not all of its passes came back.
+/// Runs all tasks. Returns the number of values of the heap after that, or `None` if not all of its passes came back.
 pub fn live_after<'a, R: Threads + Sync>(
     rt: &R,
     alloc: Global,

@@ -1,5 +1,5 @@
-//! One thread stores values and sends their keys over a channel, each with a receipt of its insert; another fetches
-//! them. So a key is Gone there only if someone removed it, which the first thread does with every third.
+//! One thread stores values and sends their keys over a channel, each with a receipt of its insert. Another thread
+//! fetches the values. So a key is `Gone` there only if a call removed it: the first thread removes every third key.
 #![tactic(auto)]
 
 mod message;
@@ -17,7 +17,7 @@ use std::sync::Wait;
 use std::thread::Threads;
 use std::{io, thread};
 
-// How many values are stored, and how many messages wait at most.
+// The number of values that are stored, and the greatest number of messages in the channel.
 const VALUES: u64 = 12;
 
 const WAITING: usize = 4;
@@ -60,7 +60,7 @@ fn store_all<R: Wait, B: Room>(
     Ok(())
 }
 
-// What became of the keys.
+// The results of fetching the keys.
 #[derive(Clone, Copy, Drop)]
 struct Counts {
     read: u64,
@@ -107,14 +107,14 @@ fn fetch_all<R: Wait, B: Room>(
     Ok(counts)
 }
 
-// What came of it. How many values the heap has in the end is known where both passes met.
+// The result of a run. `left` is the number of values of the heap at the end, if both passes are joined.
 #[derive(Drop)]
 struct Story {
     counts: Counts,
     left: Option<u32>,
 }
 
-// Runs both, each in a thread of its own where one can be made.
+// Runs both, each in a thread of its own if one can be made.
 fn run_both<'a, R: Threads + Wait + Sync, B: Room + Send>(
     rt: &R,
     storing: Storing<'a, B>,
@@ -137,7 +137,7 @@ fn run_both<'a, R: Threads + Wait + Sync, B: Room + Send>(
     Ok((owner, pass, counts))
 }
 
-// How many values the heap has, where all its passes have met.
+// The number of values of the heap, or `None` if not all its passes are joined.
 fn live(heap: &Heap<Wide>, passes: Vec<Pass<'_, Wide>>) -> Option<u32>
     requires { AreOf heap.now passes.items }
 {

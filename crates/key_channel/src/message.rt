@@ -5,7 +5,7 @@ ghost use Rattle.gearlongan.specs.Receipts.{GoneIfRemoved};
 use gearlongan::{KeyLayout, Pass, Refusal, Shard, ToldKey, Value, fetch_told, insert_told};
 use std::marker::{Brand, Model, PhantomData};
 
-/// The heap that all messages of a channel are of. Each run picks it, so that a reader need not look.
+/// Names the heap of all messages of a channel. Each run chooses it, so a receiver need not check it.
 pub trait Room {
     ghost use Rattle.std.specs.Prelude.{Option};
     ghost use Rattle.gearlongan.specs.Passes.{Heap};
@@ -19,7 +19,7 @@ impl Room for Brand {
     ghost heap = { None };
 }
 
-/// A key, with a receipt that tells of its insert. A contract sees the key.
+/// A key, with a receipt that covers its insert. A contract sees the key.
 #[derive(Drop)]
 pub struct Message<B: Room> {
     told: ToldKey,
@@ -38,7 +38,7 @@ impl<B: Room> Model for Message<B> {
 }
 
 impl<B: Room> Message<B> {
-    /// Stores a value, and makes the message that tells of it.
+    /// Stores a value, and returns the message with its key and a receipt.
     pub fn store<L: KeyLayout>(owner: &mut Shard<'_, L>, value: &Value) -> Result<Self, Refusal>
         requires { Some owner.old.pages.owner.heap ≡ B.heap }
         ensures { owner.new.pages.owner.heap ≡ owner.old.pages.owner.heap }
@@ -50,14 +50,14 @@ impl<B: Room> Message<B> {
         })
     }
 
-    /// Its key.
+    /// The key of the message.
     pub fn key(&self) -> u64
         ensures { result ≡ self.now }
     {
         self.told.key
     }
 
-    /// The value of the key, which is `Gone` only if someone removed it.
+    /// Fetches the value of the key. It is `Gone` only if a call removed it.
     pub fn fetch<L: KeyLayout>(self, pass: &mut Pass<'_, L>) -> Result<Value, Refusal>
         requires { Some pass.old.heap ≡ B.heap }
         ensures heap { pass.new.heap ≡ pass.old.heap }

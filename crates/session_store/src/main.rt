@@ -1,7 +1,8 @@
-//! A store of sessions. Two owners open sessions, each in a thread and a shard of its own. Two readers look all of them
-//! up by their keys at the same time, and end those that are old. At last all passes meet, and the heap is counted.
+//! A store of sessions. Two owners open sessions, each in a thread and a shard of its own. Two readers look up all of
+//! them by their keys at the same time, and end the old ones. At the end all passes are joined, and the sessions
+//! counted.
 //!
-//! Each old session is ended by one reader alone, whichever comes first.
+//! Exactly one reader ends each old session: the one that comes first.
 #![tactic(auto)]
 
 ghost use Rattle.std.specs.Prelude.{◌≡◌, IfOk};
@@ -18,10 +19,10 @@ use std::thread::Threads;
 // A session that was last seen before this time is old.
 const OLD: u64 = 100;
 
-// A pass, and what was done with it.
+// A pass, with the result of its work.
 type Done<'a, T> = Result<(Pass<'a, Wide>, T), Refusal>;
 
-// Opens a session in a shard of its own for each of these users, and answers the keys.
+// Opens a session for each of these users, in a shard of its own, and returns the keys.
 #[derive(Drop)]
 struct Opening<'a> {
     pass: Pass<'a, Wide>,
@@ -42,7 +43,7 @@ impl<'a> Task for Opening<'a> {
     }
 }
 
-// A session is its user, and when it was last seen.
+// Opens a session for each user. A session has two words: its user, and the time when it was last seen.
 fn opened(owner: &mut Shard<'_, Wide>, users: &[u64], alloc: Global) -> Result<Vec<u64>, Refusal>
     ensures { owner.new.pages.owner.heap ≡ owner.old.pages.owner.heap }
 {
@@ -53,7 +54,7 @@ fn opened(owner: &mut Shard<'_, Wide>, users: &[u64], alloc: Global) -> Result<V
     Ok(keys)
 }
 
-// Ends those of these sessions that are old, and answers the keys of those that it ended itself.
+// Ends the old ones of these sessions, and returns the keys of those that it ended itself.
 #[derive(Drop)]
 struct Sweeping<'a, 'k> {
     pass: Pass<'a, Wide>,
@@ -85,7 +86,7 @@ fn swept(reader: &mut Pass<'_, Wide>, keys: &[u64], alloc: Global) -> Result<Vec
     Ok(ended)
 }
 
-// Ends the session of a key where it is old. False also where another reader ended it first.
+// Ends the session of a key if it is old. Returns false too if another reader ended it first.
 fn ends(reader: &mut Pass<'_, Wide>, key: u64) -> Result<bool, Refusal>
     ensures { reader.new.heap ≡ reader.old.heap }
 {
@@ -111,16 +112,16 @@ fn is_old(session: &Value) -> bool {
     }
 }
 
-// What came of it.
+// The result of a run.
 #[derive(Drop)]
 struct Story {
     opened: usize,
     ended: usize,
-    // None where not all passes came back.
+    // `None` if not all passes came back.
     totals: Option<Totals>,
 }
 
-// Two owners open sessions, each in its thread. Answers their passes, and all keys.
+// Two owners open sessions, each in its thread. Returns their passes, and all keys.
 fn opened_by_two<'a>(
     rt: &impl Threads,
     alloc: Global,
@@ -151,7 +152,7 @@ fn opened_by_two<'a>(
     Ok((one, two, keys))
 }
 
-// Two readers end what is old, each in its thread. Answers their passes, and how many sessions they ended.
+// Two readers end the old sessions, each in its thread. Returns their passes, and the number of sessions they ended.
 fn swept_by_two<'a>(
     rt: &impl Threads,
     alloc: Global,
@@ -181,7 +182,7 @@ fn swept_by_two<'a>(
     Ok((one, two, ended.len()))
 }
 
-// All passes meet, and what the heap has is counted.
+// Joins all passes, and counts the values of the heap. `None` if not all passes came back.
 fn counted<'a>(heap: &'a Heap<Wide>, passes: Vec<Pass<'a, Wide>>) -> Option<Totals>
     requires { AreOf heap.now passes.items }
 {

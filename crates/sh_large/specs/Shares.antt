@@ -1,4 +1,4 @@
--- How things are shared out among four, and added up again.
+-- The shares of four threads, and their sum.
 use Rattle.std.specs.Prelude.{ℕ, ◌+◌, ◌-◌, ◌/◌, vec_len}
 use Rattle.sh_large.specs.declared.crew.Four.{Four}
 use Rattle.sh_large.specs.declared.filling.Filled.{Filled}
@@ -7,6 +7,6 @@ use Rattle.sh_large.specs.declared.filling.Filled.{Filled}
 abbrev pub share : (count number : ℕ) → ℕ
 share count number = (count + 3 - number) / 4
 
--- how many keys all four have
+-- the number of keys that all four have
 abbrev pub keys_of : Four Filled → ℕ
 keys_of f = vec_len f.one.keys + vec_len f.two.keys + vec_len f.three.keys + vec_len f.four.keys

@@ -1,8 +1,8 @@
--- What is known of the counts.
+-- What is proved of the counts.
 use Rattle.std.specs.Prelude.{◌≡◌, ◌≤◌, ℕ}
 use Rattle.sh_large.specs.declared.story.Story.{Story}
 
--- all values were inserted, both times, and no more of them were read and removed
+-- all values were inserted, both times, and the numbers of values read and removed are not greater
 pub record TellsOf (values : ℕ) (s : Story) : Type 0 where
   pub inserted : s.inserted ≡ values
   pub right : s.right ≤ values

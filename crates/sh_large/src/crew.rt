@@ -5,7 +5,7 @@ use crate::worker::Worker;
 use gearlongan::{KeyLayout, Refusal, Task, both};
 use std::thread::{Threads, join};
 
-/// One of each thread.
+/// One item for each thread.
 #[derive(Drop)]
 pub struct Four<T> {
     pub one: T,
@@ -14,14 +14,14 @@ pub struct Four<T> {
     pub four: T,
 }
 
-/// Those who work in the four threads.
+/// The workers in the four threads.
 pub type Crew<'a, L> = Four<Worker<'a, L>>;
 
-/// What a thread answers: who worked there, and what was done; or why it gave up.
+/// The result of a thread: its worker, and what it did, or the refusal that ended it.
 pub type Done<'a, L, T> = Result<(Worker<'a, L>, T), Refusal>;
 
-/// Runs four tasks, each in a thread of its own where one can be made. What each is said to give is known of what it
-/// gave.
+/// Runs four tasks, each in a thread of its own if one can be made. What a task promises by `gives` holds of its
+/// output.
 pub fn all_four<R: Threads + Sync, T: Task<Output = A> + Send + Drop, A: Send>(
     rt: &R,
     tasks: Four<T>,
@@ -54,7 +54,7 @@ pub fn all_four<R: Threads + Sync, T: Task<Output = A> + Send + Drop, A: Send>(
     }
 }
 
-// What two threads gave, where neither gave up.
+// The outputs of two threads, or the first refusal.
 fn both_done<A: Drop, B: Drop>(
     one: Result<A, Refusal>,
     two: Result<B, Refusal>,
@@ -67,7 +67,7 @@ fn both_done<A: Drop, B: Drop>(
     Ok((one, two))
 }
 
-/// What four gave, where none gave up.
+/// The outputs of four threads, or the first refusal.
 pub fn four_done<A: Drop>(done: Four<Result<A, Refusal>>) -> Result<Four<A>, Refusal>
     ensures one { IfOk result (λ r. done.one ≡ Ok r.one) }
     ensures two { IfOk result (λ r. done.two ≡ Ok r.two) }
@@ -90,7 +90,7 @@ pub fn four_done<A: Drop>(done: Four<Result<A, Refusal>>) -> Result<Four<A>, Ref
     })
 }
 
-/// Who worked in all four threads, and what was done there, where no thread gave up.
+/// The workers of all four threads, and what they did, or the first refusal.
 pub fn all_done<W: Drop, T: Drop>(
     done: Four<Result<(W, T), Refusal>>,
 ) -> Result<(Four<W>, Four<T>), Refusal>

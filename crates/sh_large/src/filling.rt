@@ -7,8 +7,8 @@ use crate::worker::{Worker, left};
 use gearlongan::{KeyLayout, Pass, Refusal, Shard, Task, Value};
 use std::alloc::Global;
 
-/// What a thread inserts: so many values, of which each next one is a word larger by one, and the shards that it may
-/// fill with them.
+/// What a thread inserts: `values` values of one word, from `word` on and each larger by one, in up to `shards` shards
+/// from `shard` on.
 #[derive(Clone, Copy, Debug, PartialEq, Eq)]
 pub struct Part {
     pub shard: u64,
@@ -22,7 +22,7 @@ pub struct Part {
 pub struct Filled {
     /// The keys, in the order of the values.
     pub keys: Vec<u64>,
-    /// How many shards it filled, wholly or in part.
+    /// The number of shards that it filled, wholly or in part.
     pub shards: u64,
 }
 
@@ -37,7 +37,7 @@ pub struct Filling<'a, L: KeyLayout> {
 impl<'a, L: KeyLayout> Task for Filling<'a, L> {
     type Output = Done<'a, L, Filled>;
 
-    // All values are inserted, and who comes back is at the heap of whom that went.
+    // All values are inserted, and the worker that comes back has the heap of the one that went.
     ghost gives = { λ task output. IfOk output (λ done. (heap_of done.0 ≡ heap_of task.worker)
         × (vec_len done.1.keys ≡ task.part.values)) };
 
@@ -60,7 +60,7 @@ impl<'a, L: KeyLayout> Task for Filling<'a, L> {
     }
 }
 
-// Inserts all values in the owner's shard. `Full` where it has no room for them.
+// Inserts all values in the owner's shard. Returns `Full` if it has no room for them.
 fn fill_own<L: KeyLayout>(
     alloc: Global,
     owner: &mut Shard<'_, L>,
@@ -77,7 +77,7 @@ fn fill_own<L: KeyLayout>(
     Ok(Filled { keys, shards: 1 })
 }
 
-// Fills shards until all values are inserted. `Full` where the shards have no room for them.
+// Fills shards until all values are inserted. Returns `Full` if the shards have no room for them.
 fn fill_shards<'a, L: KeyLayout>(
     alloc: Global,
     pass: Pass<'a, L>,
@@ -102,7 +102,7 @@ fn fill_shards<'a, L: KeyLayout>(
     Ok((pass, Filled { keys, shards }))
 }
 
-// Adopts a shard, inserts there what it has room for, and leaves it.
+// Adopts a shard, inserts values there until it is full or none is left, and leaves it.
 fn fill_shard<'a, L: KeyLayout>(
     alloc: Global,
     pass: Pass<'a, L>,
@@ -119,7 +119,7 @@ fn fill_shard<'a, L: KeyLayout>(
     left(owner)
 }
 
-// Inserts the values that are missing, or as many as the shard has room for.
+// Inserts the values that are missing, or the first of them that the shard has room for.
 fn insert_all<L: KeyLayout>(
     owner: &mut Shard<'_, L>,
     part: Part,

@@ -1,12 +1,12 @@
 //! The program `sh_large LAYOUT`: four threads fill a large heap, read it, empty it and fill it again.
 //!
-//! Each thread inserts a part of the values in shards of its own: one that is full it leaves, and adopts the next one.
-//! Then each value is read by a thread that did not insert it, all are removed by all threads in mixed order, and as
-//! many others are inserted in their place. The old keys find none of these. At last all passes meet, and what the heap
-//! has is counted. In layout `Deep` each thread keeps its one shard instead.
+//! Each thread inserts a part of the values in shards of its own: it leaves a shard that is full, and adopts the next
+//! one. Then another thread reads each value, all threads remove all values in mixed order, and the threads insert the
+//! same number of other values. The old keys find none of these. At the end all passes are joined, and the values of
+//! the heap are counted. In layout `Deep` each thread keeps its one shard instead.
 //!
-//! Each phase ends in all threads before the next one begins, and passes go to threads and come back (`phases`), so
-//! what is counted does not depend on whose step comes first. This file joins the process to `program`.
+//! Each phase ends in all threads before the next one begins, and passes go to threads and come back (`phases`). So the
+//! counts do not depend on the order of the threads' steps. This file joins the process to `program`.
 #![tactic(auto)]
 
 mod crew;

@@ -5,7 +5,7 @@ use clap::builder::ValueParser;
 use clap::{Arg, ArgAction, ArgMatches, Command, Error};
 use std::alloc::{AllocError, Global};
 
-/// The most values that can be asked for: a heap of either layout has room for them.
+/// The greatest number of values that can be asked for: a heap of either layout has room for them.
 pub const MOST_VALUES: u64 = 10_000_000;
 
 /// The layouts that a large heap may have.
@@ -22,7 +22,7 @@ pub enum Layout {
 pub struct Options {
     /// The layout of the heap.
     pub layout: Layout,
-    /// How many values are inserted.
+    /// The number of values that are inserted.
     pub values: usize,
 }
 
@@ -70,7 +70,7 @@ fn layout_of(matches: &ArgMatches<'_>) -> Layout {
     }
 }
 
-/// What a command line asks for, whose first word is the program's name. An error is clap's.
+/// Reads the options of a command line, whose first word is the program's name. An error is clap's.
 pub fn options_of<'a>(alloc: Global, words: &'a [&'a str]) -> Result<Options, Error>
     ensures { IfOk result (λ options. options.values ≤ 10000000) }
 {

@@ -1,4 +1,4 @@
-//! What the four threads do, phase by phase. Each phase ends in all threads before the next one begins.
+//! The phases of the four threads. Each phase ends in all threads before the next one begins.
 ghost use Rattle.std.specs.Prelude.{◌≡◌, ◌≤◌, ◌<◌, ◌+◌, length, IfOk};
 ghost use Rattle.sh_large.specs.Shares.{keys_of, share};
 ghost use Rattle.sh_large.specs.Workers.{StayAt};
@@ -12,12 +12,12 @@ use gearlongan::{KeyLayout, Refusal};
 use std::alloc::Global;
 use std::thread::Threads;
 
-/// What is to be inserted.
+/// What the threads insert.
 #[derive(Clone, Copy, Debug, PartialEq, Eq)]
 pub struct Plan {
-    /// How many values, of all threads together.
+    /// The number of values of all threads together.
     pub values: usize,
-    /// How many shards each thread has.
+    /// The number of shards of each thread.
     pub shards: u64,
     /// Whether each thread keeps its first shard.
     pub settles: bool,
@@ -25,7 +25,7 @@ pub struct Plan {
     pub round: u64,
 }
 
-// What the thread of this number inserts. No two values of a plan are alike.
+// The part of the thread with this number. No two values of a plan are equal.
 fn part_of(plan: Plan, number: usize) -> Part
     ensures { number < 4 → result.values ≡ share plan.values number }
 {
@@ -77,7 +77,7 @@ pub fn fill<'a, L: KeyLayout + Send + Sync, R: Threads + Sync>(
     all_done(all_four(rt, tasks))
 }
 
-/// Each thread reads what the next one inserted, and the last what the first did. Answers how many values were right.
+/// Each thread reads what the next one inserted, and the last what the first did. Returns the number of right values.
 pub fn read<'a, L: KeyLayout + Send + Sync, R: Threads + Sync>(
     rt: &R,
     crew: Crew<'a, L>,
@@ -113,7 +113,7 @@ pub fn read<'a, L: KeyLayout + Send + Sync, R: Threads + Sync>(
     Ok((crew, sum_of(right)))
 }
 
-/// Each thread removes a fourth of all keys, of its own and of the others. Answers how many were removed.
+/// Each thread removes a fourth of all keys, of its own and of the others. Returns the number of keys removed.
 #[tactic(auto, using(crate::proofs::ShareLemmas::shares_all))]
 pub fn remove<'a, L: KeyLayout + Send + Sync, R: Threads + Sync>(
     rt: &R,
@@ -149,7 +149,7 @@ pub fn remove<'a, L: KeyLayout + Send + Sync, R: Threads + Sync>(
     Ok((crew, sum_of(removed)))
 }
 
-// The four counts together.
+// The sum of the four counts.
 fn sum_of(counts: Four<usize>) -> usize
     ensures { result ≤ counts.one + counts.two + counts.three + counts.four }
 {

@@ -11,12 +11,12 @@ use std::io;
 use std::io::Write;
 use std::thread::Threads;
 
-// How many shards each thread has in a heap of layout `Wide`, and in one of layout `Deep`.
+// The number of shards of each thread in a heap of layout `Wide`, and in one of layout `Deep`.
 const WIDE_SHARDS: u32 = 64;
 
 const DEEP_SHARDS: u32 = 1;
 
-// Shows why clap gave no options, unless memory was refused, and gives the exit status.
+// Writes why clap returned no options, unless memory was refused, and returns the exit status.
 fn refuse<W: Write, E: Write>(error: &Error, output: &mut W, errors: &mut E) -> u8 {
     match error.kind() {
         ErrorKind::OutOfMemory => refused(Refusal::Memory, errors),
@@ -24,7 +24,7 @@ fn refuse<W: Write, E: Write>(error: &Error, output: &mut W, errors: &mut E) -> 
     }
 }
 
-// Says why the heap gave up, and gives the exit status.
+// Writes why the heap refused, and returns the exit status.
 fn refused<E: Write>(why: Refusal, errors: &mut E) -> u8 {
     let _ = writeln!(errors, "sh_large: refused: {why}");
     match why {
@@ -33,7 +33,7 @@ fn refused<E: Write>(why: Refusal, errors: &mut E) -> u8 {
     }
 }
 
-// Works on a heap of the layout.
+// Runs all phases on a heap of the layout.
 fn story_of<R: Threads + Sync>(rt: &R, alloc: Global, options: &Options) -> Result<Story, Refusal> {
     match options.layout {
         Layout::Wide => {
@@ -47,7 +47,7 @@ fn story_of<R: Threads + Sync>(rt: &R, alloc: Global, options: &Options) -> Resu
     }
 }
 
-// Tells the counts, and gives the exit status.
+// Writes the counts, and returns the exit status.
 fn report<W: Write, E: Write>(
     options: &Options,
     story: &Story,
@@ -70,7 +70,7 @@ fn told<W: Write>(story: &Story, output: &mut W) -> io::Result<()> {
     output.flush()
 }
 
-/// Runs the program, and gives the exit status. The first word is the program's name.
+/// Runs the program, and returns the exit status. The first word is the program's name.
 pub fn run_program<W: Write, E: Write, R: Threads + Sync>(
     rt: &R,
     alloc: Global,

@@ -1,4 +1,4 @@
-//! A thread reads what another inserted.
+//! The task of a thread that reads what another thread inserted.
 ghost use Rattle.std.specs.Prelude.{◌≡◌, ◌≤◌, length, IfOk};
 ghost use Rattle.sh_large.specs.Workers.{heap_of};
 
@@ -6,7 +6,7 @@ use crate::crew::Done;
 use crate::worker::Worker;
 use gearlongan::{KeyLayout, Reader, Refusal, Task};
 
-/// Reads the values of these keys, of which the first is this word, and each next one larger by one.
+/// Reads the values of these keys. The first value is `word`, and each later one is larger by one.
 #[derive(Drop)]
 pub struct Reading<'a, 'k, L: KeyLayout> {
     pub worker: Worker<'a, L>,
@@ -15,7 +15,7 @@ pub struct Reading<'a, 'k, L: KeyLayout> {
 }
 
 impl<'a, L: KeyLayout> Task for Reading<'a, '_, L> {
-    // How many values were found as they were inserted.
+    // The number of values that were found as they were inserted.
     type Output = Done<'a, L, usize>;
 
     ghost gives = { λ task output. IfOk output (λ done. (heap_of done.0 ≡ heap_of task.worker)
@@ -36,7 +36,7 @@ impl<'a, L: KeyLayout> Task for Reading<'a, '_, L> {
     }
 }
 
-// How many of the values are right.
+// The number of right values.
 fn read_right<R: Reader>(reader: &mut R, keys: &[u64], word: u64) -> Result<usize, Refusal>
     ensures heap { (R.caller reader.new).heap ≡ (R.caller reader.old).heap }
     ensures most { IfOk result (λ right. right ≤ length keys.now) }
@@ -52,7 +52,7 @@ fn read_right<R: Reader>(reader: &mut R, keys: &[u64], word: u64) -> Result<usiz
     Ok(right)
 }
 
-// Whether the value of a key is this one word. False also where the key finds nothing.
+// Whether the value of a key is this one word. False too if the key finds nothing.
 fn is_right<R: Reader>(reader: &mut R, key: u64, wanted: u64) -> Result<bool, Refusal>
     ensures { (R.caller reader.new).heap ≡ (R.caller reader.old).heap }
 {

@@ -1,4 +1,4 @@
-//! A thread removes its part of all keys, in mixed order.
+//! The task of a thread that removes its part of all keys, in mixed order.
 ghost use Rattle.std.specs.Prelude.{◌≡◌, ◌≤◌, ◌<◌, length, IfOk};
 ghost use Rattle.sh_large.specs.Shares.{share};
 ghost use Rattle.sh_large.specs.Workers.{heap_of};
@@ -8,10 +8,10 @@ use crate::share::share_of;
 use crate::worker::Worker;
 use gearlongan::{KeyLayout, Reader, Refusal, Task};
 
-// A prime number above each count of keys, so that no two turns have one place.
+// A prime number above each count of keys, so that no two turns have the same place.
 const STRIDE: u64 = 2_147_483_647;
 
-/// Removes the keys of each fourth turn, from the turn of this number on. In all turns together each key has one.
+/// Removes the keys of each fourth turn, from the turn with this number on. Each key has exactly one turn.
 #[derive(Drop)]
 pub struct Removing<'a, 'k, L: KeyLayout> {
     pub worker: Worker<'a, L>,
@@ -20,7 +20,7 @@ pub struct Removing<'a, 'k, L: KeyLayout> {
 }
 
 impl<'a, L: KeyLayout> Task for Removing<'a, '_, L> {
-    // How many keys it removed itself.
+    // The number of keys that it removed itself.
     type Output = Done<'a, L, usize>;
 
     ghost gives = { λ task output. IfOk output (λ done. (heap_of done.0 ≡ heap_of task.worker)
@@ -45,7 +45,7 @@ impl<'a, L: KeyLayout> Task for Removing<'a, '_, L> {
     }
 }
 
-// How many of its keys it removed.
+// Removes its keys, and returns the number of those that it removed itself.
 fn remove_each<R: Reader>(reader: &mut R, keys: &[u64], number: usize) -> Result<usize, Refusal>
     ensures heap { (R.caller reader.new).heap ≡ (R.caller reader.old).heap }
     ensures most { IfOk result (λ removed. number < 4 → removed ≤ share (length keys.now) number) }
@@ -62,7 +62,7 @@ fn remove_each<R: Reader>(reader: &mut R, keys: &[u64], number: usize) -> Result
     Ok(removed)
 }
 
-// The place of the key whose turn it is.
+// The place of the key that has this turn.
 fn place_of(turn: usize, count: usize) -> usize {
     (turn as u64)
         .wrapping_mul(STRIDE)
@@ -70,7 +70,7 @@ fn place_of(turn: usize, count: usize) -> usize {
         .unwrap_or(0) as usize
 }
 
-// Removes a key. False where it finds nothing.
+// Removes a key. Returns false if the key finds nothing.
 fn removes<R: Reader>(reader: &mut R, key: u64) -> Result<bool, Refusal>
     ensures { (R.caller reader.new).heap ≡ (R.caller reader.old).heap }
 {

@@ -1,4 +1,4 @@
-//! A heap that is filled, read, emptied and filled again.
+//! Runs all phases: fills a heap, reads it, empties it and fills it again.
 ghost use Rattle.std.specs.Prelude.{◌≡◌, ◌≤◌, length, vec_len, IfOk};
 ghost use Rattle.gearlongan.specs.Passes.{AreOf};
 ghost use Rattle.sh_large.specs.Shares.{keys_of};
@@ -40,14 +40,14 @@ fn shards_in(filled: &Four<Filled>) -> u64 {
         .saturating_add(filled.four.shards)
 }
 
-// What was inserted by one plan.
+// The result of inserting by one plan.
 #[derive(Drop)]
 struct Round {
     // The keys of all values.
     keys: Vec<u64>,
-    // How many shards were filled, wholly or in part.
+    // The number of shards that were filled, wholly or in part.
     shards: u64,
-    // How many of the values were right when they were read.
+    // The number of values that were right when they were read.
     right: usize,
 }
 
@@ -88,8 +88,8 @@ fn first_round<'a, L: KeyLayout + Send + Sync, R: Threads + Sync>(
     read_round(rt, crew, filled, plan)
 }
 
-// Inserts the values of the plan in the place of others, whose keys it then tries to remove, and reads them. Answers
-// too how many of the old keys found something.
+// Inserts the values of the plan in the place of others, tries to remove the old keys, and reads the new values.
+// Returns also the number of old keys that found something.
 fn second_round<'a, L: KeyLayout + Send + Sync, R: Threads + Sync>(
     rt: &R,
     alloc: Global,
@@ -108,7 +108,7 @@ fn second_round<'a, L: KeyLayout + Send + Sync, R: Threads + Sync>(
     Ok((crew, round, stale))
 }
 
-// All phases. The story does not yet say how many values are left.
+// Runs all phases. The story has no count of the values left yet.
 fn worked<'a, L: KeyLayout + Send + Sync, R: Threads + Sync>(
     rt: &R,
     alloc: Global,
@@ -197,7 +197,7 @@ fn crew_of<'a, L: KeyLayout>(
     })
 }
 
-// How many values the heap has, where all passes met.
+// The number of values of the heap, or `None` if not all passes are joined.
 fn counted<'a, L: KeyLayout>(
     alloc: Global,
     heap: &'a Heap<L>,
@@ -225,7 +225,7 @@ fn counted<'a, L: KeyLayout>(
     }
 }
 
-// All phases on a heap, with all its passes, which meet in the end.
+// Runs all phases on a heap, with all its passes, and joins the passes at the end.
 fn told<'a, L: KeyLayout + Send + Sync, R: Threads + Sync>(
     rt: &R,
     alloc: Global,
@@ -242,15 +242,16 @@ fn told<'a, L: KeyLayout + Send + Sync, R: Threads + Sync>(
     Ok(Story { left, ..story })
 }
 
-/// The least heap of the layout in which each of four threads has so many shards, and all together have room for these
-/// values.
+/// The smallest shape of the layout in which each of four threads has `shards` shards, and all together have room for
+/// `values` values.
 pub fn shape_for<L: KeyLayout>(shards: u32, values: usize) -> Result<Shape, Refusal> {
     let all = shards.saturating_mul(4);
     let each = (values as u64).div_ceil(u64::from(all.max(1)));
     Shape::with_room::<L>(all, each, 1, 4)
 }
 
-/// Fills a heap of this shape, reads it, empties it and fills it again. Each thread keeps its shard where it `settles`.
+/// Fills a heap of this shape, reads it, empties it and fills it again. If `settles` is true, each thread keeps its
+/// shard.
 pub fn run<L: KeyLayout + Send + Sync, R: Threads + Sync>(
     rt: &R,
     alloc: Global,

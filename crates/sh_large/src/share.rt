@@ -1,9 +1,9 @@
-//! How values are shared out among the four threads.
+//! The shares of the four threads.
 ghost use Rattle.std.specs.Prelude.{◌≡◌, ◌≤◌, ◌<◌};
 ghost use Rattle.sh_large.specs.Shares.{share};
 
-/// How many of so many things are the share of a thread, from 0 to 3: one of each four, and one more while there are
-/// some left.
+/// The share of `count` things for the thread with this number, from 0 to 3: a fourth, and one more for the first
+/// threads if there is a remainder.
 pub fn share_of(count: usize, number: usize) -> usize
     ensures share { number < 4 → result ≡ share count number }
     ensures most { result ≤ count }

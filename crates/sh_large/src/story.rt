@@ -1,31 +1,31 @@
-//! What came of it.
+//! The result of a run.
 use std::io;
 use std::io::Write;
 
-/// What all threads did together.
+/// The counts of what all threads did together.
 #[derive(Clone, Copy, Debug, PartialEq, Eq)]
 pub struct Story {
-    /// How many values were inserted.
+    /// The number of values that were inserted.
     pub inserted: usize,
-    /// How many of them were read by a thread that did not insert them, and were right.
+    /// The number of them that another thread read and found right.
     pub right: usize,
-    /// How many keys were removed.
+    /// The number of keys that were removed.
     pub removed: usize,
-    /// How many values were inserted in their place.
+    /// The number of values that were inserted in their place.
     pub again: usize,
-    /// How many shards were filled, wholly or in part, the first time and the second.
+    /// The number of shards that were filled, wholly or in part, the first time and the second.
     pub shards: u64,
     pub shards_again: u64,
-    /// How many of the old keys found something to remove.
+    /// The number of old keys that found something to remove.
     pub stale: usize,
-    /// How many of the values that were inserted again were right.
+    /// The number of values of the second time that were right.
     pub right_again: usize,
-    /// How many values the heap has in the end. None where not all passes met.
+    /// The number of values of the heap at the end, or `None` if not all passes are joined.
     pub left: Option<u32>,
 }
 
 impl Story {
-    /// Whether all is as it should be with so many values.
+    /// Whether all counts are right for `values` values.
     pub fn is_of(&self, values: usize) -> bool {
         let first = self.inserted == values && self.right == values && self.removed == values;
         let second = self.again == values && self.right_again == values && self.stale == 0;

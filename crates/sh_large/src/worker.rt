@@ -1,14 +1,14 @@
-//! Who works in a thread: a pass that goes from shard to shard, or an owner that keeps its shard.
+//! The worker of a thread: a pass that goes from shard to shard, or an owner that keeps its shard.
 ghost use Rattle.std.specs.Prelude.{◌≡◌, IfOk};
 ghost use Rattle.sh_large.specs.Workers.{heap_of};
 
 use gearlongan::{KeyLayout, Pass, Refusal, Shard};
 use std::alloc::Global;
 
-// How often a leave is tried that answers `Waiting`.
+// The number of attempts to leave while the leave returns `Waiting`.
 const LEAVES: u32 = 1_000;
 
-/// Who works in a thread.
+/// The worker of a thread.
 #[derive(Drop)]
 pub enum Worker<'a, L: KeyLayout> {
     /// Adopts a shard, fills it and leaves it, and adopts the next one.
@@ -18,14 +18,14 @@ pub enum Worker<'a, L: KeyLayout> {
 }
 
 impl<'a, L: KeyLayout> Worker<'a, L> {
-    /// The owner of this shard, for as long as it works.
+    /// Adopts this shard, which the worker keeps as long as it works.
     pub fn settled(alloc: Global, pass: Pass<'a, L>, shard: u64) -> Result<Self, Refusal>
         ensures { IfOk result (λ worker. heap_of worker ≡ pass.entry.heap) }
     {
         Ok(Worker::Settled(Shard::adopt(alloc, pass, shard)?))
     }
 
-    /// The pass, once the work is done.
+    /// Ends the work, and returns the pass.
     pub fn into_pass(self) -> Result<Pass<'a, L>, Refusal>
         ensures { IfOk result (λ pass. pass.heap ≡ heap_of self.entry) }
     {
@@ -36,9 +36,9 @@ impl<'a, L: KeyLayout> Worker<'a, L> {
     }
 }
 
-/// Leaves a shard. `Waiting` is answered only while another pass is in the middle of a free in this shard. No thread
-/// frees while shards are left here, since all threads that removed have ended before; and if one did, it would end its
-/// free within a few steps of its own. So a leave that is refused is tried again, and not for ever.
+/// Leaves a shard. A leave returns `Waiting` only while another pass is in the middle of a free in this shard. No
+/// thread frees while shards are left here, since all threads that removed have ended before. If one did, it would end
+/// its free within a few steps of its own. So a refused leave is tried again, but not forever.
 pub fn left<'a, L: KeyLayout>(owner: Shard<'a, L>) -> Result<Pass<'a, L>, Refusal>
     ensures { IfOk result (λ pass. pass.heap ≡ owner.entry.pages.owner.heap) }
 {

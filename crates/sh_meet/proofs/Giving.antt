@@ -1,4 +1,4 @@
--- What the tasks of a list give, from what is known by their places.
+-- What the tasks of a list give, from what holds at each place.
 use Rattle.std.proofs.Common.{◌≡◌, ℕ, suc, ◌<◌, ◌+◌, List, [], ◌∷◌, length, get_or, IfOk, Result, Ok, Err, refl, sym}
 use Rattle.std.proofs.Common.{subst, arith}
 use Rattle.sh_meet.specs.Tasks.{AllGive}

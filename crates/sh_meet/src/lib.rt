@@ -1,4 +1,4 @@
-//! Passes that go to threads and come back: tasks that keep what is known of a pass.
+//! Tasks for threads that take a pass and give it back, and keep what is known of the pass.
 #![tactic(auto)]
 
 pub mod task;

@@ -1,15 +1,15 @@
-//! Work for threads, of which it is known what it gives.
+//! Work for threads, with a relation between the work and its output.
 ghost use Rattle.std.specs.Prelude.{IfOk};
 ghost use Rattle.sh_meet.specs.Tasks.{AllGive};
 
 use std::alloc::AllocError;
 use std::thread::{Threads, join, map_vec};
 
-/// Work for a thread of its own, and what is known of what it gives.
+/// Work for a thread of its own, with what is known of its output.
 ///
-/// A closure that borrows a heap, as one that has a pass does, says nothing of its result by `thread::join`. A task
-/// does: it is a struct with the pass, and `gives` relates the task before to its output. So a pass that a task gives
-/// back is known to be of its heap:
+/// A closure that borrows a heap, as one that has a pass does, promises nothing of its result by `thread::join`. A task
+/// does: it is a struct with the pass, and `gives` relates the task before the run to its output. So a pass that a task
+/// gives back is known to be of its heap:
 ///
 /// ```text
 /// impl<'a> Task for Reading<'a> {
@@ -25,10 +25,10 @@ use std::thread::{Threads, join, map_vec};
 /// }
 /// ```
 pub trait Task {
-    /// What it gives in the end.
+    /// The output of the task.
     type Output;
 
-    // What is known of the output of this very task.
+    // What is known of the output of this task.
     ghost gives: { Self → Self.Output → Type 0 };
 
     /// Does the work.
@@ -36,8 +36,8 @@ pub trait Task {
         ensures { gives self result };
 }
 
-/// Runs two tasks, each in a thread of its own where one can be made, and answers what both gave. What each task is
-/// said to give is known of its output.
+/// Runs two tasks, each in a thread of its own if one can be made, and returns the outputs of both. What a task
+/// promises by `gives` holds of its output.
 pub fn both<R: Threads, S: Task<Output = A> + Send + Drop, T: Task<Output = B> + Drop, A: Send, B>(
     rt: &R,
     one: S,
@@ -57,8 +57,8 @@ pub fn both<R: Threads, S: Task<Output = A> + Send + Drop, T: Task<Output = B> +
     )
 }
 
-/// Runs all tasks of a list, each in a thread of its own where one can be made, and answers what they gave, in order.
-/// Refused where there is no memory for the outputs: then some tasks may not have run, and what they had is gone.
+/// Runs all tasks of a list, each in a thread of its own if one can be made, and returns their outputs in order.
+/// Refused if there is no memory for the outputs: then some tasks may not have run, and what they had is lost.
 pub fn all<R: Threads + Sync, T: Task<Output = A> + Send + Drop, A: Send + Drop>(
     rt: &R,
     tasks: Vec<T>,

@@ -1,4 +1,4 @@
--- What a `NullableBox` is in memory: a pair of words, its pointer and its allocator.
+-- A `NullableBox` in memory: a pair of words, its pointer and its allocator.
 use Rattle.std.proofs.Common.{◌≡◌, ℕ, List, [], ◌∷◌, ◌++◌, refl, subst}
 use mathlib.Core.Bool.{Bool, true, false, ◌&&◌}
 use lib.Dec.{T}
@@ -37,7 +37,7 @@ both_tt true true s t = tt
 both_tt true false s t = absurd t
 both_tt false y s t = absurd s
 
--- the value of a full one
+-- the value of a full option
 pub the_value : {X : Type 0} (o : Option X) → has_value o ≡ true → (x : X) × (o ≡ Some x)
 the_value None e = absurd (subst (λ (b : Bool). T (elim b [ true ↦ false | false ↦ true ])) e tt)
 the_value (Some x) e = (x, refl)
@@ -49,7 +49,7 @@ module _ (R Z : RattleType) (L : Laws Z) (g : Ghosts Z.Denot) where
   abbrev pub al : Al
   al = record { row = Z; laws = L; g = g; d = impl [] tnil dnil; drops = impl [] tnil dnil }
 
-  -- such a pair is well typed
+  -- a pair of a pointer and an allocator is well typed
   pub nullable_good : (p : Ptr) (h : Val) → Good (layout Z) h
       → T (has_ty (mir.Syntax.ty_ptr) (ptr_val p) && (has_ty (layout Z) h && true)) × WT (both (ptr_val p) h)
   nullable_good p h fits = (
@@ -59,7 +59,7 @@ module _ (R Z : RattleType) (L : Laws Z) (g : Ghosts Z.Denot) where
   )
 
   module _ {M : Type 1} {𝓤 : Ura M} {𝓛 : Logic 𝓤} {K : Type 0} {Γ : List (Item 𝓤)} {G : Goal 𝓤 𝓛.H} where
-    -- a full one, taken apart: its pointer, with the right to the value and its block, and its allocator
+    -- a full pointer, taken apart: its raw pointer, with the right to the value and its block, and its allocator
     pub nullable_out : K → (d : NullableBox.Denot) (x : R.Denot) → d.value ≡ Some x → (vs : List Val)
         → ((b o : ℕ) (h : Val) → d.at ≡ block_ptr b o → vs ≡ both (vptr b o) h ∷ [] → Good (layout Z) h
         → Seq K 𝓛 (‵ (box_owns (g.dealloc_token d.alloc) R (block_ptr b o) x) ∷ ‵ (Z.own_val d.alloc (h ∷ [])) ∷ Γ) G)
@@ -74,7 +74,7 @@ module _ (R Z : RattleType) (L : Laws Z) (g : Ghosts Z.Denot) where
         (subst (λ (ws : List Val). vs ≡ vstruct (of_list (ptr_val d.at ∷ (ws ++ []))) ∷ []) ea
         (subst (λ (ps : List Val). vs ≡ vstruct (of_list (ps ++ (vss.1.0 ++ []))) ∷ []) ep ev))) fits)))))
 
-    -- one put together, of a pointer with what it owns, and an allocator
+    -- a pointer put together from a raw pointer with what it owns, and an allocator
     pub nullable_in : K → (p : Ptr) (h : Val) (a : Z.Denot) (o : Option R.Denot)
         → Step K 𝓛 (‵ (NullableBox.own_val (record { at = p; alloc = a; value = o }) (both (ptr_val p) h ∷ []))
         ∷ Γ) G (‵ (nullable_owns (g.dealloc_token a) R p o) ∷ ‵ (Z.own_val a (h ∷ [])) ∷ Γ) G

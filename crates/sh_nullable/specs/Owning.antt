@@ -1,4 +1,4 @@
--- What a pointer owns that may be null.
+-- What a pointer that may be null owns.
 use Rattle.std.specs.Prelude.{Bool, true, false}
 use Rattle.std.specs.declared.option.Option.{Option}
 use Rattle.std.specs.declared.option.Option.TheVariants.{None, Some}

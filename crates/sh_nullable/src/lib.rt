@@ -1,7 +1,7 @@
 //! A pointer that owns its value, or null.
 //!
-//! A box always has a value. What stands in a place that may be empty, as a handle that other code clears, is owned by
-//! a pointer that may be null. Threads may share one: a `&` to it shows nothing of its value.
+//! A box always has a value. A place that may be empty, such as a handle that other code clears, needs a pointer that
+//! may be null. Threads may share one: a `&` to it shows nothing of its value.
 #![tactic(auto)]
 
 mod nullable;

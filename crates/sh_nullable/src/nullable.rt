@@ -13,9 +13,9 @@ use std::ptr::null_mut;
 
 /// A pointer that owns its value, or null. A contract sees the value, if there is one.
 ///
-/// It has no test for null: its owner knows by another value, as a word beside it, whether it is full. For the same
-/// reason it does not free its value when it is dropped: one that owns a value is opened by `into_box` first, or its
-/// memory is lost.
+/// It has no test for null: its owner knows whether it is full by another value, such as a word beside it. For the same
+/// reason it does not free its value when it is dropped. One that owns a value must be opened by `into_box` first, or
+/// its memory is lost.
 #[repr(C)]
 #[derive(Drop)]
 pub struct NullableBox<T, A: Allocator> {
@@ -52,7 +52,7 @@ impl<T, A: Allocator> NullableBox<T, A> {
         NullableBox { at, alloc }
     }
 
-    /// The box again, of a pointer that is known to own a value.
+    /// Returns the box of a pointer that is known to own a value.
     pub fn into_box(self) -> Box<T, A>
         requires { has_value self.value ≡ true }
         ensures { self.value ≡ Some result.value }
@@ -62,10 +62,10 @@ impl<T, A: Allocator> NullableBox<T, A> {
     }
 }
 
-// It may go to another thread where its value and its allocator may.
+// It may be sent to another thread if its value and its allocator may.
 unsafe impl<T: Send, A: Allocator + Send> Send for NullableBox<T, A> {}
 
-// A `&` to it shows nothing of its value, so it may be shared wherever its allocator may.
+// A `&` to it shows nothing of its value, so it may be shared if its allocator may.
 unsafe impl<T, A: Allocator + Sync> Sync for NullableBox<T, A> {}
 
 #[cfg(test)]

@@ -1,4 +1,4 @@
--- How a run ends, by what its lines gave and by how writing ended.
+-- The end of a run, from the output of its lines and the end of writing.
 use Rattle.std.proofs.Common.{◌≡◌, ℕ, Bool, true, false, List, Option, Result, Ok, Err, OnOk, inl, inr}
 use Rattle.std.specs.Prelude.{IfErr}
 use Rattle.std.specs.Io.KnownBytes.{Appends}
@@ -9,7 +9,7 @@ use Rattle.sh_output.specs.declared.mode.Mode.TheVariants as mode
 use Rattle.sh_output.specs.Faults.{IsScriptOf, MayWait}
 use Rattle.sh_replay.specs.Output.{IsRunOf, IsWaiting, EndsWriting, Replays}
 
--- a run at whose end an owner could not leave is one of a script, in a mode of the running heap
+-- if an owner could not leave at the end of a run, the text is a script, and the mode is one of the running heap
 may_wait : (m : Mode) (text output : List ℕ) → IsWaiting m text output → MayWait m × IsScriptOf m text
 may_wait mode.Plain text output w = absurd w
 may_wait mode.Steps text output w = absurd w

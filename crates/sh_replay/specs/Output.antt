@@ -1,4 +1,4 @@
--- What a run writes for a script, in any mode.
+-- The output of a run of a script, in any mode.
 use Rattle.std.specs.Prelude.{◌≡◌, ℕ, Bool, true, false, List, Option, ◌⊎◌, Result, Ok, Err}
 use Rattle.std.specs.Io.KnownBytes.{Appends, Keeps}
 use Rattle.sh_script.specs.declared.fault.Fault.{Fault}
@@ -22,7 +22,7 @@ IsOutput mode.Steps accounts text output = IsSteps accounts text output
 IsOutput mode.Heap accounts text output = IsHeapAlone accounts text output
 IsOutput mode.Threads accounts text output = IsHeap false accounts text output
 
--- the same, of a run at whose end an owner could not leave
+-- the same of a run at whose end an owner could not leave
 abbrev pub IsWaiting : Mode → (text output : List ℕ) → Type 0
 IsWaiting mode.Plain text output = ⊥
 IsWaiting mode.Steps text output = ⊥
@@ -46,7 +46,7 @@ pub record WritesReplies (mode : Mode) (text : List ℕ) (old new : Option (List
   pub is_waiting : IsWaiting mode text output
   pub written : Appends old new output
 
--- the text is a script, and a beginning of what its run may write was written, and not all of it
+-- the text is a script, and a proper beginning of what its run may write was written
 pub record Begins (mode : Mode) (accounts : Bool) (text : List ℕ) (old new : Option (List ℕ)) : Type 0 where
   pub output : List ℕ
   pub is_output : IsOutput mode accounts text output ⊎ IsWaiting mode text output
@@ -66,13 +66,13 @@ EndsWriting output is_waiting fault.Waiting old new = (is_waiting ≡ true) × A
 EndsWriting output is_waiting fault.Io old new = WroteBeginning old new output
 EndsWriting output is_waiting _ old new = ⊥
 
--- how the run of a text ends with a fault
+-- the run of a text ends with this fault
 pub record Fails (mode : Mode) (accounts : Bool) (text : List ℕ) (f : Fault) (old new : Option (List ℕ)) : Type 0 where
   pub may : IsFaultOf mode text f
   pub answers : IsScriptOf mode text → IsRunFault mode f
   pub stops : Stops mode accounts text f old new
 
--- how the run of a text ends
+-- the run of a text ends with this result
 abbrev pub Replays : Mode → (accounts : Bool) → List ℕ → Result (Unit {0}) Fault → Option (List ℕ) → Option (List ℕ)
     → Type 0
 Replays mode accounts text (Ok _) old new = WritesOutput mode accounts text old new

@@ -1,4 +1,4 @@
-//! Runs of scripts: a script is read and parsed whole, run in the mode that is chosen, and its replies are written.
+//! Runs of scripts: reads and parses a whole script, runs it in the chosen mode, and writes its replies.
 #![tactic(auto)]
 
 mod replaying;

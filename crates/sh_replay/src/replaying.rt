@@ -1,4 +1,4 @@
-//! A whole run: read, parsed, run and written.
+//! A whole run: reads, parses and runs a script, and writes its output.
 ghost use Rattle.std.specs.Prelude.{◌≡◌, ◌≢◌, ℕ, List, IfOk, IfErr, OnOk, Some, take, false};
 ghost use Rattle.std.specs.Io.KnownBytes.{Appends};
 ghost use Rattle.sh_output.specs.Ends.{IsEndFault, ReadsAtMostBytes};

@@ -1,4 +1,4 @@
-//! What mode threads writes.
+//! The output of mode threads.
 ghost use Rattle.std.specs.Prelude.{false, ◌≡◌, ℕ, ◌<◌, List, [], Option, IfOk, IfErr};
 ghost use Rattle.std.specs.List.{All};
 ghost use Rattle.sh_shape.specs.Shape.{IsShape, Fits};
@@ -21,7 +21,7 @@ use std::alloc::Global;
 use std::sync::Wait;
 use std::thread::Threads;
 
-// The lines on the passes of a heap, those of each pass in a thread of its own.
+// Runs the lines on the passes of a heap, those of each pass in a thread of its own.
 fn lines_on<L: KeyLayout + Send + Sync, R: Threads + Wait + Sync, G: Gate + Sync>(
     rt: &R,
     alloc: Global,
@@ -48,7 +48,7 @@ fn lines_on<L: KeyLayout + Send + Sync, R: Threads + Wait + Sync, G: Gate + Sync
     gathered(output, carrier, asked)
 }
 
-// The lines on a heap of their own.
+// Runs the lines on a heap of their own.
 fn heap_lines<L: KeyLayout + Send + Sync, R: Threads + Wait + Sync, G: Gate + Sync>(
     rt: &R,
     alloc: Global,

@@ -1,5 +1,5 @@
-//! Tests of whole runs: ends that fail, refused memory, long scripts, and workers in threads. Scripts with their whole
-//! output are data: `examples/worked`, which `scripts/examples` runs.
+//! Tests of whole runs: readers and writers that fail, refused memory, long scripts, and workers in threads. Scripts
+//! with their whole output are data in `examples/worked`, which `scripts/examples` runs.
 #![tactic(auto)]
 
 #[cfg(test)]

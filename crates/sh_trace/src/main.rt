@@ -34,7 +34,7 @@ fn show_help(rt: &HostRuntime) -> u8 {
     }
 }
 
-// Whether help is asked for.
+// Whether the words ask for help.
 fn asks_help(words: &[&str]) -> bool {
     match words.get(1) {
         Some(word) => *word == "--help" || *word == "-h",

@@ -1,7 +1,7 @@
-//! One pass owns a shard and stores a value there; two threads, with a pass each, read it at the same time; the owner
-//! removes it, and the key finds nothing any more. Then all passes meet, and what the heap has is counted.
+//! One pass owns a shard and stores a value there. Two threads, with a pass each, read it at the same time. The owner
+//! removes it, and the key finds nothing any more. Then all passes are joined, and the values of the heap are counted.
 //!
-//! Every pass gets, reads, removes and releases any key of the heap. Only inserting needs a shard of one's own.
+//! Every pass can get, read, remove and release any key of the heap. Only an insert needs a shard of the pass's own.
 #![tactic(auto)]
 
 ghost use Rattle.std.specs.Prelude.{◌≡◌};
@@ -25,7 +25,7 @@ struct Reading<'a> {
 impl<'a> Task for Reading<'a> {
     type Output = (Pass<'a, Wide>, Result<Value, Refusal>);
 
-    // The pass that comes back is of the heap of the one that went.
+    // The pass that comes back has the same heap as the one that went.
     ghost gives = { λ task output. output.0.heap ≡ task.pass.heap };
 
     fn run(self) -> (Pass<'a, Wide>, Result<Value, Refusal>) {
@@ -35,14 +35,14 @@ impl<'a> Task for Reading<'a> {
     }
 }
 
-// What came of it.
+// The result of a run.
 #[derive(Drop)]
 struct Story {
     key: u64,
     first: Value,
     second: Value,
     after: &'static str,
-    // How many values the heap has in the end. None where not all passes met.
+    // The number of values of the heap at the end, or `None` if not all passes are joined.
     left: Option<u32>,
 }
 

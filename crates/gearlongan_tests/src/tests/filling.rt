@@ -1,4 +1,4 @@
-//! How a value is made, word by word.
+//! Tests of making a value word by word.
 use super::agree;
 use gearlongan::Value;
 

@@ -1,4 +1,4 @@
-//! How passes meet, and what is known then.
+//! Tests of joining passes, and of what is known then.
 ghost use Rattle.std.specs.Prelude.{◌≡◌};
 
 use super::{agree, left, opened, owner_and_reader};
@@ -28,7 +28,7 @@ impl<'a> Task for Removing<'a> {
     }
 }
 
-// A heap's owner, once it stored this value, and its reader: both as passes.
+// Stores this value, and returns the pass of the owner, which has left its shard, with the key.
 fn owner_left<'a>(rt: &impl Abort, owner: Shard<'a, Wide>, value: &Value) -> (Pass<'a, Wide>, u64)
     ensures { result.0.heap ≡ owner.entry.pages.owner.heap }
 {
@@ -37,7 +37,7 @@ fn owner_left<'a>(rt: &impl Abort, owner: Shard<'a, Wide>, value: &Value) -> (Pa
     (left(rt, owner), key)
 }
 
-// A pass that met no other is not the whole, and two that met are.
+// Asserts that a pass that is joined with no other is not the whole, and that two joined passes are.
 fn all_of_two<'a>(rt: &impl Abort, pass: Pass<'a, Wide>, other: Pass<'a, Wide>) -> Whole<'a, Wide>
     requires { other.heap ≡ pass.heap }
 {
@@ -50,7 +50,7 @@ fn all_of_two<'a>(rt: &impl Abort, pass: Pass<'a, Wide>, other: Pass<'a, Wide>) 
     all
 }
 
-// How many values a heap has whose passes are these two.
+// The number of values of the heap that has these two passes.
 fn live<'a>(
     rt: &impl Abort,
     alloc: Global,

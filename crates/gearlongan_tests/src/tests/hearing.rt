@@ -70,7 +70,7 @@ fn who_heard_of_a_removal_does_not_find_the_key(rt: HostRuntime) {
     let hold = pass.get(key).expect(&rt, "a hold");
     agree(&rt, pass.release(hold), Ok(()));
     agree(&rt, owner.remove(key), Ok(()));
-    // An older receipt is no loss: what was heard before is known still.
+    // An older receipt loses nothing: the pass still knows what it heard before.
     pass.heed(again);
     pass.heed(owner.receipt());
     agree(&rt, pass.get(key), Err(Refusal::Gone));

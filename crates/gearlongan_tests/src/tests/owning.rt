@@ -1,10 +1,10 @@
-//! How a shard is adopted, made ready and left.
+//! Tests of adopting, preparing and leaving a shard.
 use super::{adopted, agree, left, opened, owner_and_reader};
 use gearlongan::{Pass, Reader, Refusal, Shard, Value, Wide};
 use std::alloc::Global;
 use std::process::Abort;
 
-// The pass again, which got no shard for this reason.
+// Asserts that the adoption was refused for this reason, and returns the pass.
 fn not_adopted<'a>(
     rt: &impl Abort,
     alloc: Global,
@@ -63,7 +63,7 @@ fn count_what_is_out(rt: &impl Abort, owner: &mut Shard<'_, Wide>, reader: &mut 
     agree(rt, owner.slots_out(), 2);
     agree(rt, owner.remove(first), Ok(()));
     agree(rt, owner.slots_out(), 1);
-    // What another removes is out until the owner collects it.
+    // What another pass removes is out until the owner collects it.
     agree(rt, reader.remove(second), Ok(()));
     agree(rt, owner.slots_out(), 1);
     owner.collect();

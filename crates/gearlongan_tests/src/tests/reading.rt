@@ -1,4 +1,4 @@
-//! How a value is looked up, held and read.
+//! Tests of looking up, holding and reading a value.
 use super::{FIRST_KEY, agree, opened, owner_and_reader};
 use gearlongan::{Pass, Reader, Refusal, Shard, Value, Wide};
 use std::process::Abort;

@@ -1,4 +1,4 @@
-//! How large a heap is, and which keys its layout has.
+//! Tests of the sizes of heaps, and of the keys of a layout.
 use super::agree;
 use gearlongan::{Deep, Heap, KeyLayout, Reader, Refusal, Shape, Shard, Tagged, Tiny, Value, Wide};
 use std::alloc::Global;

@@ -1,4 +1,4 @@
-//! Values, records, and what a refusal says.
+//! Tests of values, of records, and of the texts of refusals.
 use super::{FIRST_KEY, agree, opened, owner_and_reader};
 use gearlongan::{Pass, Record, Refusal, Shape, Shard, Typed, Value, Wide};
 use std::process::Abort;
@@ -37,7 +37,7 @@ fn a_struct_of_two_numbers_is_stored_as_a_pair(rt: HostRuntime) {
     agree(&rt, owner.remove(FIRST_KEY), Ok(()));
 }
 
-// Stores a pair, which another finds and removes.
+// Stores a pair, which another pass finds and removes.
 fn store_and_find(
     rt: &impl Abort,
     sessions: &mut Typed<Shard<'_, Wide>, (u64, u64)>,

@@ -1,4 +1,4 @@
-//! Threads that do work of several kinds.
+//! Tests of threads that do work of several kinds.
 use super::{agree, opened, owner_and_reader};
 use crate::work::{Work, live_after};
 use gearlongan::Value;

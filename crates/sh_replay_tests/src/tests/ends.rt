@@ -34,7 +34,7 @@ impl Read for Reading<'_> {
     }
 }
 
-/// How a write fails.
+/// The way in which a write fails.
 #[derive(Clone, Copy, Debug)]
 enum Failure {
     /// By an error.
@@ -97,7 +97,7 @@ fn fails_at_read<R: Threads + Wait + Sync + Abort>(
         (mode, most, left, Err(Fault::Io)),
     );
     holds(rt, out.is_empty());
-    // None is read after the one that fails.
+    // Nothing is read after the read that fails.
     let read = most.saturating_mul(left).min(worked.script.len());
     agree(
         rt,
@@ -137,7 +137,7 @@ fn fails_at_write<R: Threads + Wait + Sync + Abort>(
             .as_bytes()
             .starts_with(writer.taken.as_slice()),
     );
-    // None is written after the one that fails.
+    // Nothing is written after the write that fails.
     agree(rt, writer.taken.len(), most.saturating_mul(left));
 }
 

@@ -7,7 +7,7 @@ use std::sync::Wait;
 use std::test::Fail;
 use std::thread::Threads;
 
-/// The last number that is tried; the greatest key of tiny is 16,383.
+/// The last number that is tried. The greatest key of tiny is 16,383.
 const LAST: u64 = 20_000;
 
 /// Whether the number is a key of `heap tiny 1 1 1`. Such keys have a generation from 1 to 3, shard 0, a page from 0 to

@@ -1,4 +1,4 @@
-//! What a gate observes: each call of each pass by its number, before it and after it.
+//! Tests of what a gate observes: each call of each pass by its number, before it and after it.
 use super::{agree, holds};
 use sh_replay::{Gate, Mode, replay_gated};
 use std::sync::atomic::{AtomicU64, Ordering};
@@ -40,7 +40,7 @@ impl Notes {
         }
     }
 
-    // Where the time of a call is kept, if there is such a call.
+    // The cell for the time of a call, if there is such a call.
     fn told(&self, pass: usize, call: usize, is_after: bool) -> Option<&AtomicU64> {
         if call >= CALLS {
             return None;

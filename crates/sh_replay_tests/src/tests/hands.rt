@@ -1,5 +1,5 @@
-//! A shard that changes hands: each owner gives pages a class, and once all passes met, the accounts of each page add
-//! up.
+//! Tests of a shard that changes hands: each owner gives pages a class, and after all passes are joined, the accounts
+//! of each page add up.
 use super::agree;
 use sh_core::Accounts;
 use sh_gather::{Whole, join, whole};

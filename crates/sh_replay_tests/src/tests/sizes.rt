@@ -1,4 +1,4 @@
-//! Scripts of more than one read, of as many bytes as a script may have, and of more.
+//! Tests of scripts of more than one read, of the greatest number of bytes, and of more.
 use super::ends::Reading;
 use super::{agree, holds};
 use sh_replay::{Mode, replay};

@@ -1,4 +1,4 @@
-//! Mode threads: the calls of each pass are made in a thread of its own.
+//! Tests of mode threads: each pass makes its calls in a thread of its own.
 use super::agree;
 use sh_replay::{Gate, Mode, replay_gated};
 use std::sync::atomic::{AtomicBool, AtomicU64, Ordering};

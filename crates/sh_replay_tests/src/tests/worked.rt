@@ -1,4 +1,4 @@
-//! A script for each mode, and all that its run writes.
+//! A script for each mode, with all that its run writes.
 use sh_replay::Mode;
 
 /// Calls of two passes; the second waits for a name of the first.

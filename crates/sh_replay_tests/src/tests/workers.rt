@@ -19,7 +19,7 @@ use std::marker::Brand;
 use std::sync::Wait;
 use std::thread::Threads;
 
-/// The reply lines of calls of two passes on a new heap, each pass's in a thread of its own.
+/// The reply lines of the calls of two passes on a new heap, each pass in a thread of its own.
 fn replies<R: Threads + Wait + Sync, G: Gate + Sync>(
     rt: &R,
     alloc: Global,

@@ -1,4 +1,4 @@
--- A `&` can be made of a borrow of it, since it holds nothing beside a `&` to its fields.
+-- A borrow of it gives a `&` to it, since that holds nothing beside a `&` to its fields.
 use denote.RattleType.{RattleType}
 use denote.Param.Laws.{Laws, row_shared}
 use denote.Param.Shared.{copy_shared}

@@ -1,4 +1,4 @@
--- It goes to another thread where its value and its allocator do: no part of what it owns is bound to a thread.
+-- It can be sent to another thread if its value and its allocator can: no part of what it owns is bound to a thread.
 use mir.Raw.{raw}
 use base.Shift.{Keyless}
 use denote.RattleType.{RattleType}

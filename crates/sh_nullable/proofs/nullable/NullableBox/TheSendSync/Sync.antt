@@ -1,4 +1,4 @@
--- It may be shared where its allocator may: a `&` to it holds a pointer and an allocator, and nothing of its value.
+-- It may be shared if its allocator may: a `&` to it holds a pointer and an allocator, and nothing of its value.
 use denote.RattleType.{RattleType}
 use denote.Builtin.{RawPtr}
 use denote.Struct.Owning.{shape, to}

@@ -1,4 +1,4 @@
--- `empty`: null and the allocator are put together. What they own beside the allocator is nothing.
+-- `empty`: puts null and the allocator together. Beside the allocator they own nothing.
 use Rattle.std.proofs.Common.{◌≡◌, List, [], ◌∷◌, ◌++◌, refl, sym, subst}
 use mir.Syntax.{a_type, dcons, dnil}
 use mir.Val.{Val}

@@ -1,5 +1,5 @@
--- `into_box`: since there is a value, the pointer is not null and has the right to the value and to its block. Its
--- parts are taken out, and `from_raw`, the one call, makes a box of them.
+-- `into_box`: since there is a value, the pointer is not null and has the right to the value and to its block. The
+-- function takes out its parts, and its one call, `from_raw`, makes a box from them.
 use Rattle.std.proofs.Common.{◌≡◌, true, ◌∙◌, List, [], ◌∷◌, ◌++◌, refl, sym, ap, subst}
 use mir.Syntax.{a_type, dcons, dnil}
 use mir.Val.{Val, vptr}

@@ -1,5 +1,5 @@
--- `of`: the box is taken apart into its pointer and its allocator, which are put together again as a full pointer.
--- The one call is that of `into_raw_with_allocator`, which hands over the right to the value and to its block.
+-- `of`: takes the box apart into its pointer and its allocator, and puts them together again as a full pointer.
+-- Its one call is `into_raw_with_allocator`, which hands over the right to the value and to its block.
 use Rattle.std.proofs.Common.{◌≡◌, List, [], ◌∷◌, ◌++◌, refl, sym, ap, ◌∙◌, subst}
 use mir.Syntax.{a_type, dcons, dnil}
 use mir.Raw.{raw as bare}
