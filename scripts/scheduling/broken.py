@@ -275,7 +275,7 @@ JUDGE = [
     ),
     (
         "sh_stress/src/worker.rt",
-        """    /// Fills each shard, of which nobody owns one, with values of so many words.
+        """    /// Fills each shard with values of `len` words. Nobody owns a shard.
 """,
         """    // Fills the first shard, and again after another pass and after the owner removed a value. A slot of the
     // layout with few holds has few generations, so it may be retired.
@@ -305,12 +305,12 @@ JUDGE = [
         }
     }
 
-    /// Fills each shard, of which nobody owns one, with values of so many words.
+    /// Fills each shard with values of `len` words. Nobody owns a shard.
 """,
     ),
     (
         "sh_stress/src/owning.rt",
-        """/// Adopts a shard that nobody owns, inserts values of so many words until it is full, and leaves it.
+        """/// Adopts a shard that nobody owns, inserts values of `len` words until it is full, and leaves it.
 """,
         """// Fills the shard, and again after another pass and after the owner removed a value.
 pub fn refill<L: KeyLayout, H: Home>(
@@ -341,7 +341,7 @@ pub fn refill<L: KeyLayout, H: Home>(
     }
 }
 
-/// Adopts a shard that nobody owns, inserts values of so many words until it is full, and leaves it.
+/// Adopts a shard that nobody owns, inserts values of `len` words until it is full, and leaves it.
 """,
     ),
 ]
