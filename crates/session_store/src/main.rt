@@ -1,6 +1,5 @@
 //! A store of sessions. Two owners open sessions, each in a thread and a shard of its own. Two readers look up all of
-//! them by their keys at the same time, and end the old ones. At the end all passes are joined, and the sessions
-//! counted.
+//! them by their keys at the same time, and end the old ones. Then all passes are joined, and the heap is counted.
 //!
 //! Exactly one reader ends each old session: the one that comes first.
 #![tactic(auto)]

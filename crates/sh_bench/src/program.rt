@@ -50,7 +50,7 @@ fn run_with<R: Threads + Clock + Sync, W: Write, E: Write>(
     Ok(())
 }
 
-/// Runs the program, and gives the exit status.
+/// Runs the program, and returns the exit status.
 pub fn run<R: Threads + Clock + Sync, W: Write, E: Write>(
     rt: &R,
     alloc: Global,

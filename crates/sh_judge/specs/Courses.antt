@@ -48,8 +48,7 @@ IsBegun line point = 2 * line.span.begin < time point
 abbrev pub FollowsInsert : Option Point → Point → Type 0
 FollowsInsert inserted point = MatchOption inserted ⊤ (λ insert. time insert ≤ time point)
 
--- a line says that the key was inserted, and the point is just before a moment: no call whose answer needs the value
--- ended before that moment
+-- a line is an insert, and the point is just before a moment; each call whose answer needs the value ended no earlier
 pub record IsInsertPoint (lines : List Line) (point : Point) : Type 0 where
   pub told : list_any tells_insert lines ≡ true
   pub before : point ≡ record { moment = point.moment; edge = Before; rank = rank.Insert }

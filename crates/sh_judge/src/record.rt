@@ -207,8 +207,7 @@ impl Record {
         }
     }
 
-    /// Notes a value that was read. It is a fault if its words do not all belong to one value, or if it differs from
-    /// the value that was read before.
+    /// Notes a value that was read. It is a fault if it is torn, or differs from the value that was read before.
     pub fn read(&mut self, held: Held, value: Value)
         ensures { Reads self.old self.new held value }
     {

@@ -250,8 +250,7 @@ pub fn shape_for<L: KeyLayout>(shards: u32, values: usize) -> Result<Shape, Refu
     Shape::with_room::<L>(all, each, 1, 4)
 }
 
-/// Fills a heap of this shape, reads it, empties it and fills it again. If `settles` is true, each thread keeps its
-/// shard.
+/// Fills a heap of this shape, reads it, empties it and fills it again. If `settles`, each thread keeps its shard.
 pub fn run<L: KeyLayout + Send + Sync, R: Threads + Sync>(
     rt: &R,
     alloc: Global,

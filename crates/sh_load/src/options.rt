@@ -5,8 +5,7 @@ use crate::layout::Layout;
 use crate::samples::Lengths;
 use crate::workload::Workload;
 
-/// The greatest number of values that may be asked for. In layout `Deep` one shard has room for all of them, if they
-/// have one word.
+/// The greatest number of values that may be asked for. In `Deep` one shard has room for all of them, if of one word.
 pub const MOST_VALUES: u64 = 10_000_000;
 
 /// What is measured, and how much of it.

@@ -5,8 +5,7 @@ ghost use Rattle.sh_load.specs.Outcomes.{CountsBoth, saturated};
 
 use std::time::Duration;
 
-/// The time that a thread spent, and the counts of what it did and saw. The counts are the same in each run with the
-/// same options.
+/// The time that a thread spent, and its counts. The counts are the same in each run with the same options.
 #[derive(Clone, Copy)]
 pub struct Outcome {
     /// Nanoseconds in the calls that are measured.

@@ -18,7 +18,7 @@ pub enum Turn {
     Remove,
     /// Removes a key that it holds.
     RemoveHeld,
-    /// Begins something by hand.
+    /// Begins a call by hand.
     Begin,
     /// Adopts a shard.
     Adopt,

@@ -16,8 +16,7 @@ fn two_frees_do_not_wait_for_each_other(rt: HostRuntime) -> Result<(), Fail> {
 }
 
 // Two passes put a slot each and tie it, while the owner takes the page and follows it twice. Counted by hand, it takes
-// before both puts in 6 orders, between them in 58, and after both in 48. In 20 of those 48 each link is stored when it
-// is read.
+// before both puts in 6 orders, between them in 58, after both in 48. In 20 of these each link is stored when read.
 #[test]
 fn two_frees_under_a_follow(rt: HostRuntime) -> Result<(), Fail> {
     let before = opened(rt.alloc(), 2).empties(1, FIRST).empties(2, SECOND);
