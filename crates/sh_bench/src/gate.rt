@@ -1,5 +1,5 @@
-//! A gate at which threads wait for each other in a loop that looks again and again. A thread that slept would wake up
-//! late.
+//! A gate at which threads wait for each other in a loop that looks again and again, since a thread that sleeps would
+//! wake up late.
 ghost use Rattle.std.specs.Prelude.{◌≡◌, IfErr};
 
 use sh_load::fault::Fault;

@@ -1,4 +1,4 @@
-//! Parts the passes among threads, and joins the outcomes of the threads.
+//! Divides the passes among threads, and joins the outcomes of the threads.
 ghost use Rattle.std.specs.Prelude.{◌≡◌, ◌++◌, reverse, min, vec_len, IfOk, IfErr};
 ghost use Rattle.sh_load.specs.Outcomes.{AllTogether, TellsOf};
 

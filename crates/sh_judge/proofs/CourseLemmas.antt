@@ -46,7 +46,7 @@ pub used_later : (lines : List Line) (p q : Point) → time p ≤ time q
 used_later lines p q later used = λ i d below is.
     begun_later (get_or lines i d) p q later (used i d below is)
 
--- if no line uses the value, then each line that does has begun
+-- if no line uses the value, all lines that use it have begun, since there are none
 pub none_used : (lines : List Line) (p : Point) → All (λ (line : Line). is_use line.told ≡ false) lines
     → All (λ (line : Line). is_use line.told ≡ true → IsBegun line p) lines
 none_used lines p none = λ i d below is. absurd (true≢false (sym is ∙ none i d below))

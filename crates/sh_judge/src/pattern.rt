@@ -1,4 +1,4 @@
-//! Values each word of which shows which value it belongs to.
+//! Values whose words each show the value that they belong to.
 ghost use Rattle.std.specs.Prelude.{◌≡◌, ◌≤◌, ◌↔◌, IsTrue, length};
 ghost use Rattle.sh_judge.specs.Pattern.{mixed_word, IsPatternOf, IsPattern};
 

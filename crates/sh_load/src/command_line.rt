@@ -212,8 +212,8 @@ fn chosen(matches: &ArgMatches<'_>, workload: Workload, layout: Layout) -> Optio
 ///
 /// The workload is required. By default the layout is `wide`, one thread does 1,000 operations, values have one word,
 /// one is live, none is freed, and the heap has at least one pass. There are from 1 to 16 threads, 1 to 1,000,000,000
-/// operations, 0 to 16 words, 1 to 10,000,000 values that are live, 0 to 10,000,000 that are freed, and 1 to 64
-/// passes.
+/// operations, and 0 to 16 words. From 1 to 10,000,000 values are live, and 0 to 10,000,000 are freed. There are 1 to
+/// 64 passes.
 pub fn options_of<'a>(alloc: Global, words: &'a [&'a str]) -> Result<Options, Error>
     ensures ok { IfOk result (λ options. LineSays (map (λ w. w.now) words.entry.now) options) }
     ensures err { IfErr result (λ e. IsRefused (map (λ w. w.now) words.entry.now) (kind_of e)) }

@@ -5,7 +5,7 @@ use crate::layout::Layout;
 use crate::samples::Lengths;
 use crate::workload::Workload;
 
-/// The greatest number of values that may be asked for. In `Deep` one shard has room for all of them, if of one word.
+/// The greatest number of values that may be asked for. In `Deep` one shard has room for all, if each has one word.
 pub const MOST_VALUES: u64 = 10_000_000;
 
 /// What is measured, and how much of it.
@@ -20,7 +20,7 @@ pub struct Options {
     pub lengths: Lengths,
     /// The number of live values: in all in `get` and `read`, and otherwise for each thread.
     pub live: usize,
-    /// The number of slots that each owner puts back before it leaves.
+    /// The number of slots that each owner puts back when it leaves.
     pub freed: usize,
     /// The least number of passes of the heap.
     pub passes: usize,

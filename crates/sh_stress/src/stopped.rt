@@ -17,7 +17,7 @@ pub struct Stopped<'a, L: KeyLayout, H: Home> {
 }
 
 impl<'a, L: KeyLayout, H: Home> Stopped<'a, L, H> {
-    /// The pass, to step by hand.
+    /// Wraps a pass of that heap, which steps by hand.
     pub fn new(busy: Busy<'a, L>) -> Self
         requires { H.heap ≡ Some busy.heap }
     {

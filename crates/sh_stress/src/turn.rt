@@ -6,7 +6,7 @@ use sh_judge::dice::Dice;
 pub enum Turn {
     /// Gets a key that a thread left on the board.
     Get,
-    /// Gets a key that a thread left on the board by a guard, and reads its value.
+    /// Gets by a guard a key that a thread left on the board, and reads its value.
     Glance,
     /// Gets a number that may be a key.
     Guess,
