@@ -9,6 +9,7 @@ use crate::calls::{get_guard_of, get_key, read_key, release_key, remove_key};
 use crate::guard::Guard;
 use crate::keeping::KeepsHeap;
 use crate::owner::Owner;
+use crate::warming::{warm_key, warm_value_of};
 use sh_key::KeyLayout;
 use sh_slots::Spot;
 use sh_value::{Hold, Refusal, Value};
@@ -25,6 +26,22 @@ impl<L: KeyLayout, H: KeepsHeap<L>> Owner<L, H> {
     {
         let heap = self.heap.kept();
         get_key(&heap.table, &mut self.seat, &mut self.held, key, self.owned)
+    }
+
+    /// Loads the state word of a key's slot, so that the memory is on its way when a call of this key needs it. It does
+    /// no step, and a number that is no key of the heap does nothing.
+    #[inline(always)]
+    pub fn warm(&self, key: u64) {
+        let heap = self.heap.kept();
+        warm_key(&heap.table, key);
+    }
+
+    /// The same, and the words that a read of the key's value needs: its page's class, its length, and its word if it has
+    /// one. It does no step, and a number that is no key of the heap does nothing.
+    #[inline(always)]
+    pub fn warm_value(&self, key: u64) {
+        let heap = self.heap.kept();
+        warm_value_of(&heap.table, key);
     }
 
     /// The same as `get`, but the hold keeps the place of the key's slot.

@@ -7,6 +7,7 @@ ghost use Rattle.sh_pass.specs.Passes.{GetDoes, ReadDoes, ReadIntoDoes, RemoveDo
 use crate::calls::{get_guard_of, get_key, read_key, release_key, remove_key};
 use crate::guard::Guard;
 use crate::heap::Heap;
+use crate::warming::{warm_key, warm_value_of};
 use arrayvec::ArrayVec;
 use sh_key::KeyLayout;
 use sh_shape::Shape;
@@ -75,6 +76,20 @@ impl<L: KeyLayout> PassState<L> {
         ensures idle { self.new.view.own.body.hand ≡ Idle }
     {
         get_guard_of(&heap.table, &mut self.seat, &mut self.held, key, None).0
+    }
+
+    /// Loads the state word of a key's slot, so that the memory is on its way when a call of this key needs it. It does
+    /// no step, and a number that is no key of the heap does nothing.
+    #[inline(always)]
+    pub fn warm(&self, heap: &Heap<L>, key: u64) {
+        warm_key(&heap.table, key);
+    }
+
+    /// The same, and the words that a read of the key's value needs: its page's class, its length, and its word if it has
+    /// one. It does no step, and a number that is no key of the heap does nothing.
+    #[inline(always)]
+    pub fn warm_value(&self, heap: &Heap<L>, key: u64) {
+        warm_value_of(&heap.table, key);
     }
 
     /// Removes a key: no later get finds it, and its value stays until the last hold goes. Refused as `BadKey` or

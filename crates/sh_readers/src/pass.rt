@@ -10,6 +10,14 @@ impl<L: KeyLayout, H: KeepsHeap<L>> Reader for Pass<L, H> {
 
     ghost caller = { λ p. p };
 
+    fn warm(&self, key: u64) {
+        Pass::warm(self, key);
+    }
+
+    fn warm_value(&self, key: u64) {
+        Pass::warm_value(self, key);
+    }
+
     fn get(&mut self, key: u64) -> Result<Hold, Refusal> {
         let _known = self.shape();
         let answer = Pass::get(self, key);

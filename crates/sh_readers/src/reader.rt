@@ -28,6 +28,15 @@ pub trait Reader {
     // The heap, and what is known of it.
     ghost caller: { Self → Caller };
 
+    /// Loads the state word of a key's slot, so that the memory is on its way when a call of this key needs it. It does
+    /// no step, and a number that is no key of the heap does nothing. Several keys that are warmed before the first one
+    /// is got wait for their memory at the same time: `fetch_each` does so.
+    fn warm(&self, key: u64);
+
+    /// The same, and the words that a read of the key's value needs: its page's class, its length, and its word if it has
+    /// one.
+    fn warm_value(&self, key: u64);
+
     /// Takes a hold on a key, so that its value stays readable. Refused as `BadKey`, `HoldsFull`, `Gone` or `Crowded`,
     /// tried in that order.
     fn get(&mut self, key: u64) -> Result<Hold, Refusal>

@@ -10,6 +10,14 @@ impl<L: KeyLayout, H: KeepsHeap<L>> Reader for Shard<L, H> {
 
     ghost caller = { λ s. s.pages.owner };
 
+    fn warm(&self, key: u64) {
+        Shard::warm(self, key);
+    }
+
+    fn warm_value(&self, key: u64) {
+        Shard::warm_value(self, key);
+    }
+
     fn get(&mut self, key: u64) -> Result<Hold, Refusal> {
         let _known = self.shape();
         let answer = Shard::get(self, key);

@@ -74,6 +74,20 @@ impl<L: KeyLayout, H: KeepsHeap<L>> Shard<L, H> {
         answer
     }
 
+    /// Loads the state word of a key's slot, so that the memory is on its way when a call of this key needs it. It does
+    /// no step, and a number that is no key of the heap does nothing.
+    #[inline(always)]
+    pub fn warm(&self, key: u64) {
+        self.pages.owner.warm(key);
+    }
+
+    /// The same, and the words that a read of the key's value needs: its page's class, its length, and its word if it has
+    /// one. It does no step, and a number that is no key of the heap does nothing.
+    #[inline(always)]
+    pub fn warm_value(&self, key: u64) {
+        self.pages.owner.warm_value(key);
+    }
+
     /// The same as `get`, but the hold keeps the place of the key's slot, for `read_guard` and `release_guard`.
     pub fn get_guard(&mut self, key: u64) -> Result<Guard<L>, Refusal>
         ensures does { GetDoes L.layout key self.old.pages.owner result self.new.pages.owner }

@@ -1,7 +1,6 @@
 -- A slot that a pass is filling has no present bit, so that an addition sets it.
-use Rattle.std.proofs.Common.{◌≡◌, ℕ, ◌+◌, ◌%◌, ◌^◌, ◌<◌, ◌≤◌, ◌&&◌, Bool, true, false, List, Some, None,
-    Option, length}
-use Rattle.std.proofs.Common.{refl, ap, sym, subst, ◌∙◌, arith, slice_get}
+use Rattle.std.proofs.Common.{◌≡◌, ℕ, ◌+◌, ◌%◌, ◌^◌, ◌<◌, ◌≤◌, ◌&&◌, Bool, true, false, List}
+use Rattle.std.proofs.Common.{Some, None, Option, length, refl, ap, sym, subst, ◌∙◌, arith, slice_get}
 use Rattle.std.specs.Bool.{then_some}
 use Rattle.std.specs.Prelude.{bit_or, not, nat_le, nat_lt, option_map}
 use Rattle.sh_core.specs.Lists.{PutLists, in_hand, slots_under, state_of}
