@@ -1,3 +1,3 @@
--- What a caller's own contracts say of passes: which heap they are of, that they are all of one, and all passes of it.
+-- What a caller's own contracts say of passes: their heap, that all are of one heap, and that they are all its passes.
 pub use Rattle.sh_pass.specs.Passes.{AreOf, AreAll}
 pub use Rattle.sh_table.specs.Seats.{Heap}

@@ -1,11 +1,11 @@
 //! Gearlongan: a map of small values that threads share, and whose keys are never used again.
 //!
-//! A value is at most 16 words of 64 bits. Storing one answers a key; each thread may read, hold and remove any key.
+//! A value is at most 16 words of 64 bits. An insert returns a key; each thread may read, hold and remove any key.
 //!
 //! # First steps
 //!
 //! A program that stores a value, reads it in two threads, gathers all passes and counts what is left. It is proved as
-//! it stands (`crates/two_threads` is this with its printing), and needs no proof file:
+//! it is, without a proof file (`crates/two_threads` is this with its printing):
 //!
 //! ```text
 //! #![tactic(auto)]
@@ -41,7 +41,7 @@
 //!     share(rt, alloc, &heap, passes)
 //! }
 //!
-//! // Answers how many values the heap has in the end.
+//! // Returns how many values the heap has in the end.
 //! fn share<'a>(
 //!     rt: &impl Threads,
 //!     alloc: Global,
@@ -69,13 +69,14 @@
 //! }
 //! ```
 //!
-//! Each call answers a `Result`, whose `Refusal` says why it was not done and changes nothing. `?` takes a refusal out
-//! of all of them, also where it comes with what was to be used. A loop over a pass needs one line that says what
-//! stays, as in `crates/session_store`; `crates/gearlongan_tests` has an example of each call.
+//! Most calls return a `Result`. Its `Refusal` says why the call was not done, and a refused call changes nothing. `?`
+//! works on each of them, also if a refusal comes with the pass or shard that the call consumed. A loop over a pass
+//! needs one line that says what stays, as in `crates/session_store`. `crates/gearlongan_tests` has an example of each
+//! call.
 //!
 //! # The words
 //!
-//! - A **heap** has a fixed `Shape`: so many shards, of so many segments each, and so many passes. A segment is 8
+//! - A **heap** has a fixed `Shape`: its number of shards, of segments in each shard, and of passes. A segment is 8
 //!   pages.
 //! - A **pass** is one caller's right to use the heap: one for each thread. It gets, reads, removes and releases any
 //!   key.
@@ -87,44 +88,45 @@
 //! - A **hold** keeps a key's value readable, also when the key is removed meanwhile. `get` takes one, and `release`
 //!   gives it back. `fetch`, `with` and `take` (of `Reader`) do both, so that no hold is left behind. A `Guard` is a
 //!   hold that keeps the place of its value.
-//! - A **receipt** tells what its pass was answered until then, and what that had heard of others. It has no bytes.
+//! - A **receipt** covers all replies to its pass until then, and all that the pass had heard of others. It has no
+//!   bytes.
 //! - A **record** is what `Typed` stores: a type of one's own, or a `u64`, a tuple or an array of them as it is.
 //! - A **layout** says how keys are numbered, and so how many shards, pages, generations and holds there may be.
 //!
 //! # Which layout
 //!
-//! - `Wide`: up to 256 shards of 1024 pages, 2^32 - 1 generations. Take it where you have no reason for another.
-//! - `Deep`: up to 64 shards of 1,048,576 pages. For many millions of values, and where a thread is to keep one shard.
+//! - `Wide`: up to 256 shards of 1024 pages, 2^32 - 1 generations. Take it if you have no reason for another.
+//! - `Deep`: up to 64 shards of 1,048,576 pages. For many millions of values, and if a thread keeps one shard.
 //! - `Tagged`: up to 64 shards of 256 pages; 8 bits of each key are yours.
-//! - `Tiny` is for tests that come to every limit: 4 shards of 16 pages, at most 4 holds a key, and a slot is spent
-//!   after three values.
+//! - `Tiny` is for tests that reach every limit: 4 shards of 16 pages, at most 4 holds on a key, and three values in a
+//!   slot.
 //!
 //! A layout of one's own is a type with four numbers, and the same as ghost members (see `Wide` in `sh_key`, and
 //! `wide` in its `specs/Layouts.antt`, which says that they are within their limits).
 //!
 //! # Limits
 //!
-//! `Shape::with_room` makes the least shape with room for so many values for each owner; `Shape::large` takes at most
-//! 2,097,152 segments in all shards together, and `Shape::new` at most 256. A heap of layout `Wide` stores at most
+//! `Shape::with_room` makes the least shape with room for a number of values of each owner. `Shape::large` takes at
+//! most 2,097,152 segments in all shards together, and `Shape::new` at most 256. A heap of layout `Wide` stores at most
 //! 12,582,912 values of one word, or 786,432 of 16; one of `Deep` 64 times as many. There are at most 64 passes, and a
-//! pass has at most 16 holds. A shard that is full answers `Full`: leave it, and adopt another. `pages_left` and
-//! `slots_out` tell an owner how full its shard is.
+//! pass has at most 16 holds. An insert into a full shard is refused as `Full`: leave the shard, and adopt another.
+//! `pages_left` and `slots_out` say how full a shard is.
 //!
-//! What one thread does not release, no one else can: a pass that is dropped leaves its holds, so that their slots are
-//! never used again once their keys are removed. A shard that is dropped stays taken. After either the heap is never
-//! known whole.
+//! Only the pass that took a hold can release it. A pass that is dropped leaves its holds, so that their slots are
+//! never used again once their keys are removed. A shard that is dropped stays taken. After either, `gather` never
+//! finds all passes.
 //!
 //! # Threads
 //!
-//! `both` runs two `Task`s, and `all` those of a list, each in a thread of its own where one can be made: what a task
-//! is said to give is known of what it gave. So it is known that passes which come back are of their heap. `gather`
-//! looks whether all passes of the heap are there, and answers the heap as a whole, or hands them back; `join` and
-//! `whole` do the same for one pass after the other. `total` adds up what its slots are, and `all_accounts` lists that
-//! of each page.
+//! `both` runs two `Task`s, and `all` those of a list, each in a thread of its own if one can be made. The ghost member
+//! `gives` of a task says what is known of its output, such as that a pass which comes back is of its heap. `gather`
+//! checks whether all passes of the heap are there: it returns the heap as a whole, or the passes. `join` and `whole`
+//! do the same for one pass after the other. `total` adds up what the slots of a whole heap are, and `all_accounts`
+//! lists that for each page.
 //!
 //! # Order between threads
 //!
-//! The calls of one pass have their order in each history, and so have those of passes that were joined. Else nothing
+//! The calls of one pass are in order in each history, and so are those of passes that were joined. Otherwise nothing
 //! says that one thread sees what another did before: send a receipt along with the key, and heed it.
 //!
 //! ```text
@@ -132,16 +134,16 @@
 //! let receipt = owner.receipt();          // one load; both go to another thread, in any way
 //!
 //! pass.heed(receipt);                     // there: two loads
-//! let hold = pass.get(key)?;              // Gone only where the key was removed
+//! let hold = pass.get(key)?;              // Gone only if the key was removed
 //! ```
 //!
-//! Everything that the receipt covers happens before whatever the pass is answered from then on, in each history, and
-//! the receipts that this pass gives cover it too. A receipt belongs to one heap, as a pass does, and `heed` requires
-//! that both are of the same. `copy` makes a second receipt for one more thread.
+//! Everything that the receipt covers happens before all later replies to the pass, in each history, and the receipts
+//! that this pass makes cover it too. A receipt belongs to one heap, as a pass does, and `heed` requires that both are
+//! of the same heap. `copy` makes a second receipt for one more thread.
 //!
 //! `insert_told` and `fetch_told` do both ends, for a key and its receipt that go together; `crates/key_channel` sends
-//! such keys over a channel. `heard_comes_first` says what follows of keys, to be cited by proofs; `remove_then_get`
-//! shows it: who heard of a removal does not find the key any more.
+//! such keys over a channel. `heard_comes_first` says what follows for keys, and proofs cite it. `remove_then_get` is
+//! an example: a pass that heard of a removal does not find the key any more.
 #![tactic(auto)]
 
 pub use sh_core::Accounts;

@@ -12,7 +12,7 @@ use Rattle.sh_handles.specs.Members.{AnyDoes}
 use Rattle.sh_nullable.specs.Owning.{has_value}
 use Rattle.sh_c.specs.Told.{Asked, AskedNumber, ReadBy, ReadTold, code_of, empty_code, number_told}
 
--- an empty handle is asked nothing
+-- a call on an empty handle does nothing
 no_value : {V : Type 0} (o : Option V) → has_value o ≡ false → o ≡ None
 no_value None e = refl
 no_value (Some v) e = absurd (false≢true (sym e))
@@ -31,7 +31,7 @@ pub unread : (reads : Layout → Caller → Result (List ℕ) Refusal → Caller
 unread reads old was a e = subst (λ o. ReadTold reads empty_code old old was was o o) (sym (no_value a e))
     (refl, refl, refl, refl)
 
--- and a full one is asked
+-- and a call on a full one is made
 pub asked : {V A : Type 0} (does : V → Result A Refusal → V → Type 0) (code : ℕ) (a b : Option V) (v w : V)
     (answer : Result A Refusal) → a ≡ Some v → b ≡ Some w → code ≡ code_of answer → does v answer w
     → Asked does code a b

@@ -17,7 +17,7 @@ no_value : {T : Type 0} (o : Option T) → has_value o ≡ false → o ≡ None
 no_value None e = refl
 no_value (Some x) e = absurd (false≢true (sym e))
 
--- what was opened stands in the handle, unless memory for it was refused
+-- what was opened is in the handle, unless memory for it was refused
 put_told : (opens : Result AnyHeap Refusal → Type 0) → ((heap : AnyHeap) → opens (Ok heap) → opens (Err refusal.Memory))
     → (opened : Result AnyHeap Refusal) (code : ℕ) (after : Option AnyHeap) → opens opened → HeapPut opened code after
     → PutOpened opens code after

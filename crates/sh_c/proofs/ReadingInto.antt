@@ -1,4 +1,4 @@
--- A read into a value of the export's own is a read, whose answer stands in that value; and so are a fetch and a take.
+-- A read into a value of the export's own is a read, whose result is in that value. So are a fetch and a take.
 use Rattle.std.proofs.Common.{ℕ, List, Result, Ok, Err}
 use Rattle.sh_key.specs.Layout.{Layout}
 use Rattle.sh_value.specs.declared.refusal.Refusal.{Refusal}
@@ -9,12 +9,12 @@ use Rattle.sh_member.specs.declared.member.Side.TheVariants.{Pass, Shard, Moving
 use Rattle.sh_handles.specs.declared.member.AnyMember.{AnyMember}
 use Rattle.sh_handles.specs.Members.{AnyDoes, layout_of, side_of}
 
--- what is answered, by the value into which was read
+-- the result of a read, by the value that was read into
 abbrev pub read_in : List ℕ → Result (Unit {0}) Refusal → Result (List ℕ) Refusal
 read_in value (Ok _) = Ok value
 read_in value (Err why) = Err why
 
--- what fills a value does what its answer in that value says
+-- a call that fills a value does what the result in that value says
 abbrev Fills : (does : Caller → Result (List ℕ) Refusal → Caller → Type 0) → List ℕ
     → (Caller → Result (Unit {0}) Refusal → Caller → Type 0) → Type 0
 Fills does after into = (v w : Caller) (a : Result (Unit {0}) Refusal) → into v a w → does v (read_in after a) w

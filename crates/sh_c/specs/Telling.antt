@@ -1,4 +1,4 @@
--- What the codes tell of calls on a heap as a whole, and of tags on keys.
+-- What the codes mean for calls on a heap as a whole, and for tags on keys.
 use Rattle.std.specs.Prelude.{◌≡◌, ℕ, ◌<◌, ◌^◌, ◌⊎◌, Result, Ok, Err, Option, Some, None}
 use Rattle.sh_key.specs.Tag.{with_tag, IsTaggedKey}
 use Rattle.sh_core.specs.declared.accounts.Accounts.{Accounts}
@@ -9,7 +9,7 @@ use Rattle.sh_handles.specs.declared.heap.AnyHeap.{AnyHeap}
 use Rattle.sh_c.specs.declared.telling.PageTold.{PageTold}
 use Rattle.sh_c.specs.declared.telling.SumsTold.{SumsTold}
 
--- the code of a refusal to tell
+-- the code of a refusal of a call on the whole heap
 abbrev pub why_code : NotTold → ℕ
 why_code untold.Away = 21
 why_code untold.Memory = 8
@@ -19,7 +19,7 @@ abbrev pub told_code : {A : Type 0} → Result A NotTold → ℕ
 told_code (Ok _) = 0
 told_code (Err why) = why_code why
 
--- a call on the heap behind a handle, which stays there: where there is none the code is 14; else there is an answer
+-- a call on the heap behind a handle, which stays there: if there is none the code is 14; otherwise there is a result
 -- with this code
 abbrev pub HeapAsked : {A : Type 0} → (AnyHeap → Result A NotTold → Type 0) → ℕ → Option AnyHeap → Option AnyHeap
     → Type 0
@@ -27,12 +27,12 @@ HeapAsked does code None after = (code ≡ 14) × (after ≡ None)
 HeapAsked {A} does code (Some heap) after = (after ≡ Some heap)
     × ((answer : Result A NotTold) × (code ≡ told_code answer) × does heap answer)
 
--- what stands in the caller's room: what the answer tells, and else what stood there
+-- what is in the caller's room: the result as C sees it, or what was there before if the call was refused
 abbrev pub told_in : {A R : Type 0} → (A → R) → R → Result A NotTold → R
 told_in told old (Ok a) = told a
 told_in told old (Err _) = old
 
--- the same where the answer is written
+-- the same for a call that writes its result
 abbrev pub HeapTells : {A R : Type 0} → (AnyHeap → Result A NotTold → Type 0) → (A → R) → ℕ → (old new : R)
     → Option AnyHeap → Option AnyHeap → Type 0
 HeapTells does told code old new None after = (code ≡ 14) × (after ≡ None) × (new ≡ old)
@@ -63,12 +63,12 @@ sums_told t = record {
 
 -- ---- tags
 
--- a key with a tag, where both are in their ranges
+-- a key with a tag, if both are in their ranges
 abbrev pub TagTold : (key tag code old new : ℕ) → Type 0
 TagTold key tag code old new = ((key < 2 ^ 52) × (tag < 2 ^ 8) × (code ≡ 0) × (new ≡ with_tag key tag))
     ⊎ ((¬ ((key < 2 ^ 52) × (tag < 2 ^ 8))) × (code ≡ 1) × (new ≡ old))
 
--- the key and the tag of a number that has them
+-- the key and the tag of a number, if it has them
 abbrev pub UntagTold : (number code key_old key_new tag_old tag_new : ℕ) → Type 0
 UntagTold number code key_old key_new tag_old tag_new = ((code ≡ 0) × IsTaggedKey number tag_new key_new)
     ⊎ (((tag key : ℕ) → ¬ IsTaggedKey number tag key) × (code ≡ 1) × (key_new ≡ key_old) × (tag_new ≡ tag_old))

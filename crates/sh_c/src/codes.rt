@@ -1,4 +1,4 @@
-//! The codes that calls answer.
+//! The codes that calls return.
 ghost use Rattle.std.specs.Prelude.{◌≡◌};
 ghost use Rattle.sh_c.specs.Told.{code_of};
 
@@ -13,7 +13,7 @@ pub const EMPTY: u32 = 14;
 /// The handle that is to be filled holds something.
 pub const OCCUPIED: u32 = 15;
 
-/// No pass is at home.
+/// No pass of the heap is free: each was taken or lost.
 pub const NO_PASS: u32 = 16;
 
 /// The value has more words than there is room for.
@@ -25,16 +25,16 @@ pub const BAD_LAYOUT: u32 = 19;
 /// The pass owns a shard, which it has to leave first.
 pub const OWNS: u32 = 20;
 
-/// A pass is away, so that the heap tells nothing of itself as a whole.
+/// A pass is taken or lost, so the heap as a whole is not known.
 pub const AWAY: u32 = 21;
 
 /// The heap has no such page.
 pub const NO_PAGE: u32 = 22;
 
-/// No key from the place on is live.
+/// No key is live from that place on.
 pub const NO_KEY: u32 = 28;
 
-/// The code of an answer.
+/// The code of a result.
 pub(crate) fn code<T>(answer: &Result<T, Refusal>) -> u32
     ensures { result ≡ code_of answer.now }
 {

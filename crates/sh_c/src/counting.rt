@@ -1,4 +1,4 @@
-//! What the owner of a shard knows of how full it is.
+//! How full the shard of an owner is.
 ghost use Rattle.sh_shard.specs.Pages.{blank_pages, slots_out};
 ghost use Rattle.sh_member.specs.Sides.{SideCounts};
 ghost use Rattle.sh_handles.specs.Members.{AnyDoes};
@@ -9,7 +9,7 @@ use crate::values::tell_number;
 use sh_handles::PassHandle;
 use std::alloc::Global;
 
-/// Tells how many pages of the shard that the pass owns have no class yet.
+/// Writes the number of pages without a class in the shard that the pass owns.
 #[unsafe(no_mangle)]
 pub extern "C" fn shardheap_raw_pages_left(
     _alloc: Global,
@@ -27,7 +27,7 @@ pub extern "C" fn shardheap_raw_pages_left(
     code(&answer)
 }
 
-/// Tells how many slots of the other pages are not free for the pass.
+/// Writes the number of slots, in pages with a class, that the owner cannot use now.
 #[unsafe(no_mangle)]
 pub extern "C" fn shardheap_raw_slots_out(
     _alloc: Global,

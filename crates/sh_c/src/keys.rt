@@ -9,7 +9,7 @@ use sh_totals::NextKey;
 use sh_whole::NotTold;
 use std::alloc::Global;
 
-// Writes the key that is next, and where to go on.
+// Writes the next key, and the place from which to continue.
 fn tell_next(answer: &Result<Option<NextKey>, NotTold>, place: &mut u64, key: &mut u64) -> u32
     ensures { KeyWritten answer.now result place.old place.new key.old key.new }
 {
@@ -24,7 +24,7 @@ fn tell_next(answer: &Result<Option<NextKey>, NotTold>, place: &mut u64, key: &m
     }
 }
 
-/// Tells the first live key from a place on, and the place behind it, where one pass at home carries the tales of all.
+/// Writes the first live key from a place on, and the place behind it. It needs a pass that carries the tales of all.
 #[unsafe(no_mangle)]
 pub extern "C" fn shardheap_raw_next_key(
     alloc: Global,

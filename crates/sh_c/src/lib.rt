@@ -1,8 +1,8 @@
 //! The heap for C: a static library.
 //!
-//! A handle holds a heap, a pass or nothing, and each call asks whether it does. The answers are codes: 0, the number
-//! of a refusal, or one of those in `codes`. No pointer may be null: the header `shardheap.h` has a call beside each of
-//! these that looks.
+//! A handle holds a heap, a pass, a receipt or nothing, and each call checks which. It returns a code: 0, the number of
+//! a refusal, or one of those in `codes`. No pointer may be null: for each of these calls the header `shardheap.h` has
+//! one that checks its pointers first.
 #![tactic(auto)]
 
 pub mod calls;

@@ -50,8 +50,8 @@ pub extern "C" fn shardheap_raw_open(
     put_opened(alloc, heap, opened)
 }
 
-/// Opens a heap of this layout into an empty handle, with room for so many values of so many words in the shard of each
-/// owner.
+/// Opens a heap of this layout into an empty handle. The shard of each owner has room for `values` values of `words`
+/// words.
 #[unsafe(no_mangle)]
 pub extern "C" fn shardheap_raw_open_for(
     alloc: Global,
@@ -75,7 +75,7 @@ pub extern "C" fn shardheap_raw_open_for(
     put_opened(alloc, heap, opened)
 }
 
-/// A second handle of the heap, into an empty handle.
+/// Makes a second handle of the heap in an empty handle.
 #[unsafe(no_mangle)]
 pub extern "C" fn shardheap_raw_share(
     alloc: Global,
@@ -95,7 +95,7 @@ pub extern "C" fn shardheap_raw_share(
     put_opened(alloc, other, shared)
 }
 
-/// Leaves the handle empty, and lets its share of the heap go. The heap goes with the last of its handles and passes.
+/// Drops the handle's share of the heap, and leaves the handle empty. The last handle or pass frees the heap.
 #[unsafe(no_mangle)]
 pub extern "C" fn shardheap_raw_close(alloc: Global, heap: &mut HeapHandle)
     ensures { heap.new.slot.value ≡ None }

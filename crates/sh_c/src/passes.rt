@@ -1,4 +1,4 @@
-//! Passes: how they are taken, come home or are lost.
+//! Passes: how they are taken, given back or lost.
 ghost use Rattle.std.specs.Prelude.{◌≡◌, None, IfSome, MatchResult};
 ghost use Rattle.sh_value.specs.declared.refusal.Refusal.TheVariants.{Memory};
 ghost use Rattle.sh_c.specs.Opened.{PassesTold, TakeTold, GiveTold, LoseTold, IsPutBack, HasBegun};
@@ -8,7 +8,7 @@ use sh_handles::{AnyHeap, AnyMember, HeapHandle, PassHandle};
 use sh_value::Refusal;
 use std::alloc::Global;
 
-/// How many passes the heap has, at home or away: 0 of an empty handle.
+/// The number of passes of the heap, taken or not. It is 0 if the handle is empty.
 #[unsafe(no_mangle)]
 pub extern "C" fn shardheap_raw_passes(alloc: Global, heap: &mut HeapHandle) -> u64
     ensures { PassesTold result heap.old.slot.value heap.new.slot.value }
@@ -21,7 +21,7 @@ pub extern "C" fn shardheap_raw_passes(alloc: Global, heap: &mut HeapHandle) -> 
     passes
 }
 
-// A pass that is at home, in a box.
+// Takes a free pass of the heap, and puts it in a box.
 fn next_pass(alloc: Global, heap: &AnyHeap) -> Result<Option<PassHandle>, Refusal>
     ensures { MatchResult result (λ taken. IfSome taken (λ pass. HasBegun heap.now pass.slot.value))
         (λ why. why ≡ Memory) }
@@ -32,14 +32,14 @@ fn next_pass(alloc: Global, heap: &AnyHeap) -> Result<Option<PassHandle>, Refusa
     match Box::new(alloc, member) {
         Ok(held) => Ok(Some(PassHandle::of(held))),
         Err(failed) => {
-            // It has a berth to go to, so that it is not lost.
+            // The pass goes back to its berth, so that it is not lost.
             drop(failed.value.go_home());
             Err(Refusal::Memory)
         }
     }
 }
 
-/// Takes a pass that is at home into an empty handle.
+/// Takes a free pass of the heap into an empty handle.
 #[unsafe(no_mangle)]
 pub extern "C" fn shardheap_raw_take(
     alloc: Global,
@@ -66,7 +66,7 @@ pub extern "C" fn shardheap_raw_take(
     }
 }
 
-// Brings the pass home, and leaves the handle empty; a pass that owns a shard stays as it is.
+// Gives the pass back, and leaves the handle empty. A pass that owns a shard stays as it is.
 fn bring_home(alloc: Global, pass: &mut PassHandle) -> u32
     ensures { GiveTold result pass.old.slot.value pass.new.slot.value }
 {
@@ -83,7 +83,7 @@ fn bring_home(alloc: Global, pass: &mut PassHandle) -> u32
     }
 }
 
-/// Brings the pass home, and leaves the handle empty; a pass that owns a shard stays as it is.
+/// Gives the pass back, and leaves the handle empty. A pass that owns a shard stays as it is.
 #[unsafe(no_mangle)]
 pub extern "C" fn shardheap_raw_give(alloc: Global, pass: &mut PassHandle) -> u32
     ensures { GiveTold result pass.old.slot.value pass.new.slot.value }
@@ -91,7 +91,7 @@ pub extern "C" fn shardheap_raw_give(alloc: Global, pass: &mut PassHandle) -> u3
     bring_home(alloc, pass)
 }
 
-// Puts a pass back whose berth is not free. Where memory for its box is refused, it is lost.
+// Puts a pass whose berth is not free back into its handle. If memory for its box is refused, the pass is lost.
 fn put_back(alloc: Global, pass: &mut PassHandle, member: AnyMember) -> u32
     requires { pass.old.slot.value ≡ None }
     ensures { IsPutBack member result pass.new.slot.value }
@@ -108,7 +108,7 @@ fn put_back(alloc: Global, pass: &mut PassHandle, member: AnyMember) -> u32
     }
 }
 
-/// Closes the handle of a pass as a give does: the pass comes home, and one that owns a shard stays as it is.
+/// Closes the handle of a pass as a give does: it gives the pass back. A pass that owns a shard stays as it is.
 #[unsafe(no_mangle)]
 pub extern "C" fn shardheap_raw_pass_close(alloc: Global, pass: &mut PassHandle) -> u32
     ensures { GiveTold result pass.old.slot.value pass.new.slot.value }
@@ -116,7 +116,7 @@ pub extern "C" fn shardheap_raw_pass_close(alloc: Global, pass: &mut PassHandle)
     bring_home(alloc, pass)
 }
 
-/// Loses the pass, and leaves the handle empty. A shard that it owns stays owned for good, and its holds stay.
+/// Loses the pass, and leaves the handle empty. A shard that it owns stays owned for ever, and its holds stay.
 #[unsafe(no_mangle)]
 pub extern "C" fn shardheap_raw_pass_lose(alloc: Global, pass: &mut PassHandle) -> u32
     ensures { LoseTold result pass.old.slot.value pass.new.slot.value }

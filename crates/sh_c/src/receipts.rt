@@ -7,7 +7,7 @@ use sh_handles::{KeptReceipt, PassHandle, ReceiptHandle};
 use sh_value::Refusal;
 use std::alloc::Global;
 
-/// Makes a receipt of all calls of the pass until now, into an empty handle.
+/// Makes a receipt of all calls of the pass until now, in an empty handle.
 #[unsafe(no_mangle)]
 pub extern "C" fn shardheap_raw_receipt_make(
     alloc: Global,
@@ -57,7 +57,7 @@ pub extern "C" fn shardheap_raw_heed(
     OK
 }
 
-/// Leaves the handle empty. A receipt that goes orders nothing.
+/// Drops the receipt, and leaves the handle empty. A receipt that is not heeded orders nothing.
 #[unsafe(no_mangle)]
 pub extern "C" fn shardheap_raw_receipt_close(alloc: Global, receipt: &mut ReceiptHandle)
     ensures { receipt.new.slot.value ≡ None }

@@ -17,7 +17,7 @@ pub extern "C" fn shardheap_raw_tag(key: u64, tag: u32, number: &mut u64) -> u32
     OK
 }
 
-/// Tells the key and the tag of a number.
+/// Writes the key and the tag of a number.
 #[unsafe(no_mangle)]
 pub extern "C" fn shardheap_raw_untag(number: u64, key: &mut u64, tag: &mut u32) -> u32
     ensures { UntagTold number result key.old key.new tag.old tag.new }

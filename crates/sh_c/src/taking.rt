@@ -9,8 +9,8 @@ use sh_handles::PassHandle;
 use sh_value::Value;
 use std::alloc::Global;
 
-/// Takes the value of a key: gets, reads, removes and releases it in one. A value for which there is no room stays, and
-/// its key too. The holds stay as they were.
+/// Takes the value of a key: a get, a read, a removal and a release in one call. If the value does not fit the room,
+/// the key is not removed. The holds stay as they were.
 #[unsafe(no_mangle)]
 pub extern "C" fn shardheap_raw_take_value(
     _alloc: Global,
@@ -25,7 +25,7 @@ pub extern "C" fn shardheap_raw_take_value(
     if !pass.is_full() {
         return EMPTY;
     }
-    // (It has one word, as most values have: to read such a one into it is one store.)
+    // (It has one word, as most values have: reading a value of one word into it is one store.)
     let mut value = Value::from(0);
     let answer = pass.held().take_into(key, words.len(), &mut value);
     match answer {

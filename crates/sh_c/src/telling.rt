@@ -1,4 +1,4 @@
-//! What a heap tells of itself as a whole.
+//! The accounts of a heap as a whole.
 ghost use Rattle.std.specs.Prelude.{◌≡◌};
 ghost use Rattle.sh_whole.specs.Homes.{GathersPool, TellsAccounts, TellsTotals};
 ghost use Rattle.sh_handles.specs.Heaps.{heap_layout, heap_of};
@@ -16,9 +16,9 @@ use std::alloc::Global;
 #[repr(C)]
 #[derive(Clone, Copy)]
 pub struct PageTold {
-    /// 1 where the page has a class, and else 0.
+    /// 1 if the page has a class, otherwise 0.
     pub used: u32,
-    /// Its class, from 0 to 7, and 0 where it has none.
+    /// Its class, from 0 to 7, or 0 if it has none.
     pub size_class: u32,
     /// Slots with a value that can be got.
     pub live: u32,
@@ -59,7 +59,7 @@ pub(crate) fn why(refusal: NotTold) -> u32
     }
 }
 
-// The code of an answer.
+// The code of a result.
 fn code_told<T>(answer: &Result<T, NotTold>) -> u32
     ensures { result ≡ told_code answer.now }
 {
@@ -69,7 +69,7 @@ fn code_told<T>(answer: &Result<T, NotTold>) -> u32
     }
 }
 
-// Writes the accounts that were told.
+// Writes the accounts, if there are any.
 fn tell_page(answer: &Result<Accounts, NotTold>, told: &mut PageTold)
     ensures { told.new ≡ told_in page_told told.old answer.now }
 {
@@ -89,7 +89,7 @@ fn tell_page(answer: &Result<Accounts, NotTold>, told: &mut PageTold)
     }
 }
 
-// Writes the sums that were told.
+// Writes the sums, if there are any.
 fn tell_sums(answer: &Result<Totals, NotTold>, told: &mut SumsTold)
     ensures { told.new ≡ told_in sums_told told.old answer.now }
 {
@@ -105,7 +105,7 @@ fn tell_sums(answer: &Result<Totals, NotTold>, told: &mut SumsTold)
     }
 }
 
-/// Joins all passes of the heap in one, which is at home then, where none is away.
+/// Joins all passes of the heap in one, and puts that one back in its berth. It fails if a pass is taken or lost.
 #[unsafe(no_mangle)]
 pub extern "C" fn shardheap_raw_gather(alloc: Global, heap: &mut HeapHandle) -> u32
     ensures { HeapAsked (λ h. GathersPool (heap_of h)) result heap.old.slot.value heap.new.slot.value }
@@ -118,7 +118,7 @@ pub extern "C" fn shardheap_raw_gather(alloc: Global, heap: &mut HeapHandle) -> 
     code_told(&answer)
 }
 
-/// Tells the accounts of a page, where one pass at home carries the tales of all.
+/// Writes the accounts of a page. It needs a pass that carries the tales of all.
 #[unsafe(no_mangle)]
 pub extern "C" fn shardheap_raw_accounts(
     alloc: Global,
@@ -139,7 +139,7 @@ pub extern "C" fn shardheap_raw_accounts(
     code_told(&answer)
 }
 
-/// Tells the sums over all pages, where one pass at home carries the tales of all.
+/// Writes the sums over all pages. It needs a pass that carries the tales of all.
 #[unsafe(no_mangle)]
 pub extern "C" fn shardheap_raw_totals(
     alloc: Global,

@@ -10,7 +10,7 @@ use sh_shape::classes;
 use sh_value::{Hold, Refusal, Value, WORDS_MAX};
 use std::alloc::Global;
 
-// Puts the words of a value in front of the room, and tells how many they are.
+// Writes the words of a value to the front of the room, and how many they are.
 pub(crate) fn tell_words(value: &Value, words: &mut [u64], count: &mut u64) -> u32
     ensures count { count.new ≡ length value.now }
     ensures words { WordsTold value.now words.old result words.new }
@@ -39,7 +39,7 @@ pub extern "C" fn shardheap_raw_read(
     if !pass.is_full() {
         return EMPTY;
     }
-    // (It has one word, as most values have: to read such a one into it is one store.)
+    // (It has one word, as most values have: reading a value of one word into it is one store.)
     let mut value = Value::from(0);
     let answer = pass.held().read_into(Hold { key }, &mut value);
     match answer {
@@ -48,7 +48,7 @@ pub extern "C" fn shardheap_raw_read(
     }
 }
 
-/// Gets, reads and releases a key in one. The holds stay as they were.
+/// Gets, reads and releases a key in one call. The holds stay as they were.
 #[unsafe(no_mangle)]
 pub extern "C" fn shardheap_raw_load(
     _alloc: Global,
@@ -63,7 +63,7 @@ pub extern "C" fn shardheap_raw_load(
     if !pass.is_full() {
         return EMPTY;
     }
-    // (It has one word, as most values have: to read such a one into it is one store.)
+    // (It has one word, as most values have: reading a value of one word into it is one store.)
     let mut value = Value::from(0);
     let answer = pass.held().fetch_into(key, &mut value);
     match answer {
@@ -72,7 +72,7 @@ pub extern "C" fn shardheap_raw_load(
     }
 }
 
-// Puts the words behind those of the value, where it is, so that the value is copied nowhere.
+// Appends the words to the value in place, so that the value is not copied.
 fn put_words(value: &mut Value, words: &[u64])
     requires { length value.old + length words.now ≤ 16 }
     ensures { value.new ≡ value.old ++ words.now }
@@ -94,7 +94,7 @@ fn insert_words(member: &mut AnyMember, words: &[u64]) -> Result<u64, Refusal>
     member.insert(&value)
 }
 
-// Tells the number that was answered, as the key of a value that was stored.
+// Writes the number that a call returned, such as the key of a stored value.
 pub(crate) fn tell_number(answer: &Result<u64, Refusal>, key: &mut u64)
     ensures { key.new ≡ number_told key.old answer.now }
 {
@@ -103,7 +103,7 @@ pub(crate) fn tell_number(answer: &Result<u64, Refusal>, key: &mut u64)
     }
 }
 
-/// Stores a value under a new key in the shard that the pass owns, and tells the key.
+/// Stores a value under a new key in the shard that the pass owns, and writes the key.
 #[unsafe(no_mangle)]
 pub extern "C" fn shardheap_raw_insert(
     _alloc: Global,
@@ -121,7 +121,7 @@ pub extern "C" fn shardheap_raw_insert(
     code(&answer)
 }
 
-// Gives a page of the shard that the pass owns to the class of values of so many words.
+// Gives a page of the shard that the pass owns to the class of values of `words` words.
 fn prepare_for(member: &mut AnyMember, words: u32) -> Result<u32, Refusal>
     ensures { PreparesFor words member.old result member.new }
 {
@@ -131,7 +131,7 @@ fn prepare_for(member: &mut AnyMember, words: u32) -> Result<u32, Refusal>
     }
 }
 
-// Tells the page that was prepared.
+// Writes the page that was prepared.
 fn tell_page(answer: &Result<u32, Refusal>, page: &mut u32)
     ensures { page.new ≡ number_told page.old answer.now }
 {
@@ -140,7 +140,7 @@ fn tell_page(answer: &Result<u32, Refusal>, page: &mut u32)
     }
 }
 
-/// Gives a page of the shard that the pass owns to values of so many words, and tells the page.
+/// Gives a page of the shard that the pass owns to values of `words` words, and writes its number.
 #[unsafe(no_mangle)]
 pub extern "C" fn shardheap_raw_prepare(
     _alloc: Global,

@@ -43,7 +43,7 @@ layout_number name.Tagged = 1
 layout_number name.Deep = 2
 layout_number name.Tiny = 3
 
--- a heap of this layout and shape is opened, or it is refused as a pool's opening is
+-- a heap of this layout and shape is opened, or refused as the opening of a pool is
 abbrev pub AnyOpens : LayoutName → Numbers → Result AnyHeap Refusal → Type 0
 AnyOpens layout shape (Ok heap) = (heap_layout heap ≡ layout_named layout)
     × OpensPool (layout_named layout) shape (Ok (heap_of heap))
@@ -66,7 +66,7 @@ OpensFor layout owners values words passes (Err refusal.Memory) = (n : Numbers)
     × IsLeastRoomy layout owners values words passes n
 OpensFor layout owners values words passes (Err _) = ⊥
 
--- a pass of the heap that was at home
+-- a pass of the heap at rest, with its layout
 pub record AnyBegins (heap : AnyHeap) (m : AnyMember) : Type 0 where
   pub layout : layout_of m ≡ heap_layout heap
   pub begins : Begins (heap_of heap) (side_of m) (berth_of m)

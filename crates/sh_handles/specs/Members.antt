@@ -44,7 +44,7 @@ pub record AnyHeeds (receipt : Caller) (m n : AnyMember) : Type 0 where
   pub berth : berth_of n ≡ berth_of m
   pub heeds : SideHeeds (layout_of m) receipt (side_of m) (side_of n)
 
--- its pass came home, which owned no shard; or it and its berth come back
+-- its pass owned no shard and was given back, or it is returned with its berth
 abbrev pub Gives : SeenSide → ℕ → Result (Unit {0}) (SeenSide × ℕ) → Type 0
 Gives m berth (Ok _) = IsPass m
 Gives m berth (Err back) = (back.0 ≡ m) × (back.1 ≡ berth)
@@ -53,7 +53,7 @@ abbrev pub AnyGives : AnyMember → Result (Unit {0}) AnyMember → Type 0
 AnyGives m (Ok _) = IsPass (side_of m)
 AnyGives m (Err n) = n ≡ m
 
--- a pass of this heap that was at home, with a berth of the heap's
+-- a pass of this heap that has begun nothing, with a berth of the heap's
 pub record Begins (heap : Heap) (m : SeenSide) (berth : ℕ) : Type 0 where
   pub caller : Caller
   pub pass : m ≡ side.Pass caller

@@ -1,4 +1,4 @@
-// The calls of a member by which it stays a pass, or the owner of its shard.
+// The calls of a member after which it is what it was: a pass, or the owner of its shard.
 ghost use Rattle.std.specs.Prelude.{◌<◌};
 ghost use Rattle.sh_pass.specs.Passes.{GetDoes, ReadDoes, ReadIntoDoes, RemoveDoes, ReleaseDoes};
 ghost use Rattle.sh_readers.specs.Readers.{FetchDoes, FetchIntoDoes};
@@ -21,7 +21,7 @@ impl AnyMember {
         }
     }
 
-    /// The value of a key that it holds. Refused as `NotHeld`.
+    /// Returns the value of a key that it holds. Refused as `NotHeld`.
     pub fn read(&mut self, hold: Hold) -> Result<Value, Refusal>
         ensures { AnyDoes (λ l. SideDoes l (ReadDoes hold.key)) self.old result self.new }
     {
@@ -33,7 +33,7 @@ impl AnyMember {
         }
     }
 
-    /// The same into a value of the caller's, which is as it was where it is refused.
+    /// The same into a value of the caller's, which is as it was if the call is refused.
     pub fn read_into(&mut self, hold: Hold, value: &mut Value) -> Result<(), Refusal>
         ensures { AnyDoes (λ l. SideDoes l (λ v answer w. ReadIntoDoes hold.key v value.old answer value.new w))
             self.old result self.new }
@@ -46,7 +46,8 @@ impl AnyMember {
         }
     }
 
-    /// The value of a key: a get, a read and a release in one. Refused as a get is. It leaves the holds as they were.
+    /// Returns the value of a key: a get, a read and a release in one call. Refused as a get is. The holds stay as they
+    /// were.
     pub fn fetch(&mut self, key: u64) -> Result<Value, Refusal>
         ensures { AnyDoes (λ l. SideDoes l (FetchDoes l key)) self.old result self.new }
     {
@@ -58,7 +59,7 @@ impl AnyMember {
         }
     }
 
-    /// The same into a value of the caller's, which is as it was where it is refused.
+    /// The same into a value of the caller's, which is as it was if the call is refused.
     pub fn fetch_into(&mut self, key: u64, value: &mut Value) -> Result<(), Refusal>
         ensures { AnyDoes (λ l. SideDoes l (λ v answer w. FetchIntoDoes l key v value.old answer value.new w)) self.old
             result self.new }
@@ -96,7 +97,7 @@ impl AnyMember {
         }
     }
 
-    /// Stores a value under a new key in the shard that it owns. Refused as `NoShard` where it owns none, and else as
+    /// Stores a value under a new key in the shard that it owns. Refused as `NoShard` if it owns none, otherwise as
     /// `Full` or `Memory`.
     pub fn insert(&mut self, value: &Value) -> Result<u64, Refusal>
         ensures { AnyDoes (λ l. SideInserts l value.now) self.old result self.new }
@@ -109,8 +110,8 @@ impl AnyMember {
         }
     }
 
-    /// Gives a page of the shard that it owns to class `class`, from 0 to 7, and answers the page. Refused as `NoShard`
-    /// where it owns none, and else as `Full` or `Memory`.
+    /// Gives a page of the shard that it owns to class `class`, from 0 to 7, and returns the page. Refused as `NoShard`
+    /// if it owns none, otherwise as `Full` or `Memory`.
     pub fn prepare(&mut self, class: u32) -> Result<u32, Refusal>
         requires { class < 8 }
         ensures { AnyDoes (λ l. SidePrepares l class) self.old result self.new }
@@ -123,7 +124,7 @@ impl AnyMember {
         }
     }
 
-    /// Collects what others freed in the shard that it owns. Refused as `NoShard` where it owns none.
+    /// Collects what others freed in the shard that it owns. Refused as `NoShard` if it owns none.
     pub fn collect(&mut self) -> Result<(), Refusal>
         ensures { AnyDoes SideCollects self.old result self.new }
     {

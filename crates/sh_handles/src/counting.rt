@@ -1,4 +1,4 @@
-// What a member knows of how full its shard is.
+// How full the shard of a member is.
 ghost use Rattle.sh_handles.specs.Members.{AnyDoes};
 ghost use Rattle.sh_member.specs.Sides.{SideCounts};
 ghost use Rattle.sh_shard.specs.Pages.{blank_pages, slots_out};
@@ -7,7 +7,7 @@ use crate::member::AnyMember;
 use sh_value::Refusal;
 
 impl AnyMember {
-    /// How many pages of the shard that it owns have no class yet. Refused as `NoShard` if it owns none.
+    /// The number of pages without a class in the shard that it owns. Refused as `NoShard` if it owns none.
     pub fn pages_left(&self) -> Result<u64, Refusal>
         ensures { AnyDoes (λ l. SideCounts blank_pages) self.now result self.now }
     {
@@ -19,7 +19,8 @@ impl AnyMember {
         }
     }
 
-    /// How many slots of the other pages of its shard are not free for it. Refused as `NoShard` if it owns none.
+    /// The number of slots, in pages with a class of its shard, that it cannot use now. Refused as `NoShard` if it owns
+    /// none.
     pub fn slots_out(&self) -> Result<u64, Refusal>
         ensures { AnyDoes (λ l. SideCounts slots_out) self.now result self.now }
     {

@@ -24,7 +24,7 @@ pub enum LayoutName {
     Tagged,
     /// 64 shards of 1,048,576 pages.
     Deep,
-    /// 4 shards of 16 pages, whose slots retire after 3 values: for tests.
+    /// 4 shards of 16 pages, whose slots retire after 3 values, for tests.
     Tiny,
 }
 
@@ -56,7 +56,7 @@ pub enum AnyHeap {
     Tiny(Share<Tiny>),
 }
 
-// A heap of this shape, with all its passes at home.
+// A heap of this shape, with each pass in its berth.
 fn opened<L: KeyLayout>(alloc: Global, shape: Shape) -> Result<Share<L>, Refusal>
     ensures { OpensPool L.layout shape result }
 {
@@ -64,7 +64,7 @@ fn opened<L: KeyLayout>(alloc: Global, shape: Shape) -> Result<Share<L>, Refusal
     Share::new(alloc, pool)
 }
 
-// A pass that is at home, which owns no shard.
+// Takes a free pass, which owns no shard.
 fn taken<L: KeyLayout>(share: &Share<L>) -> Option<(Member<L, Share<L>>, Berth<L>)>
     ensures { IfSome result (λ r. Begins share.now r.0 r.1) }
 {
@@ -93,8 +93,8 @@ fn roomy(
 }
 
 impl AnyHeap {
-    /// Opens a heap of this layout and shape, with all its passes at home. Refused as `BadShape` exactly where the
-    /// shape does not fit the layout, and as `Memory` where memory is refused.
+    /// Opens a heap of this layout and shape, with each pass in its berth. Refused as `BadShape` exactly if the shape
+    /// does not fit the layout, and as `Memory` if memory is refused.
     pub fn open(alloc: Global, layout: LayoutName, shape: Shape) -> Result<AnyHeap, Refusal>
         ensures { AnyOpens layout shape result }
     {
@@ -106,7 +106,7 @@ impl AnyHeap {
         }
     }
 
-    /// The same of a shape with these numbers, which is refused as `BadShape` where there is none.
+    /// The same for a shape with these numbers. Refused as `BadShape` also if there is no such shape.
     pub fn open_shaped(
         alloc: Global,
         layout: LayoutName,
@@ -121,8 +121,8 @@ impl AnyHeap {
         AnyHeap::open(alloc, layout, shape)
     }
 
-    /// The same of the least shape with room for so many values of so many words in the shard of each owner. Refused as
-    /// `BadShape` where no shape of the layout has the room.
+    /// The same for the least shape with room for `values` values of `words` words in the shard of each owner. Refused
+    /// as `BadShape` if no shape of the layout has the room.
     pub fn open_for(
         alloc: Global,
         layout: LayoutName,
@@ -137,7 +137,7 @@ impl AnyHeap {
         AnyHeap::open(alloc, layout, shape)
     }
 
-    /// One share more of the same heap. Refused as `Memory` where no more can be counted, which is after 2^63.
+    /// One share more of the same heap. Refused as `Memory` if no more can be counted, which is after 2^63.
     pub fn share(&self) -> Result<AnyHeap, Refusal>
         ensures { MatchResult result (λ other. other ≡ self.now) (λ why. why ≡ Memory) }
     {
@@ -149,7 +149,7 @@ impl AnyHeap {
         }
     }
 
-    /// How many passes the heap has, at home or away.
+    /// The number of passes of the heap, taken or not.
     pub fn passes(&self) -> u64
         ensures { result ≡ (heap_of self.now).shape.passes }
     {
@@ -161,7 +161,7 @@ impl AnyHeap {
         }
     }
 
-    /// Takes a pass that is at home. `None` where it finds each of them away.
+    /// Takes a free pass. `None` if it finds each berth empty.
     pub fn take(&self) -> Option<AnyMember>
         ensures { IfSome result (AnyBegins self.now) }
     {

@@ -13,7 +13,7 @@ use std::alloc::Global;
 use std::marker::Model;
 use std::mem::replace;
 
-/// A `NullableBox<AnyHeap>` whose pointer has no type, since C may see none that leads to an `Arc`.
+/// A `NullableBox<AnyHeap>` whose pointer has no type, since C may not see a type that leads to an `Arc`.
 #[repr(C)]
 #[derive(Drop)]
 pub struct HeapSlot {
@@ -85,7 +85,7 @@ impl HeapHandle {
         self.full
     }
 
-    /// Takes the box out, where there is one.
+    /// Takes the box out, if there is one.
     pub fn take(&mut self, alloc: Global) -> Option<Box<AnyHeap, Global>>
         ensures gone { self.new.slot.value ≡ None }
         ensures value { MatchOption result (self.old.slot.value ≡ None) (λ b. self.old.slot.value ≡ Some b.value) }
@@ -104,7 +104,7 @@ unsafe impl Send for HeapSlot {}
 
 fn crosses<T: Send>(_value: &T) {}
 
-/// C may pass a handle to another thread only where this is proved of its type.
+/// C may pass a handle to another thread only since this is proved of its type.
 pub fn heap_crosses(handle: &HeapHandle) {
     crosses(handle);
 }

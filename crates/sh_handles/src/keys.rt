@@ -7,8 +7,8 @@ use sh_totals::NextKey;
 use sh_whole::{NotTold, pool_next_key};
 
 impl AnyHeap {
-    /// The first live key from a place on, by the pass that `gather` left at home. `None` if no key from there on is
-    /// live. Refused as `Away` if that pass is away or there is none.
+    /// The first live key from a place on, by the pass that `gather` left in its berth. `None` if no key from there on
+    /// is live. Refused as `Away` if that pass was taken or there is none.
     pub fn next_key(&self, from: u64) -> Result<Option<NextKey>, NotTold>
         ensures { TellsNextKey (heap_layout self.now) (heap_of self.now) from result }
     {

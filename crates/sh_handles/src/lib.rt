@@ -1,7 +1,7 @@
-//! Handles: a heap or a pass by its address, of whichever layout, for callers in other languages.
+//! Handles: a heap, a pass or a receipt by its address, of any layout, for callers in other languages.
 //!
-//! A heap's layout is chosen as it is opened, so what a handle owns is one of several types. Each call looks which, and
-//! then is that of the heap's own crates.
+//! A heap's layout is chosen when it is opened, so what a handle owns is of one of several types. Each call finds out
+//! which, and then calls the function of the heap's own crates.
 #![tactic(auto)]
 
 mod calls;

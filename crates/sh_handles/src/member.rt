@@ -1,11 +1,11 @@
-//! Members of any layout, and how their passes come home or are lost.
+//! Members of any layout, and how their passes are given back or lost.
 ghost use Rattle.sh_handles.specs.Members.{AnyGives, Gives};
 
 use sh_key::{Deep, KeyLayout, Tagged, Tiny, Wide};
 use sh_member::Member;
 use sh_pool::{Berth, Share, give_pass};
 
-/// A pass that may own a shard, of a heap of any layout, and where it is at home.
+/// A pass that may own a shard, of a heap of any layout, and its berth.
 ///
 /// A member that is dropped is lost, as by `lose`.
 pub enum AnyMember {
@@ -26,7 +26,7 @@ impl Drop for AnyMember {
 }
 
 impl AnyMember {
-    /// Brings its pass home, where it owns no shard; else it comes back as it was.
+    /// Gives its pass back to its berth. If it owns a shard, or the berth is not free, it is returned as it was.
     pub fn go_home(self) -> Result<(), AnyMember>
         ensures { AnyGives self result }
     {
@@ -50,8 +50,8 @@ impl AnyMember {
         }
     }
 
-    /// Loses the pass: its berth stays empty for good, its holds stay in their slots, and a shard that it owns stays
-    /// owned. Its share of the heap goes.
+    /// Loses the pass: its berth stays empty for ever, its holds stay in their slots, and a shard that it owns stays
+    /// owned. It drops its share of the heap.
     pub fn lose(self) {
         match self {
             AnyMember::Wide(member, berth) => lost(member, berth),
@@ -68,7 +68,7 @@ fn lost<L: KeyLayout>(member: Member<L, Share<L>>, berth: Berth<L>) {
     berth.lose();
 }
 
-// Brings the pass home, where it owns no shard.
+// Gives the pass back to its berth, if it owns no shard.
 fn given<L: KeyLayout>(
     member: Member<L, Share<L>>,
     berth: Berth<L>,

@@ -9,8 +9,8 @@ use sh_value::Refusal;
 use std::alloc::Global;
 
 impl AnyMember {
-    /// Makes it the owner of shard `n`. Refused as `Taken` where it owns one already or another pass owns that one, as
-    /// `NoShard` where there is none, and as `Memory`.
+    /// Makes it the owner of shard `n`. Refused as `Taken` if it owns one already or another pass owns that one, as
+    /// `NoShard` if there is none, and as `Memory`.
     pub fn adopt(&mut self, alloc: Global, n: u64) -> Result<(), Refusal>
         ensures { AnyDoes (λ l. SideAdopts n) self.old result self.new }
     {
@@ -22,8 +22,8 @@ impl AnyMember {
         }
     }
 
-    /// Leaves the shard that it owns. Refused as `NoShard` where it owns none, and as `Waiting` where another caller
-    /// has begun a free there that is yet to end.
+    /// Leaves the shard that it owns. Refused as `NoShard` if it owns none, and as `Waiting` if another caller has
+    /// begun a free there and not ended it.
     pub fn leave(&mut self) -> Result<(), Refusal>
         ensures { AnyDoes (λ l. SideLeaves) self.old result self.new }
     {

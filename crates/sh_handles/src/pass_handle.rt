@@ -13,7 +13,7 @@ use std::alloc::Global;
 use std::marker::Model;
 use std::mem::replace;
 
-/// A `NullableBox<AnyMember>` whose pointer has no type, since C may see none that leads to an `Arc`.
+/// A `NullableBox<AnyMember>` whose pointer has no type, since C may not see a type that leads to an `Arc`.
 #[repr(C)]
 #[derive(Drop)]
 pub struct PassSlot {
@@ -50,7 +50,7 @@ impl PassSlot {
     ghost use Rattle.std.specs.Borrow.{sem};
     ghost use Rattle.sh_handles.specs.PassLending.{LendsPass};
 
-    // What it owns, in place. (It has a proof by hand.)
+    // What it owns, in place. (Its proof is a file of `proofs/`.)
     #[inline(always)]
     fn in_place(&mut self) -> &mut AnyMember
         requires { has_value self.old.value ≡ true }
@@ -120,7 +120,7 @@ impl PassHandle {
         self.slot.in_place()
     }
 
-    /// Takes the box out, where there is one.
+    /// Takes the box out, if there is one.
     pub fn take(&mut self, alloc: Global) -> Option<Box<AnyMember, Global>>
         ensures gone { self.new.slot.value ≡ None }
         ensures value { MatchOption result (self.old.slot.value ≡ None) (λ b. self.old.slot.value ≡ Some b.value) }
@@ -128,7 +128,7 @@ impl PassHandle {
         replace(self, PassHandle::empty(alloc)).into_box()
     }
 
-    // The box, where there is one.
+    // The box, if there is one.
     fn into_box(self) -> Option<Box<AnyMember, Global>>
         ensures { MatchOption result (self.slot.value ≡ None) (λ b. self.slot.value ≡ Some b.value) }
     {
@@ -146,7 +146,7 @@ unsafe impl Send for PassSlot {}
 
 fn crosses<T: Send>(_value: &T) {}
 
-/// C may pass a handle to another thread only where this is proved of its type.
+/// C may pass a handle to another thread only since this is proved of its type.
 pub fn pass_crosses(handle: &PassHandle) {
     crosses(handle);
 }

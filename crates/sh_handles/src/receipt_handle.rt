@@ -13,7 +13,7 @@ use std::alloc::Global;
 use std::marker::Model;
 use std::mem::replace;
 
-/// A `NullableBox<KeptReceipt>` whose pointer has no type, since C knows none of what is behind it.
+/// A `NullableBox<KeptReceipt>` whose pointer has no type, since C knows no type behind it.
 #[repr(C)]
 #[derive(Drop)]
 pub struct ReceiptSlot {
@@ -85,7 +85,7 @@ impl ReceiptHandle {
         self.full
     }
 
-    /// Takes the box out, where there is one.
+    /// Takes the box out, if there is one.
     pub fn take(&mut self, alloc: Global) -> Option<Box<KeptReceipt, Global>>
         ensures gone { self.new.slot.value ≡ None }
         ensures value { MatchOption result (self.old.slot.value ≡ None) (λ b. self.old.slot.value ≡ Some b.value) }
@@ -104,7 +104,7 @@ unsafe impl Send for ReceiptSlot {}
 
 fn crosses<T: Send>(_value: &T) {}
 
-/// C may pass a handle to another thread only where this is proved of its type.
+/// C may pass a handle to another thread only since this is proved of its type.
 pub fn receipt_crosses(handle: &ReceiptHandle) {
     crosses(handle);
 }

@@ -14,7 +14,7 @@ pub struct KeptReceipt {
 }
 
 impl AnyMember {
-    /// A receipt of all that it was answered, and of all that it heard of others.
+    /// A receipt of all replies to it, and of all that it heard of other passes.
     pub fn receipt(&mut self) -> Receipt
         ensures same { self.new ≡ self.old }
         ensures tells { IsReceiptBy (side_of self.old) result }
@@ -27,7 +27,7 @@ impl AnyMember {
         }
     }
 
-    /// Everything that the receipt covers happens before what it is answered from now on.
+    /// Everything that the receipt covers happens before all later replies to it.
     pub fn heed(&mut self, receipt: Receipt)
         requires { IsOfHeap (side_of self.old) receipt.heap }
         ensures { AnyHeeds receipt self.old self.new }

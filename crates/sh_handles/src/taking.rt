@@ -7,11 +7,11 @@ use crate::member::AnyMember;
 use sh_value::{Refusal, Value};
 
 impl AnyMember {
-    /// The value of a key, which this call removes: a get, a read, a removal and a release in one. It goes into a value
-    /// of the caller's. A value of more than `most` words goes there too, but its key is not removed.
+    /// Writes the value of a key into one of the caller's, and removes the key: a get, a read, a removal and a release
+    /// in one call. A value of more than `most` words is written too, but its key is not removed.
     ///
     /// Refused as a get is, and as `Gone` if another thread removed the key after the get. Of all calls that remove one
-    /// key, one alone succeeds. It leaves the holds as they were.
+    /// key, one alone succeeds. The holds stay as they were.
     pub fn take_into(&mut self, key: u64, most: usize, value: &mut Value) -> Result<(), Refusal>
         ensures { AnyDoes (λ l. SideDoes l (λ v answer w. TakeIntoDoes l key most v answer value.new w)) self.old result
             self.new }

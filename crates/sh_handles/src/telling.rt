@@ -1,4 +1,4 @@
-//! What a heap of any layout tells of itself as a whole.
+//! The accounts of a heap of any layout as a whole.
 ghost use Rattle.sh_whole.specs.Homes.{GathersPool, TellsAccounts, TellsTotals};
 ghost use Rattle.sh_handles.specs.Heaps.{heap_layout, heap_of};
 
@@ -9,8 +9,9 @@ use sh_whole::{NotTold, gather_pool, pool_accounts, pool_totals};
 use std::alloc::Global;
 
 impl AnyHeap {
-    /// Joins all passes that are at home in one, which then is the only one, where they carry the tales of all. Refused
-    /// as `Away` where a pass is away or was lost, with each that was taken at home again, and as `Memory`.
+    /// Joins all passes in one, which is then the only pass of the heap and is back in a berth. Refused as `Away` if a
+    /// pass is taken or lost: then each pass that this call took is back in a berth. Refused as `Memory` if memory is
+    /// refused.
     pub fn gather(&self, alloc: Global) -> Result<(), NotTold>
         ensures { GathersPool (heap_of self.now) result }
     {
@@ -22,8 +23,8 @@ impl AnyHeap {
         }
     }
 
-    /// The accounts of a shard's page, by the pass that `gather` left at home. Refused as `Away` where that pass is
-    /// away or there is none, and as `NoPage` where the heap has no such page.
+    /// The accounts of a shard's page, by the pass that `gather` left in its berth. Refused as `Away` if that pass was
+    /// taken or there is none, and as `NoPage` if the heap has no such page.
     pub fn accounts(&self, shard: u32, page: u32) -> Result<Accounts, NotTold>
         ensures { TellsAccounts (heap_layout self.now) (heap_of self.now) shard page result }
     {
@@ -35,8 +36,8 @@ impl AnyHeap {
         }
     }
 
-    /// The sums over all pages, by the pass that `gather` left at home. Refused as `Away` where that pass is away or
-    /// there is none.
+    /// The sums over all pages, by the pass that `gather` left in its berth. Refused as `Away` if that pass was taken
+    /// or there is none.
     pub fn totals(&self) -> Result<Totals, NotTold>
         ensures { TellsTotals (heap_layout self.now) (heap_of self.now) result }
     {

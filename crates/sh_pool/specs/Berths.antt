@@ -7,15 +7,15 @@ use Rattle.sh_value.specs.declared.refusal.Refusal.TheVariants as refusal
 use Rattle.sh_table.specs.Seats.{Heap}
 use Rattle.sh_pass.specs.Passes.{Caller}
 
--- there is a box, and a pass lies in it
+-- there is a box, and a pass is in it
 abbrev pub HasPass : Option (Option Caller) → Type 0
 HasPass o = (v : Caller) × (o ≡ Some (Some v))
 
--- the same of a pass of this heap
+-- the same for a pass of this heap
 abbrev pub RestsOf : Heap → Option (Option Caller) → Type 0
 RestsOf heap o = (v : Caller) × (o ≡ Some (Some v)) × (v.heap ≡ heap)
 
--- berths, each for passes of the heap that it has here: as many as the heap has passes, and all of them for this heap
+-- the berths of a pool, by the heaps that they are for: one berth for each pass of this heap, and all for this heap
 pub record AreBerths (heap : Heap) (berths : List Heap) : Type 0 where
   pub count : length berths ≡ heap.shape.passes
   pub of : All (λ h. h ≡ heap) berths

@@ -1,4 +1,4 @@
-//! Berths: where passes are at home.
+//! Berths: the places of a pool's passes.
 ghost use Rattle.std.specs.Prelude.{◌≡◌, true, None, Some, IfSome, IfErr, MatchResult};
 ghost use Rattle.sh_nullable.specs.Owning.{has_value};
 ghost use Rattle.sh_value.specs.declared.refusal.Refusal.TheVariants.{Memory};
@@ -12,14 +12,14 @@ use sh_value::Refusal;
 use std::alloc::Global;
 use std::marker::Model;
 
-// The word of a berth whose pass is at home: free to be claimed.
+// The word of a berth that has its pass: free to be claimed.
 const HOME: u64 = FREE;
 
-// The word of a berth whose pass is away. It is free to be claimed as well, and 1 in its high half.
+// The word of a berth whose pass was taken: free to be claimed too, with 1 in its high half.
 const AWAY: u64 = 0x1_0000_0000;
 
-// A pass at home, in the box that it leaves when it is taken. Nothing of it is seen through a `&`, so that its berth
-// may be shared.
+// A pass in its berth, in the box that it leaves when it is taken. A `&` shows nothing inside, so threads may share the
+// berth.
 pub struct Resting<L: KeyLayout> {
     boxed: NullableBox<Option<PassState<L>>, Global>,
     ghost full: { has_value boxed.value ≡ true },
@@ -43,7 +43,7 @@ impl<L: KeyLayout> Resting<L> {
         }
     }
 
-    // The pass, and the box that it lay in.
+    // The pass, and the box that it was in.
     fn wake(self) -> (PassState<L>, Box<Option<PassState<L>>, Global>)
         requires { HasPass self.boxed.value }
         ensures state { self.boxed.value ≡ Some (Some result.0) }
@@ -56,7 +56,7 @@ impl<L: KeyLayout> Resting<L> {
     }
 }
 
-// A pointer that may be null does not free what it owns, so what rests is opened first.
+// A `NullableBox` does not free what it owns, so this takes the box out and drops it.
 impl<L: KeyLayout> Drop for Resting<L> {
     fn drop(self) {
         let Resting { boxed } = self;
@@ -64,13 +64,13 @@ impl<L: KeyLayout> Drop for Resting<L> {
     }
 }
 
-// Where a pass is at home, or its berth while it is away. A contract sees the heap whose passes it is for.
+// The place of one pass, with the pass or empty. A contract sees the heap whose passes it is for.
 pub(crate) type BerthCell<L> = Counted<Option<Resting<L>>>;
 
-/// The berth of a pass that is away: its number, with the box that the pass was in. The pass is given back by it.
+/// The berth of a pass that was taken: its number, and the box that the pass was in. `Pool::give` needs it.
 ///
-/// It is not `Drop`. Outside this module it ends in two ways only: `Pool::give` takes it with the pass, or `lose` ends
-/// it. So a pass that was taken is given back, or it is lost by name.
+/// It is not `Drop`. Outside this module it ends in two ways only: by `Pool::give`, with the pass, or by `lose`. So a
+/// pass that was taken is given back, or lost by a call of that name.
 ///
 /// A contract sees the number.
 pub struct Berth<L: KeyLayout> {
@@ -89,14 +89,14 @@ impl<L: KeyLayout> Model for Berth<L> {
 }
 
 impl<L: KeyLayout> Berth<L> {
-    /// Its number in the pool, from 0 on.
+    /// Its number in the pool, from 0.
     pub fn number(&self) -> usize
         ensures { result ≡ self.now }
     {
         self.number
     }
 
-    /// Loses the pass of this berth: the berth stays empty for good, and no call finds a pass there again. It frees the
+    /// Loses the pass of this berth: the berth stays empty for ever, and no call finds a pass there again. It frees the
     /// box that the pass was in.
     ///
     /// What the pass itself has is lost with its state: its holds stay in their slots.
@@ -108,11 +108,11 @@ impl<L: KeyLayout> Berth<L> {
     }
 }
 
-/// A pass that was taken, and the berth that waits for it. It is not `Drop`, since its berth is not.
+/// A pass that was taken, and its berth. It is not `Drop`, since its berth is not.
 pub struct Taken<L: KeyLayout> {
     /// What the pass knows and holds.
     pub state: PassState<L>,
-    /// Its berth, to give it back by.
+    /// Its berth, with which it is given back.
     pub berth: Berth<L>,
 }
 
@@ -124,7 +124,7 @@ impl<L: KeyLayout> Taken<L> {
     }
 }
 
-// A berth with this pass at home.
+// A berth that has this pass.
 pub(crate) fn berth_cell<L: KeyLayout>(
     alloc: Global,
     heap: &Heap<L>,
@@ -139,7 +139,7 @@ pub(crate) fn berth_cell<L: KeyLayout>(
     Ok(Counted::new(Some(Resting::of(full)), heap))
 }
 
-// Takes the pass that is at home there, if one is. The number is the berth's.
+// Takes the pass of this berth, if it is there. The number is the berth's.
 pub(crate) fn take_from<L: KeyLayout>(cell: &BerthCell<L>, number: usize) -> Option<Taken<L>>
     ensures { IfSome result (λ taken. (taken.state.heap ≡ cell.now) × (taken.berth ≡ number)) }
 {
@@ -153,7 +153,7 @@ pub(crate) fn take_from<L: KeyLayout>(cell: &BerthCell<L>, number: usize) -> Opt
     Some(Taken { state, berth })
 }
 
-// Gives a pass of the heap back, where the berth is empty.
+// Gives a pass of the heap back to this berth, if it is empty.
 pub(crate) fn give_to<L: KeyLayout>(
     cell: &BerthCell<L>,
     state: PassState<L>,

@@ -12,7 +12,7 @@ use sh_value::Refusal;
 use std::alloc::Global;
 use std::marker::Model;
 
-/// A heap with a berth for each of its passes. Threads share it, and each takes a pass where one is at home.
+/// A heap with a berth for each of its passes. Threads share it, and each takes a pass that is in its berth.
 ///
 /// A contract sees the heap.
 #[derive(Drop)]
@@ -32,7 +32,7 @@ impl<L: KeyLayout> Model for Pool<L> {
     ghost invariant = { λ p. AreBerths p.heap p.berths.items };
 }
 
-// All passes of a heap that was opened just now.
+// All passes of a new heap.
 fn all_states<L: KeyLayout>(
     alloc: Global,
     heap: &Heap<L>,
@@ -49,7 +49,7 @@ fn all_states<L: KeyLayout>(
     }
 }
 
-// A berth for each of these passes of a heap, which is at home there.
+// A berth for each of these passes of a heap, with the pass in it.
 fn berths_for<L: KeyLayout>(
     alloc: Global,
     heap: &Heap<L>,
@@ -69,8 +69,8 @@ fn berths_for<L: KeyLayout>(
 }
 
 impl<L: KeyLayout> Pool<L> {
-    /// A pool of a new heap of this shape, with all passes at home. Refused as `BadShape` exactly where the shape does
-    /// not fit the layout, and as `Memory` where memory is refused.
+    /// A pool of a new heap of this shape, with each pass in its berth. Refused as `BadShape` exactly if the shape does
+    /// not fit the layout, and as `Memory` if memory is refused.
     pub fn open(alloc: Global, shape: Shape) -> Result<Pool<L>, Refusal>
         ensures { OpensPool L.layout shape result }
     {
@@ -87,28 +87,27 @@ impl<L: KeyLayout> Pool<L> {
         &self.heap
     }
 
-    /// How many berths there are: one for each pass, whether it is at home or not.
+    /// The number of berths: one for each pass, taken or not.
     pub fn berths(&self) -> usize
         ensures { result ≡ self.now.shape.passes }
     {
         self.berths.len()
     }
 
-    /// Takes the pass of the berth of this number, where it is at home: it has begun nothing, and owns no shard. `None`
-    /// where it is away, or where there is no such berth.
+    /// Takes the pass of the berth of this number: it has begun nothing, and owns no shard. `None` if the berth is
+    /// empty, or if there is no such berth.
     pub fn take_at(&self, number: usize) -> Option<Taken<L>>
         ensures heap { IfSome result (λ taken. taken.state.heap ≡ self.now) }
         ensures rest { IfSome result (λ taken. IsAtRest taken.state) }
         ensures berth { IfSome result (λ taken. (taken.berth ≡ number) × (number < self.now.shape.passes)) }
     {
         let taken = take_from(self.berths.get(number)?, number)?;
-        // What holds of every pass holds of this one.
+        // What holds for every pass holds for this one.
         let _known = taken.state.shape(&self.heap);
         Some(taken)
     }
 
-    /// Takes a pass that is at home, from the first berth where one is when it comes there. `None` where it finds each
-    /// of them away.
+    /// Takes a pass from the first berth that has one when this call looks there. `None` if it finds each berth empty.
     pub fn take(&self) -> Option<Taken<L>>
         ensures heap { IfSome result (λ taken. taken.state.heap ≡ self.now) }
         ensures rest { IfSome result (λ taken. IsAtRest taken.state) }
@@ -122,8 +121,8 @@ impl<L: KeyLayout> Pool<L> {
         None
     }
 
-    /// Gives a pass of the heap back to its berth. Refused, with both back as they were, where a pass is at home there,
-    /// or where there is no such berth: none of this is so of a berth that was taken from this pool.
+    /// Gives a pass of the heap back to its berth. Refused if that berth has a pass, or if there is no such berth: then
+    /// both are returned as they were. Neither is so for a berth that was taken from this pool.
     pub fn give(&self, state: PassState<L>, berth: Berth<L>) -> Result<(), (PassState<L>, Berth<L>)>
         requires { state.heap ≡ self.now }
         ensures ok { OnOk result (berth < self.now.shape.passes) }

@@ -1,4 +1,4 @@
-//! Shares of a pool: what keeps it while anyone uses it.
+//! Shares of a pool: the pool lives as long as one of them.
 ghost use Rattle.std.specs.Prelude.{◌≡◌, ◌<◌, IfErr, IfSome, MatchResult, OnOk};
 ghost use Rattle.sh_value.specs.declared.refusal.Refusal.TheVariants.{Memory};
 ghost use Rattle.sh_pass.specs.Passes.{IsAtRest};
@@ -13,7 +13,7 @@ use std::alloc::Global;
 use std::marker::Model;
 use std::sync::Arc;
 
-/// A share of a pool. A pass with a share borrows nothing, and the pool goes with the last of its shares.
+/// A share of a pool. A pass with a share borrows nothing, and the last share frees the pool.
 ///
 /// A contract sees the heap.
 #[derive(Drop)]
@@ -30,7 +30,7 @@ impl<L: KeyLayout> Model for Share<L> {
 }
 
 impl<L: KeyLayout> Share<L> {
-    /// The first share of this pool. Refused as `Memory` where memory is refused: then the pool is let go.
+    /// The first share of this pool. Refused as `Memory` if memory is refused: then the pool is freed.
     pub fn new(alloc: Global, pool: Pool<L>) -> Result<Share<L>, Refusal>
         ensures { MatchResult result (λ share. share ≡ pool) (λ why. why ≡ Memory) }
     {
@@ -47,7 +47,7 @@ impl<L: KeyLayout> Share<L> {
         &self.pool
     }
 
-    /// One share more, which takes no memory. Refused as `Memory` where no more can be counted, which is after 2^63.
+    /// One share more, which takes no memory. Refused as `Memory` if no more can be counted, which is after 2^63.
     pub fn share(&self) -> Result<Share<L>, Refusal>
         ensures { MatchResult result (λ share. share ≡ self.now) (λ why. why ≡ Memory) }
     {
@@ -66,8 +66,8 @@ impl<L: KeyLayout> KeepsHeap<L> for Share<L> {
     }
 }
 
-/// Takes a pass that is at home, with a share of its pool. `None` where it finds each of them away, or where no more
-/// shares can be counted.
+/// Takes a pass from its berth, with a share of its pool. `None` if it finds each berth empty, or if no more shares can
+/// be counted.
 pub fn take_pass<L: KeyLayout>(share: &Share<L>) -> Option<(Pass<L, Share<L>>, Berth<L>)>
     ensures heap { IfSome result (λ taken. taken.0.heap ≡ share.now) }
     ensures rest { IfSome result (λ taken. IsAtRest taken.0) }
@@ -78,8 +78,8 @@ pub fn take_pass<L: KeyLayout>(share: &Share<L>) -> Option<(Pass<L, Share<L>>, B
     Some((Pass::on(kept, state), berth))
 }
 
-/// Gives a pass back to its berth, and lets its share go. Refused, with both back as they were, where a pass is at home
-/// there, or where there is no such berth: none of this is so of a berth that was taken from this pool.
+/// Gives a pass back to its berth, and drops its share. Refused if that berth has a pass, or if there is no such berth:
+/// then both are returned as they were. Neither is so for a berth that was taken from this pool.
 pub fn give_pass<L: KeyLayout>(
     pass: Pass<L, Share<L>>,
     berth: Berth<L>,

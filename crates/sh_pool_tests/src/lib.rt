@@ -1,4 +1,4 @@
-//! Tests of pools: that passes are taken one by one and come home, by one thread and by two, and that they meet.
+//! Tests of pools: passes are taken one by one and given back, by one thread and by two, and they are joined.
 #![tactic(auto)]
 
 #[cfg(test)]

@@ -1,5 +1,5 @@
-//! What no clause says: that each pass is at home at first, that one which is away is taken by nobody, and that it can
-//! be taken again once it is back.
+//! What no clause says: at first each pass is in its berth, no call finds a pass that was taken, and a pass that was
+//! given back can be taken again.
 ghost use Rattle.std.specs.Prelude.{◌≡◌};
 
 use sh_key::Tiny;
@@ -13,12 +13,12 @@ use std::fmt::Debug;
 use std::process::Abort;
 use std::thread::join;
 
-// What was found is what is wanted. It is a function, since each assertion that is written out is proved anew.
+// Asserts that what was found is what is wanted. It is a function, since each written assertion is proved anew.
 pub(crate) fn agree<T: PartialEq + Debug + Drop>(rt: &impl Abort, found: T, wanted: T) {
     assert_eq!(rt; found, wanted);
 }
 
-// It is so.
+// Asserts that it is so.
 pub(crate) fn holds(rt: &impl Abort, it: bool) {
     assert!(rt; it);
 }
@@ -28,7 +28,7 @@ fn opened(rt: &impl Abort, alloc: Global, passes: u32) -> Pool<Tiny> {
     Pool::<Tiny>::open(alloc, shape).expect(rt, "a pool")
 }
 
-// The pass that is taken from the first berth where one is.
+// The pass that is taken from the first berth that has one.
 pub(crate) fn taken(rt: &impl Abort, pool: &Pool<Tiny>) -> Taken<Tiny>
     ensures { result.state.heap ≡ pool.now }
 {
@@ -48,7 +48,7 @@ pub(crate) fn taken_at(rt: &impl Abort, pool: &Pool<Tiny>, number: usize) -> Tak
     }
 }
 
-// Whether no pass is at home: one that is there is lost.
+// Whether each berth is empty. A pass that is found is lost.
 pub(crate) fn all_are_away(pool: &Pool<Tiny>) -> bool {
     match pool.take() {
         Some(taken) => {
@@ -59,7 +59,7 @@ pub(crate) fn all_are_away(pool: &Pool<Tiny>) -> bool {
     }
 }
 
-// Whether the pass of the berth of this number is away, or there is no such berth: one that is there is lost.
+// Whether the berth of this number is empty or does not exist. A pass that is found is lost.
 pub(crate) fn is_away(pool: &Pool<Tiny>, number: usize) -> bool {
     match pool.take_at(number) {
         Some(taken) => {
@@ -70,7 +70,7 @@ pub(crate) fn is_away(pool: &Pool<Tiny>, number: usize) -> bool {
     }
 }
 
-// Gives a pass back, and returns whether it came home: one that did not is lost.
+// Gives a pass back, and returns whether that succeeded. A refused pass is lost.
 pub(crate) fn comes_home(pool: &Pool<Tiny>, taken: Taken<Tiny>) -> bool
     requires { taken.state.heap ≡ pool.now }
 {
@@ -102,7 +102,7 @@ fn each_pass_is_taken_once_and_comes_home(rt: HostRuntime) {
     holds(&rt, !all_are_away(&pool));
 }
 
-// A pass that is lost never comes home, and the other stays where it is.
+// A lost pass never comes back, and the other stays in its berth.
 #[test]
 fn a_pass_that_is_lost_stays_away(rt: HostRuntime) {
     let pool = opened(&rt, rt.alloc(), 2);
@@ -115,7 +115,8 @@ fn a_pass_that_is_lost_stays_away(rt: HostRuntime) {
     holds(&rt, is_away(&pool, 0));
 }
 
-// Gives a pass back by a berth of another pool, which is refused: its number, with the pass, and the berth is lost.
+// Gives a pass back with a berth of another pool, which is refused. Returns the pass and the number of that berth. The
+// berth is lost.
 fn refused(
     rt: &impl Abort,
     pool: &Pool<Tiny>,
@@ -135,7 +136,7 @@ fn refused(
     }
 }
 
-// The berths of another pool: the first one's pass is at home here, and the third one's number is too large.
+// The berths of another pool: the first one has its pass in this pool, and the third one's number is too large.
 #[test]
 fn a_berth_of_another_pool_is_refused(rt: HostRuntime) {
     let pool = opened(&rt, rt.alloc(), 2);
@@ -167,7 +168,7 @@ pub(crate) fn shared_pass(
     }
 }
 
-// Gives a pass back, and tells whether it came home: one that did not is lost.
+// Gives a pass back, and returns whether that succeeded. A refused pass is lost.
 pub(crate) fn is_given(pass: Pass<Tiny, Share<Tiny>>, berth: Berth<Tiny>) -> bool {
     match give_pass(pass, berth) {
         Ok(()) => true,
@@ -190,8 +191,8 @@ fn a_pass_outlives_the_share_that_it_was_taken_by(rt: HostRuntime) {
     holds(&rt, is_given(pass, berth));
 }
 
-// Takes a pass, looks a key up and gives the pass back, over and over: how often there was a pass, and how often one
-// was refused on its way home.
+// Takes a pass, looks a key up and gives the pass back, over and over. Returns how often there was a pass, and how
+// often a give was refused.
 fn taken_and_given(share: Share<Tiny>) -> (u32, u32) {
     let mut taken = 0u32;
     let mut refused = 0u32;
@@ -223,7 +224,7 @@ fn two_threads_share_a_pool(rt: HostRuntime) {
     holds(&rt, !all_are_away(share.pool()));
 }
 
-// A pool of two passes, opened once more where memory was refused.
+// A pool of two passes, opened again if memory was refused.
 fn opened_with_memory(rt: &impl Abort, alloc: Global) -> Pool<Tiny> {
     let shape = Shape::new(1, 1, 2).expect(rt, "a shape");
     match Pool::<Tiny>::open(alloc, shape) {
@@ -235,7 +236,7 @@ fn opened_with_memory(rt: &impl Abort, alloc: Global) -> Pool<Tiny> {
     }
 }
 
-// Refused memory: nothing is opened or shared, and the same call then answers.
+// If memory is refused nothing is opened or shared, and the same call then succeeds.
 #[test]
 fn refused_memory_is_told(rt: HostRuntime) {
     let pool = opened_with_memory(&rt, rt.alloc());

@@ -1,5 +1,5 @@
-//! What no clause says: that a pass that is away is found to be, that those that were called are home again after it,
-//! and that what was joined once stays joined.
+//! What no clause says: a missing pass is noticed, the passes that a refused gather took are back in their berths, and
+//! passes that were joined once stay joined.
 use crate::tests::{
     agree, all_are_away, comes_home, holds, is_away, is_given, shared_pass, taken, taken_at,
 };
@@ -36,7 +36,7 @@ fn a_pass_that_is_away_is_missed(rt: HostRuntime) {
     assert_eq!(rt; gather_pool(rt.alloc(), &pool), Err(NotTold::Away));
     assert_eq!(rt; pool_totals(&pool), Err(NotTold::Away));
     assert_eq!(rt; pool_accounts(&pool, 0, 0), Err(NotTold::Away));
-    // Both of the others are at home again, and still two.
+    // Both of the others are back in their berths, and still two.
     let one = taken_at(&rt, &pool, 0);
     let other = taken_at(&rt, &pool, 2);
     assert_eq!(rt; gather_pool(rt.alloc(), &pool), Err(NotTold::Away));
@@ -62,7 +62,7 @@ fn passes_that_met_are_one(rt: HostRuntime) {
     agree(&rt, pool_accounts(&pool, 0, 8), Err(NotTold::NoPage));
 }
 
-// Inserts two values by a pass that is at home, and removes the first.
+// Inserts two values by a pass of the pool, and removes the first.
 fn one_value(rt: &impl Abort, alloc: Global, share: &Share<Tiny>) {
     let (pass, berth) = shared_pass(rt, share);
     let Ok(mut shard) = Shard::adopt(alloc, pass, 0) else {
@@ -101,13 +101,13 @@ fn what_was_inserted_is_told(rt: HostRuntime) {
         ..NOTHING
     };
     agree(&rt, pool_totals(share.pool()), Ok(sums));
-    // And the pass goes on.
+    // The joined pass can be used again.
     one_value(&rt, rt.alloc(), &share);
     let live = pool_totals(share.pool()).map(|sums| sums.live);
     agree(&rt, live, Ok(2));
 }
 
-// Refused memory: nobody is called, and the same call then answers.
+// If memory is refused, each pass is back in its berth.
 #[test]
 fn refused_memory_calls_nobody(rt: HostRuntime) {
     let Ok(shape) = Shape::new(1, 1, 2) else {

@@ -1,4 +1,4 @@
--- The passes of a pool that were called together, and what they tell.
+-- The passes of a pool that were called together, and what is known by them.
 use Rattle.std.specs.Prelude.{◌≡◌, ◌<◌, ℕ, All, List, length, Option, Result, Ok, Err}
 use Rattle.sh_key.specs.Layout.{Layout}
 use Rattle.sh_shape.specs.Places.{all_pages, page_number}
@@ -21,7 +21,7 @@ use Rattle.sh_whole.specs.declared.refusal.NotTold.TheVariants as untold
 abbrev pub IsBerth : Heap → ℕ → Type 0
 IsBerth heap berth = berth < heap.shape.passes
 
--- passes of the heap, with as many of its berths
+-- passes of the heap, and a berth of it for each
 pub record AreCalled (heap : Heap) (passes : List Caller) (berths : List ℕ) : Type 0 where
   pub of : AreOf heap passes
   pub own : All (IsBerth heap) berths
@@ -31,7 +31,7 @@ pub record AreCalled (heap : Heap) (passes : List Caller) (berths : List ℕ) : 
 abbrev pub IsWholeOf : Heap → Caller → Type 0
 IsWholeOf heap c = (c.heap ≡ heap) × IsWhole c.view
 
--- the same, with what it carries: the tales of passes of the heap that together name all; and a berth for it
+-- the same, with a berth, and with the passes whose tales it carries: passes of the heap that together name all
 pub record IsGatheredIn (heap : Heap) (c : Caller) (berth : ℕ) : Type 0 where
   pub whole : IsWholeOf heap c
   pub passes : List Caller
@@ -47,7 +47,7 @@ pub record AreAccountsOf (layout : Layout) (heap : Heap) (shard page : ℕ) (a :
   pub whole : IsWholeOf heap teller
   pub are : AreWholeAccounts layout teller.view (page_number heap.shape shard page) a
 
--- the sums over all pages, each of which such a pass told
+-- the sums over all pages, whose accounts are those of such a pass
 pub record AreTotalsOf (layout : Layout) (heap : Heap) (t : Totals) : Type 0 where
   pub first : Caller
   pub last : Caller
@@ -59,33 +59,33 @@ pub record AreTotalsOf (layout : Layout) (heap : Heap) (t : Totals) : Type 0 whe
 
 -- ---- the calls
 
--- passes of the heap that together carry all tales are joined in one, or a pass is away, or memory is refused
+-- passes of the heap that together carry all tales are joined in one, or refused: nothing is said of Away and Memory
 abbrev pub GathersAll : Heap → Result (Caller × ℕ) NotTold → Type 0
 GathersAll heap (Ok r) = IsGatheredIn heap r.0 r.1
 GathersAll heap (Err untold.Away) = Unit {0}
 GathersAll heap (Err untold.Memory) = Unit {0}
 GathersAll heap (Err untold.NoPage) = ⊥
 
--- the same, where the one is not shown
+-- the same if the joined pass is not shown
 abbrev pub GathersPool : Heap → Result (Unit {0}) NotTold → Type 0
 GathersPool heap (Ok _) = (c : Caller) × (berth : ℕ) × GathersAll heap (Ok (c, berth))
 GathersPool heap (Err why) = GathersAll heap (Err why)
 
--- the accounts of a page are told, or no such pass is found at home, or there is no such page
+-- the accounts of a page, or that there is no such page; nothing is said of Away
 abbrev pub TellsAccounts : Layout → Heap → (shard page : ℕ) → Result Accounts NotTold → Type 0
 TellsAccounts layout heap shard page (Ok a) = AreAccountsOf layout heap shard page a
 TellsAccounts layout heap shard page (Err untold.Away) = Unit {0}
 TellsAccounts layout heap shard page (Err untold.NoPage) = ¬ ShapeHasPage heap.shape shard page
 TellsAccounts layout heap shard page (Err untold.Memory) = ⊥
 
--- the totals are told, or no such pass is found at home
+-- the totals; nothing is said of Away
 abbrev pub TellsTotals : Layout → Heap → Result Totals NotTold → Type 0
 TellsTotals layout heap (Ok t) = AreTotalsOf layout heap t
 TellsTotals layout heap (Err untold.Away) = Unit {0}
 TellsTotals layout heap (Err untold.NoPage) = ⊥
 TellsTotals layout heap (Err untold.Memory) = ⊥
 
--- the next live key from a place on is told, or that there is none; or no such pass is found at home
+-- the next live key from a place on, or that there is none; nothing is said of Away
 abbrev pub TellsNextKey : Layout → Heap → ℕ → Result (Option NextKey) NotTold → Type 0
 TellsNextKey layout heap from (Ok next) = (teller : Caller) × IsWholeOf heap teller × IsNextKey layout teller from next
 TellsNextKey layout heap from (Err untold.Away) = Unit {0}

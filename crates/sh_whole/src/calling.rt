@@ -1,4 +1,4 @@
-// The passes of a pool, as they are called together and sent home again.
+// The passes of a pool, as they are taken together and given back.
 ghost use Rattle.std.specs.Prelude.{◌≡◌, ◌+◌, ◌<◌, ◌≤◌, All, IfSome, MatchResult, length};
 ghost use Rattle.std.specs.Vec.{vec_capacity, vec_len};
 ghost use Rattle.sh_table.specs.Whole.{IsWhole};
@@ -13,13 +13,13 @@ use sh_pass::{Pass, PassState};
 use sh_pool::{Berth, Pool, Taken};
 use std::alloc::Global;
 
-// Passes that were at home, and a berth for each of them. It is not `Drop`, since a berth is not.
+// Passes that were taken, and a berth for each of them. It is not `Drop`, since a berth is not.
 pub(crate) struct Called<'p, L: KeyLayout> {
     passes: Vec<Pass<'p, L>>,
     berths: Vec<Berth<L>>,
 }
 
-// Takes each pass that is at home. None where memory for the lists is refused: then none is taken.
+// Takes each pass that is in its berth. `None` if memory for the lists is refused: then none is taken.
 pub(crate) fn call_all<'p, L: KeyLayout>(alloc: Global, pool: &'p Pool<L>) -> Option<Called<'p, L>>
     ensures { IfSome result (λ called. AreCalled pool.now called.passes.items called.berths.items) }
 {
@@ -35,7 +35,7 @@ pub(crate) fn call_all<'p, L: KeyLayout>(alloc: Global, pool: &'p Pool<L>) -> Op
     Some(Called { passes, berths })
 }
 
-// Takes the pass of the berth of this number, where it is at home.
+// Takes the pass of the berth of this number, if it is there.
 #[tactic(auto, using(crate::proofs::Called::are_of_more))]
 fn call_one<'p, L: KeyLayout>(
     pool: &'p Pool<L>,
@@ -59,7 +59,7 @@ fn call_one<'p, L: KeyLayout>(
     }
 }
 
-// Gives each pass a berth. A pass whose berth is not free is lost.
+// Gives each pass back to one of the berths. A pass whose berth is not free is lost.
 pub(crate) fn send_home<L: KeyLayout>(pool: &Pool<L>, called: Called<'_, L>)
     requires { AreCalled pool.now called.passes.items called.berths.items }
 {
@@ -74,7 +74,7 @@ pub(crate) fn send_home<L: KeyLayout>(pool: &Pool<L>, called: Called<'_, L>)
     berths.destroy_empty();
 }
 
-// Gives the pass back, or loses it where its berth is not free: none of this pool's own passes is lost so.
+// Gives the pass back, or loses it if its berth is not free. This pool's own passes are never lost by it.
 pub(crate) fn give_or_lose<L: KeyLayout>(pool: &Pool<L>, state: PassState<L>, berth: Berth<L>)
     requires { state.heap ≡ pool.now }
 {
@@ -83,7 +83,7 @@ pub(crate) fn give_or_lose<L: KeyLayout>(pool: &Pool<L>, state: PassState<L>, be
     }
 }
 
-// Loses these berths, whose passes another has taken in.
+// Loses these berths, whose passes were joined in another.
 fn lose_all<L: KeyLayout>(mut berths: Vec<Berth<L>>) {
     while let Some(berth) = berths.pop() {
         berth.lose();
@@ -91,8 +91,8 @@ fn lose_all<L: KeyLayout>(mut berths: Vec<Berth<L>>) {
     berths.destroy_empty();
 }
 
-// The whole, exactly where the tales of these passes together name all passes of the heap; with a berth for the one
-// that carries them. Else they come back.
+// The whole, with a berth for the pass that carries all tales, exactly if the tales of these passes together name all
+// passes of the heap. Otherwise the passes are returned.
 pub(crate) fn meet<'p, L: KeyLayout>(
     pool: &'p Pool<L>,
     called: Called<'p, L>,

@@ -7,8 +7,8 @@ use sh_key::KeyLayout;
 use sh_pool::Pool;
 use sh_totals::{NextKey, next_key};
 
-/// The first live key from a place on, by the pass that carries the tales of all, which `gather_pool` left at home.
-/// `None` if no key from there on is live. It takes no memory. Refused as `Away` if no such pass is found at home.
+/// The first live key from a place on, by the pass that carries the tales of all, which `gather_pool` left in its
+/// berth. `None` if no key from there on is live. It takes no memory. Refused as `Away` if no such pass is found.
 pub fn pool_next_key<L: KeyLayout>(pool: &Pool<L>, from: u64) -> Result<Option<NextKey>, NotTold>
     ensures { TellsNextKey L.layout pool.now from result }
 {

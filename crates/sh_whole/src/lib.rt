@@ -1,5 +1,5 @@
-//! The whole of a pool's heap: all passes that are at home meet, and the one that carries their tales tells the
-//! accounts of each page and the totals, and comes home.
+//! The whole of a pool's heap: all passes that are in their berths are joined in one. That one carries their tales, so
+//! it knows the accounts of each page and the totals, and it is given back to a berth.
 #![tactic(auto)]
 
 mod calling;

@@ -1,11 +1,11 @@
-//! Why a pool's heap tells nothing.
+//! Why nothing is known of a pool's heap as a whole.
 
-/// Why a pool's heap tells nothing of itself as a whole.
+/// Why a call on a pool's heap as a whole was refused.
 #[derive(Clone, Copy, Debug, PartialEq, Eq)]
 pub enum NotTold {
-    /// A pass is away whose tale none at home carries. What was taken is at home again.
+    /// A pass was taken or lost whose tale no other pass carries. Each pass that this call took is back in a berth.
     Away,
-    /// Memory for a list of the passes was refused, and none was taken.
+    /// Memory for a list of the passes was refused, and no pass was taken.
     Memory,
     /// The heap has no such page.
     NoPage,

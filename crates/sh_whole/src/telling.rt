@@ -1,4 +1,4 @@
-//! What a pool's heap tells of itself as a whole.
+//! The accounts of a pool's heap as a whole.
 ghost use Rattle.sh_whole.specs.Homes.{TellsAccounts, TellsTotals};
 
 use crate::refusal::NotTold;
@@ -8,9 +8,9 @@ use sh_key::KeyLayout;
 use sh_pool::Pool;
 use sh_totals::{Totals, total};
 
-/// The accounts of a shard's page, by the pass that carries the tales of all, which `gather_pool` left at home. It
-/// takes no memory. Refused as `Away` where no such pass is found at home, and else as `NoPage` exactly where the heap
-/// has no such page.
+/// The accounts of a shard's page, by the pass that carries the tales of all, which `gather_pool` left in its berth. It
+/// takes no memory. Refused as `Away` if no such pass is found, otherwise as `NoPage` exactly if the heap has no such
+/// page.
 pub fn pool_accounts<L: KeyLayout>(
     pool: &Pool<L>,
     shard: u32,
@@ -29,8 +29,8 @@ pub fn pool_accounts<L: KeyLayout>(
     }
 }
 
-/// The sums over all pages, by the pass that carries the tales of all, which `gather_pool` left at home. It takes no
-/// memory. Refused as `Away` where no such pass is found at home.
+/// The sums over all pages, by the pass that carries the tales of all, which `gather_pool` left in its berth. It takes
+/// no memory. Refused as `Away` if no such pass is found.
 pub fn pool_totals<L: KeyLayout>(pool: &Pool<L>) -> Result<Totals, NotTold>
     ensures { TellsTotals L.layout pool.now result }
 {

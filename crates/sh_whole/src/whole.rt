@@ -1,4 +1,4 @@
-//! How the passes of a pool meet, and how the one that carries their tales comes home.
+//! How the passes of a pool are joined, and how the one that carries their tales is given back.
 ghost use Rattle.std.specs.Prelude.{◌≡◌, IfSome};
 ghost use Rattle.sh_whole.specs.Homes.{GathersAll, GathersPool, IsBerth, IsWholeOf};
 
@@ -10,14 +10,14 @@ use sh_pass::Pass;
 use sh_pool::{Berth, Pool, Taken};
 use std::alloc::Global;
 
-/// Takes all passes that are at home, and joins them: the heap as a whole, where their tales together name all its
-/// passes, and a berth for the pass that carries them.
+/// Takes all passes that are in their berths, and joins them in one. If their tales together name all passes of the
+/// heap, it returns the heap as a whole, and a berth for the pass that carries the tales.
 ///
-/// So it is the whole where no pass is away and none was lost, or where each that is not at home was joined before.
-/// Else it is refused as `Away`, and each that was taken is at home again. `Memory` is refused before any is taken.
+/// So it succeeds if no pass is taken or lost, or if each that is missing was joined before. Otherwise it is refused as
+/// `Away`, and each pass that it took is back in a berth. It is refused as `Memory` before it takes any pass.
 ///
-/// The passes that were joined are one from here on: once it is home it is the only one of the pool, with its own
-/// holds. The holds of the others stay in their slots for good.
+/// The joined passes are one pass from then on, which is the only one of the pool. It has its own holds. The holds of
+/// the others stay in their slots for ever.
 pub fn whole_of<'p, L: KeyLayout>(
     alloc: Global,
     pool: &'p Pool<L>,
@@ -36,7 +36,7 @@ pub fn whole_of<'p, L: KeyLayout>(
     }
 }
 
-/// Joins all passes of the pool as `whole_of` does, and brings the one home that carries their tales. Refused as that.
+/// Joins all passes of the pool as `whole_of` does, and gives the joined pass back to a berth. Refused as `whole_of`.
 pub fn gather_pool<L: KeyLayout>(alloc: Global, pool: &Pool<L>) -> Result<(), NotTold>
     ensures { GathersPool pool.now result }
 {
@@ -45,9 +45,9 @@ pub fn gather_pool<L: KeyLayout>(alloc: Global, pool: &Pool<L>) -> Result<(), No
     Ok(())
 }
 
-/// The heap as a whole, by a pass that is at home and carries the tales of all: there is one after `gather_pool`, or
-/// where the heap has but one. It takes no memory. `None` where no pass is at home, or the one that it takes does not
-/// carry all tales: then that one is at home again.
+/// The heap as a whole, by a pass that carries the tales of all. There is one in a berth after `gather_pool`, or if the
+/// heap has only one pass. It takes no memory. `None` if each berth is empty, or if the pass that it takes does not
+/// carry all tales: then that pass is back in its berth.
 pub fn pool_whole<L: KeyLayout>(pool: &Pool<L>) -> Option<(Whole<'_, L>, Berth<L>)>
     ensures { IfSome result (λ r. IsWholeOf pool.now r.0 × IsBerth pool.now r.1) }
 {
@@ -62,8 +62,8 @@ pub fn pool_whole<L: KeyLayout>(pool: &Pool<L>) -> Option<(Whole<'_, L>, Berth<L
     }
 }
 
-/// Brings the pass home that carries the tales. It is lost where a pass is at home in that berth, or where there is no
-/// such berth: neither is so of what this pool gave.
+/// Gives the pass that carries the tales back to this berth. The pass is lost if the berth has a pass, or if there is
+/// no such berth: neither is so for a berth that this pool gave out.
 pub fn go_home<L: KeyLayout>(pool: &Pool<L>, whole: Whole<'_, L>, berth: Berth<L>)
     requires { whole.heap ≡ pool.now }
 {

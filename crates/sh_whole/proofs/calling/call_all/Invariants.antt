@@ -2,7 +2,7 @@ use Rattle.std.proofs.Common.{◌≤◌, vec_capacity, vec_len}
 use Rattle.sh_whole.specs.Homes.{AreCalled}
 use Rattle.sh_whole.proofs.calling.call_all.Given as goal
 
--- no more passes than berths that were looked at, and there is room for one from each of the others
+-- there are at most as many passes as berths that were looked at, and room for one from each of the others
 abbrev pub invariant-loop-number : goal.invariant-loop-number
 invariant-loop-number g l = record {
   called : AreCalled l.pool l.passes.items l.berths.items;

@@ -77,7 +77,7 @@ module _ {M : Type 1} {𝓤 : Ura M} (𝓛 : Logic 𝓤) (at_mem : Memory → SP
   Post = (walk_of 𝓛 F.ended stayed (F.clauses 𝓛 at_mem run)).post bound
 
   module _ (h : Val) (b o : ℕ) where
-    -- all of the slot but the pass
+    -- all of the slot except the pass
     abbrev Rest : Fml
     Rest = fsep (fsep (ghosts.dealloc_token d.alloc (bare (lone R.mir)) (block_ptr b o)) (Z.own_val d.alloc (h ∷ [])))
         (cell_at full_share S.mir (V.both (vptr b o) h ∷ []) rb ro)
