@@ -1,15 +1,13 @@
 -- An audit follows one more line.
-use Rattle.std.proofs.Common.{◌≡◌, ℕ, ◌+◌, ◌<◌, cond, List, [], ◌∷◌, ◌++◌, Option, Some, None, refl}
-use Rattle.std.proofs.Common.{arith}
-use Rattle.std.specs.Prelude.{IsSome, nat_eq}
+use Rattle.std.proofs.Common.{◌≡◌, ℕ, ◌+◌, ◌<◌, cond, List, [], ◌∷◌, ◌++◌, arith}
+use Rattle.std.specs.Prelude.{nat_eq}
 use Rattle.std.specs.HashMap.{get, hash_map_len}
 use Rattle.sh_history.specs.declared.entry.Entry.{Entry}
-use Rattle.sh_history.specs.History.{value_of, is_got_by, is_release_by, is_insert, holds_by}
+use Rattle.sh_history.specs.History.{is_got_by, is_release_by, is_insert, holds_by}
 use Rattle.sh_history.specs.History.{Allowed}
 use Rattle.sh_history.proofs.Laws.{legal_more}
 use Rattle.sh_history.proofs.LogLaws.{count_by-push}
 use Rattle.sh_audit.specs.declared.audit.Audit.{Audit}
-use Rattle.sh_audit.specs.declared.note.Note.{Note}
 use Rattle.sh_audit.specs.Lines.{entries_in}
 use Rattle.sh_audit.specs.Noted.{IsNote}
 use Rattle.sh_audit.specs.Held.{held}
@@ -47,14 +45,6 @@ follows_push a b lines line entry is takes = record {
       rw (entries_in-push lines line entry, count_by-push is_insert (entries_in lines) entry)
       (let old = is.keys in let new = takes.keys in omega arith);
 }
-
--- the note of a key that was issued
-pub issued_note : (a : Audit) (lines : List (ℕ × Entry)) (key : ℕ) → Follows a lines
-    → IsSome (value_of (entries_in lines) key) → IsSome (get nat_eq a.notes key)
-issued_note a lines key is issued = go (get nat_eq a.notes key) (is.notes key) where
-  go : (o : Option Note) → IsNote lines key o → IsSome o
-  go None none = let e : None ≡ value_of (entries_in lines) key = none.value in rw (← e) at issued
-  go (Some note) some = refl
 
 -- a hold that may be released is noted
 pub is_held : (a : Audit) (lines : List (ℕ × Entry)) (pass key : ℕ) → Follows a lines

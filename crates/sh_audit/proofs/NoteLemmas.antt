@@ -32,7 +32,9 @@ is_note_after lines line entry key old new is adds = record {
   value = rw (entries_in-push lines line entry, value_of-push (entries_in lines) entry key, ← is.value) adds.value;
   inserted = rw (first_number-push (is_insert_of key) lines line entry, ← is.inserted) adds.inserted;
   removed = rw (first_number-push (is_removal_of key) lines line entry, ← is.removed) adds.removed;
-  got = rw (entries_in-push lines line entry, count_by-push (is_got_of key) (entries_in lines) entry, ← is.got) adds.got;
+  got =
+      rw (entries_in-push lines line entry, count_by-push (is_got_of key) (entries_in lines) entry, ← is.got)
+      adds.got;
   released =
       rw (
         entries_in-push lines line entry,

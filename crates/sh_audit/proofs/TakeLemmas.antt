@@ -1,5 +1,6 @@
 -- An audit takes an entry of each kind.
-use Rattle.std.proofs.Common.{◌≡◌, ℕ, ◌+◌, ◌-◌, ◌<◌, ◌≤◌, Bool, true, false, cond, List, [], ◌∷◌, ◌++◌, Option, Some, None, refl}
+use Rattle.std.proofs.Common.{◌≡◌, ℕ, ◌+◌, ◌-◌, ◌<◌, ◌≤◌, Bool, true, false, cond, List, [], ◌∷◌, ◌++◌, Option, Some}
+use Rattle.std.proofs.Common.{None, refl}
 use Rattle.std.proofs.Common.{sym, ◌∙◌, ap, arith}
 use Rattle.std.specs.Prelude.{◌==◌, ◌&&◌, is_some, nat_eq}
 use Rattle.std.specs.HashMap.{get, hash_map_len}
@@ -89,7 +90,8 @@ module _ (a b : Audit) (lines : List (ℕ × Entry)) (line : ℕ) (is : Follows 
       follows_push a b lines line (Released p k) is (record {
         same = writes.same;
         allowed = allowed;
-        notes = notes_written lines line (Released p k) (get nat_eq a.notes) (get nat_eq b.notes) _ writes.notes is.notes
+        notes =
+            notes_written lines line (Released p k) (get nat_eq a.notes) (get nat_eq b.notes) _ writes.notes is.notes
             (let more : n ≡ note.released + 1 = rw some at n_is in
             rw more (released_note lines line p k note (rw some at (is.notes k))));
         holds = λ q r. rw (holds q r) (go q r ((p == q) && (k == r)) refl);

@@ -34,8 +34,8 @@ key_of (Crowded pass key) = key
 key_of (Removed pass key) = key
 key_of (Released pass key) = key
 
--- the line that an entry on the key clashes with for this reason: that of the insert, that of the removal, or none,
--- where the reason is that something is missing
+-- the line that an entry on the key clashes with for this reason: that of the insert, that of the removal, or none, if
+-- the reason is that something is missing
 abbrev pub clash_line : List (ℕ × Entry) → ℕ → Why → Option ℕ
 clash_line lines key NotNew = insert_line lines key
 clash_line lines key OtherValue = insert_line lines key

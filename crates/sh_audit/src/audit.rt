@@ -34,7 +34,7 @@ pub struct Audit {
 }
 
 impl Audit {
-    /// Before the first entry, of a map with so many passes, where a key may have at most `guard_max` holds.
+    /// Before the first entry, of a map with this number of passes. A key may have at most `guard_max` holds.
     pub fn new(alloc: Global, passes: u32, guard_max: u32) -> Audit
         ensures follows { Follows result [] }
         ensures passes { result.passes ≡ passes }
@@ -171,7 +171,7 @@ impl Audit {
 
     /// Judges the next entry, which has this number, as that of its line in a file. `None` says that it is allowed by
     /// those before it, and then it belongs to the history. One that is not allowed is left out, and so is one for
-    /// which memory is refused: then the audit stands where it stood, and may go on.
+    /// which memory is refused. Then the audit is as before, and may go on.
     ///
     /// Refused if memory is, or if a key was got or released 2^64 - 1 times.
     pub fn push(&mut self, line: u64, entry: &Entry) -> Result<Option<Clash>, AllocError>

@@ -64,7 +64,8 @@ pub fn of_insert(note: Option<&Note>) -> Option<Clash>
 
 /// Why a get may not give this value.
 pub fn of_got(note: Option<&Note>, value: &Value) -> Option<Clash>
-    ensures { (passes guard_max : ℕ) (lines : List (ℕ × Entry)) (pass key : ℕ) → IsNote lines key (option_copied note.entry)
+    ensures { (passes guard_max : ℕ) (lines : List (ℕ × Entry)) (pass key : ℕ)
+        → IsNote lines key (option_copied note.entry)
         → IsJudged passes guard_max lines (Got pass key value.now) result }
 {
     match note {
@@ -81,7 +82,8 @@ pub fn of_got(note: Option<&Note>, value: &Value) -> Option<Clash>
 
 /// Why the key may not be called gone.
 pub fn of_gone(note: Option<&Note>) -> Option<Clash>
-    ensures { (passes guard_max : ℕ) (lines : List (ℕ × Entry)) (pass key : ℕ) → IsNote lines key (option_copied note.entry)
+    ensures { (passes guard_max : ℕ) (lines : List (ℕ × Entry)) (pass key : ℕ)
+        → IsNote lines key (option_copied note.entry)
         → IsJudged passes guard_max lines (Gone pass key) result }
 {
     match note {
@@ -115,7 +117,8 @@ pub fn of_crowded(note: Option<&Note>, passes: u32, guard_max: u32) -> Option<Cl
 
 /// Why the key may not be removed.
 pub fn of_removed(note: Option<&Note>) -> Option<Clash>
-    ensures { (passes guard_max : ℕ) (lines : List (ℕ × Entry)) (pass key : ℕ) → IsNote lines key (option_copied note.entry)
+    ensures { (passes guard_max : ℕ) (lines : List (ℕ × Entry)) (pass key : ℕ)
+        → IsNote lines key (option_copied note.entry)
         → IsJudged passes guard_max lines (Removed pass key) result }
 {
     match note {
@@ -124,7 +127,7 @@ pub fn of_removed(note: Option<&Note>) -> Option<Clash>
     }
 }
 
-/// Why a pass with so many holds on the key may not release one.
+/// Why a pass with this number of holds on the key may not release one.
 pub fn of_released(holds: u64) -> Option<Clash>
     ensures { (passes guard_max : ℕ) (lines : List (ℕ × Entry)) (pass key : ℕ)
         → holds ≡ holds_by (entries_in lines) pass key

@@ -41,7 +41,7 @@ fn proposed(rng: &mut Xoshiro256PlusPlus) -> Entry {
     }
 }
 
-// A history of what is allowed of some entries, and of one in so many that is not.
+// A history of what is allowed of some entries, and of one in `one_in` that is not.
 fn generated(
     alloc: Global,
     rng: &mut Xoshiro256PlusPlus,

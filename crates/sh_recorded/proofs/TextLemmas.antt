@@ -1,5 +1,6 @@
 -- The first line of a text, as it is read, and the lines before it.
-use Rattle.std.proofs.Common.{◌≡◌, ◌≢◌, ℕ, ◌+◌, Bool, true, false, cond, List, [], ◌∷◌, ◌++◌, length, refl, sym, ◌∙◌, ap}
+use Rattle.std.proofs.Common.{◌≡◌, ◌≢◌, ℕ, ◌+◌, Bool, true, false, cond, List, [], ◌∷◌, ◌++◌, length, refl, sym, ◌∙◌}
+use Rattle.std.proofs.Common.{ap}
 use Rattle.std.proofs.Common.{append_assoc, add-zero, arith, eq-eqb, eqb-true}
 use Rattle.std.specs.Prelude.{◌==◌, Result, Ok, Err}
 use Rattle.std.specs.Io.BufRead.{take_through, drop_through}
@@ -58,7 +59,8 @@ is_line (b ∷ bs) line e = go (b == 10) refl (is_line bs) line e where
 pub line_in_front : (text line : List ℕ) → take_through 10 text ≡ line ++ 10 ∷ []
     → text ≡ line ++ 10 ∷ drop_through 10 text
 line_in_front text line e =
-    sym (through_all text) ∙ ap (λ xs. xs ++ drop_through 10 text) e ∙ append_assoc line (10 ∷ []) (drop_through 10 text)
+    sym (through_all text) ∙ ap (λ xs. xs ++ drop_through 10 text) e
+    ∙ append_assoc line (10 ∷ []) (drop_through 10 text)
 
 -- what is read with another byte at its end is the whole rest, which has no newline
 pub is_last : (text front : List ℕ) (last : ℕ) → take_through 10 text ≡ front ++ last ∷ [] → last ≢ 10 → IsLine text

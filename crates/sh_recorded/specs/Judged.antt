@@ -30,7 +30,7 @@ pub record BeginsLegal (text : List ℕ) (lines : List (List ℕ)) (rest : List 
   pub book_is : book_of lines ≡ Ok book
   pub legal : LegalUnder book.limits book
 
--- the whole text is a legal history, with so many entries on so many inserted keys
+-- the whole text is a legal history, with this number of entries and of inserted keys
 pub record IsLegalText (text : List ℕ) (entries keys : ℕ) : Type 0 where
   pub lines : List (List ℕ)
   pub book : Book

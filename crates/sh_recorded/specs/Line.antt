@@ -1,6 +1,6 @@
--- What a line says, or the first fault in it: the steps stand in the order of the faults.
-use Rattle.std.specs.Prelude.{◌≡◌, ℕ, ◌^◌, ◌==◌, ◌&&◌, Bool, true, false, nat_lt, nat_le, List, [], ◌∷◌, ◌++◌, length, Option}
-use Rattle.std.specs.Prelude.{Some, None, is_some, Result, Ok, Err, slice_index, codes, if◌then◌else◌}
+-- What a line says, or the first fault in it. The steps are in the order of the faults.
+use Rattle.std.specs.Prelude.{◌≡◌, ℕ, ◌^◌, ◌==◌, ◌&&◌, Bool, true, false, nat_lt, nat_le, List, [], ◌∷◌, ◌++◌, length}
+use Rattle.std.specs.Prelude.{Option, Some, None, is_some, Result, Ok, Err, slice_index, codes, if◌then◌else◌}
 use Rattle.std.specs.List.{list_all}
 use Rattle.std.specs.Int.{is_in_range}
 use Rattle.std.specs.Str.{bytes_eq}
@@ -52,7 +52,7 @@ number_at ws = word_at ws >>= λ w. or_cause cause.Number (number_of w.0) >>= λ
 
 -- ---- an answer
 
--- numbers up to the end of the line, behind those that stand before them
+-- numbers up to the end of the line, after those already read
 abbrev pub numbers_from : List ℕ → List Word → Result (List ℕ) Cause
 numbers_from front [] = Ok front
 numbers_from front (w ∷ ws) = or_cause cause.Number (number_of w) >>= λ n. numbers_from (front ++ n ∷ []) ws
@@ -78,16 +78,16 @@ said_by kind.Crowded pass key ws = bare_said (entry.Crowded pass key) ws
 said_by kind.Removed pass key ws = bare_said (entry.Removed pass key) ws
 said_by kind.Released pass key ws = bare_said (entry.Released pass key) ws
 
--- the pass, which is one of so many, and the words after it
+-- the pass, which is below the number of passes, and the words after it
 abbrev pub pass_at : ℕ → List Word → Result (ℕ × List Word) Cause
 pass_at passes ws = number_at ws >>= λ p. if nat_lt p.0 passes then Ok p else Err cause.Pass
 
--- two times stand before the pass
+-- two times come before the pass
 abbrev pub is_timed : List Word → Bool
 is_timed (a ∷ b ∷ c ∷ d ∷ ws) = is_some (number_of b) && is_some (kind_named d)
 is_timed _ = false
 
--- a pass, an entry, its key, and a value where it has one
+-- a pass, an entry, its key, and its value if it has one
 unfoldable pub said_of : ℕ → List Word → Result Said Cause
 said_of passes ws =
     if is_timed ws then Err cause.Timed

@@ -11,7 +11,7 @@ use crate::{Reading, Verdict};
 use std::alloc::Global;
 use std::io::{BufRead, ErrorKind};
 
-// The next line, with its newline where it has one; no byte at the end.
+// The next line, with its newline if it has one. At the end it has no byte.
 fn next_line<R: BufRead>(input: &mut R, line: &mut Vec<u8>) -> Result<(), Fault>
     ensures bytes { (text : List ℕ) → R.remaining input.old ≡ Some text
         → OnOk result (line.new.items ≡ take_through 10 text) }
@@ -40,7 +40,7 @@ fn cut(line: &[u8]) -> Cause
     }
 }
 
-// The verdict where the input ends, before the line of this number.
+// The verdict when the input ends before the line of this number.
 fn end(reading: &Reading, number: u64) -> Result<Option<Verdict>, Fault>
     ensures { (book : Book) (now : AsRead) → HasTakenIn reading.now book → CameOfRest book number [] now result }
 {
@@ -91,6 +91,6 @@ pub fn judge<R: BufRead>(alloc: Global, input: &mut R) -> Result<Verdict, Fault>
             Err(fault) => return Err(fault),
         }
     }
-    // (no input has so many lines)
+    // (no input has 2^64 - 2 lines)
     Err(Fault::Io)
 }

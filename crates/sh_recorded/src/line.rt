@@ -91,7 +91,7 @@ fn next_number<'w, 'a>(words: &'w [&'a [u8]]) -> Result<(u64, &'w [&'a [u8]]), C
     }
 }
 
-// The pass that the next word is, which is one of so many, and the words after it.
+// The pass that the next word is, below the number of passes, and the words after it.
 fn next_pass<'w, 'a>(passes: u32, words: &'w [&'a [u8]]) -> Result<(u32, &'w [&'a [u8]]), Cause>
     ensures { seen (λ x. (x.0, map (λ w. w.now) x.1.now)) result
         ≡ pass_at passes (map (λ w. w.now) words.entry.now) }
@@ -161,7 +161,7 @@ fn said_by(kind: Kind, pass: u32, key: u64, words: &[&[u8]]) -> Result<Said, Cau
     }
 }
 
-// Whether two times stand before the pass.
+// Whether two times come before the pass.
 fn is_timed(words: &[&[u8]]) -> bool
     ensures { result ≡ is_timed (map (λ w. w.now) words.now) }
 {
@@ -171,7 +171,7 @@ fn is_timed(words: &[&[u8]]) -> bool
     }
 }
 
-// The answer that the words say, where there are so many passes.
+// The answer that the words say, of a map with this number of passes.
 #[tactic(auto, unfolding(crate::specs::Line::said_of))]
 fn answer(passes: u32, words: &[&[u8]]) -> Result<Said, Cause>
     ensures { result ≡ said_of passes (map (λ w. w.now) words.now) }
@@ -238,7 +238,7 @@ fn header_said(words: &[&[u8]]) -> Result<Option<Limits>, Cause>
     Ok(Some(header(words)?))
 }
 
-// What the words of a line say under a header with so many passes.
+// What the words of a line say under a header with this number of passes.
 fn answer_said(passes: u32, words: &[&[u8]]) -> Result<Option<Said>, Cause>
     ensures { result ≡ answer_said passes (map (λ w. w.now) words.now) }
 {
@@ -278,7 +278,7 @@ pub fn header_line(alloc: Global, line: &[u8]) -> Result<Option<Limits>, Trouble
     }
 }
 
-/// What a line says under a header with so many passes: nothing, or an answer.
+/// What a line says under a header with this number of passes: nothing, or an answer.
 pub fn answer_line(alloc: Global, passes: u32, line: &[u8]) -> Result<Option<Said>, Trouble>
     ensures { Gives (λ s. s) (answer_line passes line.now) result }
 {

@@ -81,7 +81,7 @@ impl Reading {
         }
     }
 
-    // Takes in a line under a header, which says so many passes.
+    // Takes in a line under a header with this number of passes.
     fn answer(
         &mut self,
         alloc: Global,

@@ -36,7 +36,7 @@ fn options(alloc: Global, words: &[&str]) -> Result<(), Error> {
     Ok(())
 }
 
-// The exit status of a fault: 2 where the history is at fault, else 3.
+// The exit status of a fault: 2 if the history is at fault, and 3 otherwise.
 fn status_of(fault: Fault) -> u8 {
     match fault {
         Fault::History(_, _) => 2,

@@ -21,7 +21,8 @@ returns-then-is_crowded c = λ lines pass key is.
 pub returns-else-is_crowded : goal.returns-else-is_crowded
 returns-else-is_crowded c = λ lines pass key is.
     let known : IsNote lines key (Some c.in-Some.note.now) = rw c.in-Some.is at is in
-    let few : (c.in-Some.note.now.got - c.in-Some.note.now.released) + c.args.passes ≤ c.args.guard_max = search (rules, c.if-is_crowded.ensures) in
+    let few : (c.in-Some.note.now.got - c.in-Some.note.now.released) + c.args.passes ≤ c.args.guard_max =
+    search (rules, c.if-is_crowded.ensures) in
     rw c.missing-else-is_crowded.ensures (record {
       is_why = (
         is_issued lines key c.in-Some.note.now known,
