@@ -11,23 +11,23 @@ const ROUNDS: usize = 15;
 /// What the program is asked for.
 #[derive(Debug, PartialEq)]
 pub enum Request {
-    /// The tables of times: so many rounds of the rows with the word in their title.
+    /// The tables of times: this many rounds of the rows with the word in their title.
     Times {
         rounds: usize,
         word: String,
         /// The folder for pictures of the table of calls, if they are wanted.
         plots: Option<PathBuf>,
     },
-    /// The table of times in large heaps: so many rounds of the rows with the word in their title.
+    /// The table of times in large heaps: this many rounds of the rows with the word in their title.
     Large {
         rounds: usize,
         word: String,
     },
-    /// The table of the library's calls beside those inside, by so many rounds.
+    /// The table of the library's calls beside those inside, by this many rounds.
     Library {
         rounds: usize,
     },
-    /// The table of what a heap takes to open, by so many rounds.
+    /// The table of what a heap takes to open, by this many rounds.
     Opening {
         rounds: usize,
     },
@@ -62,7 +62,7 @@ from C beside those inside, that of what such heaps take to open, or that of byt
 nothing: it draws the pictures of the table of calls in the file RESULTS, a kept output of a run, into FOLDER. `reuse`
 shows whether sharded_slab and the heap use a key again, and whether two callers of `remove` both remove one value.
 
-  ROUNDS          so many rounds, at least 1; 15 if it is not said
+  ROUNDS          the number of rounds, at least 1; 15 if it is not said
   --rows WORD     only the rows with this in their title, such as 'churn' or 'read into'
   --plots FOLDER  writes the pictures ratios.svg and growth.svg of the table of calls into this folder
   -h, --help      this text
@@ -80,7 +80,7 @@ fn rounds(word: &str) -> Result<usize, String> {
     }
 }
 
-// What stands behind --rows, if it is in some title.
+// What follows --rows, if it is in some title.
 fn word(rest: &mut Iter<'_, &str>, is_in_titles: impl Fn(&str) -> bool) -> Result<String, String> {
     match rest.next() {
         None => Err("--rows wants a word".to_string()),
@@ -89,7 +89,7 @@ fn word(rest: &mut Iter<'_, &str>, is_in_titles: impl Fn(&str) -> bool) -> Resul
     }
 }
 
-// What stands behind --plots, if it is a folder.
+// What follows --plots, if it is a folder.
 fn folder(rest: &mut Iter<'_, &str>) -> Result<PathBuf, String> {
     match rest.next().map(PathBuf::from) {
         None => Err("the plots want a folder".to_string()),
@@ -140,7 +140,7 @@ fn large(words: &[&str]) -> Result<Request, String> {
     Ok(Request::Large { rounds: asked.unwrap_or(ROUNDS), word: selecting.unwrap_or_default() })
 }
 
-// What stands behind `turn`: a rival, and the arguments of a row.
+// What follows `turn`: a rival, and the arguments of a row.
 fn turn(words: &[&str]) -> Option<Request> {
     let (side, row) = words.split_first()?;
     Some(Request::Turn { side: Side::of_name(side)?, row: Row::of_arguments(row)? })

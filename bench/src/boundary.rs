@@ -19,14 +19,14 @@ struct Call {
     words: usize,
 }
 
-/// Where a program lies, and the words by which it does a workload.
+/// The path of a program, and the words by which it does a workload.
 struct Job<'a> {
     program: &'a Path,
     words: Vec<String>,
 }
 
 // What is done, its names in `sh_bench` and in `through`, and how often. With a read go the get and the release of its
-// hold. `sh_bench` has no load: it stands beside the three calls in place of which it is made.
+// hold. `sh_bench` has no load: it is beside the three calls that it replaces.
 const WAYS: [(&str, &str, &str, usize); 7] = [
     ("get + release", "get", "get", 1_000_000),
     ("read", "read", "read", 400_000),
@@ -37,7 +37,7 @@ const WAYS: [(&str, &str, &str, usize); 7] = [
     ("remove by the owner", "remove", "remove", 400_000),
 ];
 
-// How many values stand, and how long they are. A get does not look at what its key stands for.
+// How many values there are, and how long they are. A get does not look at its key's value.
 const VALUES: [(usize, usize); 4] = [(1, 1), (10_000, 1), (1, 16), (1000, 16)];
 
 fn calls() -> Vec<Call> {
@@ -100,7 +100,7 @@ fn places() -> Vec<String> {
     words.map(str::to_string).to_vec()
 }
 
-/// The whole table, by so many rounds.
+/// The whole table, by this many rounds.
 pub fn table(inside: &Path, through: &Path, rounds: usize) -> Result<String, String> {
     let mut lines = vec![head(&places())];
     for call in calls() {

@@ -30,7 +30,7 @@ impl Task for Fills {
     }
 }
 
-// The bytes of a rival with so many values. It is filled twice: what is taken once for all, as by the first use of a
+// The bytes of a rival with this many values. It is filled twice: what is taken once for all, as by the first use of a
 // crate in a thread, is not counted.
 fn rival_bytes(side: Side, values: usize, words: usize) -> Option<isize> {
     let room = Room { shards: 1, values, lengths: Lengths::Each(words) };

@@ -1,4 +1,4 @@
-//! `DashMap`, whose keys count up and whose values stand behind an `Arc`.
+//! `DashMap`, whose keys count up and whose values are behind an `Arc`.
 use crate::payload::Payload;
 use crate::rival::Rival;
 use dashmap::DashMap;

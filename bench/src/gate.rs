@@ -1,4 +1,4 @@
-//! Where threads wait until all of them have come.
+//! A gate at which threads wait until all of them have come.
 use std::hint::spin_loop;
 use std::sync::atomic::{AtomicUsize, Ordering::SeqCst};
 

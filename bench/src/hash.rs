@@ -1,4 +1,4 @@
-//! The hash FNV-1a of 64 bits, which tells one build from another and withstands nobody.
+//! The hash FNV-1a of 64 bits, which distinguishes builds and resists no attack.
 
 pub fn fnv1a(bytes: &[u8]) -> u64 {
     bytes.iter().fold(0xcbf2_9ce4_8422_2325, |hash, byte| (hash ^ u64::from(*byte)).wrapping_mul(0x100_0000_01b3))

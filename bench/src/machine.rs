@@ -5,7 +5,7 @@ use std::thread::available_parallelism;
 /// Above this other work takes so much of the processors that times mislead.
 const MOST_LOAD: f64 = 0.5;
 
-// What stands behind a name in /proc/cpuinfo, once for each processor.
+// What follows a name in /proc/cpuinfo, once for each processor.
 fn entries<'a>(cpuinfo: &'a str, name: &'a str) -> impl Iterator<Item = &'a str> {
     cpuinfo.lines().filter_map(move |line| {
         let (found, value) = line.split_once(':')?;

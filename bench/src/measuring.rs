@@ -1,4 +1,4 @@
-//! Rounds and runs. A run is so many rounds of a row, in each of which every side has a turn.
+//! Rounds and runs. A run is a number of rounds of a row, in each of which every side has a turn.
 use crate::row::Row;
 use crate::sides::{Side, SIDES};
 use crate::times::Times;
@@ -48,7 +48,7 @@ impl Measured {
         Measured { row, runs: Vec::new() }
     }
 
-    /// The times of a side, one for each run; none where it has no such workload.
+    /// The times of a side, one for each run; none if it has no such workload.
     pub fn times(&self, side: Side) -> Vec<Times> {
         self.runs.iter().filter_map(|run| run.of(side)).collect()
     }
@@ -72,7 +72,7 @@ impl Plan<'_> {
         Ok(Run(times.map(Times::of)))
     }
 
-    // One run of each row that has so many; a row that cannot be measured is told of and left out.
+    // One run of each row that has so many runs; a row that cannot be measured is reported and left out.
     fn pass(&self, number: usize, rows: &mut Vec<Measured>) {
         rows.retain_mut(|measured| {
             let row = measured.row;

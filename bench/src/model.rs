@@ -10,7 +10,7 @@ use std::hint::black_box;
 use words::{class_of, slots};
 pub use words::{Words, PAGE_WORDS};
 
-/// How many values of so many words a page has.
+/// How many values of `words` words a page has.
 pub fn slots_for(len: usize) -> usize {
     slots(class_of(len))
 }

@@ -7,7 +7,7 @@ use std::process::Command;
 
 const VALUES: [usize; 3] = [100_000, 1_000_000, 10_000_000];
 
-/// What one process told of one heap.
+/// What one process reported of one heap.
 struct Opening {
     nanoseconds: f64,
     words: f64,
@@ -15,7 +15,7 @@ struct Opening {
     bytes: [f64; 3],
 }
 
-// The number that stands behind this name in what was told.
+// The number behind this name in the report.
 fn number(told: &str, name: &str) -> Result<f64, String> {
     let found = told.lines().find_map(|line| line.strip_prefix(name)?.trim().parse().ok());
     found.ok_or_else(|| format!("{name} is not told"))
@@ -27,7 +27,7 @@ impl Opening {
         Ok(Opening { nanoseconds: number(told, "nanoseconds ")?, words: number(told, "words ")?, bytes })
     }
 
-    // Of a heap with room for so many values, in a process of its own.
+    // Of a heap with room for this many values, in a process of its own.
     fn of(program: &Path, values: usize) -> Result<Opening, String> {
         let run = Command::new(program).args(["opening", &values.to_string()]).output();
         let run = run.map_err(|error| format!("{}: {error}", program.display()))?;
@@ -54,7 +54,7 @@ fn told(values: usize, openings: &[Opening]) -> Vec<String> {
     vec![grouped(values), words, open, word, bytes(0), bytes(1), bytes(2)]
 }
 
-/// The whole table, by so many rounds.
+/// The whole table, by this many rounds.
 pub fn table(program: &Path, rounds: usize) -> Result<String, String> {
     let mut lines = vec![head(&places())];
     for values in VALUES {

@@ -17,7 +17,7 @@ fn name(program: &Path) -> String {
     program.file_name().map_or(String::new(), |name| name.to_string_lossy().into_owned())
 }
 
-/// The nanoseconds that the program takes, which has so many operations to do. An error is one line.
+/// The nanoseconds that the program takes, which has this many operations to do. An error is one line.
 pub fn spent(program: &Path, words: &[String], operations: usize) -> Result<f64, String> {
     let run = Command::new(program).args(words).output().map_err(|error| format!("{}: {error}", program.display()))?;
     let (counts, times) = (String::from_utf8_lossy(&run.stdout), String::from_utf8_lossy(&run.stderr));

@@ -1,4 +1,4 @@
-//! The programs of ours that are measured: where they lie, and which builds of them that are.
+//! The programs of ours that are measured: their paths, and which builds they are.
 use crate::hash::fnv1a;
 use std::env;
 use std::ffi::OsString;
@@ -27,7 +27,7 @@ fn named(variable: Option<OsString>, below: &str) -> PathBuf {
     variable.map_or_else(|| usual(below), PathBuf::from)
 }
 
-// What git calls the tree that the folder lies in, where there is git and a tree.
+// What git calls the tree that the folder lies in, if there is git and a tree.
 fn described(folder: &Path) -> Option<String> {
     let git = Command::new("git").arg("-C").arg(folder).args(["describe", "--always", "--dirty"]).output().ok()?;
     let name = String::from_utf8(git.stdout).ok()?;

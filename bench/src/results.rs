@@ -1,7 +1,7 @@
 //! The table of calls as a run printed it, read back: a kept output is enough to draw its pictures.
 use crate::sides::{Side, RIVALS};
 
-/// The least times of one row, or its least ratios: one number, or a range where the row had several runs.
+/// The least times of one row, or its least ratios: one number, or a range if the row had several runs.
 #[derive(Clone, Copy, Debug, PartialEq)]
 pub struct Span {
     pub least: f64,
@@ -35,7 +35,7 @@ impl Span {
 }
 
 impl Figure {
-    /// The ratios of ours to a rival; none where it has no such workload.
+    /// The ratios of ours to a rival; none if it has no such workload.
     pub fn ratio(&self, rival: Side) -> Option<Span> {
         let place = RIVALS.iter().position(|side| *side == rival)?;
         self.ratios[place]

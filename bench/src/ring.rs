@@ -19,7 +19,7 @@ impl Ring {
         while word.load(SeqCst) != 0 {
             spin_loop();
         }
-        // 0 stands for a free place, and may be a rival's key.
+        // 0 marks a free place, and may be a rival's key.
         word.store(key + 1, SeqCst);
     }
 

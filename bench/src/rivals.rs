@@ -46,7 +46,7 @@ fn with_values<V: Payload, T: Task>(side: Side, room: &Room, task: T) -> Option<
     }
 }
 
-/// Does the task with the rival of a side; nothing where the side is the library, which runs as another program.
+/// Does the task with the rival of a side; nothing if the side is the library, which runs as another program.
 pub fn with_rival<T: Task>(side: Side, room: &Room, task: T) -> Option<T::Answer> {
     match room.lengths {
         Lengths::Each(1) => with_values::<[u64; 1], T>(side, room, task),

@@ -78,13 +78,13 @@ impl Row {
         }
     }
 
-    /// How many pages have values or free slots, where these have one word.
+    /// How many pages have values or free slots, if these have one word.
     pub fn pages(&self) -> usize {
         (self.live + self.freed).div_ceil(48)
     }
 
     /// The words of the command line of `sh_bench`: its workload, and all of its numbers as options, which each of them
-    /// takes. `--live` is how many values stand beside what is inserted or churned.
+    /// takes. `--live` is how many values there are beside what is inserted or churned.
     pub fn arguments(&self) -> Vec<String> {
         let mut words = vec![self.workload.name().to_string()];
         let numbers = [

@@ -10,7 +10,7 @@ fn by_threads(row: impl Fn(usize) -> Row) -> Vec<Row> {
     THREADS.into_iter().map(row).collect()
 }
 
-// An aim holds for the row with so many threads.
+// An aim holds for the row with this many threads.
 fn aimed(mut rows: Vec<Row>, threads: usize, sharded: f64, model: f64) -> Vec<Row> {
     rows.iter_mut().filter(|row| row.running() == threads).for_each(|row| *row = row.aims(sharded, model));
     rows
@@ -78,7 +78,7 @@ pub fn calls() -> Vec<Row> {
     [getting(), reading(), inserting(), removing(), churning()].concat()
 }
 
-/// Calls beside so many values that only layout `deep` has room for them in one shard.
+/// Calls beside values of such number that only layout `deep` has room for them in one shard.
 pub fn large() -> Vec<Row> {
     let beside = |live: usize| {
         let row = |workload, operations| Row::new(workload, 1, operations).live(live).deep();

@@ -70,7 +70,7 @@ impl Side {
         }
     }
 
-    /// The nanoseconds of one operation of a rival, in this process; nothing where it has no such workload.
+    /// The nanoseconds of one operation of a rival, in this process; nothing if it has no such workload.
     pub fn turn_here(self, row: &Row) -> Option<f64> {
         let room = Room { shards: row.threads, values: row.most() + BESIDES, lengths: row.lengths };
         match (self.has(row), row.workload.changes_hands()) {
@@ -80,7 +80,7 @@ impl Side {
         }
     }
 
-    /// The nanoseconds of one operation, in one turn, which is a process of its own; nothing where the side has no such
+    /// The nanoseconds of one operation, in one turn, which is a process of its own; nothing if the side has no such
     /// workload.
     pub fn turn(self, program: &Path, row: &Row) -> Result<Option<f64>, String> {
         match self {

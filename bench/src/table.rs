@@ -1,4 +1,4 @@
-//! The tables: their heads and lines. In each place stands what the least of the rounds came to, and the median.
+//! The tables: their heads and lines. Each cell has the least of the rounds and the median.
 use crate::markdown::{head, line};
 use crate::measuring::Measured;
 use crate::row::Row;
@@ -10,7 +10,7 @@ use crate::times::{text, Times};
 #[derive(Clone, Copy, Debug, PartialEq, Eq)]
 pub enum Table {
     Calls,
-    /// The calls in large heaps, which take long to fill: only where they are asked for.
+    /// The calls in large heaps, which take long to fill: only if they are asked for.
     Large,
     Passes,
     Changes,

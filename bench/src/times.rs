@@ -17,7 +17,7 @@ fn median(sorted: &[f64]) -> Option<f64> {
 }
 
 impl Times {
-    /// Nothing where there was no round.
+    /// Nothing if there was no round.
     pub fn of(mut rounds: Vec<f64>) -> Option<Self> {
         rounds.sort_by(f64::total_cmp);
         Some(Times { least: *rounds.first()?, median: median(&rounds)? })
@@ -28,7 +28,7 @@ impl Times {
         Times { least: self.least / other.least, median: self.median / other.median }
     }
 
-    /// The share of one of so many.
+    /// The share of one of this many.
     pub fn each(self, of: usize) -> Self {
         Times { least: self.least / of as f64, median: self.median / of as f64 }
     }
@@ -44,7 +44,7 @@ fn span(numbers: impl Iterator<Item = f64> + Clone, digits: usize) -> String {
     }
 }
 
-/// What several runs came to, with so many digits behind the point: the least ones, and then the medians.
+/// What several runs came to, with this many digits behind the point: the least ones, and then the medians.
 pub fn text(runs: &[Times], digits: usize) -> String {
     let least = span(runs.iter().map(|run| run.least), digits);
     let median = span(runs.iter().map(|run| run.median), digits);

@@ -4,7 +4,7 @@
 pub enum Workload {
     /// A key is held and released.
     Get,
-    /// As `Get`, and the hold is a guard, which releases it where it goes out of scope.
+    /// As `Get`, and the hold is a guard, which releases it as it goes out of scope.
     GetGuard,
     /// A key is held, its value read, and released: `sh_bench` reads a value by what the call answers.
     Read,

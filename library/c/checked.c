@@ -118,7 +118,7 @@ static void two_threads(void) {
     closes(&heap, &shared, shared_key);
 }
 
-/* A key of one heap in another that has the same number: refused, where keys have room for the heap's number. */
+/* A key of one heap in another that has the same number: refused, if keys have room for the heap's number. */
 static void another_heap(uint32_t layout) {
     shardheap heaps[2] = {SHARDHEAP_INIT, SHARDHEAP_INIT};
     shardheap_pass passes[2] = {SHARDHEAP_INIT, SHARDHEAP_INIT};

@@ -80,7 +80,7 @@ static void owns_another(shardheap_pass *one) {
     IS(shardheap_leave(one), SHARDHEAP_OK);
 }
 
-/* A heap that is opened for so many values, and whose pass is lost: its block is freed too. */
+/* A heap that is opened for a number of values, and whose pass is lost: its block is freed too. */
 static void opens_for(uint32_t layout) {
     shardheap heap = SHARDHEAP_INIT;
     shardheap_pass pass = SHARDHEAP_INIT;

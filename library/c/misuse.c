@@ -1,4 +1,4 @@
-/* Every refusal and every misuse that can be told, in one thread. */
+/* Every refusal and every misuse that can be recognised, in one thread. */
 #include "check.h"
 #include <string.h>
 
@@ -252,7 +252,7 @@ static void calls_of(uint32_t layout) {
     hands(&heap, &one, &two);
 }
 
-/* The keys of one heap name nothing in another, or something else: each is told by its own words. */
+/* The keys of one heap name nothing in another, or something else: each is recognised by its own words. */
 static void two_heaps(void) {
     shardheap heaps[2] = {SHARDHEAP_INIT, SHARDHEAP_INIT};
     shardheap_pass passes[2] = {SHARDHEAP_INIT, SHARDHEAP_INIT};

@@ -94,7 +94,7 @@ static void give(void) { code = shardheap_give(&pass); }
 static void close_pass(void) { code = shardheap_pass_close(&owner); }
 static void lose(void) { code = shardheap_pass_lose(&pass); }
 
-/* A value of so many words, from its insert to the last release. */
+/* A value of `count` words, from its insert to the last release. */
 static void one_value(uint64_t count) {
     length = count;
     LONG_CALL(insert);
@@ -109,7 +109,7 @@ static void one_value(uint64_t count) {
     SHORT_CALL(remove_key);
 }
 
-/* A value of so many words that is taken, by another pass or by its owner, also while it is held. */
+/* A value of `count` words that is taken, by another pass or by its owner, also while it is held. */
 static void one_taken(uint64_t count) {
     length = count;
     LONG_CALL(insert);

@@ -41,7 +41,7 @@ run() {
   return "$status"
 }
 
-# all COMPILER ROUNDS FLAG..: compiles each test but that of Waiting and runs it, the threads for so many rounds.
+# all COMPILER ROUNDS FLAG..: compiles each test but that of Waiting and runs it, the threads for ROUNDS rounds.
 all() {
   local compiler=$1 rounds=$2 name
   shift 2
@@ -66,7 +66,7 @@ in_checked_mode() {
   run threads 2 "$rounds"
 }
 
-# waits COMPILER TIMES FLAG..: compiles the test of Waiting, and runs it until a leave was refused so many times.
+# waits COMPILER TIMES FLAG..: compiles the test of Waiting, and runs it until a leave was refused TIMES times.
 waits() {
   compiled "$1" waiting "${@:3}"
   run waiting "$2" "$((limit - 10))"

@@ -1,7 +1,7 @@
 /* A leave is refused as WAITING while another pass is in the middle of a free in the shard, which serves on meanwhile.
 
    waiting TIMES SECONDS: a second thread removes values of the owner's shard, and a signal stops it wherever it is.
-   Then the owner tries to leave. If it may, it adopts the shard again, until it was refused so many times. The test
+   Then the owner tries to leave. If it may, it adopts the shard again, until it was refused that often. The test
    fails if that takes longer than so many seconds.
 
    Only the first free on a full page makes an owner wait. So the values have 16 words, of which a page holds three. The
@@ -91,7 +91,7 @@ static int one_round(shardheap_pass *owner, pthread_t other, uint64_t round) {
     return refused;
 }
 
-/* The rounds until the owner was refused so many times, or until the time is up. */
+/* The rounds until the owner was refused that often, or until the time is up. */
 static uint64_t rounds_until(shardheap_pass *owner, pthread_t other, int times, int seconds) {
     uint64_t rounds = 0;
     time_t end = time(NULL) + seconds;

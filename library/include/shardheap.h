@@ -73,7 +73,7 @@
      - BUSY: another call uses the handle at this moment;
      - OTHER_HEAP: the key or the receipt is not of the heap of this pass. Bits 56 to 63 of a key have the number of its
        heap, from 1 to 255 and then anew. A tag takes that number away, and keys of layout deep have none: these are not
-       recognised. Receipts of two heaps of layout deep are not told apart.
+       recognised. Receipts of two heaps of layout deep look alike.
    If the macro SHARDHEAP_ON_MISUSE(code) is defined, for example as abort(), it is called too, also for NO_HANDLE.
 
    MEMORY is taken by open, share, take, adopt, gather, receipt_make, and by an insert or a prepare that opens a
@@ -251,7 +251,7 @@ void shardheap_raw_receipt_close(shardheap_receipt *receipt);
 
 /* ---- What the functions below look at ---- */
 
-/* Whether so many bytes at one place and so many at another have a byte in common. */
+/* Whether `size` bytes at one place and `length` bytes at another have a byte in common. */
 static inline bool shardheap_overlap(const void *one, size_t size, const void *other, size_t length) {
     uintptr_t a = (uintptr_t)one, b = (uintptr_t)other;
     return size != 0 && (b - a < size || a - b < length);
@@ -450,7 +450,7 @@ static inline void shardheap_close(shardheap *heap) {
 
    Threads, signals and stack: as above; none of these is async-signal-safe. Passes that are away may be in use. */
 
-/* Joins all passes of the heap in one, where all are at home: it is at home afterwards, and may be taken and used, but
+/* Joins all passes of the heap in one, if all are at home: it is at home afterwards, and may be taken and used, but
    it is the only pass that the heap has from then on. The holds of the others stay in their slots for good. What was
    joined stays joined: a second call is OK where that pass is at home.
    AWAY, with each pass at home that was, where one is not, or was lost: nothing is joined then.

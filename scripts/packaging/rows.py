@@ -41,7 +41,7 @@ SESSION = "$PREFIX/share/cargo/registry/gearlongan-*/examples/session.rs"
 BY_PATH = 'gearlongan = { path = "$PREFIX/share/shardheap/rust/gearlongan" }'
 BOTH = f'{BY_PATH}\nsharded-slab = "0.1.4"'
 PATCH = '[patch.crates-io]\nsharded-slab = { path = "$PREFIX/share/shardheap/rust/sharded-slab" }'
-# The tarball as a prefix, where nothing is installed; and lines that change a file in it.
+# The tarball as a prefix, with nothing installed; and lines that change a file in it.
 ELSEWHERE = """dpkg --purge libshardheap-dev > /dev/null 2>&1 || true
 tar -xzf $PACKAGES/*.tar.gz
 mv shardheap-* there

@@ -14,7 +14,7 @@
 #include <string.h>
 #include <sys/syscall.h>
 
-/* The sanitizer's calls for a word of so many bits. The orders that they are given do not matter here. */
+/* The sanitizer's calls for a word of this many bits. The orders that they are given do not matter here. */
 #define ONE(bits, name)                                                                                                \
     uint##bits##_t __tsan_atomic##bits##_##name(volatile uint##bits##_t *word, uint##bits##_t value, int order)        \
     {                                                                                                                  \

@@ -79,7 +79,7 @@ static void stuck(const char *why)
     _exit(STATUS_STUCK);
 }
 
-/* Saves the registers that a function has to keep on this stack, and goes on where the other stack was left. */
+/* Saves the registers that a function has to keep on this stack, and continues as the other stack left off. */
 void turns_switch(void **from, void *to);
 __asm__(".text\n.globl turns_switch\n.hidden turns_switch\n.type turns_switch, @function\n"
         "turns_switch:\n"

@@ -8,7 +8,7 @@ struct Page {
     lists: Lists,
     class_word: u64,
     armed: bool,
-    // Whether it stands in no queue, since it had no slot.
+    // Whether it is in no queue, since it had no slot.
     full: bool,
     cursor: Option<usize>,
 }
@@ -65,7 +65,7 @@ impl<'a> Owner<'a> {
         Some(Spot { page: self.number(page), slot })
     }
 
-    // The pages of the class, those of which the bell tells, and then a blank page.
+    // The pages of the class, those on the bell's list, and then a blank page.
     fn slot_elsewhere(&mut self, class: usize) -> Option<Spot> {
         if let Some(spot) = self.search(class) {
             return Some(spot);

@@ -35,7 +35,7 @@ impl Words {
         words[..len].iter().fold(0, |sum, word| sum.wrapping_add(*word))
     }
 
-    /// Removes a key: whether this thread did, and the slot, where it ended its generation.
+    /// Removes a key: whether this thread did, and the slot, if it ended its generation.
     pub fn end(&self, key: u64) -> (bool, Option<Spot>) {
         let Some((spot, generation)) = self.place(key) else {
             return (false, None);
@@ -45,7 +45,7 @@ impl Words {
         (first, self.leave(spot))
     }
 
-    // Gives a count back: the slot, where it was the last on a marked value.
+    // Gives a count back: the slot, if it was the last on a marked value.
     fn leave(&self, spot: Spot) -> Option<Spot> {
         let found = self.state(spot).fetch_sub(1, SeqCst);
         if found & FLAGS != FLAGS || found & COUNT != 1 {
@@ -62,7 +62,7 @@ impl Words {
         }
     }
 
-    /// Puts an empty slot on its page's stack, and rings where the page was armed.
+    /// Puts an empty slot on its page's stack, and rings if the page was armed.
     pub fn put(&self, spot: Spot) {
         let found = self.head(spot.page).swap((spot.slot as u64 + 1) << 1, SeqCst);
         self.link(spot).store((found >> 1) + 1, SeqCst);

@@ -1,4 +1,4 @@
-//! The words that threads share, and where each stands: 195 a page, then two for each shard, as in the heap.
+//! The words that threads share, and the place of each: 195 a page, then two for each shard, as in the heap.
 use std::sync::atomic::AtomicU64;
 
 pub const SLOTS: usize = 48;
@@ -39,7 +39,7 @@ pub struct Spot {
     pub slot: usize,
 }
 
-/// All words of a heap with so many shards of so many pages.
+/// All words of a heap with `shards` shards of `pages` pages each.
 pub struct Words {
     words: Box<[AtomicU64]>,
     pub shards: usize,

@@ -11,7 +11,7 @@ typedef struct loops {
     shardheap_pass owner, user; /* one that inserts, and one that owns nothing */
 } loops;
 
-/* Sixteen values, each with so many words. */
+/* Sixteen values, each of `words` words. */
 typedef struct samples {
     uint64_t words[SAMPLES][WORDS];
     size_t length;
@@ -31,7 +31,7 @@ static void must(uint32_t code) {
     exit(3);
 }
 
-/* A heap with room for so many values, an owner of its shard, and another pass. */
+/* A heap with room for this many values, an owner of its shard, and another pass. */
 loops *loops_open(uint64_t values, uint32_t words) {
     loops *all = calloc(1, sizeof *all);
     if (!all) must(SHARDHEAP_MEMORY);
@@ -50,7 +50,7 @@ void loops_close(loops *all) {
     free(all);
 }
 
-/* Takes a hold on each key and gives it back. Tells the sum of the keys. */
+/* Takes a hold on each key and gives it back. Returns the sum of the keys. */
 uint64_t loops_get(loops *all, const uint64_t *keys, size_t count) {
     uint64_t sum = 0;
     for (size_t n = 0; n < count; n++) {
@@ -67,7 +67,7 @@ static uint64_t sum_of(const uint64_t *words, uint64_t length) {
     return sum;
 }
 
-/* Reads the value of each key under a hold. Tells the sum of the words. */
+/* Reads the value of each key under a hold. Returns the sum of the words. */
 uint64_t loops_read(loops *all, const uint64_t *keys, size_t count) {
     uint64_t words[WORDS], length, sum = 0;
     for (size_t n = 0; n < count; n++) {
@@ -89,7 +89,7 @@ uint64_t loops_load(loops *all, const uint64_t *keys, size_t count) {
     return sum;
 }
 
-/* Inserts a value for each key, which it tells. Tells the sum of the keys. */
+/* Inserts a value for each key, which it writes. Returns the sum of the keys. */
 uint64_t loops_insert(loops *all, const samples *samples, uint64_t *keys, size_t count) {
     uint64_t sum = 0;
     for (size_t n = 0; n < count; n++) {

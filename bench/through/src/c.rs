@@ -31,7 +31,7 @@ impl Drop for C {
 
 impl Side for C {
     fn open(values: u64, words: u32) -> C {
-        // SAFETY: it takes numbers alone, and ends the program where it cannot open.
+        // SAFETY: it takes numbers alone, and ends the program if it cannot open.
         C { all: unsafe { loops_open(values, words) } }
     }
 

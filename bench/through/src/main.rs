@@ -3,7 +3,7 @@
 //! reuse` whether a key is used again, and whether two callers remove one value.
 //!
 //! It takes some of the options of `sh_bench`, and writes what that writes: counts to the standard output, and the time
-//! to the standard error. The exit status is 2 where the words are wrong, and 3 where a call is refused.
+//! to the standard error. The exit status is 2 if the words are wrong, and 3 if a call is refused.
 mod c;
 mod opening;
 mod options;

@@ -18,13 +18,13 @@ pub struct Opening {
     filled: u64,
 }
 
-// The words of the least heap with room for so many values: pages of 195 words, each with 48 slots, come by eights, and
+// The words of the least heap with room for this many values: pages of 195 words, each with 48 slots, come in eights and
 // the shard has two words.
 fn words_for(values: u64) -> u64 {
     values.div_ceil(48).div_ceil(8) * 8 * 195 + 2
 }
 
-// What the system tells of the process under this name, in bytes.
+// What the system reports of the process under this name, in bytes.
 fn memory(name: &str) -> Result<u64, String> {
     let status = fs::read_to_string("/proc/self/status").map_err(|error| error.to_string())?;
     let line = status.lines().find(|line| line.starts_with(name)).ok_or(format!("no {name} is told"))?;
@@ -33,7 +33,7 @@ fn memory(name: &str) -> Result<u64, String> {
 }
 
 impl Opening {
-    /// Of so many values. The process should have done nothing before.
+    /// Of this many values. The process should have done nothing before.
     pub fn of(values: u64) -> Result<Opening, String> {
         let before = memory("VmRSS:")?;
         let room = Room { owners: 1, values, words: 1, passes: 1 };

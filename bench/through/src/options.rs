@@ -19,7 +19,7 @@ pub enum Workload {
 pub struct Options {
     pub workload: Workload,
     pub operations: usize,
-    /// How many values stand.
+    /// How many values there are.
     pub live: usize,
     pub words: usize,
 }

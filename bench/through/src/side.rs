@@ -28,7 +28,7 @@ impl Samples {
 /// A heap with an owner of its shard and a pass that owns nothing, by the calls of the library. Each function is one
 /// loop, in the side's language. A call that is refused ends the program: none should be.
 pub trait Side: Sized {
-    /// With room for so many values of so many words.
+    /// With room for `values` values of `words` words.
     fn open(values: u64, words: u32) -> Self;
 
     /// Takes a hold on each key and gives it back. Answers the sum of the keys.

@@ -10,7 +10,7 @@ const BATCH: usize = 1000;
 // A round through few keys goes through them again and again, until it is as long as this.
 const SHORTEST_WALK: usize = 1000;
 
-// A mixed order of so many places.
+// A mixed order of this many places.
 fn mixed_order(places: usize) -> impl Iterator<Item = usize> {
     const STRIDE: usize = 7919;
     (0..places).scan(0, move |place, _| Some(std::mem::replace(place, (*place + STRIDE) % places)))

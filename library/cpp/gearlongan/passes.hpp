@@ -96,7 +96,7 @@ public:
 
     /// Counts the slots of the other pages that are not free for this owner. They have a value, or had one that is
     /// held, or another pass freed them and they are not collected yet, or they are never used again. So the shard has
-    /// at most so many values.
+    /// at most this many values.
     ///
     ///     std::uint64_t slots;
     ///     assert(shard.try_slots_out(slots) == gearlongan::errc::ok && slots == 1);
@@ -104,7 +104,7 @@ public:
         return static_cast<errc>(shardheap_slots_out(&raw_, &slots));
     }
 
-    /// Gives a page of the shard to values of so many words, 0 to 16, and writes its number to `page`. too_long, full,
+    /// Gives a page of the shard to values of `words` words, 0 to 16, and writes its number to `page`. too_long, full,
     /// memory.
     ///
     ///     std::uint32_t page;
@@ -171,7 +171,7 @@ public:
         return slots;
     }
 
-    /// Gives a page to values of so many words, and returns its number.
+    /// Gives a page to values of `words` words, and returns its number.
     ///
     ///     shard.prepare(16);
     std::uint32_t prepare(std::uint32_t words) {

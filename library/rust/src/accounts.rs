@@ -1,6 +1,6 @@
-//! What a heap tells of itself as a whole.
+//! The counts of a whole heap.
 
-/// What the slots of a page are. They are as many as a page of its class has, and none where it has no class.
+/// What the slots of a page are. A page of a class has as many slots as the class says; a page without one has none.
 #[derive(Clone, Copy, Debug, PartialEq, Eq, Hash)]
 pub struct PageAccounts {
     /// Its class, 0 to 7, whose values have at most 1, 2, 3, 4, 6, 8, 12 and 16 words.
@@ -18,7 +18,7 @@ pub struct PageAccounts {
 /// The sums over all pages of a heap.
 #[derive(Clone, Copy, Debug, PartialEq, Eq, Hash)]
 pub struct Totals {
-    /// Slots with a value that can be got: so many keys are in the map.
+    /// Slots with a value that can be got: the number of keys in the map.
     pub live: u32,
     /// Slots with a value that was removed and is held.
     pub marked: u32,

@@ -42,7 +42,7 @@ pub enum Error {
     BadShape,
     /// No pass is at home.
     NoPass,
-    /// A pass is away, so that the heap tells nothing of itself as a whole.
+    /// A pass is away, so the heap cannot be counted as a whole.
     Away,
     /// The heap has no such page.
     NoPage,
@@ -81,7 +81,7 @@ impl fmt::Display for Error {
 
 impl error::Error for Error {}
 
-/// The answer that a code stands for.
+/// The result that a code means.
 #[inline]
 pub(crate) fn told(code: u32) -> Result<(), Error> {
     if code == 0 {

@@ -1,4 +1,4 @@
-//! The calls of the library, and handles as Rust uses them. What is unsafe below a slab stands here and in `words`.
+//! The calls of the library, and handles as Rust uses them. What is unsafe below a slab is here and in `words`.
 //!
 //! What the reasons below lean on. The declarations are those of `shardheap.h`. A handle begins as zeroed bytes, and
 //! nothing but the library writes it. It is never copied: it lies in a value that is neither `Copy` nor `Clone`, and to
@@ -220,7 +220,7 @@ impl PassHandle {
     /// Reads into the value's own room.
     #[inline]
     pub(crate) fn read(&self, key: Key, value: &mut Value) -> Result<(), Error> {
-        // SAFETY: as in `get`. `words` has the room that is told, of which the library writes as many as it tells.
+        // SAFETY: as in `get`. `words` has room for `MAX_WORDS`; the library writes `length` of them.
         unsafe {
             value.words.fill(|words, length| told(shardheap_raw_read(self.at(), key.into(), words, MAX_WORDS, length)))
         }
@@ -229,13 +229,13 @@ impl PassHandle {
     /// Loads into the value's own room.
     #[inline]
     pub(crate) fn load(&self, key: Key, value: &mut Value) -> Result<(), Error> {
-        // SAFETY: as in `get`. `words` has the room that is told, of which the library writes as many as it tells.
+        // SAFETY: as in `get`. `words` has room for `MAX_WORDS`; the library writes `length` of them.
         unsafe {
             value.words.fill(|words, length| told(shardheap_raw_load(self.at(), key.into(), words, MAX_WORDS, length)))
         }
     }
 
-    /// Takes the value of a key into the value's own room, where each value fits.
+    /// Takes the value of a key into the value's own room, which each value fits.
     #[inline]
     pub(crate) fn take(&self, key: Key, value: &mut Value) -> Result<(), Error> {
         // SAFETY: as in `load`.
@@ -306,7 +306,7 @@ impl PassHandle {
     }
 
     fn give(&mut self) -> Result<(), Error> {
-        // SAFETY: `&mut` gives the handle to this call alone. It is empty where this is done, and else as it was.
+        // SAFETY: `&mut` gives the handle to this call alone. It is empty if this succeeds, and otherwise as it was.
         told(unsafe { shardheap_raw_give(self.raw.get_mut()) })
     }
 }

@@ -49,7 +49,7 @@ pub struct Shape {
 pub struct Room {
     /// How many passes insert at the same time: each has a shard.
     pub owners: u32,
-    /// How many values stand at the same time in the shard of each owner.
+    /// The most values that are in the shard of each owner at one time.
     pub values: u64,
     /// How long a value is: 0 to 16 words.
     pub words: u32,
@@ -73,7 +73,7 @@ impl Heap {
     ///
     /// # Errors
     ///
-    /// [`Error::BadShape`] where the numbers are outside the limits of the layout, and [`Error::Memory`].
+    /// [`Error::BadShape`] if the numbers are outside the limits of the layout, and [`Error::Memory`].
     ///
     /// ```
     /// use gearlongan::{Error, Heap, Layout, Shape};
@@ -94,7 +94,7 @@ impl Heap {
     ///
     /// # Errors
     ///
-    /// [`Error::BadShape`] where no heap of the layout has the room, and [`Error::Memory`].
+    /// [`Error::BadShape`] if no heap of the layout has the room, and [`Error::Memory`].
     ///
     /// ```
     /// use gearlongan::{Error, Heap, Layout, Room};
@@ -129,7 +129,7 @@ impl Heap {
     ///
     /// # Errors
     ///
-    /// [`Error::NoPass`] where none is at home, and [`Error::Memory`].
+    /// [`Error::NoPass`] if none is at home, and [`Error::Memory`].
     ///
     /// ```
     /// # use gearlongan::{Error, Heap, Layout, Shape};
@@ -166,11 +166,11 @@ impl Heap {
     }
 
     /// Joins all passes of the heap in one, which is at home afterwards and is the only one from then on. The holds of
-    /// the others stay in their slots for good. Where they were joined before, nothing is done.
+    /// the others stay in their slots for good. If they were joined before, nothing is done.
     ///
     /// # Errors
     ///
-    /// [`Error::Away`] where a pass is not at home, with all others at home as they were, and [`Error::Memory`].
+    /// [`Error::Away`] if a pass is not at home, with all others at home as they were, and [`Error::Memory`].
     ///
     /// ```
     /// # use gearlongan::{Error, Heap, Layout, Shape};
@@ -192,7 +192,7 @@ impl Heap {
     ///
     /// # Errors
     ///
-    /// [`Error::Away`] where the pass that [`gather`](Heap::gather) left is not at home, and [`Error::NoPage`].
+    /// [`Error::Away`] if the pass that [`gather`](Heap::gather) left is not at home, and [`Error::NoPage`].
     ///
     /// ```
     /// # use gearlongan::{Error, Heap, Layout, Shape};
@@ -209,7 +209,7 @@ impl Heap {
     ///
     /// # Errors
     ///
-    /// [`Error::Away`] where the pass that [`gather`](Heap::gather) left is not at home.
+    /// [`Error::Away`] if the pass that [`gather`](Heap::gather) left is not at home.
     ///
     /// ```
     /// # use gearlongan::{Error, Heap, Layout, Shape};

@@ -14,7 +14,7 @@
 //! the interface of the crate `sharded-slab`.
 //!
 //! No call of a pass or a shard waits or locks. Memory is taken by [`Heap::open`], [`Heap::take`], [`Heap::gather`],
-//! [`Pass::adopt`], [`Pass::receipt`], and by an insert or a prepare that opens a segment; where it is refused they
+//! [`Pass::adopt`], [`Pass::receipt`], and by an insert or a prepare that opens a segment; if it is refused they
 //! answer [`Error::Memory`].
 //!
 //! What the calls do is proved, in the library that this crate links. The crate itself is not proved: it is what makes

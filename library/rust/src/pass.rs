@@ -73,7 +73,7 @@ impl Pass {
         Ok(value)
     }
 
-    /// The same, into a value of the caller's, which stays as it was where this is refused. A loop that has one value
+    /// The same, into a value of the caller's, which stays as it was if this is refused. A loop that has one value
     /// for all its loads saves to make one each time.
     ///
     /// # Errors
@@ -146,7 +146,7 @@ impl Pass {
         Ok(value)
     }
 
-    /// The same, into a value of the caller's, which stays as it was where this is refused.
+    /// The same, into a value of the caller's, which stays as it was if this is refused.
     ///
     /// # Errors
     ///
@@ -210,7 +210,7 @@ impl Pass {
         Ok(value)
     }
 
-    /// The same, into a value of the caller's, which stays as it was where this is refused.
+    /// The same, into a value of the caller's, which stays as it was if this is refused.
     ///
     /// # Errors
     ///

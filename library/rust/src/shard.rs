@@ -22,11 +22,11 @@ impl Shard {
         Shard { pass }
     }
 
-    /// Stores a value of 0 to 16 words, and tells its key. Where the shard is full it collects, once, and tries again.
+    /// Stores a value of 0 to 16 words, and returns its key. If the shard is full, it collects, once, and tries again.
     ///
     /// # Errors
     ///
-    /// [`Error::TooLong`], [`Error::Full`], and [`Error::Memory`] where a segment is to be opened.
+    /// [`Error::TooLong`], [`Error::Full`], and [`Error::Memory`] if a segment has to be opened.
     ///
     /// ```
     /// # use gearlongan::{Error, Heap, Layout, Shape};
@@ -52,7 +52,7 @@ impl Shard {
     ///
     /// # Errors
     ///
-    /// [`Error::Full`], and [`Error::Memory`] where a segment is to be opened.
+    /// [`Error::Full`], and [`Error::Memory`] if a segment has to be opened.
     ///
     /// ```
     /// # use gearlongan::{Error, Heap, Layout, Shape};
@@ -71,8 +71,8 @@ impl Shard {
     ///
     /// # Errors
     ///
-    /// [`Error::TooLong`]; [`Error::Full`], where no page that the owner knows of has room: what others freed on pages
-    /// of other lengths it does not look at; and [`Error::Memory`] where a segment is to be opened.
+    /// [`Error::TooLong`]; [`Error::Full`], if no page that the owner knows of has room (it does not look at what others
+    /// freed on pages of other lengths); and [`Error::Memory`] if a segment has to be opened.
     ///
     /// ```
     /// # use gearlongan::{Error, Heap, Layout, Shape};
@@ -89,12 +89,12 @@ impl Shard {
         self.pass.handle.insert(words)
     }
 
-    /// Gives a page of the shard to values of so many words, 0 to 16, so that the next 48 of a word, or 3 of 16 words,
-    /// need not look for one. Tells the page's number.
+    /// Gives a page of the shard to values of this many words, 0 to 16, so that the next 48 of one word, or 3 of 16
+    /// words, need not look for one. Returns the page's number.
     ///
     /// # Errors
     ///
-    /// [`Error::TooLong`], [`Error::Full`], and [`Error::Memory`] where a segment is to be opened.
+    /// [`Error::TooLong`], [`Error::Full`], and [`Error::Memory`] if a segment has to be opened.
     ///
     /// ```
     /// # use gearlongan::{Error, Heap, Layout, Shape};
@@ -153,7 +153,7 @@ impl Shard {
 
     /// How many slots of the other pages are not free for the shard: they have a value, or had one that is held, or
     /// another pass freed them and they are not [collected](Shard::collect) yet, or they are never used again. So the
-    /// shard has at most so many values. It takes no atomic step.
+    /// shard has at most this many values. It takes no atomic step.
     ///
     /// # Errors
     ///
@@ -178,7 +178,7 @@ impl Shard {
     ///
     /// # Errors
     ///
-    /// The shard, with [`Error::Waiting`], where another pass is in the middle of a free there.
+    /// The shard, with [`Error::Waiting`], if another pass is in the middle of a free there.
     ///
     /// ```
     /// # use gearlongan::{Error, Heap, Layout, Shape};

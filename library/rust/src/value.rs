@@ -31,7 +31,7 @@ impl Value {
     ///
     /// # Errors
     ///
-    /// [`Error::TooLong`] where they are more than 16.
+    /// [`Error::TooLong`] if they are more than 16.
     pub fn new(words: &[u64]) -> Result<Value, Error> {
         Ok(Value { words: Words::copy_of(words).ok_or(Error::TooLong)? })
     }
@@ -52,7 +52,7 @@ impl Value {
     ///
     /// # Errors
     ///
-    /// [`Error::WrongKind`] where it has not as many words as the record, or they are none of its words.
+    /// [`Error::WrongKind`] if it has not as many words as the record, or they are none of its words.
     ///
     /// ```
     /// use gearlongan::{Error, Value};

@@ -21,7 +21,7 @@ impl Words {
         Words { length: 0, words: [MaybeUninit::uninit(); MAX_WORDS] }
     }
 
-    /// A copy of these words: none where they are more than 16.
+    /// A copy of these words: none if they are more than 16.
     #[inline]
     pub(crate) fn copy_of(words: &[u64]) -> Option<Words> {
         let mut copy = Words::none();
@@ -34,16 +34,16 @@ impl Words {
 
     #[inline]
     pub(crate) fn as_slice(&self) -> &[u64] {
-        // SAFETY: so many words are written, and a word that is written is laid out as one that need not be.
+        // SAFETY: that many words are written, and a word that is written is laid out as one that need not be.
         unsafe { slice::from_raw_parts(self.words.as_ptr().cast(), self.length) }
     }
 
-    /// Becomes what `call` writes into the room of 16 words that it is given, of which it tells how many they are.
-    /// Where it is refused they stay.
+    /// Becomes what `call` writes into a room of 16 words; `call` also writes their number. If it is refused, the words
+    /// stay as they were.
     ///
     /// # Safety
     ///
-    /// Where it is not refused, `call` wrote as many words as it says. Where it is, it wrote none.
+    /// If `call` is not refused, it wrote as many words as it says. If it is refused, it wrote none.
     #[inline]
     pub(crate) unsafe fn fill(
         &mut self,

@@ -37,7 +37,7 @@ fn refused_memory_is_an_answer() {
     let large = Room { owners: 4, values: 1_000_000, words: 16, passes: 1 };
     let (opened, passes) = without_memory(|| (Heap::open_for(Layout::Deep, large), [heap.take(), heap.take()]));
     assert_eq!(opened.err(), Some(Error::Memory));
-    // What is small may have been granted from what the process had; nothing is lost where it was not.
+    // What is small may have been granted from what the process had; nothing is lost if it was not.
     assert!(passes.iter().all(|pass| pass.is_ok() || matches!(pass, Err(Error::Memory))));
     drop(passes);
     let all: Vec<_> = std::iter::from_fn(|| heap.take().ok()).collect();
@@ -46,7 +46,7 @@ fn refused_memory_is_an_answer() {
 
 fn a_slab_that_cannot_grow_returns_none_and_stays_as_it_is() {
     let slab = Slab::new();
-    // A heap of so many values is larger than what the process has.
+    // A heap of this many values is larger than what the process has.
     const MOST: usize = 1_000_000;
     let mut keys: Vec<usize> = Vec::with_capacity(MOST);
     let vacant = without_memory(|| {

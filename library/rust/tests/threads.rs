@@ -19,7 +19,7 @@ fn leave(mut shard: Shard) {
     }
 }
 
-/// Makes values, which others remove: where the shard is full, it waits for them. Every 1000 values another pass of
+/// Makes values, which others remove: if the shard is full, it waits for them. Every 1000 values another pass of
 /// this thread adopts the shard.
 fn produce(heap: &Heap, number: u32, keys: &Sender<(Key, u64)>) {
     let mut n = 0;

@@ -28,7 +28,7 @@ extern "C" fn start(work: *mut c_void) -> *mut c_void {
     ptr::null_mut()
 }
 
-/// Runs it in so many threads. (Those of the standard library end by fences, which the sanitizer does not know.)
+/// Runs it in several threads. (Those of the standard library end by fences, which the sanitizer does not know.)
 fn in_threads(threads: usize, act: &(dyn Fn(usize) + Sync)) {
     let mut works: Vec<Work<'_>> = (0..threads).map(|number| Work { number, act }).collect();
     let begin = |work: &mut Work<'_>| {

@@ -90,7 +90,7 @@ impl Chunk {
         self.taken.fetch_and(!(1 << shard), Relaxed);
     }
 
-    /// Inserts into a shard of this heap. None if it is full, which is remembered, or where memory is refused.
+    /// Inserts into a shard of this heap. None if it is full, which is remembered, or if memory is refused.
     #[inline]
     pub(super) fn insert(&self, number: u32, shard: &Shard) -> Option<Key> {
         match shard.insert_once(&[]) {

@@ -27,7 +27,7 @@ pub(super) enum Need {
 
 /// The heaps of a slab, by their numbers.
 pub(super) struct Heaps {
-    // Each box has one. (The standard library's box of a value ends the process where memory is refused.)
+    // Each box has one. (The standard library's box of a value ends the process if memory is refused.)
     chunks: [OnceLock<Box<[Chunk]>>; MOST_HEAPS],
     // How many are open. A thread that sees one before its chunk passes over it.
     opened: AtomicUsize,
@@ -38,7 +38,7 @@ pub(super) struct Heaps {
     limits: Limits,
 }
 
-// A vector of one value and no more room. None where memory is refused.
+// A vector of one value and no more room. None if memory is refused.
 fn vec_of_one<T>(value: T) -> Option<Vec<T>> {
     let mut one = Vec::new();
     one.try_reserve_exact(1).ok()?;

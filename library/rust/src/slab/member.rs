@@ -38,7 +38,7 @@ pub(super) struct Member {
 }
 
 impl Member {
-    // What it has of this heap. None where memory is refused.
+    // What it has of this heap. None if memory is refused.
     fn local(&mut self, heap: usize) -> Option<&mut Local> {
         if self.locals.len() <= heap {
             self.locals.try_reserve(heap + 1 - self.locals.len()).ok()?;
@@ -141,7 +141,7 @@ impl Member {
         self.insert_own(heaps)
     }
 
-    /// The same, where some shard may have room again: it searches at once.
+    /// The same, if some shard may have room again: it searches at once.
     pub(super) fn insert_after_search(&mut self, heaps: &Heaps) -> Option<u64> {
         self.skips = 0;
         self.insert(heaps)

@@ -75,7 +75,7 @@ fn place(number: usize) -> (usize, usize) {
     ((power - FIRST.ilog2()) as usize, number - (1 << power))
 }
 
-// The slots of a bucket. None where memory is refused.
+// The slots of a bucket. None if memory is refused.
 fn slots(bucket: usize) -> Option<Box<[Slot]>> {
     let count = FIRST << bucket;
     let mut slots = Vec::new();
@@ -120,7 +120,7 @@ impl Members {
         self.slot(thread::number()?)?.change(with).flatten()
     }
 
-    // What this thread has, where it has a shard that no other thread asked for.
+    // What this thread has, if it has a shard that no other thread asked for.
     #[inline]
     fn owner(&self) -> Option<&Own> {
         let member = self.slot(thread::number()?)?.member()?;
@@ -149,7 +149,7 @@ impl Members {
         self.insert_elsewhere()
     }
 
-    // The same, where the thread has no shard, or its own is full.
+    // The same, if the thread has no shard, or its own is full.
     #[cold]
     fn insert_elsewhere(&self) -> Option<u64> {
         let inserted = self.with_member(|member| member.insert(&self.heaps)).flatten();
@@ -186,7 +186,7 @@ impl Members {
         chunk.note_removal(number::shard(number));
     }
 
-    // The same, where the thread owns no shard of the key's heap.
+    // The same, if the thread owns no shard of the key's heap.
     fn remove_elsewhere(&self, heap: usize, chunk: &Chunk, key: Key) {
         if self.with_member(|member| member.remove(&self.heaps, heap, chunk, key)) != Some(true) {
             chunk.remove_shared(key);

@@ -30,7 +30,7 @@ fn open(generation: u32) -> u64 {
     u64::from(generation) << 32 | MADE | OPEN
 }
 
-/// The same, where a guard may write the value. The guard is its only user.
+/// The same, for a guard that may write the value. The guard is its only user.
 fn written(generation: u32) -> u64 {
     u64::from(generation) << 32 | MADE | WRITING
 }
@@ -92,7 +92,7 @@ impl<T> Node<T> {
     ///
     /// # Panics
     ///
-    /// If the place is in use, and where `make` panics.
+    /// If the place is in use, and if `make` panics.
     #[inline]
     pub(super) fn begin_writing(&self, generation: u32, make: impl FnOnce() -> T) {
         let before = self.state.load(Acquire);

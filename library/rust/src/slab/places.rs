@@ -29,7 +29,7 @@ unsafe impl<T: Send> Send for Places<T> {}
 // SAFETY: threads that share nodes have `&T` of a value at the same time, and any of them may be the one that drops it.
 unsafe impl<T: Send + Sync> Sync for Places<T> {}
 
-// Zeroed memory for one `U`, or null where memory is refused.
+// Zeroed memory for one `U`, or null if memory is refused.
 fn zeroed<U>(layout: Layout) -> *mut U {
     // SAFETY: no layout here is of size zero: a node has a state and a key, and a table has entries.
     unsafe { alloc_zeroed(layout).cast() }
@@ -53,7 +53,7 @@ impl<T> Pages<T> {
         Some(unsafe { &*table.add((number::shard(number) as usize) << bits | page) })
     }
 
-    // Allocates the table of a heap whose shards have 2 to the power of `bits` pages. None where memory is refused.
+    // Allocates the table of a heap whose shards have 2 to the power of `bits` pages. None if memory is refused.
     fn prepare(&self, bits: u32) -> Option<()> {
         let layout = Self::layout(bits)?;
         let new: *mut AtomicPtr<Page<T>> = zeroed(layout);

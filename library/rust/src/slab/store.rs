@@ -62,7 +62,7 @@ impl<T, E: Ending<T>> Store<T, E> {
         Ok(Store { places: Places::new(), members: Members::open(limits)?, ending: PhantomData })
     }
 
-    /// A place for a value. None if there is no room, or where memory is refused.
+    /// A place for a value. None if there is no room, or if memory is refused.
     #[inline]
     pub(super) fn vacant(&self) -> Option<Vacant<'_, T, E>> {
         let number = self.members.insert()?;
@@ -180,7 +180,7 @@ impl<'s, T, E: Ending<T>> Vacant<'s, T, E> {
         self.number
     }
 
-    // The node, where its place is not given back any more.
+    // The node, if its place is not given back any more.
     fn keep(self) -> (&'s Node<T>, u64) {
         let kept = (self.node, self.number);
         std::mem::forget(self);

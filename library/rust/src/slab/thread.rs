@@ -45,7 +45,7 @@ impl Drop for Thread {
     }
 }
 
-// The lowest number that no thread has. None where memory is refused.
+// The lowest number that no thread has. None if memory is refused.
 fn lease() -> Option<usize> {
     let mut numbers = NUMBERS.lock().unwrap_or_else(PoisonError::into_inner);
     let at = match numbers.iter().position(|bits| *bits != u64::MAX) {
@@ -69,7 +69,7 @@ fn give_back(number: usize) {
     }
 }
 
-/// The number of this thread. None while it ends, or where memory is refused.
+/// The number of this thread. None while it ends, or if memory is refused.
 #[inline]
 pub(super) fn number() -> Option<usize> {
     let number = NUMBER.get();
