@@ -5,7 +5,7 @@ use crate::sides::Side;
 use std::path::PathBuf;
 use std::slice::Iter;
 
-/// So many rounds, if nothing else is said.
+/// The number of rounds unless a word says another.
 const ROUNDS: usize = 15;
 
 /// What the program is asked for.

@@ -1,9 +1,8 @@
 //! usage: drop-in WORKLOAD THREADS ROUNDS
 //!
-//! Runs a workload in this many threads, and prints a line for each of its rows: the name, and the nanoseconds of
-//! processor time that one operation took, in the mean of the threads. `measure` beside this runs it in turns, built
-//! with
-//! `sharded-slab` as it is and with the one of this repository.
+//! Runs a workload in this many threads, and prints a line for each of its rows. The line has the name, and the
+//! nanoseconds of processor time of one operation, in the mean of the threads. `measure` beside this runs it in turns,
+//! built with `sharded-slab` as it is and with the one of this repository.
 mod clock;
 mod pool;
 mod slab;

@@ -1,6 +1,6 @@
-//! The program `through SIDE WORKLOAD`: it measures what the calls of the library cost from Rust or from C.
-//! `through opening VALUES` prints what a heap with room for this many values takes to open and to fill, and `through
-//! reuse` whether a key is used again, and whether two callers remove one value.
+//! The program `through SIDE WORKLOAD`: it measures what the calls of the library cost from Rust or from C. `through
+//! opening VALUES` prints what a heap with room for this many values takes to open and to fill. `through reuse` prints
+//! whether a key is used again, and whether two callers remove one value.
 //!
 //! It takes some of the options of `sh_bench`, and writes what that writes: counts to the standard output, and the time
 //! to the standard error. The exit status is 2 if the words are wrong, and 3 if a call is refused.

@@ -101,8 +101,8 @@
 //! - `Tiny` is for tests that reach every limit: 4 shards of 16 pages, at most 4 holds on a key, and three values in a
 //!   slot.
 //!
-//! A layout of one's own is a type with four numbers, and the same as ghost members (see `Wide` in `sh_key`, and
-//! `wide` in its `specs/Layouts.antt`, which says that they are within their limits).
+//! A layout of one's own is a type with four numbers, and the same as ghost members. See `Wide` in `sh_key`, and
+//! `wide` in its `specs/Layouts.antt` (which says that they are within their limits).
 //!
 //! # Limits
 //!

@@ -110,7 +110,7 @@ fn count<L: KeyLayout>(page: &mut PageTally, parts: Parts, removed: bool, holds:
     }
 }
 
-/// Whether a page of a shard that was full for this class has no room for it: the page has another class, or it has
+/// Whether a page of a shard that was full for this class has no room for it. The page has another class, or it has
 /// this class and no queued slot. A page of another class may have slots that its owner has yet to collect.
 pub fn is_filled(accounts: &Accounts, class: u32) -> bool
     ensures { IsTrue result ↔ HasNoRoom accounts.now class }

@@ -1,5 +1,5 @@
 //! The input and output of a run of the bench: its command line, the workloads and layouts, the values that it stores,
-//! and a shape with room for them, and the counts and times of its threads, which it reports.
+//! and a shape with room for them. It reports the counts and times of its threads.
 #![tactic(auto)]
 
 pub mod command_line;

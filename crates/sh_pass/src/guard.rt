@@ -13,7 +13,7 @@ use std::marker::{Model, PhantomData};
 /// A hold on a key that keeps the place of the key's slot.
 ///
 /// It is for a caller that uses a value more than once. `get_guard` of a pass or of a shard returns it, and
-/// `read_guard` and `release_guard` take it. It is the same hold as the plain `Hold` of its key: a contract sees no
+/// `read_guard` and `release_guard` take it. It is the same hold as the plain `Hold` of its key. A contract sees no
 /// more of a guard, `hold` returns the plain one, and the two kinds may be mixed. A guard releases nothing when it is
 /// dropped: it does not know the pass that holds. (So the name says what it guards: the place.)
 ///

@@ -1,5 +1,5 @@
-//! What no clause says: that a heap opens, what gets of numbers that were never issued return, that passes step at the
-//! same time, and which words are in the heap.
+//! What no clause says: that a heap opens, what a get of an unissued number returns, that passes step at
+//! the same time, and which words are in the heap.
 ghost use Rattle.std.specs.Prelude.{◌≡◌};
 
 mod by_hand;

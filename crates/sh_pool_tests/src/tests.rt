@@ -1,4 +1,4 @@
-//! What no clause says: at first each pass is in its berth, no call finds a pass that was taken, and a pass that was
+//! What no clause says. At first each pass is in its berth, no call finds a pass that was taken, and a pass that was
 //! given back can be taken again.
 ghost use Rattle.std.specs.Prelude.{◌≡◌};
 

@@ -26,8 +26,8 @@ const FIRST_LENGTH: u32 = FIRST_LINK + SLOT_PLACES;
 
 const FIRST_PAYLOAD: u32 = FIRST_LENGTH + SLOT_PLACES;
 
-/// How many words a page has: its class, its head and its page link; a state, a link and a length for each place of a
-/// slot; and the payload words.
+/// How many words a page has. They are its class, its head and its page link; a state, a link and a length for each
+/// place of a slot; and the payload words.
 pub const PAGE_WORDS: u32 = FIRST_PAYLOAD + PAYLOAD_WORDS;
 
 /// The place of a word. A page is given by its number over the whole heap, as `Shape::page_number` returns it.

@@ -107,8 +107,8 @@ fn run_with<W: Write, E: Write, R: Threads + Wait + Sync>(
     }
 }
 
-/// Runs the program, and returns the exit status: 0 if it found no fault, 1 if it found one, 2 for a mistake in the
-/// words, and 3 if memory was refused or a write failed. The first word is the program's name.
+/// Runs the program, and returns the exit status. It is 0 if it found no fault, 1 if it found one, 2 for a mistake in
+/// the words, and 3 if memory was refused or a write failed. The first word is the program's name.
 pub fn run<W: Write, E: Write, R: Threads + Wait + Sync>(
     rt: &R,
     alloc: Global,

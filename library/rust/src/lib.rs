@@ -2,7 +2,7 @@
 //!
 //! A heap has shards of pages. Each thread uses it by a pass of its own. Any pass may hold, read and remove any key; a
 //! pass that owns a shard also inserts there. A value is at most 16 words of 64 bits; its key is a number that no other
-//! value of the heap ever has, so that a key which is out of date finds nothing.
+//! value of the heap ever has. So a key that is out of date finds nothing.
 //!
 //! - A [`Heap`] is opened with a number of passes, which threads [take](Heap::take).
 //! - A [`Pass`] goes home when it is dropped, for the next thread. It is [`Send`] and not [`Sync`].

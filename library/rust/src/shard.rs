@@ -71,8 +71,8 @@ impl Shard {
     ///
     /// # Errors
     ///
-    /// [`Error::TooLong`]; [`Error::Full`], if no page that the owner knows of has room (it does not look at what others
-    /// freed on pages of other lengths); and [`Error::Memory`] if a segment has to be opened.
+    /// [`Error::TooLong`]. [`Error::Full`], if no page that the owner knows of has room (it does not look at what
+    /// others freed on pages of other lengths). [`Error::Memory`] if a segment has to be opened.
     ///
     /// ```
     /// # use gearlongan::{Error, Heap, Layout, Shape};
@@ -89,7 +89,7 @@ impl Shard {
         self.pass.handle.insert(words)
     }
 
-    /// Gives a page of the shard to values of this many words, 0 to 16, so that the next 48 of one word, or 3 of 16
+    /// Gives a page of the shard to values of this many words, 0 to 16. Then the next 48 of one word, or 3 of 16
     /// words, need not look for one. Returns the page's number.
     ///
     /// # Errors
@@ -151,8 +151,8 @@ impl Shard {
         self.pass.handle.pages_left()
     }
 
-    /// How many slots of the other pages are not free for the shard: they have a value, or had one that is held, or
-    /// another pass freed them and they are not [collected](Shard::collect) yet, or they are never used again. So the
+    /// How many slots of the other pages are not free for the shard. They have a value, or had one that is held, or
+    /// another pass freed them and they are not [collected](Shard::collect) yet. Or they are never used again. So the
     /// shard has at most this many values. It takes no atomic step.
     ///
     /// # Errors

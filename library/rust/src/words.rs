@@ -6,7 +6,7 @@ use std::cell::{Cell, UnsafeCell};
 use std::mem::MaybeUninit;
 use std::slice;
 
-/// So many words, of at most 16.
+/// A number of words, at most 16.
 #[derive(Clone, Copy)]
 pub(crate) struct Words {
     // At most 16, and as many words are written.

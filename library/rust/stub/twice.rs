@@ -1,4 +1,4 @@
-//! The slab and the pool over heaps that issue a place while it is in use: the call that would fill it panics, and each
+//! The slab and the pool over heaps that issue a place while it is in use. The call that would fill it panics, and each
 //! value is what was stored under its key. For `stub.py`.
 //!
 //! A place that two threads fill at the same moment is not found. That no place is issued twice is proved of the heaps.

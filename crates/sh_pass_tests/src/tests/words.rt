@@ -1,6 +1,6 @@
-//! The words of the running heap, as they were worked out by hand: of a page from which another pass removes a value in
-//! eight steps, and of a slot whose last generation is over. An owner's steps return the words that they find; and once
-//! all passes met, each word can be loaded.
+//! The words of the running heap, as they were worked out by hand. They are of a page from which another pass removes a
+//! value in eight steps, and of a slot whose last generation is over. An owner's steps return the words that they find;
+//! and once all passes met, each word can be loaded.
 ghost use Rattle.std.specs.Prelude.{◌≡◌, ◌<◌, None, Some, true, false, cond};
 ghost use Rattle.sh_bell.specs.Bell.{is_armed, top_of};
 ghost use Rattle.sh_stack.specs.Stack.{top_item, link_item};

@@ -1,7 +1,7 @@
 //! A slab and a pool for values of any type, with the interface of the crate `sharded-slab`.
 //!
 //! A [`Slab`] stores values and returns keys. A [`Pool`] clears a value in place when its key is removed, and uses it
-//! for a later key. The keys are those of the library's heaps: what is proved of them holds here too, so that no key is
+//! for a later key. The keys are those of the library's heaps: what is proved of them holds here too. So no key is
 //! used again, and none finds what was stored under another. That a value is dropped once, and by its last user, is
 //! **not proved**: it follows from this module, in Rust.
 //!
@@ -128,8 +128,8 @@ impl<T> Slab<T> {
     ///
     /// # Errors
     ///
-    /// [`Error::BadShape`] if no first heap has that room, and [`Error::Memory`] if memory for the heap is refused. If the
-    /// few kilobytes of the slab itself are refused, the process ends, as for any `Box`.
+    /// [`Error::BadShape`] if no first heap has that room, and [`Error::Memory`] if memory for the heap is refused. If
+    /// the few kilobytes of the slab itself are refused, the process ends, as for any `Box`.
     ///
     /// ```
     /// # use gearlongan::{slab::Slab, Error};
