@@ -1,48 +1,46 @@
--- A page is tried: its slots are used, its stack is collected, its slots are used, it is armed, its slots are used.
-use Rattle.std.proofs.Common.{◌≡◌, ℕ, ◌+◌, Option, Some, None, MatchOption, List, sym, subst, IfSome, arith}
+-- A page is tried: its lists are asked for a slot, also once it is collected, and once it is armed.
+use Rattle.std.proofs.Common.{◌≡◌, ℕ, ◌+◌, Bool, true, false, Option, Some, None, MatchOption, MatchBool, List}
+use Rattle.std.proofs.Common.{IfSome, ◌∙◌, sym, arith}
+use Rattle.std.proofs.lemmas.Bool.{false≢true}
 use Rattle.sh_shard.specs.Pages.{Paged, page_at, NothingMine, WorksOn, CollectsPage, GuardsPage, PageDone, PageInserts}
 use Rattle.sh_shard.specs.Pages.{TakesSteps, StepsForSlots}
 use Rattle.sh_shard.specs.Steps.{StepsAtMost}
-use Rattle.sh_shard.proofs.Bounding.{slots_then, slots_most, slots_gone}
-use Rattle.sh_shard.proofs.Working.{works_more, inserts_after, done_of}
+use Rattle.sh_shard.proofs.Bounding.{slots_then, slots_most}
+use Rattle.sh_shard.proofs.Working.{inserts_after, done_of}
 
-pub tried_early : (p key : ℕ) (value : List ℕ) (o m₁ m₂ n : Paged) → m₁ ≡ o → CollectsPage p m₁ m₂
-    → PageInserts p value key m₂ n → PageInserts p value key o n
-tried_early p key value o m₁ m₂ n is g h = inserts_after p key value o m₂ n
-    (subst (λ (z : Paged). CollectsPage p z m₂) is g).works h
+-- a slot was found, or nothing is left in the page
+pub slot_found : (p : ℕ) (b : Bool) (o m n : Paged) → CollectsPage p o m → GuardsPage p m n
+    → MatchBool b ((s : ℕ) × ((page_at n p).mine s ≡ true)) (NothingMine (page_at n p))
+    → MatchBool b ((s : ℕ) × ((page_at n p).mine s ≡ true)) (PageDone o n p)
+slot_found p true o m n g h e = e
+slot_found p false o m n g h e = (done_of p o m n g h e).1
 
-pub tried : (p : ℕ) (value : List ℕ) (r : Option ℕ) (o m₁ m₂ m₃ m₄ n : Paged) → m₁ ≡ o → CollectsPage p m₁ m₂ → m₃ ≡ m₂
-    → GuardsPage p m₃ m₄
-    → MatchOption r ((n ≡ m₄) × NothingMine (page_at m₄ p)) (λ key. PageInserts p value key m₄ n)
+-- a collected page has a slot: no more steps than if it was armed too
+pub slot_collected : (p : ℕ) (o m : Paged) → CollectsPage p o m → StepsForSlots 4 p o m
+slot_collected p o m g = let f = g.steps in omega arith
+
+pub slot_guarded : (p : ℕ) (o m n : Paged) → CollectsPage p o m → GuardsPage p m n → StepsForSlots 4 p o n
+slot_guarded p o m n g h = slots_then 2 2 4 p o m n g.steps h.steps (omega arith)
+
+-- ---- a try of a page that has a slot
+
+has_none : {A : Type 0} (p : ℕ) (m : Paged) → (s : ℕ) × ((page_at m p).mine s ≡ true) → NothingMine (page_at m p) → A
+has_none p m some none = absurd (false≢true (sym (none some.0) ∙ some.1))
+
+pub tried : (p : ℕ) (value : List ℕ) (r : Option ℕ) (o m n : Paged) → WorksOn p o m
+    → (s : ℕ) × ((page_at m p).mine s ≡ true)
+    → MatchOption r ((n ≡ m) × NothingMine (page_at m p)) (λ key. PageInserts p value key m n)
     → MatchOption r (WorksOn p o n × PageDone o n p) (λ key. PageInserts p value key o n)
-tried p value r o m₁ m₂ m₃ m₄ n first g second h = go r (subst (λ (z : Paged). CollectsPage p z m₂) first g)
-    (subst (λ (z : Paged). GuardsPage p z m₄) second h) where
-      go : (r : Option ℕ) → CollectsPage p o m₂ → GuardsPage p m₂ m₄
-          → MatchOption r ((n ≡ m₄) × NothingMine (page_at m₄ p))
-          (λ key. PageInserts p value key m₄ n) → MatchOption r (WorksOn p o n × PageDone o n p)
-          (λ key. PageInserts p value key o n)
-      go None g h e = subst (λ (z : Paged). WorksOn p o z × PageDone o z p) (sym e.0) (done_of p o m₂ m₄ g h e.1)
-      go (Some key) g h e = inserts_after p key value o m₄ n (works_more p o m₂ m₄ g.works h.works) e
+tried p value None o m n g some h = has_none p m some h.1
+tried p value (Some key) o m n g some h = inserts_after p key value o m n g h
 
 -- the number of steps of a try
-pub tried_steps : (p w : ℕ) (r : Option ℕ) (o m₁ m₂ m₃ m₄ n : Paged) → m₁ ≡ o → CollectsPage p m₁ m₂ → m₃ ≡ m₂
-    → GuardsPage p m₃ m₄
-    → MatchOption r ((n ≡ m₄) × NothingMine (page_at m₄ p)) (λ _. TakesSteps (w + 2) m₄ n)
+pub tried_steps : (p w : ℕ) (r : Option ℕ) (o m n : Paged) → StepsForSlots 4 p o m
+    → (s : ℕ) × ((page_at m p).mine s ≡ true)
+    → MatchOption r ((n ≡ m) × NothingMine (page_at m p)) (λ _. TakesSteps (w + 2) m n)
     → MatchOption r (StepsAtMost 4 o.owner n.owner) (λ _. StepsAtMost (w + 54) o.owner n.owner)
-tried_steps p w r o m₁ m₂ m₃ m₄ n first g second h = go r (slots_then 2 2 4 p o m₂ m₄
-    (subst (λ (z : Paged). StepsForSlots 2 p z m₂) first g.steps)
-    (subst (λ (z : Paged). StepsForSlots 2 p z m₄) second h.steps) (omega arith)) where
-      go : (r : Option ℕ) → StepsForSlots 4 p o m₄
-          → MatchOption r ((n ≡ m₄) × NothingMine (page_at m₄ p)) (λ _. TakesSteps (w + 2) m₄ n)
-          → MatchOption r (StepsAtMost 4 o.owner n.owner) (λ _. StepsAtMost (w + 54) o.owner n.owner)
-      go None t e = subst (λ (z : Paged). StepsAtMost 4 o.owner z.owner) (sym e.0) (slots_gone 4 p o m₄ t e.1)
-      go (Some key) t e = let f = slots_most 4 52 p o m₄ t (omega arith) in omega arith
-
-pub tried_steps_early : (p w : ℕ) (o m₁ m₂ n : Paged) → m₁ ≡ o → CollectsPage p m₁ m₂ → TakesSteps (w + 2) m₂ n
-    → StepsAtMost (w + 54) o.owner n.owner
-tried_steps_early p w o m₁ m₂ n first g e =
-    let f = slots_most 2 52 p o m₂ (subst (λ (z : Paged). StepsForSlots 2 p z m₂) first g.steps) (omega arith)
-    in omega arith
+tried_steps p w None o m n t some e = has_none p m some e.1
+tried_steps p w (Some key) o m n t some e = let f = slots_most 4 52 p o m t (omega arith) in omega arith
 
 pub used_in : (A : ℕ → Type 0) (p w : ℕ) (m n : Paged) (r : Option ℕ)
     → MatchOption r ((n ≡ m) × NothingMine (page_at m p)) A → IfSome r (λ _. TakesSteps (w + 2) m n)

@@ -1,8 +1,9 @@
 // Using the slots of a page.
-ghost use Rattle.std.specs.Prelude.{◌≡◌, ℕ, ◌+◌, ◌-◌, ◌<◌, ◌≤◌, ◌⊎◌, length, Some, MatchOption, IfSome};
+ghost use Rattle.std.specs.Prelude.{◌≡◌, ℕ, ◌+◌, ◌-◌, ◌<◌, ◌≤◌, ◌⊎◌, length, Some, MatchOption, MatchBool, IfSome};
+ghost use Rattle.std.specs.Prelude.{true};
 ghost use Rattle.sh_shape.specs.Classes.{width};
 ghost use Rattle.sh_shard.specs.Pages.{page_at, seen_class, WorksOn, PageDone, NothingMine, WhollyMine, PageInserts};
-ghost use Rattle.sh_shard.specs.Pages.{TakesSteps, GivesClass, NamesSlot};
+ghost use Rattle.sh_shard.specs.Pages.{TakesSteps, StepsForSlots, GivesClass, NamesSlot};
 ghost use Rattle.sh_shard.specs.Steps.{StepsAtMost};
 
 use crate::pages::Pages;
@@ -43,15 +44,31 @@ impl<L: KeyLayout, H: KeepsHeap<L>> Pages<L, H> {
         ensures steps { MatchOption result (StepsAtMost 4 self.old.owner self.new.owner)
             (λ _. StepsAtMost (length value.now + 54) self.old.owner self.new.owner) }
     {
-        if let Some(key) = self.use_slot(page, value) {
-            return Some(key);
+        if !self.find_slot(page) {
+            return None;
+        }
+        self.use_slot(page, value)
+    }
+
+    // Whether the owner has a slot of the page. If it has none, it collects the page and looks again. If there is still
+    // none, it arms the page and looks a last time.
+    fn find_slot(&mut self, page: u64) -> bool
+        requires inside { page < self.old.count }
+        requires classed { 0 < seen_class (page_at self.old page) }
+        ensures works { WorksOn page self.old self.new }
+        ensures found { MatchBool result ((s : ℕ) × ((page_at self.new page).mine s ≡ true))
+            (PageDone self.old self.new page) }
+        ensures steps { StepsForSlots 4 page self.old self.new }
+    {
+        if self.has_slot(page) {
+            return true;
         }
         self.collect(page);
-        if let Some(key) = self.use_slot(page, value) {
-            return Some(key);
+        if self.has_slot(page) {
+            return true;
         }
         self.guard(page);
-        self.use_slot(page, value)
+        self.has_slot(page)
     }
 
     /// Gives the class to a page that is blank, or all of whose class's slots are the owner's. Then all slots of the

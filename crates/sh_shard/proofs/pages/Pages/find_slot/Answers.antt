@@ -1,0 +1,14 @@
+use Rattle.sh_shard.proofs.PageTries.{slot_found, slot_collected, slot_guarded}
+use Rattle.sh_shard.proofs.pages.Pages.find_slot.Goals as goal
+
+pub returns-then-has_slot-2-clause-steps : goal.returns-then-has_slot-2-clause-steps
+returns-then-has_slot-2-clause-steps g c = slot_collected c.args.page c.args.self.now c.collect.new.self
+    c.collect.ensures
+
+pub returns-clause-found : goal.returns-clause-found
+returns-clause-found g c = slot_found c.args.page c.has_slot-3.result c.args.self.now c.collect.new.self
+    c.guard.new.self c.collect.ensures c.guard.ensures c.has_slot-3.ensures
+
+pub returns-clause-steps : goal.returns-clause-steps
+returns-clause-steps g c = slot_guarded c.args.page c.args.self.now c.collect.new.self c.guard.new.self
+    c.collect.ensures c.guard.ensures
