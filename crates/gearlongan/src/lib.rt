@@ -122,7 +122,15 @@
 //! `gives` of a task says what is known of its output, such as that a pass which comes back is of its heap. `gather`
 //! checks whether all passes of the heap are there: it returns the heap as a whole, or the passes. `join` and `whole`
 //! do the same for one pass after the other. `total` adds up what the slots of a whole heap are, and `all_accounts`
-//! lists that for each page.
+//! lists that for each page. `next_key` finds the live keys of a whole heap, one after the other. This loop visits each
+//! live key once, in the order of their places:
+//!
+//! ```text
+//! let mut place = 0;
+//! while let Some(next) = next_key(&mut all, place) {
+//!     place = next.behind;                // next.key is live
+//! }
+//! ```
 //!
 //! # Order between threads
 //!
@@ -156,6 +164,6 @@ pub use sh_readers::{Reader, ToldKey, fetch_told, insert_told};
 pub use sh_shape::Shape;
 pub use sh_shard::Shard;
 pub use sh_table::heard_comes_first;
-pub use sh_totals::{PageAccounts, Totals, all_accounts, total};
+pub use sh_totals::{NextKey, PageAccounts, Totals, all_accounts, next_key, total};
 pub use sh_typed::Typed;
 pub use sh_value::{Hold, Record, Refusal, Value};
