@@ -69,7 +69,7 @@ impl Lane {
     }
 }
 
-/// The lanes of so many passes that did nothing yet.
+/// The lanes of this number of passes that did nothing yet.
 pub fn new_lanes(alloc: Global, passes: u32) -> Result<Vec<Lane>, AllocError> {
     let mut lanes = Vec::new(alloc);
     for _ in 0..passes {

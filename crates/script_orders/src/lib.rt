@@ -1,8 +1,8 @@
 //! Scripts of atomic steps in every order of their lines.
 //!
-//! A script brings a heap to a state, and then lists for each pass what it does. `explore` runs the lines in every order
-//! that keeps the order of each pass, on the core, and returns each outcome: what the passes were replied, how many
-//! orders lead to it, and one of them. States that are alike after the same number of steps are gone on from once.
+//! A script brings a heap to a state, and then lists for each pass what it does. `explore` runs the lines on the core,
+//! in every order that keeps the order of each pass. It returns each outcome: what the passes were replied, how many
+//! orders lead to it, and one of them. Of states that are alike after the same number of steps it follows one.
 #![tactic(auto)]
 
 mod alike;

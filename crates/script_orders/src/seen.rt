@@ -61,8 +61,8 @@ fn home(shape: &Shape, page: u64) -> u64 {
     page.checked_div(u64::from(shape.pages())).unwrap_or(0)
 }
 
-/// The number of the word that the move's step finds. None if nothing of the word matters to the pass, as where it
-/// stores, or reads a word of a value, on which no condition and no reply depends.
+/// The number of the word that the move's step finds. None if nothing of the word matters to the pass: if it stores, or
+/// reads a word of a value, on which no condition and no reply depends.
 pub fn found_at(shape: &Shape, the_move: &Move) -> Option<u64> {
     match the_move {
         Move::EnterGet(_, name)

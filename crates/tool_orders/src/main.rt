@@ -1,5 +1,5 @@
-//! The program `tool_orders`: it does the script of steps on the standard input in every order, and prints each outcome.
-//! This file joins the process to `script_orders`.
+//! The program `tool_orders`: it does the script of steps on the standard input in every order, and prints each
+//! outcome. This file joins the process to `script_orders`.
 #![tactic(auto)]
 
 mod options;
@@ -18,7 +18,7 @@ use std::{fs, io};
 // The most bytes of a file of outcomes that are read.
 const OUTCOMES_MAX: u64 = 16_777_216;
 
-// The exit status of a fault: 2 where the script is at fault, else 3.
+// The exit status of a fault: 2 if the script is at fault, and 3 otherwise.
 fn status(fault: Fault) -> u8 {
     match fault {
         Fault::BadShape | Fault::Script(_, _) => 2,

@@ -20,7 +20,7 @@ pub struct Printed {
     pub status: u8,
 }
 
-// What is printed where nothing is wrong.
+// What is printed if nothing is wrong.
 fn good(alloc: Global, output: String) -> Printed {
     Printed {
         output,
