@@ -16,6 +16,7 @@ pub mod receipt_handle;
 pub mod receipts;
 mod taking;
 mod telling;
+mod warming;
 
 pub use heap::AnyHeap;
 pub use heap_handle::HeapHandle;

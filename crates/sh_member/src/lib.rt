@@ -10,5 +10,6 @@ pub mod member;
 mod moving;
 mod receipts;
 mod taking;
+mod warming;
 
 pub use member::{Member, Side};

@@ -1,3 +1,4 @@
+pub mod BatchSteps
 pub mod Ending
 pub mod Hearing
 pub mod Holding

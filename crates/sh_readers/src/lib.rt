@@ -2,6 +2,7 @@
 //! so that no hold is left behind.
 #![tactic(auto)]
 
+pub mod batches;
 pub mod fetching;
 mod pass;
 pub mod reader;

@@ -1,11 +1,13 @@
 //! What a pass and a shard have in common.
-ghost use Rattle.std.specs.Prelude.{◌≡◌, ℕ, Result};
+ghost use Rattle.std.specs.Prelude.{◌≡◌, ℕ, Result, length};
 ghost use Rattle.sh_key.specs.Layout.{Layout};
 ghost use Rattle.sh_pass.specs.Passes.{Caller, GetDoes, ReadDoes, ReadIntoDoes, RemoveDoes, ReleaseDoes};
 ghost use Rattle.sh_pass.specs.Receipts.{heeded, receipt_by};
+ghost use Rattle.sh_readers.specs.Batches.{GetsEach, FetchesEach, RemainsAfter};
 ghost use Rattle.sh_readers.specs.Readers.{Remains, FetchDoes, FetchIntoDoes, WithDoes, TakeDoes, TakeIntoDoes};
 ghost use Rattle.std.specs.Fn.{FnOnceReturnsAt};
 
+use crate::batches::{fetch_each, get_each};
 use crate::fetching::{fetch, fetch_into, with};
 use crate::taking::take;
 use crate::taking_into::take_into;
@@ -33,8 +35,8 @@ pub trait Reader {
     /// is got wait for their memory at the same time: `fetch_each` does so.
     fn warm(&self, key: u64);
 
-    /// The same, and the words that a read of the key's value needs: its page's class, its length, and its word if it has
-    /// one.
+    /// The same, and the words that a read of the key's value needs: its page's class, its length, and its word if it
+    /// has one.
     fn warm_value(&self, key: u64);
 
     /// Takes a hold on a key, so that its value stays readable. Refused as `BadKey`, `HoldsFull`, `Gone` or `Crowded`,
@@ -135,5 +137,43 @@ pub trait Reader {
         ensures remains { Remains layout (caller self.old) (caller self.new) }
     {
         take_into(self, key, most, value)
+    }
+
+    /// A get of each key, in order; `results[i]` is what the get of `keys[i]` returned. A refused get stops nothing.
+    /// The keys are warmed eight at a time before they are got, so that their waits for memory overlap. Beside a few
+    /// thousand values, which the caches have, single gets are faster.
+    ///
+    /// ```text
+    /// let mut holds = [Err(Refusal::Gone), Err(Refusal::Gone)];
+    /// pass.get_each(&[one, other], &mut holds);
+    /// ```
+    final fn get_each(&mut self, keys: &[u64], results: &mut [Result<Hold, Refusal>])
+    where
+        Self: Sized,
+        requires { length results.old ≡ length keys.now }
+        ensures does { GetsEach layout keys.now (caller self.old) results.new (caller self.new) }
+        ensures remains { RemainsAfter layout keys.now (caller self.old) (caller self.new) }
+    {
+        get_each(self, keys, results)
+    }
+
+    /// A fetch of each key, in order; `results[i]` is what the fetch of `keys[i]` returned. A refused fetch stops
+    /// nothing, and no hold is left behind. The keys are warmed eight at a time, as `get_each` does.
+    ///
+    /// A value that is in the results before the call is read into, so that nothing is copied. So a loop has one list
+    /// of results for all its batches, which begins as `Ok(Value::from(0))` at each place:
+    ///
+    /// ```text
+    /// let mut values = [Ok(Value::from(0)), Ok(Value::from(0))];
+    /// pass.fetch_each(&[one, other], &mut values);
+    /// ```
+    final fn fetch_each(&mut self, keys: &[u64], results: &mut [Result<Value, Refusal>])
+    where
+        Self: Sized,
+        requires { length results.old ≡ length keys.now }
+        ensures does { FetchesEach layout keys.now (caller self.old) results.new (caller self.new) }
+        ensures remains { RemainsAfter layout keys.now (caller self.old) (caller self.new) }
+    {
+        fetch_each(self, keys, results)
     }
 }

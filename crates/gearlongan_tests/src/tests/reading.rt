@@ -1,6 +1,6 @@
 //! Tests of looking up, holding and reading a value.
 use super::{FIRST_KEY, agree, opened, owner_and_reader};
-use gearlongan::{Pass, Reader, Refusal, Shard, Value, Wide};
+use gearlongan::{Hold, Pass, Reader, Refusal, Shard, Value, Wide};
 use std::process::Abort;
 
 // Gets a key, reads its value and releases it, and then holds nothing.
@@ -95,6 +95,35 @@ fn a_value_is_fetched_into_the_callers(rt: HostRuntime) {
     let (heap, seats) = opened(&rt, rt.alloc(), 2);
     let (mut owner, mut reader) = owner_and_reader(&rt, rt.alloc(), &heap, seats);
     fetch_into_ones_own(&rt, &mut owner, &mut reader);
+}
+
+// Fetches and gets three keys at a time: one was removed, and one is no key. Each has its own result.
+fn fetch_and_get_each(rt: &impl Abort, owner: &mut Shard<'_, Wide>, reader: &mut Pass<'_, Wide>) {
+    let key = owner.insert(&Value::of([7, 8])).expect(rt, "a key");
+    let gone = owner.insert(&Value::from(9)).expect(rt, "a key");
+    agree(rt, owner.remove(gone), Ok(()));
+    let keys = [gone, 0, key];
+    let mut values = [Ok(Value::from(0)), Ok(Value::from(0)), Ok(Value::from(0))];
+    reader.fetch_each(&keys, &mut values);
+    let [first, second, third] = values;
+    agree(rt, first, Err(Refusal::Gone));
+    agree(rt, second, Err(Refusal::BadKey));
+    agree(rt, third, Ok(Value::of([7, 8])));
+    let mut holds = [Err(Refusal::Full), Err(Refusal::Full), Err(Refusal::Full)];
+    owner.get_each(&keys, &mut holds);
+    agree(rt, holds[0], Err(Refusal::Gone));
+    agree(rt, holds[1], Err(Refusal::BadKey));
+    agree(rt, holds[2], Ok(Hold { key }));
+    agree(rt, owner.read(Hold { key }), Ok(Value::of([7, 8])));
+    agree(rt, owner.release(Hold { key }), Ok(()));
+    agree(rt, owner.release(Hold { key }), Err(Refusal::NotHeld));
+}
+
+#[test]
+fn a_batch_has_a_result_for_each_key(rt: HostRuntime) {
+    let (heap, seats) = opened(&rt, rt.alloc(), 2);
+    let (mut owner, mut reader) = owner_and_reader(&rt, rt.alloc(), &heap, seats);
+    fetch_and_get_each(&rt, &mut owner, &mut reader);
 }
 
 #[test]
