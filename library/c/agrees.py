@@ -25,8 +25,12 @@ TYPES = {
     '&[u64]': ['const uint64_t *', 'size_t'], '&mut [u64]': ['uint64_t *', 'size_t'],
     '&mut u64': ['uint64_t *'], '&mut u32': ['uint32_t *'],
     '&mut PageTold': ['shardheap_page *'], '&mut SumsTold': ['shardheap_sums *'],
+    '&mut [Loaded]': ['shardheap_loaded *', 'size_t'],
     '': ['void'],
 }
+
+# The fields of the records that the library writes.
+FIELDS = {'u32': '32 bits', 'u64': '64 bits', '[u64; WORDS_MAX]': '64 bits, 16 times'}
 
 
 def exported():
@@ -50,10 +54,13 @@ def record_of(text, pattern, field):
 
 
 def records():
-    """The fields of each record, in the library and in the header."""
-    for rust, c in (('PageTold', 'shardheap_page'), ('SumsTold', 'shardheap_sums')):
-        yield (c, record_of(SOURCES, rf'pub struct {rust} \{{(.*?)\n\}}', r'pub (\w+): u32'),
-               record_of(HEADER, rf'typedef struct {c} \{{(.*?)\n\}} {c};', r'^ +uint32_t (\w+);'))
+    """The fields of each record, in the library and in the header: the type and the name of each."""
+    for rust, c in (('PageTold', 'shardheap_page'), ('SumsTold', 'shardheap_sums'), ('Loaded', 'shardheap_loaded')):
+        library = record_of(SOURCES, rf'pub struct {rust} \{{(.*?)\n\}}', r'pub (\w+): ([^,]+),')
+        header = record_of(HEADER, rf'typedef struct {c} \{{(.*?)\n\}} {c};', r'^ +uint(\d+)_t (\w+)(?:\[(\d+)\])?;')
+        yield (c, library and [(FIELDS.get(kind, kind), name) for name, kind in library],
+               header and [(f'{bits} bits' + (f', {count} times' if count else ''), name)
+                          for bits, name, count in header])
 
 
 def numbered():

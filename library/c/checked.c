@@ -128,6 +128,12 @@ static void another_heap(uint32_t layout) {
     IS(shardheap_get(&passes[0], keys[1]), SHARDHEAP_OTHER_HEAP);
     IS(shardheap_load(&passes[0], keys[1], room, 16, &length), SHARDHEAP_OTHER_HEAP);
     IS(shardheap_take_value(&passes[0], keys[1], room, 16, &length), SHARDHEAP_OTHER_HEAP);
+    shardheap_loaded batch[10] = {{keys[1], 99, 66, {0}}};
+    for (int n = 1; n < 10; n++) batch[n] = batch[0], batch[n].key = keys[0];
+    IS(shardheap_load_each(&passes[0], batch, 10), SHARDHEAP_OTHER_HEAP);
+    TRUE(batch[0].code == 66 && batch[9].code == 66 && batch[9].key == keys[0]);
+    IS(shardheap_load_each(&passes[0], batch + 1, 9), SHARDHEAP_OK);
+    TRUE(batch[1].code == SHARDHEAP_OK && batch[9].code == SHARDHEAP_OK && batch[9].key == keys[0]);
     IS(shardheap_remove(&passes[0], keys[1]), SHARDHEAP_OTHER_HEAP);
     IS(shardheap_get(&passes[0], keys[0]), SHARDHEAP_OK);
     IS(shardheap_read(&passes[0], keys[1], room, 16, &length), SHARDHEAP_OTHER_HEAP);

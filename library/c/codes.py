@@ -37,7 +37,7 @@ def told(header, names):
     calls = re.findall(r'/\* ((?:(?!\*/).)*?) ?\*/\nstatic inline uint32_t shardheap_(\w+)\(([^)]*)\)', header, re.S)
     wanted = set()
     for comment, call, parameters in calls:
-        if call in ('fill', 'know'):
+        if call in ('fill', 'know', 'load_bare'):
             continue
         prose = re.sub(r'(?m)^ {7}.*$', '', comment)
         wanted |= {(call, name) for name in names if re.search(rf'\b{name}\b', prose)} | {(call, 'NULL')}

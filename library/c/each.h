@@ -42,6 +42,7 @@ static void each_call_of_a_receipt(shardheap_receipt *receipt, uint32_t refused)
 static void each_call_of_a_pass(shardheap_pass *pass, uint64_t key, uint32_t refused) {
     shardheap_pass was = *pass;
     shardheap_receipt receipt = SHARDHEAP_INIT;
+    shardheap_loaded batch[1] = {{key, 99, 66, {0}}};
     uint64_t words[16] = {0}, length = 99, other = 77;
     uint32_t page = 55;
     IS(shardheap_give(pass), refused);
@@ -50,6 +51,7 @@ static void each_call_of_a_pass(shardheap_pass *pass, uint64_t key, uint32_t ref
     IS(shardheap_remove(pass, key), refused);
     IS(shardheap_read(pass, key, words, 16, &length), refused);
     IS(shardheap_load(pass, key, words, 16, &length), refused);
+    IS(shardheap_load_each(pass, batch, 1), refused);
     IS(shardheap_take_value(pass, key, words, 16, &length), refused);
     IS(shardheap_receipt_make(pass, &receipt), refused);
     IS(shardheap_heed(pass, &receipt), refused);
@@ -65,6 +67,7 @@ static void each_call_of_a_pass(shardheap_pass *pass, uint64_t key, uint32_t ref
     IS(shardheap_pass_lose(pass), refused);
     TRUE(memcmp(pass, &was, sizeof was) == 0);
     TRUE(length == 99 && other == 77 && page == 55 && words[0] == 0);
+    TRUE(batch[0].key == key && batch[0].length == 99 && batch[0].code == 66 && batch[0].words[0] == 0);
 }
 
 #endif

@@ -76,6 +76,8 @@ static void into_handles(shardheap *heap, shardheap_pass *pass, uint64_t key) {
     IS(shardheap_totals(heap, (void *)((char *)heap - 8)), SHARDHEAP_OVERLAP);
     IS(shardheap_take_value(pass, key, room, 16, bytes), SHARDHEAP_OVERLAP);
     IS(shardheap_take_value(pass, key, last, 4, &length), SHARDHEAP_OVERLAP);
+    IS(shardheap_load_each(pass, bytes, 1), SHARDHEAP_OVERLAP);
+    IS(shardheap_load_each(pass, (void *)((char *)bytes - 8), 1), SHARDHEAP_OVERLAP);
     IS(shardheap_receipt_make(pass, bytes), SHARDHEAP_OVERLAP);
     IS(shardheap_heed(pass, last), SHARDHEAP_OVERLAP);
     IS(shardheap_pages_left(pass, bytes), SHARDHEAP_OVERLAP);

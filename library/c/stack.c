@@ -25,6 +25,7 @@ static uint64_t key, number, length, place, words[16], room[16];
 static uint32_t code, page, tag, layout;
 static shardheap_page told;
 static shardheap_sums sums;
+static shardheap_loaded batch[9];
 
 static void on_the_stack(void) { action(); }
 
@@ -80,6 +81,10 @@ static void read(void) { code = shardheap_read(&pass, key, room, 16, &length); }
 static void load(void) { code = shardheap_load(&pass, key, room, 16, &length); }
 static void remove_key(void) { code = shardheap_remove(&pass, key); }
 static void own_remove(void) { code = shardheap_remove(&owner, key); }
+static void load_each(void) {
+    for (int n = 0; n < 9; n++) batch[n].key = key;
+    code = shardheap_load_each(&pass, batch, 9);
+}
 static void take_value(void) { code = shardheap_take_value(&pass, key, room, 16, &length); }
 static void own_take_value(void) { code = shardheap_take_value(&owner, key, room, 16, &length); }
 static void make_receipt(void) { code = shardheap_receipt_make(&pass, &receipt); }
@@ -102,6 +107,7 @@ static void one_value(uint64_t count) {
     SHORT_CALL(get);
     SHORT_CALL(read);
     SHORT_CALL(load);
+    SHORT_CALL(load_each);
     SHORT_CALL(remove_key);
     SHORT_CALL(get);
     SHORT_CALL(release);

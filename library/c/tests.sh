@@ -45,7 +45,7 @@ run() {
 all() {
   local compiler=$1 rounds=$2 name
   shift 2
-  for name in session blocks misuse pointers whole reuse taking receipts keys memory checked; do
+  for name in session blocks misuse pointers whole reuse taking batches receipts keys memory checked; do
     compiled "$compiler" "$name" "$@"
     run "$name"
   done
@@ -58,7 +58,7 @@ all() {
 in_checked_mode() {
   local compiler=$1 rounds=$2 name
   shift 2
-  for name in session pointers whole reuse taking receipts keys memory; do
+  for name in session pointers whole reuse taking batches receipts keys memory; do
     compiled "$compiler" "$name" -DSHARDHEAP_CHECKED "$@"
     run "$name"
   done
@@ -102,7 +102,8 @@ examples() {
     printf '#include "shardheap.h"\nuint64_t examples(void);\nuint64_t examples(void) {\n'
     printf '    shardheap heap = SHARDHEAP_INIT;\n    shardheap_pass pass = SHARDHEAP_INIT;\n'
     printf '    shardheap_receipt receipt = SHARDHEAP_INIT;\n'
-    printf '    uint32_t code, page = 0;\n    uint64_t words[2] = {7, 8}, room[16], key = 0, length = 0, count;\n'
+    printf '    uint32_t code, page = 0;\n'
+    printf '    uint64_t words[2] = {7, 8}, room[16], key = 0, other = 1, length = 0, count;\n'
     sed -n '/---- A heap/,$s/^ \{7\}\(.*;\)\(    .*\)\{0,1\}\( \*\/\)\{0,1\}$/    \1/p' library/include/shardheap.h
     printf '    return code + page + key + length + count;\n}\n'
   } > "$out/examples.c"

@@ -96,6 +96,28 @@ TEST(refusals_of_keys) {
     CHECK(!guard && value == gearlongan::value({9}));
 }
 
+TEST(batches) {
+    auto heap = a_heap(2);
+    auto shard = heap.take().adopt(1);
+    auto pass = heap.take();
+    std::vector<gearlongan::loaded> batch;
+    for (std::uint64_t n = 0; n < 20; n++) batch.emplace_back(shard.insert(std::vector<std::uint64_t>(n % 17, n)));
+    IS(batch[0].code(), empty);
+    CHECK(shard.remove(batch[3].key()) && batch[3].view().empty());
+    pass.load_each(batch);
+    for (std::uint64_t n = 0; n < 20; n++) {
+        CHECK(batch[n].code() == (n == 3 ? errc::gone : errc::ok));
+        CHECK(static_cast<bool>(batch[n]) == (n != 3));
+        CHECK(batch[n].view() == std::vector<std::uint64_t>(n == 3 ? 0 : n % 17, n));
+    }
+    batch[3].set_key(batch[2].key());
+    IS(shard.try_load_each(batch.data() + 3, 1), ok);
+    CHECK(batch[3].view() == batch[2].view());
+    gearlongan::pass none;
+    IS(none.try_load_each(batch.data(), 1), empty);
+    THROWS(none.load_each(batch), empty);
+}
+
 TEST(refusals_of_heaps_and_shards) {
     THROWS(gearlongan::heap::open(layout::wide, {257, 1, 1}), bad_shape);
     THROWS(gearlongan::heap::open_for(layout::tiny, {1, 1000000, 2, 8}), bad_shape);

@@ -42,9 +42,10 @@
    threads are not allowed.
 
    SIGNALS AND STACK. A signal handler is to the calls like another thread: it needs handles that nothing else uses.
-   Calls that take and give back no memory are async-signal-safe then: get, release, read, load, remove, collect,
-   passes, tag, untag, take_value, pages_left and slots_out. The others are not, because they call malloc, realloc or
-   free. The head of each section below has the most stack that its calls took in a test, with the allocator of glibc.
+   Calls that take and give back no memory are async-signal-safe then: get, release, read, load, load_each, remove,
+   collect, passes, tag, untag, take_value, pages_left and slots_out. The others are not, because they call malloc,
+   realloc or free. The head of each section below has the most stack that its calls took in a test, with the allocator
+   of glibc.
 
    ORDER. The calls of all passes are one history of the map, in which those of each pass are in the order in which it
    made them. Between two passes only receipts order calls. When a thread inserts a key and hands it to another without
@@ -207,12 +208,21 @@ typedef struct shardheap_sums {
     uint32_t blank_pages; /* pages that have none */
 } shardheap_sums;
 
+/* A key to load, and what its load returned: see shardheap_load_each. */
+typedef struct shardheap_loaded {
+    uint64_t key;       /* the key, which the caller writes */
+    uint64_t length;    /* how many words the value has */
+    uint32_t code;      /* what the load returned */
+    uint64_t words[16]; /* the value: words[0] to words[length - 1] */
+} shardheap_loaded;
+
 SHARDHEAP_ASSERT(sizeof(void *) == 8 && sizeof(size_t) == 8 && sizeof(bool) == 1, "the library is for 64 bits");
 SHARDHEAP_ASSERT(offsetof(shardheap, full) == 8 && offsetof(shardheap_pass, full) == 8, "the library's part");
 SHARDHEAP_ASSERT(offsetof(shardheap, seal) == 16 && offsetof(shardheap_pass, seal) == 16, "the header's part");
 SHARDHEAP_ASSERT(sizeof(shardheap) == 32 && sizeof(shardheap_pass) == 32, "a handle");
 SHARDHEAP_ASSERT(offsetof(shardheap_receipt, full) == 8 && sizeof(shardheap_receipt) == 32, "a handle");
 SHARDHEAP_ASSERT(offsetof(shardheap_receipt, seal) == 16, "the header's part");
+SHARDHEAP_ASSERT(offsetof(shardheap_loaded, words) == 24 && sizeof(shardheap_loaded) == 152, "a key and its value");
 SHARDHEAP_ASSERT(sizeof(shardheap_page) == 24 && sizeof(shardheap_sums) == 24, "six numbers of 32 bits");
 
 /* The calls of the library. They check no pointer and no handle: use the functions below, which do. */
@@ -242,6 +252,7 @@ uint32_t shardheap_raw_release(shardheap_pass *pass, uint64_t key);
 uint32_t shardheap_raw_remove(shardheap_pass *pass, uint64_t key);
 uint32_t shardheap_raw_read(shardheap_pass *pass, uint64_t key, uint64_t *words, size_t room, uint64_t *length);
 uint32_t shardheap_raw_load(shardheap_pass *pass, uint64_t key, uint64_t *words, size_t room, uint64_t *length);
+uint32_t shardheap_raw_load_each(shardheap_pass *pass, shardheap_loaded *loads, size_t count);
 uint32_t shardheap_raw_take_value(shardheap_pass *pass, uint64_t key, uint64_t *words, size_t room, uint64_t *length);
 uint32_t shardheap_raw_pages_left(shardheap_pass *pass, uint64_t *pages);
 uint32_t shardheap_raw_slots_out(shardheap_pass *pass, uint64_t *slots);
@@ -598,6 +609,49 @@ static inline uint32_t shardheap_release(shardheap_pass *pass, uint64_t key) {
 static inline uint32_t shardheap_load(shardheap_pass *pass, uint64_t key, uint64_t *words, size_t room,
                                       uint64_t *length) {
     return shardheap_fill(shardheap_raw_load, pass, key, words, room, length);
+}
+
+/* Has the library load each key of a batch as the library knows it. In checked mode the keys come without their marks,
+   eight at a time, and are again what the caller wrote. */
+static inline uint32_t shardheap_load_bare(shardheap_pass *pass, shardheap_loaded *loads, size_t count) {
+#ifdef SHARDHEAP_CHECKED
+    for (size_t n = 0; n < count; n++) {
+        uint64_t key = loads[n].key;
+        uint32_t code = shardheap_unmark(pass->seal.mark, &key);
+        if (code != SHARDHEAP_OK) return code;
+    }
+    for (; count > 8; loads += 8, count -= 8) {
+        uint32_t code = shardheap_load_bare(pass, loads, 8);
+        if (code != SHARDHEAP_OK) return code;
+    }
+    uint64_t keys[8];
+    for (size_t n = 0; n < count; n++) {
+        keys[n] = loads[n].key;
+        (void)shardheap_unmark(pass->seal.mark, &loads[n].key);
+    }
+    uint32_t code = shardheap_raw_load_each(pass, loads, count);
+    for (size_t n = 0; n < count; n++) loads[n].key = keys[n];
+    return code;
+#else
+    return shardheap_raw_load_each(pass, loads, count);
+#endif
+}
+
+/* Loads several keys in one call, in order, and writes beside each what its load returned: the code, and with OK the
+   length and the words. A load that is refused stops nothing, and leaves its length and its words as they were. The
+   holds are as before. The waits for the memory of eight keys overlap: beside a million values a batch takes less time
+   than its loads one by one, and beside a few thousand more. EMPTY, OVERLAP, with nothing done.
+
+       shardheap_loaded batch[2] = {{key, 0, 0, {0}}, {other, 0, 0, {0}}};
+       code = shardheap_load_each(&pass, batch, 2);
+       if (code == SHARDHEAP_OK && batch[1].code == SHARDHEAP_OK) length = batch[1].length; */
+static inline uint32_t shardheap_load_each(shardheap_pass *pass, shardheap_loaded *loads, size_t count) {
+    shardheap_loaded none = {0, 0, 0, {0}};
+    if (!pass || (!loads && count)) return SHARDHEAP_NULL;
+    if (shardheap_overlap(loads, count * sizeof *loads, pass, sizeof *pass)) return SHARDHEAP_OVERLAP;
+    uint32_t code = shardheap_begin_pass(pass);
+    if (code != SHARDHEAP_OK) return code;
+    return shardheap_end(&pass->seal, shardheap_load_bare(pass, loads ? loads : &none, count));
 }
 
 /* Removes a key: no later get finds it, and its value stays until the last hold goes. BAD_KEY, GONE, EMPTY.

@@ -13,7 +13,7 @@ use Rattle.sh_nullable.specs.Owning.{has_value}
 use Rattle.sh_c.specs.Told.{Asked, AskedNumber, ReadBy, ReadTold, code_of, empty_code, number_told}
 
 -- a call on an empty handle does nothing
-no_value : {V : Type 0} (o : Option V) → has_value o ≡ false → o ≡ None
+pub no_value : {V : Type 0} (o : Option V) → has_value o ≡ false → o ≡ None
 no_value None e = refl
 no_value (Some v) e = absurd (false≢true (sym e))
 

@@ -1,8 +1,6 @@
 -- Opening a heap into an empty handle.
-use Rattle.std.proofs.Common.{◌≡◌, ℕ, Bool, true, false, ◌⊎◌, inl, inr, refl, sym, subst, Result, Ok, Err}
-use Rattle.std.proofs.lemmas.Bool.{false≢true}
+use Rattle.std.proofs.Common.{◌≡◌, ℕ, false, ◌⊎◌, inl, inr, sym, subst, Result, Ok, Err}
 use Rattle.std.specs.declared.option.Option.{Option}
-use Rattle.std.specs.declared.option.Option.TheVariants.{None, Some}
 use Rattle.sh_key.specs.Layout.{Layout}
 use Rattle.sh_shape.specs.Shape.{Numbers}
 use Rattle.sh_value.specs.declared.refusal.Refusal.{Refusal}
@@ -12,10 +10,7 @@ use Rattle.sh_handles.specs.declared.heap.AnyHeap.{AnyHeap}
 use Rattle.sh_handles.specs.declared.heap.LayoutName.{LayoutName}
 use Rattle.sh_handles.specs.Heaps.{OpensShaped, OpensFor, heap_of, layout_named, layout_number}
 use Rattle.sh_c.specs.Opened.{HeapPut, PutOpened, OpenTold}
-
-no_value : {T : Type 0} (o : Option T) → has_value o ≡ false → o ≡ None
-no_value None e = refl
-no_value (Some x) e = absurd (false≢true (sym e))
+use Rattle.sh_c.proofs.Asking.{no_value}
 
 -- what was opened is in the handle, unless memory for it was refused
 put_told : (opens : Result AnyHeap Refusal → Type 0) → ((heap : AnyHeap) → opens (Ok heap) → opens (Err refusal.Memory))

@@ -1,3 +1,4 @@
+pub mod Batches
 pub mod Told
 pub mod Opened
 pub mod Telling

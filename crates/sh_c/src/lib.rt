@@ -5,6 +5,7 @@
 //! one that checks its pointers first.
 #![tactic(auto)]
 
+pub mod batches;
 pub mod calls;
 pub mod codes;
 pub mod counting;

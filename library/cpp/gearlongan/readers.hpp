@@ -18,6 +18,38 @@ class guard;
 class pass;
 class shard;
 
+/// A key to load, and what its load returned: an element of a batch for reader::load_each.
+///
+///     gearlongan::loaded one(key);
+///     assert(pass.try_load_each(&one, 1) == gearlongan::errc::ok && one && one.view()[1] == 8);
+class loaded : private shardheap_loaded {
+public:
+    // (the words are written before they are read)
+    loaded() noexcept : loaded(gearlongan::key()) {}
+    explicit loaded(gearlongan::key of) noexcept { // NOLINT(cppcoreguidelines-pro-type-member-init)
+        shardheap_loaded::key = of.number();
+        shardheap_loaded::length = 0;
+        shardheap_loaded::code = SHARDHEAP_EMPTY;
+    }
+
+    /// The key that is to be loaded.
+    [[nodiscard]] gearlongan::key key() const noexcept { return gearlongan::key(shardheap_loaded::key); }
+    /// Names another key for the next batch.
+    void set_key(gearlongan::key of) noexcept { shardheap_loaded::key = of.number(); }
+    /// What the load returned: ok, bad_key, holds_full, gone or crowded; empty, if it was in no batch yet.
+    [[nodiscard]] errc code() const noexcept { return static_cast<errc>(shardheap_loaded::code); }
+    /// Whether the key was loaded.
+    [[nodiscard]] explicit operator bool() const noexcept { return code() == errc::ok; }
+    /// The value, which has no words if the key was not loaded.
+    [[nodiscard]] words_view view() const noexcept {
+        return {words, static_cast<std::size_t>(*this ? shardheap_loaded::length : 0)};
+    }
+
+private:
+    friend class reader;
+};
+static_assert(sizeof(loaded) == sizeof(shardheap_loaded), "a batch is a batch of the library");
+
 /// What a pass and a shard have in common: any key may be held, read, removed and taken. A function that takes a
 /// `reader &` takes both. The refusals of all calls here include errc::empty.
 class reader {
@@ -38,6 +70,18 @@ public:
     ///     assert(pass.try_load(key, value) == gearlongan::errc::ok);
     inline errc try_load(key of, value &into) noexcept {
         return load_words(of, into.words_, value::max_size(), into.size_);
+    }
+
+    /// Loads each key of a batch, in order, and writes what its load returned beside it. A load that is refused stops
+    /// nothing. The waits for the memory of eight keys overlap: beside a million values a batch is faster than its
+    /// loads one by one, and beside a few thousand slower.
+    ///
+    ///     std::vector<gearlongan::loaded> batch = {gearlongan::loaded(key), gearlongan::loaded()};
+    ///     assert(pass.try_load_each(batch.data(), batch.size()) == gearlongan::errc::ok);
+    ///     assert(batch[0].view() == pass.load(key)->view());
+    ///     assert(batch[1].code() == gearlongan::errc::bad_key && batch[1].view().empty());
+    errc try_load_each(loaded *batch, std::size_t count) noexcept {
+        return static_cast<errc>(shardheap_load_each(&raw_, batch, count));
     }
 
     /// Copies the value of a key as a record. wrong_size, and those of a load.
@@ -130,6 +174,15 @@ public:
     ///     gearlongan::value value;
     ///     while (pass.load(key, value)) pass.remove(key);
     bool load(key of, value &into) { return detail::found(try_load(of, into)); }
+
+    /// Loads each key of a batch, which has data() and size(), such as a std::vector or a std::array.
+    ///
+    ///     std::array<gearlongan::loaded, 1> batch = {gearlongan::loaded(key)};
+    ///     pass.load_each(batch);
+    ///     for (const gearlongan::loaded &one : batch) assert(one && one.view().size() == 2);
+    template <class Batch> void load_each(Batch &batch) {
+        detail::check(try_load_each(std::data(batch), std::size(batch)));
+    }
 
     /// Copies the value of a key as a record: nothing if the key is gone. It throws wrong_size, too.
     ///

@@ -38,6 +38,30 @@ type PageWords = [u32; 6];
 /// What C's `shardheap_sums` is: live, marked, retired, queued, used pages, blank pages.
 type SumWords = [u32; 6];
 
+/// How many keys of a batch the library loads in one call: as many as it warms at a time.
+const BATCH: usize = 8;
+
+/// What C's `shardheap_loaded` is: a key to load, and what its load returned.
+#[repr(C)]
+#[derive(Clone, Copy)]
+struct Loaded {
+    key: u64,
+    length: u64,
+    code: u32,
+    words: [u64; MAX_WORDS],
+}
+
+impl Loaded {
+    const NONE: Loaded = Loaded { key: 0, length: 0, code: 0, words: [0; MAX_WORDS] };
+
+    /// What the load returned.
+    #[inline]
+    fn result(&self) -> Result<Value, Error> {
+        told(self.code)?;
+        Value::new(&self.words[..MAX_WORDS.min(self.length as usize)])
+    }
+}
+
 extern "C" {
     fn shardheap_raw_open(heap: *mut Raw, layout: u32, shards: u32, segments: u32, passes: u32) -> u32;
     fn shardheap_raw_open_for(heap: *mut Raw, layout: u32, owners: u32, values: u64, words: u32, passes: u32) -> u32;
@@ -60,6 +84,7 @@ extern "C" {
     fn shardheap_raw_remove(pass: *mut Raw, key: u64) -> u32;
     fn shardheap_raw_read(pass: *mut Raw, key: u64, words: *mut u64, room: usize, length: *mut u64) -> u32;
     fn shardheap_raw_load(pass: *mut Raw, key: u64, words: *mut u64, room: usize, length: *mut u64) -> u32;
+    fn shardheap_raw_load_each(pass: *mut Raw, loads: *mut Loaded, count: usize) -> u32;
     fn shardheap_raw_take_value(pass: *mut Raw, key: u64, words: *mut u64, room: usize, length: *mut u64) -> u32;
     fn shardheap_raw_pages_left(pass: *mut Raw, pages: *mut u64) -> u32;
     fn shardheap_raw_slots_out(pass: *mut Raw, slots: *mut u64) -> u32;
@@ -232,6 +257,22 @@ impl PassHandle {
         // SAFETY: as in `get`. `words` has room for `MAX_WORDS`; the library writes `length` of them.
         unsafe {
             value.words.fill(|words, length| told(shardheap_raw_load(self.at(), key.into(), words, MAX_WORDS, length)))
+        }
+    }
+
+    /// Loads each key, as far as there are places for the results.
+    pub(crate) fn load_each(&self, keys: &[Key], results: &mut [Result<Value, Error>]) {
+        let mut batch = [Loaded::NONE; BATCH];
+        for (keys, results) in keys.chunks(BATCH).zip(results.chunks_mut(BATCH)) {
+            let loads = &mut batch[..keys.len().min(results.len())];
+            for (load, key) in loads.iter_mut().zip(keys) {
+                load.key = (*key).into();
+            }
+            // SAFETY: as in `get`, and a slice has as many places as its length says.
+            let done = told(unsafe { shardheap_raw_load_each(self.at(), loads.as_mut_ptr(), loads.len()) });
+            for (result, load) in results.iter_mut().zip(loads) {
+                *result = done.and_then(|()| load.result());
+            }
         }
     }
 

@@ -101,6 +101,29 @@ impl Pass {
         self.handle.load(key, value)
     }
 
+    /// Loads several keys, in order: `results[i]` becomes what a [`load`](Pass::load) of `keys[i]` returns. A load that
+    /// is refused stops nothing. If one of the slices is longer, the rest of it is left alone.
+    ///
+    /// The waits for the memory of eight keys overlap. So a batch is faster than its loads one by one beside a million
+    /// values, and slower beside a few thousand, which the processor's caches have.
+    ///
+    /// ```
+    /// # use gearlongan::{Error, Heap, Layout, Shape, Value};
+    /// # let heap = Heap::open(Layout::Wide, Shape { shards: 1, segments: 1, passes: 2 })?;
+    /// # let (shard, pass) = (heap.take()?.adopt(0)?, heap.take()?);
+    /// let keys = [shard.insert(&[7])?, shard.insert(&[8, 9])?, shard.insert(&[10])?];
+    /// shard.remove(keys[1])?;
+    /// let mut results = vec![Ok(Value::default()); keys.len()];
+    /// pass.load_each(&keys, &mut results);
+    /// assert_eq!(results[0]?, [7]);
+    /// assert_eq!(results[1], Err(Error::Gone));
+    /// assert_eq!(results[2]?, [10]);
+    /// # Ok::<(), Error>(())
+    /// ```
+    pub fn load_each(&self, keys: &[Key], results: &mut [Result<Value, Error>]) {
+        self.handle.load_each(keys, results);
+    }
+
     /// A [`load`](Pass::load) of a value that is a record.
     ///
     /// # Errors

@@ -297,6 +297,11 @@ uint32_t shardheap_raw_load(shardheap_pass *pass, uint64_t key, uint64_t *words,
     abort();
 }
 
+uint32_t shardheap_raw_load_each(shardheap_pass *pass, shardheap_loaded *loads, size_t count) {
+    (void)pass, (void)loads, (void)count;
+    abort();
+}
+
 uint32_t shardheap_raw_take_value(shardheap_pass *pass, uint64_t key, uint64_t *words, size_t room, uint64_t *length) {
     (void)pass, (void)key, (void)words, (void)room, (void)length;
     abort();
