@@ -17,7 +17,7 @@ pub struct Program<'s> {
     pub limit: u64,
 }
 
-/// A number of orders. It stops at the most that 128 bits have.
+/// A number of orders. It stops at 2^128 - 1, the greatest number of 128 bits.
 #[derive(Clone, Copy, Debug, PartialEq, Eq)]
 pub struct Orders {
     /// The number.
