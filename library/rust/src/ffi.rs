@@ -5,6 +5,8 @@
 //! move that is to move the handle. No call calls back, so that a handle which one thread has is used by one call.
 use crate::accounts::{PageAccounts, Totals};
 use crate::error::{told, Error};
+use crate::heap::Layout;
+use crate::history::{Log, Recorder};
 use crate::key::Key;
 use crate::value::{Value, MAX_WORDS};
 use std::cell::{Cell, UnsafeCell};
@@ -101,23 +103,25 @@ static OPENED: AtomicU64 = AtomicU64::new(0);
 pub(crate) struct HeapHandle {
     raw: Mutex<Raw>,
     number: u64,
+    recorder: Recorder,
 }
 
 impl HeapHandle {
     // The handle of a heap that was opened just now.
-    fn of(raw: Raw) -> HeapHandle {
-        HeapHandle { raw: Mutex::new(raw), number: OPENED.fetch_add(1, Ordering::Relaxed) }
+    fn of(raw: Raw, layout: Layout) -> HeapHandle {
+        let number = OPENED.fetch_add(1, Ordering::Relaxed);
+        HeapHandle { raw: Mutex::new(raw), number, recorder: Recorder::new(layout.holds()) }
     }
 
-    pub(crate) fn open(layout: u32, shards: u32, segments: u32, passes: u32) -> Result<HeapHandle, Error> {
+    pub(crate) fn open(layout: Layout, shards: u32, segments: u32, passes: u32) -> Result<HeapHandle, Error> {
         let mut raw = Raw::EMPTY;
         // SAFETY: the handle is an empty one of this function.
-        told(unsafe { shardheap_raw_open(&mut raw, layout, shards, segments, passes) })?;
-        Ok(HeapHandle::of(raw))
+        told(unsafe { shardheap_raw_open(&mut raw, layout.number(), shards, segments, passes) })?;
+        Ok(HeapHandle::of(raw, layout))
     }
 
     pub(crate) fn open_for(
-        layout: u32,
+        layout: Layout,
         owners: u32,
         values: u64,
         words: u32,
@@ -125,8 +129,8 @@ impl HeapHandle {
     ) -> Result<HeapHandle, Error> {
         let mut raw = Raw::EMPTY;
         // SAFETY: the handle is an empty one of this function.
-        told(unsafe { shardheap_raw_open_for(&mut raw, layout, owners, values, words, passes) })?;
-        Ok(HeapHandle::of(raw))
+        told(unsafe { shardheap_raw_open_for(&mut raw, layout.number(), owners, values, words, passes) })?;
+        Ok(HeapHandle::of(raw, layout))
     }
 
     // Nothing panics while the lock is held, so that what it guards is whole even if it were poisoned.
@@ -143,7 +147,14 @@ impl HeapHandle {
         let mut pass = Raw::EMPTY;
         // SAFETY: the lock gives the heap's handle to this call alone, and the pass's is an empty one of this function.
         told(unsafe { shardheap_raw_take(&mut *self.lock(), &mut pass) })?;
-        Ok(PassHandle { raw: UnsafeCell::new(pass), holds: Cell::new(0), heap: self.number })
+        let (raw, log) = (UnsafeCell::new(pass), self.recorder.log());
+        Ok(PassHandle { raw, holds: Cell::new(0), heap: self.number, log })
+    }
+
+    #[cfg(feature = "record")]
+    pub(crate) fn record(&mut self) -> Result<crate::history::Recording, Error> {
+        let passes = self.passes();
+        self.recorder.start(passes)
     }
 
     pub(crate) fn gather(&self) -> Result<(), Error> {
@@ -195,6 +206,7 @@ pub(crate) struct PassHandle {
     holds: Cell<usize>,
     // The number of its heap.
     heap: u64,
+    log: Log,
 }
 
 /// The handle of a receipt, with the number of the heap that it is of.
@@ -223,7 +235,7 @@ impl PassHandle {
     #[inline]
     pub(crate) fn get(&self, key: Key) -> Result<(), Error> {
         // SAFETY: the handle is this thread's, and no other call uses it.
-        told(unsafe { shardheap_raw_get(self.at(), key.into()) })?;
+        self.log.get(key, || told(unsafe { shardheap_raw_get(self.at(), key.into()) }))?;
         self.holds.set(self.holds.get() + 1);
         Ok(())
     }
@@ -231,7 +243,7 @@ impl PassHandle {
     #[inline]
     pub(crate) fn release(&self, key: Key) -> Result<(), Error> {
         // SAFETY: as in `get`.
-        told(unsafe { shardheap_raw_release(self.at(), key.into()) })?;
+        self.log.release(key, || told(unsafe { shardheap_raw_release(self.at(), key.into()) }))?;
         self.holds.set(self.holds.get() - 1);
         Ok(())
     }
@@ -239,21 +251,24 @@ impl PassHandle {
     #[inline]
     pub(crate) fn remove(&self, key: Key) -> Result<(), Error> {
         // SAFETY: as in `get`.
-        told(unsafe { shardheap_raw_remove(self.at(), key.into()) })
+        self.log.remove(key, || told(unsafe { shardheap_raw_remove(self.at(), key.into()) }))
     }
 
     /// Reads into the value's own room.
     #[inline]
     pub(crate) fn read(&self, key: Key, value: &mut Value) -> Result<(), Error> {
         // SAFETY: as in `get`. `words` has room for `MAX_WORDS`; the library writes `length` of them.
-        unsafe {
+        self.log.read(key, value, |value| unsafe {
             value.words.fill(|words, length| told(shardheap_raw_read(self.at(), key.into(), words, MAX_WORDS, length)))
-        }
+        })
     }
 
     /// Loads into the value's own room.
     #[inline]
     pub(crate) fn load(&self, key: Key, value: &mut Value) -> Result<(), Error> {
+        if self.log.is_on() {
+            return self.load_in_parts(key, value);
+        }
         // SAFETY: as in `get`. `words` has room for `MAX_WORDS`; the library writes `length` of them.
         unsafe {
             value.words.fill(|words, length| told(shardheap_raw_load(self.at(), key.into(), words, MAX_WORDS, length)))
@@ -262,6 +277,9 @@ impl PassHandle {
 
     /// Loads each key, as far as there are places for the results.
     pub(crate) fn load_each(&self, keys: &[Key], results: &mut [Result<Value, Error>]) {
+        if self.log.is_on() {
+            return self.load_one_by_one(keys, results);
+        }
         let mut batch = [Loaded::NONE; BATCH];
         for (keys, results) in keys.chunks(BATCH).zip(results.chunks_mut(BATCH)) {
             let loads = &mut batch[..keys.len().min(results.len())];
@@ -279,12 +297,45 @@ impl PassHandle {
     /// Takes the value of a key into the value's own room, which each value fits.
     #[inline]
     pub(crate) fn take(&self, key: Key, value: &mut Value) -> Result<(), Error> {
+        if self.log.is_on() {
+            return self.take_in_parts(key, value);
+        }
         // SAFETY: as in `load`.
         unsafe {
             value
                 .words
                 .fill(|words, length| told(shardheap_raw_take_value(self.at(), key.into(), words, MAX_WORDS, length)))
         }
+    }
+
+    // A load as the calls that it consists of, which are recorded one by one.
+    #[cold]
+    fn load_in_parts(&self, key: Key, value: &mut Value) -> Result<(), Error> {
+        self.get(key)?;
+        let read = self.read(key, value);
+        self.release(key)?;
+        read
+    }
+
+    // A batch of loads that are recorded one by one.
+    #[cold]
+    fn load_one_by_one(&self, keys: &[Key], results: &mut [Result<Value, Error>]) {
+        for (key, result) in keys.iter().zip(results) {
+            let mut value = Value::default();
+            *result = self.load_in_parts(*key, &mut value).map(|()| value);
+        }
+    }
+
+    // The same of a take. The value stays as it was if another pass removes the key first.
+    #[cold]
+    fn take_in_parts(&self, key: Key, value: &mut Value) -> Result<(), Error> {
+        let mut taken = Value::default();
+        self.get(key)?;
+        let removed = self.read(key, &mut taken).and_then(|()| self.remove(key));
+        self.release(key)?;
+        removed?;
+        *value = taken;
+        Ok(())
     }
 
     pub(crate) fn receipt(&self) -> Result<ReceiptHandle, Error> {
@@ -305,9 +356,11 @@ impl PassHandle {
     #[inline]
     pub(crate) fn insert(&self, words: &[u64]) -> Result<Key, Error> {
         let mut key = 0;
-        // SAFETY: as in `get`, and a slice has as many words as its length says.
-        told(unsafe { shardheap_raw_insert(self.at(), words.as_ptr(), words.len(), &mut key) })?;
-        Ok(Key::from(key))
+        self.log.insert(words, || {
+            // SAFETY: as in `get`, and a slice has as many words as its length says.
+            told(unsafe { shardheap_raw_insert(self.at(), words.as_ptr(), words.len(), &mut key) })?;
+            Ok(Key::from(key))
+        })
     }
 
     pub(crate) fn prepare(&self, words: u32) -> Result<u32, Error> {
@@ -356,6 +409,7 @@ impl Drop for PassHandle {
     /// Brings the pass home, once it has left the shard that it may own. A pass whose guards were forgotten is closed
     /// instead: its next user would have fewer holds, or none.
     fn drop(&mut self) {
+        self.log.close();
         for _ in 0..LEAVE_TRIES {
             if self.holds.get() == 0 && self.give().is_ok() {
                 return;

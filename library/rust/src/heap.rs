@@ -23,12 +23,20 @@ pub enum Layout {
 }
 
 impl Layout {
-    fn number(self) -> u32 {
+    pub(crate) fn number(self) -> u32 {
         match self {
             Layout::Wide => 0,
             Layout::Tagged => 1,
             Layout::Deep => 2,
             Layout::Tiny => 3,
+        }
+    }
+
+    /// The most holds that a key may have.
+    pub(crate) fn holds(self) -> u32 {
+        match self {
+            Layout::Wide | Layout::Tagged | Layout::Deep => 1 << 20,
+            Layout::Tiny => 4,
         }
     }
 }
@@ -86,7 +94,7 @@ impl Heap {
     /// ```
     pub fn open(layout: Layout, shape: Shape) -> Result<Heap, Error> {
         let Shape { shards, segments, passes } = shape;
-        let handle = HeapHandle::open(layout.number(), shards, segments, passes)?;
+        let handle = HeapHandle::open(layout, shards, segments, passes)?;
         Ok(Heap { handle })
     }
 
@@ -108,8 +116,32 @@ impl Heap {
     /// ```
     pub fn open_for(layout: Layout, room: Room) -> Result<Heap, Error> {
         let Room { owners, values, words, passes } = room;
-        let handle = HeapHandle::open_for(layout.number(), owners, values, words, passes)?;
+        let handle = HeapHandle::open_for(layout, owners, values, words, passes)?;
         Ok(Heap { handle })
+    }
+
+    /// Records what the passes of the heap return from now on: see the module [`history`](crate::history). It is there
+    /// with the feature `record`. If the heap is recorded, this returns the same recording again.
+    ///
+    /// # Errors
+    ///
+    /// [`Error::Away`] if a pass was taken before: what it inserted is not known.
+    ///
+    /// ```
+    /// # use gearlongan::{Error, Heap, Layout, Shape};
+    /// let mut heap = Heap::open(Layout::Wide, Shape { shards: 1, segments: 1, passes: 1 })?;
+    /// let recording = heap.record()?;
+    /// heap.take()?.adopt(0)?.insert(&[7])?;
+    /// print!("{}", recording.history()?);
+    /// # assert_eq!(recording.history()?.len(), 1);
+    /// let mut other = Heap::open(Layout::Wide, Shape { shards: 1, segments: 1, passes: 1 })?;
+    /// drop(other.take()?);
+    /// assert_eq!(other.record().err(), Some(Error::Away));
+    /// # Ok::<(), Error>(())
+    /// ```
+    #[cfg(feature = "record")]
+    pub fn record(&mut self) -> Result<crate::history::Recording, Error> {
+        self.handle.record()
     }
 
     /// How many passes the heap has, at home or away.

@@ -17,6 +17,9 @@
 //! [`Pass::adopt`], [`Pass::receipt`], and by an insert or a prepare that opens a segment; if it is refused they
 //! answer [`Error::Memory`].
 //!
+//! With the feature `record` a heap can record what its passes return, for a checker of histories: see the module
+//! `history`.
+//!
 //! What the calls do is proved, in the library that this crate links. The crate itself is not proved: it is what makes
 //! of C's calls those of safe Rust.
 //!
@@ -67,6 +70,8 @@ mod error;
 mod ffi;
 mod guard;
 mod heap;
+#[cfg(feature = "record")]
+pub mod history;
 mod key;
 mod pass;
 mod receipt;
@@ -74,8 +79,13 @@ mod record;
 mod shard;
 #[cfg(target_pointer_width = "64")]
 pub mod slab;
+#[cfg(not(feature = "record"))]
+mod unrecorded;
 mod value;
 mod words;
+
+#[cfg(not(feature = "record"))]
+use unrecorded as history;
 
 // The examples of README.md in Rust are run with those of the documentation.
 #[cfg(doctest)]
