@@ -1,0 +1,5 @@
+pub mod Chosen
+pub mod Groups
+pub mod Interleavings
+pub mod Renaming
+pub mod Counterexamples
