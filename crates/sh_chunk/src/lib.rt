@@ -1,0 +1,8 @@
+//! Keys of a heap that is made of chunks, each a heap of its own: the key in a chunk, with the chunk's number above it.
+#![tactic(auto)]
+
+pub mod chunked;
+pub mod law;
+
+pub use chunked::{CHUNKS, Chunked};
+pub use law::{chunked_keys_fit, one_history_of_chunks};
