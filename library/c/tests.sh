@@ -103,8 +103,8 @@ examples() {
     printf '    shardheap heap = SHARDHEAP_INIT;\n    shardheap_pass pass = SHARDHEAP_INIT;\n'
     printf '    shardheap_receipt receipt = SHARDHEAP_INIT;\n'
     printf '    uint32_t code, page = 0;\n'
-    printf '    uint64_t words[2] = {7, 8}, room[16], key = 0, other = 1, length = 0, count;\n'
-    sed -n '/---- A heap/,$s/^ \{7\}\(.*;\)\(    .*\)\{0,1\}\( \*\/\)\{0,1\}$/    \1/p' library/include/shardheap.h
+    printf '    uint64_t words[2] = {7, 8}, room[16], key = 0, second = 1, length = 0, count;\n'
+    sed -n '/---- A heap/,$s/^ \{7\}\([^ ].*;\)\(    .*\)\{0,1\}\( \*\/\)\{0,1\}$/    \1/p' library/include/shardheap.h
     printf '    return code + page + key + length + count;\n}\n'
   } > "$out/examples.c"
   # shellcheck disable=SC2086

@@ -642,7 +642,7 @@ static inline uint32_t shardheap_load_bare(shardheap_pass *pass, shardheap_loade
    holds are as before. The waits for the memory of eight keys overlap: beside a million values a batch takes less time
    than its loads one by one, and beside a few thousand more. EMPTY, OVERLAP, with nothing done.
 
-       shardheap_loaded batch[2] = {{key, 0, 0, {0}}, {other, 0, 0, {0}}};
+       shardheap_loaded batch[2] = {{key, 0, 0, {0}}, {second, 0, 0, {0}}};
        code = shardheap_load_each(&pass, batch, 2);
        if (code == SHARDHEAP_OK && batch[1].code == SHARDHEAP_OK) length = batch[1].length; */
 static inline uint32_t shardheap_load_each(shardheap_pass *pass, shardheap_loaded *loads, size_t count) {

@@ -252,9 +252,9 @@ HEAPS = [
     Broken(
         "an_armed_page_is_passed_over",
         "sh_shard/src/using.rt",
-        "        self.collect(page);\n        if let Some(key)",
-        "        if BROKEN && self.is_armed(page) {\n            return None;\n        }\n"
-        "        self.collect(page);\n        if let Some(key)",
+        "        self.collect(page);\n        if self.has_slot(page)",
+        "        if BROKEN && self.is_armed(page) {\n            return false;\n        }\n"
+        "        self.collect(page);\n        if self.has_slot(page)",
         False,
     ),
 ]

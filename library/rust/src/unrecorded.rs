@@ -1,4 +1,4 @@
-//! What stands for the module `history` without the feature `record`: nothing is kept, and each call is only made.
+//! What replaces the module `history` without the feature `record`: nothing is kept, and each call is only made.
 use crate::error::Error;
 use crate::key::Key;
 use crate::value::Value;

@@ -62,7 +62,7 @@
 //! them: a run that is recorded has more order than the same run without.
 //!
 //! The memory of a recording grows with each answer. A pass numbers its lines with the least number that no other pass
-//! has at the time, so that the passes of a history are no more than those of the heap.
+//! has at the time. So a history has no more passes than the heap.
 mod book;
 mod log;
 
