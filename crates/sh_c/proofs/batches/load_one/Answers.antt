@@ -7,7 +7,7 @@ returns-in-Ok c = (
   _,
   record {
     key = refl;
-    told = (c.tell_words.ensures.count, c.tell_words.ensures.words);
+    told = (c.tell_words-load.ensures.count, c.tell_words-load.ensures.words);
     does_it = fetches_into _ _ _ _ _ _ c.in-Ok.ensures;
   },
 )
@@ -15,5 +15,5 @@ returns-in-Ok c = (
 pub returns-in-Err : goal.returns-in-Err
 returns-in-Err c = (
   _,
-  record { key = refl; told = (c.number.ensures, refl, refl); does_it = fetches_into _ _ _ _ _ _ c.in-Err.ensures },
+  record { key = refl; told = (c.number-load.ensures, refl, refl); does_it = fetches_into _ _ _ _ _ _ c.in-Err.ensures },
 )
