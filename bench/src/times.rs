@@ -44,7 +44,7 @@ fn span(numbers: impl Iterator<Item = f64> + Clone, digits: usize) -> String {
     }
 }
 
-/// What several runs came to, with this many digits behind the point: the least ones, and then the medians.
+/// The results of several runs, with this many digits behind the point: the least ones, and then the medians.
 pub fn text(runs: &[Times], digits: usize) -> String {
     let least = span(runs.iter().map(|run| run.least), digits);
     let median = span(runs.iter().map(|run| run.median), digits);

@@ -1,5 +1,5 @@
-//! Histories that are judged while they come, one entry after the other. Each entry is allowed by those before it, or it
-//! is named with the reason and the line that it clashes with. The verdict is that of `sh_history`. An entry takes a
+//! Histories that are judged while they come, one entry after the other. Each entry is allowed by those before it, or
+//! it is named with the reason and the line that it clashes with. The verdict is that of `sh_history`. An entry takes a
 //! few look-ups, and memory grows with the keys and the holds, not with the entries.
 #![tactic(auto)]
 

@@ -14,7 +14,7 @@ of_chunk chunk history = map (renamed (λ key. with_chunk key chunk)) history
 abbrev pub KeysFit : List Entry → Type 0
 KeysFit history = All (λ entry. key_of entry < 2 ^ 56) history
 
--- the first `count` chunks have legal histories: then there is a legal history of all, in which the entries of each chunk
+-- if the first `count` chunks have legal histories, there is a legal history of all, in which the entries of each chunk
 -- are its history, in order
 abbrev pub OneHistoryOfChunks : Type 0
 OneHistoryOfChunks =

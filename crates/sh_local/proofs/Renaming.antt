@@ -103,7 +103,8 @@ module _ (name : ℕ → ℕ) (one : IsOneToOne name) where
     renamed_is_legal before (e ∷ xs) =
         let rest = ap (λ l. LegalAfter passes guard_max l (map (renamed name) xs)) (sym (push_renamed before e))
         ∙ renamed_is_legal (before ++ e ∷ []) xs in
-        ap (λ T. T × LegalAfter passes guard_max (map (renamed name) before ++ renamed name e ∷ []) (map (renamed name) xs)) (judged_renamed before e)
+        ap (λ T. T × LegalAfter passes guard_max (map (renamed name) before ++ renamed name e ∷ [])
+        (map (renamed name) xs)) (judged_renamed before e)
         ∙ ap (λ T. Allowed passes guard_max before e × T) rest
 
 pub keys_may_be_renamed : KeysMayBeRenamed

@@ -15,5 +15,9 @@ returns-in-Ok c = (
 pub returns-in-Err : goal.returns-in-Err
 returns-in-Err c = (
   _,
-  record { key = refl; told = (c.number-load.ensures, refl, refl); does_it = fetches_into _ _ _ _ _ _ c.in-Err.ensures },
+  record {
+    key = refl;
+    told = (c.number-load.ensures, refl, refl);
+    does_it = fetches_into _ _ _ _ _ _ c.in-Err.ensures;
+  },
 )
