@@ -71,7 +71,7 @@
 //!
 //! Most calls return a `Result`. Its `Refusal` says why the call was not done, and a refused call changes nothing. `?`
 //! works on each of them, also if a refusal comes with the pass or shard that the call consumed. A loop over a pass
-//! needs one line that says what stays, as in `crates/session_store`. `crates/gearlongan_tests` has an example of each
+//! needs one line that says what stays, as in `crates/session_store`. `crates/test_gearlongan` has an example of each
 //! call.
 //!
 //! # The words

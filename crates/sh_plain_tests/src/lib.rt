@@ -1,5 +1,0 @@
-//! Tests of the plain store: worked calls, and refused memory.
-#![tactic(auto)]
-
-#[cfg(test)]
-mod tests;

@@ -1,5 +1,0 @@
-//! Tests of the queues of an owner's pages: how pages are filed and move, and refused memory.
-#![tactic(auto)]
-
-#[cfg(test)]
-mod tests;

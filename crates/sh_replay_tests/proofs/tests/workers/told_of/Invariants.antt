@@ -1,6 +1,0 @@
-use Rattle.std.proofs.Common.{[], None}
-use Rattle.sh_calls.specs.Parts.{no_terms}
-use Rattle.sh_replay_tests.proofs.tests.workers.told_of.Given as goal
-
-abbrev pub ghosts-told_once_closed : goal.ghosts-told_once_closed
-ghosts-told_once_closed g a = record { heap = a.side.heap; terms = no_terms; tag = None; lines = [] }

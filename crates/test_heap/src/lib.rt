@@ -1,0 +1,11 @@
+//! Tests of heaps and passes, of passes that meet, and of pools.
+#![tactic(auto)]
+
+#[cfg(test)]
+mod assertions;
+#[cfg(test)]
+mod gather;
+#[cfg(test)]
+mod pass;
+#[cfg(test)]
+mod pool;

@@ -1,0 +1,95 @@
+//! Tests of scripts of more than one read, of the greatest number of bytes, and of more.
+use super::ends::Reading;
+use crate::assertions::{agree, holds};
+use sh_replay::{Mode, replay};
+use sh_script::{Cause, Fault};
+use std::alloc::{AllocError, Global};
+use std::test::Fail;
+
+/// A line of 64 bytes that says nothing.
+const COMMENT: &str = ";..............................................................\n";
+
+/// A header, calls and events in 64 bytes each.
+const HEADER: &str = "heap tiny 1 1 2\n;..............................................\n";
+
+const CALLS: &str = "0 adopt 0\n0 insert a 7\n1 get a\n1 read a\n;......................\n";
+
+const REPLIES: &str = "0 adopt ok\n0 insert 4096\n1 get ok\n1 read 1 7\n";
+
+const REPLIES_AND_ACCOUNTS: &str = "0 adopt ok\n0 insert 4096\n1 get ok\n1 read 1 7\n\
+    page 0.0 class 0 live 1 marked 0 retired 0 mine 0 hand 0 queued 47\n";
+
+const EVENTS: &str = "0 Adopt 0\n0 Read 0.0\n0 SetClass 0.0 7\n0 Fill 0.0.0\n0 Publish\n;.\n";
+
+const EVENTS_OUTPUT: &str =
+    "0 Adopt moved\n0 Read moved\n0 SetClass moved\n0 Fill moved\n0 Publish Insert 4096 0\n\
+    page 0.0 class 7 live 1 marked 0 retired 0 mine 2 hand 0 queued 0\n";
+
+/// A script of `pieces` times 64 bytes, whose lines that say something are its first and its last ones.
+fn script_of(alloc: Global, pieces: usize, last: &str) -> Result<String, AllocError> {
+    let mut script = String::from_str(alloc, HEADER)?;
+    for _ in 2..pieces {
+        script.push_str(COMMENT)?;
+    }
+    script.push_str(last)?;
+    Ok(script)
+}
+
+/// The modes, with the last lines of a script of each and the output of these.
+const WORKED: [(Mode, &str, &str); 4] = [
+    (Mode::Plain, CALLS, REPLIES),
+    (Mode::Heap, CALLS, REPLIES_AND_ACCOUNTS),
+    (Mode::Threads, CALLS, REPLIES_AND_ACCOUNTS),
+    (Mode::Steps, EVENTS, EVENTS_OUTPUT),
+];
+
+#[test]
+fn a_script_of_several_reads_is_run(rt: HostRuntime) -> Result<(), Fail> {
+    // One read takes at most 4,096 bytes.
+    for pieces in [64, 65, 200] {
+        for (mode, last, output) in WORKED {
+            for most in [1_000_000, 4095, 7] {
+                let script = script_of(rt.alloc(), pieces, last)?;
+                agree(&rt, script.len(), 64 * pieces);
+                let rest = script.as_bytes();
+                let mut reader = Reading {
+                    rest,
+                    most,
+                    left: u64::MAX,
+                };
+                let mut out = Vec::new(rt.alloc());
+                let result = replay(&rt, rt.alloc(), &mut reader, &mut out, mode, true);
+                agree(&rt, result, Ok(()));
+                agree(&rt, out.as_slice(), output.as_bytes());
+                holds(&rt, reader.rest.is_empty());
+            }
+        }
+    }
+    Ok(())
+}
+
+#[test]
+fn a_script_of_the_limit_is_run_and_one_byte_more_is_a_fault(rt: HostRuntime) -> Result<(), Fail> {
+    for (mode, last, output) in WORKED {
+        let mut script = script_of(rt.alloc(), 16_384, last)?;
+        agree(&rt, script.len(), 1_048_576);
+        let mut reader = script.as_bytes();
+        let mut out = Vec::new(rt.alloc());
+        let result = replay(&rt, rt.alloc(), &mut reader, &mut out, mode, true);
+        agree(&rt, result, Ok(()));
+        agree(&rt, out.as_slice(), output.as_bytes());
+
+        // Of a longer text, one byte more than a script may have is read.
+        let size = Err(Fault::Script(0, Cause::Size));
+        for unread in 0..3 {
+            script.push_str("\n")?;
+            let mut reader = script.as_bytes();
+            let mut out = Vec::new(rt.alloc());
+            let result = replay(&rt, rt.alloc(), &mut reader, &mut out, mode, true);
+            agree(&rt, result, size);
+            holds(&rt, out.is_empty());
+            agree(&rt, reader.len(), unread);
+        }
+    }
+    Ok(())
+}
