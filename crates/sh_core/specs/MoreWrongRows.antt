@@ -5,14 +5,14 @@ use Rattle.sh_shape.specs.declared.places.Place.TheVariants.{Head, Link}
 use Rattle.sh_slots.specs.declared.hand.Hand.TheVariants.{Leaving, Finishing, RingTying, Ringing, Filling}
 use Rattle.sh_slots.specs.declared.reply.Reply.TheVariants as reply
 use Rattle.sh_slots.specs.Slots.{spot_of, name_at, after_drop, marked_word, reusable_word, retired_word}
-use Rattle.sh_step.specs.declared.action.Action.TheVariants.{EnterGet, EnterRemove, DropHold, Finish, FillSlot, Publish}
-use Rattle.sh_step.specs.declared.action.Action.TheVariants.{ReadClass, ReadLength, Adopt, Leave, Ring, RingTie}
+use Rattle.sh_step.specs.declared.action.Action.TheVariants.{EnterGet, EnterRemove, Drop, DropHold, Finish, FillSlot}
+use Rattle.sh_step.specs.declared.action.Action.TheVariants.{Publish, ReadClass, ReadLength, Adopt, Leave, Ring, RingTie}
 use Rattle.sh_step.specs.declared.operation.Operation.TheVariants.{Swap, Store, CompareExchange, Load}
 use Rattle.sh_step.specs.Collections.{has}
 use Rattle.sh_step.specs.Moves.{row, named, slotted}
 use Rattle.sh_step.specs.Plans.{local}
-use Rattle.sh_step.specs.Rows.{hand, idle, own, enter_get, enter_remove, drop_key, fill_slot, publish, read_class}
-use Rattle.sh_step.specs.Rows.{read_length, adopt, leave, ring, ring_tie, class_word_noted}
+use Rattle.sh_step.specs.Rows.{hand, idle, own, enter_get, enter_remove, drop_hand, drop_key, fill_slot, publish}
+use Rattle.sh_step.specs.Rows.{read_class, read_length, adopt, leave, ring, ring_tie, class_word_noted}
 use Rattle.sh_stack.specs.Stack.{top_word}
 use Rattle.sh_word.specs.Fields.{fields_of}
 use Rattle.sh_core.specs.Variants.{Table}
@@ -117,3 +117,11 @@ ties_ring_as_end plan p RingTie = elim (p.hand) [
   | _ ↦ None
 ]
 ties_ring_as_end plan p x = row plan p x
+
+-- a pass that leaves a slot takes the whole word found there for the number of the generation that it ends
+unfoldable pub ends_whole_word : Table
+ends_whole_word plan p Drop = elim (p.hand) [
+  | Leaving x ↦ Some (record (drop_hand p x) { part = λ n. hand p (Finishing x n) })
+  | _ ↦ None
+]
+ends_whole_word plan p x = row plan p x

@@ -11,13 +11,13 @@ ghost use Rattle.sh_core.specs.WrongRows.{never_rings, leaves_slots, leaves_bell
 ghost use Rattle.sh_core.specs.WrongRows.{ignores_room, never_answers_gone, remembers_generation, tries_again};
 ghost use Rattle.sh_core.specs.WrongRows.{keeps_flag, cannot_ring};
 ghost use Rattle.sh_core.specs.LinkWords.{EachLinked};
-ghost use Rattle.sh_core.specs.InHeap.{StepsWithin, CountsFit, BellsAreSmall, ValuesFit};
+ghost use Rattle.sh_core.specs.InHeap.{StepsWithin, CountsFit, BellsAreSmall, ValuesFit, StoresWords, IssuesKeys};
 ghost use Rattle.sh_core.specs.Refines.{KindsAddUp, Filled, HoldsAreTold, CountIsFew, PastIsRemoved, KeysAreTold};
-ghost use Rattle.sh_core.specs.Refines.{RetiredIsLast, OneOwner, ShardlessHaveNothing, FillsAreKeys};
+ghost use Rattle.sh_core.specs.Refines.{RetiredIsLast, OneOwner, ShardlessHaveNothing, FillsAreKeys, ReadsWithin};
 ghost use Rattle.sh_core.specs.MoreWrongRows.{retires_early, skips_generation, adopts_taken, leaves_cursors};
 ghost use Rattle.sh_core.specs.MoreWrongRows.{publishes_next, keeps_hold, fills_any_slot, reads_wrong_class};
 ghost use Rattle.sh_core.specs.MoreWrongRows.{reads_wrong_length, enters_uncounted, fits_any_length, rings_far};
-ghost use Rattle.sh_core.specs.MoreWrongRows.{leaves_elsewhere, ties_ring_as_end};
+ghost use Rattle.sh_core.specs.MoreWrongRows.{leaves_elsewhere, ties_ring_as_end, ends_whole_word};
 ghost use Rattle.sh_step.specs.Deciding.{DecidingReplies};
 
 /// The theorem does not hold of every table of actions. Each of these tables differs from the right one in an action or
@@ -79,4 +79,7 @@ pub fn refutes_more_wrong_tables()
     ensures forgets_last_slot_filled { ¬ AlwaysBy forgets_last_slot (λ plan w l. Filled w l) }
     ensures never_retires_fills { ¬ AlwaysBy never_retires (λ plan w l. FillsAreKeys plan w) }
     ensures ties_first_links { ¬ AlwaysBy ties_first (λ plan w l. EachLinked plan w l) }
+    ensures reads_wrong_class_words { ¬ AlwaysBy reads_wrong_class (λ plan w l. ReadsWithin plan w) }
+    ensures never_retires_issues { ¬ AlwaysBy never_retires (λ plan w l. IssuesKeys plan w) }
+    ensures ends_whole_word { ¬ AlwaysBy ends_whole_word (λ plan w l. StoresWords plan w) }
 {}

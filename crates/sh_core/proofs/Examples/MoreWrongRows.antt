@@ -4,21 +4,21 @@ use Rattle.std.proofs.Common.{Option, Some, None, slice_get, ⊎_elim}
 use Rattle.std.specs.Prelude.{IsSome}
 use Rattle.sh_history.specs.History.{value_of}
 use Rattle.sh_slots.specs.declared.hand.Name.{Name}
-use Rattle.sh_slots.specs.declared.hand.Hand.TheVariants.{Leaving, Filling}
+use Rattle.sh_slots.specs.declared.hand.Hand.TheVariants.{Leaving, Finishing, Filling}
 use Rattle.sh_step.specs.declared.action.Action.TheVariants.{EnterGet, EnterRemove, DropHold, FillSlot, Fill, Publish}
-use Rattle.sh_step.specs.declared.action.Action.TheVariants.{Drop, ReadClass, ReadLength, ReadPage, SetClass, Take}
-use Rattle.sh_step.specs.declared.action.Action.TheVariants.{Adopt, Leave, Arm, Ring, RingTie}
+use Rattle.sh_step.specs.declared.action.Action.TheVariants.{Drop, Mark, Finish, ReadClass, ReadLength, ReadPage}
+use Rattle.sh_step.specs.declared.action.Action.TheVariants.{SetClass, Take, Adopt, Leave, Arm, Ring, RingTie}
 use Rattle.sh_step.specs.declared.action.Event.{Event}
 use Rattle.sh_step.specs.declared.body.Body.{Body}
 use Rattle.sh_step.specs.Parts.{newcomer}
 use Rattle.sh_step.specs.Plans.{Plan}
-use Rattle.sh_step.specs.Rows.{drop_hand}
+use Rattle.sh_step.specs.Rows.{drop_hand, finish, publish}
 use Rattle.sh_core.specs.LinkWords.{EachLinked}
-use Rattle.sh_core.specs.InHeap.{StepsWithin, CountsFit, BellsAreSmall, ValuesFit}
+use Rattle.sh_core.specs.InHeap.{StepsWithin, CountsFit, BellsAreSmall, ValuesFit, StoresWords, IssuesKeys}
 use Rattle.sh_core.specs.Lists.{times}
 use Rattle.sh_core.specs.Refines.{KindsAddUp, Filled, HeldStands, NotesAreTrue, HoldsAreTold, CountIsFew, PastIsRemoved}
 use Rattle.sh_core.specs.Refines.{KeysAreTold, RetiredIsLast, OneOwner, LeftEmpty, ShardlessHaveNothing, Linked}
-use Rattle.sh_core.specs.Refines.{FillsAreKeys}
+use Rattle.sh_core.specs.Refines.{FillsAreKeys, ReadsWithin}
 use Rattle.sh_core.specs.Stacks.{spot}
 use Rattle.sh_core.specs.Variants.{step_by, run_from_by, run_by, list_step_by, lists_from_by, AlwaysBy}
 use Rattle.sh_core.specs.Worlds.{World, value_at}
@@ -27,15 +27,15 @@ use Rattle.sh_core.specs.WrongRows.{ties_first}
 use Rattle.sh_core.specs.MoreWrongRows.{retires_early, skips_generation, adopts_taken, leaves_cursors, publishes_next}
 use Rattle.sh_core.specs.MoreWrongRows.{keeps_hold, fills_any_slot, reads_wrong_class, reads_wrong_length}
 use Rattle.sh_core.specs.MoreWrongRows.{enters_uncounted, fits_any_length, rings_far, leaves_elsewhere}
-use Rattle.sh_core.specs.MoreWrongRows.{ties_ring_as_end}
+use Rattle.sh_core.specs.MoreWrongRows.{ties_ring_as_end, ends_whole_word}
 use Rattle.sh_core.proofs.Examples.Worked.{small, ev, slot, page, three_slots, everything}
 use Rattle.sh_core.proofs.Examples.WrongRows.{refuted, inserted, removed, put_back, putting, ringing, owner}
 
 more_wrongly : ℕ
 unfolding everything step_by run_from_by list_step_by lists_from_by retires_early skips_generation adopts_taken
     leaves_cursors publishes_next keeps_hold fills_any_slot reads_wrong_class reads_wrong_length enters_uncounted
-    fits_any_length rings_far leaves_elsewhere ties_ring_as_end ignores_room forgets_last_slot never_retires
-    leaves_slots leaves_bell ties_first
+    fits_any_length rings_far leaves_elsewhere ties_ring_as_end ends_whole_word ignores_room forgets_last_slot
+    never_retires leaves_slots leaves_bell ties_first
 more_wrongly = 0
 
 abbrev first : ℕ → Name
@@ -218,3 +218,42 @@ early_link_names_nothing = refuted ties_first (λ plan w l. EachLinked plan w l)
     (λ h.
     let one : ((1 ≡ 0) × (0 ≡ 1)) ⊎ ((1 ≡ 2) × (0 ≡ 0)) = (h.stack 0).0 in
     ⊎_elim (λ a. let z = a.0 in absurd (omega (arith, z))) (λ b. let z = b.0 in absurd (omega (arith, z))) one)
+
+-- the class word that was noted of the key is 0, and that of its page is 8
+pub noted_class_is_read_by : ¬ AlwaysBy reads_wrong_class (λ plan w l. ReadsWithin plan w)
+unfolding more_wrongly
+noted_class_is_read_by = refuted reads_wrong_class (λ plan w l. ReadsWithin plan w) 1 (omega arith) (omega arith)
+    (three_slots ++ ev 0 (FillSlot (slot 0 0 0) (5 ∷ [])) ∷ ev 0 Fill ∷ ev 0 Publish ∷ ev 0 (EnterGet 4096) ∷
+    ev 0 (ReadClass 4096) ∷ ev 0 (ReadLength 4096) ∷ [])
+    (λ h. let some : 0 < 1 = omega arith in
+    let z : 0 ≡ 8 = (h 0 (record owner {
+      holds = 4096 ∷ [];
+      class_words = (4096, 0) ∷ [];
+      lengths = (4096, 1) ∷ [];
+    }) 4096 (first 1) 0 1 0 refl refl refl refl some).0 in absurd (omega arith))
+
+-- a value is about to be published in a fourth generation
+abbrev publisher : Body
+publisher = record owner { hand = Filling (spot 0 0) [] 0 }
+
+pub fourth_generation_is_issued : ¬ AlwaysBy never_retires (λ plan w l. IssuesKeys plan w)
+unfolding more_wrongly
+fourth_generation_is_issued = refuted never_retires (λ plan w l. IssuesKeys plan w) 1 (omega arith) (omega arith)
+    (three_slots ++ inserted 0 ++ removed 0 4096 ++ inserted 0 ++ removed 0 8192 ++ inserted 0 ++ removed 0 12288
+    ++ ev 0 (FillSlot (slot 0 0 0) []) ∷ [])
+    (λ h. let z : None ≡ Some (first 4) = h 0 publisher Publish (publish (small 1) publisher (spot 0 0) []) 16384 [] 0 0
+    refl refl refl refl in cc)
+
+-- the state word of a marked slot in its first generation, on which one pass is left
+abbrev left_word : ℕ
+left_word = 7516192769
+
+abbrev finisher : Body
+finisher = record owner { hand = Finishing (spot 0 0) left_word }
+
+pub end_of_a_word_is_no_word : ¬ AlwaysBy ends_whole_word (λ plan w l. StoresWords plan w)
+unfolding more_wrongly
+end_of_a_word_is_no_word = refuted ends_whole_word (λ plan w l. StoresWords plan w) 1 (omega arith) (omega arith)
+    (three_slots ++ inserted 0 ++ ev 0 (EnterRemove 4096) ∷ ev 0 Mark ∷ ev 0 Drop ∷ [])
+    (λ h. let z : 32281802137581649920 < 18446744073709551616 = h 0 finisher Finish
+    (finish (small 1) finisher (spot 0 0) left_word) refl refl in absurd (omega arith))

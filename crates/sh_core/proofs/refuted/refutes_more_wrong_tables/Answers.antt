@@ -19,6 +19,9 @@ use Rattle.sh_core.proofs.Examples.MoreWrongRows.{forgotten_slot_adds_up_twice}
 use Rattle.sh_core.proofs.Examples.MoreWrongRows.{page_has_a_slot_too_many}
 use Rattle.sh_core.proofs.Examples.MoreWrongRows.{fourth_generation_is_no_key}
 use Rattle.sh_core.proofs.Examples.MoreWrongRows.{early_link_names_nothing}
+use Rattle.sh_core.proofs.Examples.MoreWrongRows.{noted_class_is_read_by}
+use Rattle.sh_core.proofs.Examples.MoreWrongRows.{fourth_generation_is_issued}
+use Rattle.sh_core.proofs.Examples.MoreWrongRows.{end_of_a_word_is_no_word}
 use Rattle.sh_core.proofs.refuted.refutes_more_wrong_tables.Goals as goal
 
 pub returns-clause-retires_early : goal.returns-clause-retires_early
@@ -83,3 +86,12 @@ returns-clause-never_retires_fills c = fourth_generation_is_no_key
 
 pub returns-clause-ties_first_links : goal.returns-clause-ties_first_links
 returns-clause-ties_first_links c = early_link_names_nothing
+
+pub returns-clause-reads_wrong_class_words : goal.returns-clause-reads_wrong_class_words
+returns-clause-reads_wrong_class_words c = noted_class_is_read_by
+
+pub returns-clause-never_retires_issues : goal.returns-clause-never_retires_issues
+returns-clause-never_retires_issues c = fourth_generation_is_issued
+
+pub returns-clause-ends_whole_word : goal.returns-clause-ends_whole_word
+returns-clause-ends_whole_word c = end_of_a_word_is_no_word
