@@ -151,6 +151,7 @@ module _ (layout : Layout) (v w : Caller) (same : SameTale v.view w.view) (alone
     owned = own.owned;
     bells = bells_left own.bell;
     arm = alone arms_page no_arm;
+    alone = alone;
     slot = slot r own idle at (subst (λ (s : Numbers). OwnerStands (plan_of layout s) (own_body w)) same.shape
         stands.owner);
   }

@@ -28,7 +28,7 @@ use Rattle.sh_table.specs.declared.view.View.{View}
 use Rattle.sh_table.specs.Seats.{Heap, IsSeat}
 use Rattle.sh_table.specs.Steps.{WordSays, row_by, did}
 use Rattle.sh_table.specs.Tales.{ViewStands}
-use Rattle.sh_pass.specs.Growing.{SameTale}
+use Rattle.sh_pass.specs.Growing.{SameTale, CallsAlone}
 use Rattle.sh_pass.specs.Passes.{Caller, HoldsKept, IsTally}
 
 -- what the pass knows of its own
@@ -266,4 +266,5 @@ pub record CallLeaves (layout : Layout) (came : Option Spot) (v w : Caller) : Ty
   pub owned : (own_body w).owned ≡ (own_body v).owned
   pub bells : SameBells layout v w
   pub arm : NoneArmed v w
+  pub alone : CallsAlone v.view w.view
   pub slot : SlotCame came v w
