@@ -1,5 +1,6 @@
 -- What the results of a reader are after it heeded a receipt of an insert.
 use Rattle.std.proofs.Common.{◌≡◌, ℕ, ◌++◌, ◌∷◌, [], List, refl, ap, sym, ◌∙◌, subst, arith, map, Result, Ok, Err}
+use Rattle.std.specs.Prelude.{IfOk}
 use Rattle.std.specs.List.{Contains}
 use Rattle.std.proofs.lemmas.List.{map-append}
 use Rattle.std.proofs.lemmas.List.Elements.{Contains-append_left, Contains-append_right, Contains-push}
@@ -7,19 +8,20 @@ use Rattle.sh_history.proofs.Standing.{splits_at}
 use Rattle.sh_history.specs.declared.entry.Entry.TheVariants as entry
 use Rattle.sh_history.specs.declared.log.LogEntry.{LogEntry}
 use Rattle.sh_history.specs.declared.log.LogEntry.TheVariants.{Known}
+use Rattle.sh_history.specs.Log.{filled}
 use Rattle.sh_key.specs.Layout.{Layout}
 use Rattle.sh_value.specs.declared.refusal.Refusal.{Refusal}
 use Rattle.sh_value.specs.declared.refusal.Refusal.TheVariants as refusal
 use Rattle.sh_table.specs.declared.view.Heard.{Heard}
 use Rattle.sh_table.specs.declared.view.Order.{Order}
-use Rattle.sh_table.specs.declared.view.View.{View}
-use Rattle.sh_table.specs.Orders.{AnsweredAfter, GoneIsRemoved}
+use Rattle.sh_table.specs.Orders.{AnsweredAfter, GoneIsRemoved, GotIsInserted}
+use Rattle.sh_table.specs.Tales.{ViewStands}
 use Rattle.sh_table.specs.Views.{order_of, heard_in}
 use Rattle.sh_pass.specs.Growing.{SameTale}
 use Rattle.sh_pass.specs.Passes.{Caller}
 use Rattle.sh_pass.specs.Receipts.{receipt_by, heeded}
 use Rattle.sh_readers.specs.Readers.{FetchDoes}
-use Rattle.sh_readers.specs.Telling.{TellsOfInsert, GoneIfRemoved}
+use Rattle.sh_readers.specs.Telling.{CoversInsert, TellsOfInsert, IsAsInserted, GoneIfRemoved}
 
 contains_map : {A B : Type 0} (f : A → B) (xs : List A) (x : A) → Contains xs x → Contains (map f xs) (f x)
 contains_map f xs x c =
@@ -30,7 +32,7 @@ contains_map f xs x c =
 
 -- a receipt of a pass whose last result is the key of an insert
 pub tells_own : (key : ℕ) (value : List ℕ) (v w : Caller) → w.view.own.log
-    ≡ v.view.own.log ++ Known (entry.Insert v.view.pass key value) ∷ [] → TellsOfInsert key (receipt_by w)
+    ≡ v.view.own.log ++ Known (entry.Insert v.view.pass key value) ∷ [] → CoversInsert key value (receipt_by w)
 tells_own key value v w log =
     let own : Heard = record { pass = w.view.pass; log = w.view.own.log } in
     let it : LogEntry = Known (entry.Insert v.view.pass key value) in
@@ -38,7 +40,6 @@ tells_own key value v w log =
       heard = own;
       among = Contains-append_left (own ∷ []) _ own (Contains-push [] own);
       pass = v.view.pass;
-      value = value;
       insert = subst (λ (l : List LogEntry). Contains l it) (sym log) (Contains-push v.view.own.log it);
     }
 
@@ -68,6 +69,23 @@ pub gone_if_removed : GoneIsRemoved → (layout : Layout) (key : ℕ) (r v w : C
     → FetchDoes layout key (heeded v r) result w → TellsOfInsert key r → GoneIfRemoved layout key result w
 gone_if_removed law layout key r v w (Ok value) does tells = tt
 gone_if_removed law layout key r v w (Err refusal.Gone) does tells = λ history tale.
-    let z = law layout w.view history tale tells.heard w.view.pass tells.pass key tells.value tells.insert
-    (answered_after key r v w tells.heard tells.among does.2.same does.2.log) in (z.0, z.1, z.2)
+    let t = tells.1 in
+    let z = law layout w.view history tale t.heard w.view.pass t.pass key tells.0 t.insert
+    (answered_after key r v w t.heard t.among does.2.same does.2.log) in (z.0, z.1, z.2)
 gone_if_removed law layout key r v w (Err _) does tells = tt
+
+-- the value that was fetched is the inserted one
+pub fetched_as_inserted : GotIsInserted → (layout : Layout) (key : ℕ) (r v w : Caller)
+    (result : Result (List ℕ) Refusal) → FetchDoes layout key (heeded v r) result w → ViewStands layout w.view
+    → IfOk result (λ value. IsAsInserted key value r)
+fetched_as_inserted law layout key r v w (Err why) does stands = tt
+fetched_as_inserted law layout key r v w (Ok value) does stands = λ inserted covers.
+    let it : Order = order_of v.view covers.heard in
+    let got : LogEntry = Known (entry.Got v.view.pass key value) in
+    let released : LogEntry = Known (entry.Released v.view.pass key) in
+    law layout w.view stands.history stands.tale it
+    (subst (λ (os : List Order). Contains os it) (sym does.1.same.orders) (order_added r v covers.heard covers.among))
+    v.view.pass covers.pass key inserted value covers.insert
+    (subst (λ (l : List LogEntry). Contains l got) (sym does.1.log)
+    (Contains-append_right (map (filled key value) v.view.own.log) (got ∷ released ∷ []) got
+    (Contains-append_left (got ∷ []) (released ∷ []) got (Contains-push [] got))))

@@ -1,5 +1,5 @@
 -- Keys that go from one thread to another with a receipt of their insert.
-use Rattle.std.specs.Prelude.{ℕ, List, Result, Ok, Err}
+use Rattle.std.specs.Prelude.{◌≡◌, ℕ, List, Result, Ok, Err}
 use Rattle.std.specs.List.{Contains}
 use Rattle.sh_history.specs.declared.entry.Entry.{Entry}
 use Rattle.sh_history.specs.declared.entry.Entry.TheVariants.{Insert, Gone}
@@ -15,13 +15,20 @@ use Rattle.sh_table.specs.Views.{heard_in}
 use Rattle.sh_pass.specs.Passes.{Caller}
 use Rattle.sh_readers.specs.declared.telling.ToldKey.{ToldKey}
 
--- the receipt covers an insert that returned this key
-pub record TellsOfInsert (key : ℕ) (receipt : Caller) : Type 0 where
+-- the receipt covers an insert of this value that returned this key
+pub record CoversInsert (key : ℕ) (value : List ℕ) (receipt : Caller) : Type 0 where
   pub heard : Heard
   pub among : Contains (heard_in receipt.view) heard
   pub pass : ℕ
-  pub value : List ℕ
   pub insert : Contains heard.log (Known (Insert pass key value))
+
+-- the receipt covers an insert that returned this key
+abbrev pub TellsOfInsert : ℕ → Caller → Type 0
+TellsOfInsert key receipt = (value : List ℕ) × CoversInsert key value receipt
+
+-- if the receipt covers an insert that returned this key, then this value was inserted
+abbrev pub IsAsInserted : ℕ → List ℕ → Caller → Type 0
+IsAsInserted key value receipt = (inserted : List ℕ) → CoversInsert key inserted receipt → value ≡ inserted
 
 -- in each history of its tale the pass gets Gone for the key after a removal of the key
 abbrev pub GoneAfterRemoval : Layout → ℕ → Caller → Type 0

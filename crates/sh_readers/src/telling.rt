@@ -3,7 +3,7 @@ ghost use Rattle.std.specs.Prelude.{◌≡◌, IfOk};
 ghost use Rattle.sh_pass.specs.Receipts.{heeded, receipt_by};
 ghost use Rattle.sh_shard.specs.Shards.{InsertServes, StaysOwner, value_class};
 ghost use Rattle.sh_readers.specs.Readers.{Remains, FetchDoes};
-ghost use Rattle.sh_readers.specs.Telling.{TellsOfInsert, GoneIfRemoved, key_told};
+ghost use Rattle.sh_readers.specs.Telling.{CoversInsert, TellsOfInsert, IsAsInserted, GoneIfRemoved, key_told};
 
 use crate::reader::Reader;
 use sh_key::KeyLayout;
@@ -33,7 +33,7 @@ pub fn insert_told<L: KeyLayout, H: KeepsHeap<L>>(
         (key_told result) owner.new }
     ensures stays { StaysOwner L.layout owner.old owner.new }
     ensures receipt { IfOk result (λ told. told.receipt ≡ receipt_by owner.new.pages.owner) }
-    ensures tells { IfOk result (λ told. TellsOfInsert told.key told.receipt) }
+    ensures tells { IfOk result (λ told. CoversInsert told.key value.now told.receipt) }
 {
     let key = owner.insert(value)?;
     Ok(ToldKey {
@@ -43,11 +43,12 @@ pub fn insert_told<L: KeyLayout, H: KeepsHeap<L>>(
 }
 
 /// The value of a key that came with a receipt: the reader heeds the receipt and fetches the key. If the receipt covers
-/// the insert, it returns `Gone` only if the key was removed. Refused as a fetch is.
+/// the insert, it returns the inserted value, or `Gone` only if the key was removed. Refused as a fetch is.
 pub fn fetch_told<R: Reader>(reader: &mut R, told: ToldKey) -> Result<Value, Refusal>
     requires { told.receipt.heap ≡ (R.caller reader.old).heap }
     ensures does { FetchDoes R.layout told.key (heeded (R.caller reader.old) told.receipt) result
         (R.caller reader.new) }
+    ensures value { IfOk result (λ value. IsAsInserted told.key value told.receipt) }
     ensures gone { TellsOfInsert told.key told.receipt → GoneIfRemoved R.layout told.key result (R.caller reader.new) }
     ensures remains { Remains R.layout (R.caller reader.old) (R.caller reader.new) }
 {

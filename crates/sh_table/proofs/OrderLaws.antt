@@ -12,7 +12,7 @@ use Rattle.sh_history.specs.declared.log.LogEntry.TheVariants.{Known, Unread}
 use Rattle.sh_history.specs.History.{value_of, is_removed, Allowed, Legal}
 use Rattle.sh_history.specs.Log.{Agrees, pass_of}
 use Rattle.sh_history.proofs.Laws.{legal_after_parts}
-use Rattle.sh_history.proofs.LogLaws.{value_of_insert}
+use Rattle.sh_history.proofs.LogLaws.{value_of_insert, value_of_got, zip_splits}
 use Rattle.sh_history.proofs.Standing.{splits_at, has_removal, removed_has_removal}
 use Rattle.sh_key.specs.Layout.{Layout}
 use Rattle.sh_table.specs.declared.view.Heard.{Heard}
@@ -20,7 +20,8 @@ use Rattle.sh_table.specs.declared.view.Told.{Told}
 use Rattle.sh_table.specs.declared.view.View.{View}
 use Rattle.sh_table.specs.Views.{Each}
 use Rattle.sh_table.specs.Tales.{by, IsLogOf, HasFirst, Before, IsTale}
-use Rattle.sh_table.specs.Orders.{HeardComesFirst, GoneIsRemoved, RemovedIsGone, SaysThere, NothingComesLater}
+use Rattle.sh_table.specs.Orders.{HeardComesFirst, GoneIsRemoved, GotIsInserted, RemovedIsGone, SaysThere}
+use Rattle.sh_table.specs.Orders.{NothingComesLater}
 use Rattle.sh_table.proofs.Zips.{by_append, zip_length}
 use Rattle.sh_table.proofs.Hearing.{first_stays}
 
@@ -148,6 +149,24 @@ gone_is_removed layout v history tale h a p k value inserted after =
           (has_removal f.0 k) may,
       f.3,
     )
+
+pub got_is_inserted : GotIsInserted
+got_is_inserted layout v history tale o among a p k value got inserted gets =
+    let passes = v.shape.passes in
+    let most = layout.guard_max in
+    let b : Before history o = each_in (Before history) v.orders o among tale.orders in
+    let i = heard_stands_early b.0 o.heard (Insert p k value) b.4 inserted in
+    let insert : history ≡ i.0 ++ Insert p k value ∷ (i.1 ++ b.1) = b.2 ∙ (ap (λ (l : List Entry). l ++ b.1) i.2
+    ∙ append_assoc i.0 (Insert p k value ∷ i.1) b.1) in
+    let s = splits_at v.own.log (Known (Got a k got)) gets in
+    let z = zip_splits s.0 s.1 (Got a k got) (by v.pass history)
+    (subst (λ (l : List LogEntry). AllZip Agrees l (by v.pass history)) s.2 tale.own) in
+    let g = by_cut v.pass history z.0 (Got a k got) z.1 z.2 in
+    let issued : value_of history k ≡ Some value = ap (λ l. value_of l k) insert
+    ∙ value_of_insert passes most i.0 (i.1 ++ b.1) p k value (subst (Legal passes most) insert tale.legal) in
+    let found : value_of history k ≡ Some got = ap (λ l. value_of l k) g.2
+    ∙ value_of_got passes most g.0 g.1 a k got (subst (Legal passes most) g.2 tale.legal) in
+    let both : Some got ≡ Some value = sym found ∙ issued in cc
 
 there_not_removed : (passes guard_max : ℕ) (early : List Entry) (k : ℕ) (x : LogEntry) (e : Entry) → Agrees x e
     → Allowed passes guard_max early e → SaysThere k x → is_removed early k ≡ false

@@ -48,6 +48,12 @@ GoneIsRemoved = (layout : Layout) (v : View) (history : List Entry) → IsTale l
     → (early : List Entry) × StandsAfter history early (Known (Gone a k)) × HasRemoval early k
     × (length (by v.pass early) ≡ length answered.before)
 
+-- if a pass heard of a key's insert, each value that it got of the key is the inserted one
+abbrev pub GotIsInserted : Type 0
+GotIsInserted = (layout : Layout) (v : View) (history : List Entry) → IsTale layout v history
+    → (o : Order) → Contains v.orders o → (a p k : ℕ) (value got : List ℕ)
+    → Contains o.heard.log (Known (Insert p k value)) → Contains v.own.log (Known (Got a k got)) → got ≡ value
+
 -- the entry says that the key was still there
 abbrev pub SaysThere : ℕ → LogEntry → Type 0
 SaysThere k (Known (Got p j value)) = j ≡ k

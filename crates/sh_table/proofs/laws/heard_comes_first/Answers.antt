@@ -7,6 +7,9 @@ returns-clause-first c = orders.heard_first
 pub returns-clause-gone : goal.returns-clause-gone
 returns-clause-gone c = orders.gone_is_removed
 
+pub returns-clause-got : goal.returns-clause-got
+returns-clause-got c = orders.got_is_inserted
+
 pub returns-clause-removed : goal.returns-clause-removed
 returns-clause-removed c = orders.removed_is_gone
 
