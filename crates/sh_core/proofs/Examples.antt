@@ -3,3 +3,4 @@ pub mod Worked
 pub mod WrongRows
 pub mod NoRing
 pub mod MoreWrongRows
+pub mod EveryTable

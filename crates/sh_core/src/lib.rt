@@ -22,5 +22,5 @@ pub use laws::{
 };
 pub use opening::opening_of;
 pub use outcome::Outcome;
-pub use refuted::refutes_wrong_tables;
+pub use refuted::{every_table_keeps, refutes_more_wrong_tables, refutes_wrong_tables};
 pub use world::{World, run};

@@ -1,6 +1,7 @@
 //! What the theorem refuses.
+ghost use Rattle.std.specs.Prelude.{◌≡◌, length};
 ghost use Rattle.sh_history.specs.History.{Legal};
-ghost use Rattle.sh_core.specs.Variants.{AlwaysBy};
+ghost use Rattle.sh_core.specs.Variants.{Table, AlwaysBy};
 ghost use Rattle.sh_core.specs.Refines.{OneKind, HeldStands, NotesAreTrue, Counted, GenerationsEnd, Finished, Armed};
 ghost use Rattle.sh_core.specs.Refines.{LeftEmpty, Linked, OwnPartsStand, ClassesAreKnown, HoldsAreFew};
 ghost use Rattle.sh_core.specs.Refines.{FlaggedAreEmpty, KeysInHandName, GoesOn};
@@ -14,6 +15,7 @@ ghost use Rattle.sh_core.specs.LinkWords.{EachLinked};
 ghost use Rattle.sh_core.specs.InHeap.{StepsWithin, CountsFit, BellsAreSmall, ValuesFit, StoresWords, IssuesKeys};
 ghost use Rattle.sh_core.specs.Refines.{KindsAddUp, Filled, HoldsAreTold, CountIsFew, PastIsRemoved, KeysAreTold};
 ghost use Rattle.sh_core.specs.Refines.{RetiredIsLast, OneOwner, ShardlessHaveNothing, FillsAreKeys, ReadsWithin};
+ghost use Rattle.sh_core.specs.Refines.{EntriesAreOurs};
 ghost use Rattle.sh_core.specs.MoreWrongRows.{retires_early, skips_generation, adopts_taken, leaves_cursors};
 ghost use Rattle.sh_core.specs.MoreWrongRows.{publishes_next, keeps_hold, fills_any_slot, reads_wrong_class};
 ghost use Rattle.sh_core.specs.MoreWrongRows.{reads_wrong_length, enters_uncounted, fits_any_length, rings_far};
@@ -82,4 +84,10 @@ pub fn refutes_more_wrong_tables()
     ensures reads_wrong_class_words { ¬ AlwaysBy reads_wrong_class (λ plan w l. ReadsWithin plan w) }
     ensures never_retires_issues { ¬ AlwaysBy never_retires (λ plan w l. IssuesKeys plan w) }
     ensures ends_whole_word { ¬ AlwaysBy ends_whole_word (λ plan w l. StoresWords plan w) }
+{}
+
+/// The two clauses of the theorem that hold by every table of actions, so that no table breaks them.
+pub fn every_table_keeps()
+    ensures entries { (rows : Table) → AlwaysBy rows (λ plan w l. EntriesAreOurs plan w) }
+    ensures passes { (rows : Table) → AlwaysBy rows (λ plan w l. length w.parts ≡ plan.passes) }
 {}

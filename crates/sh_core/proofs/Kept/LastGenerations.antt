@@ -129,7 +129,7 @@ of_its_pass a v (reply.Crowded k) = refl
 of_its_pass a v (reply.Removed k) = refl
 of_its_pass a v (reply.Released k) = refl
 
-joined_ours : (passes a : ℕ) (v : List ℕ) (o : Option Reply) (es : List Entry) → a < passes
+pub joined_ours : (passes a : ℕ) (v : List ℕ) (o : Option Reply) (es : List Entry) → a < passes
     → Each (λ e. pass_of e < passes) es → Each (λ e. pass_of e < passes) (joined es (entry_of a v o))
 joined_ours passes a v None es low h = h
 joined_ours passes a v (Some r) es low h =
