@@ -1,6 +1,6 @@
 -- What the codes mean for the live keys of a heap.
 use Rattle.std.specs.Prelude.{◌≡◌, ℕ, Option, Some, None, Result, Ok, Err}
-use Rattle.sh_totals.specs.declared.keys.NextKey.{NextKey}
+use Rattle.sh_pass.specs.declared.next_key.NextKey.{NextKey}
 use Rattle.sh_whole.specs.declared.refusal.NotTold.{NotTold}
 use Rattle.sh_whole.specs.Homes.{TellsNextKey}
 use Rattle.sh_handles.specs.declared.heap.AnyHeap.{AnyHeap}

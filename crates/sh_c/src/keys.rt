@@ -5,7 +5,7 @@ ghost use Rattle.sh_c.specs.Keys.{KeyWritten, NextKeyTold};
 use crate::codes::{EMPTY, NO_KEY, OK};
 use crate::telling::why;
 use sh_handles::HeapHandle;
-use sh_totals::NextKey;
+use sh_pass::NextKey;
 use sh_whole::NotTold;
 use std::alloc::Global;
 

@@ -3,7 +3,7 @@ ghost use Rattle.sh_whole.specs.Homes.{TellsNextKey};
 ghost use Rattle.sh_handles.specs.Heaps.{heap_layout, heap_of};
 
 use crate::heap::AnyHeap;
-use sh_totals::NextKey;
+use sh_pass::NextKey;
 use sh_whole::{NotTold, pool_next_key};
 
 impl AnyHeap {

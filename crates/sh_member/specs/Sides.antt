@@ -1,5 +1,5 @@
 -- A pass that may own a shard, and what its calls do.
-use Rattle.std.specs.Prelude.{◌≡◌, ℕ, Bool, true, false, List, Result, Ok, Err}
+use Rattle.std.specs.Prelude.{◌≡◌, ℕ, Bool, true, false, List, Option, Result, Ok, Err}
 use Rattle.sh_key.specs.Layout.{Layout}
 use Rattle.sh_value.specs.declared.refusal.Refusal.{Refusal}
 use Rattle.sh_value.specs.declared.refusal.Refusal.TheVariants as refusal
@@ -7,6 +7,8 @@ use Rattle.sh_table.specs.Seats.{Heap}
 use Rattle.sh_table.specs.Tales.{ViewStands}
 use Rattle.sh_pass.specs.Passes.{Caller}
 use Rattle.sh_pass.specs.Receipts.{heeded, receipt_by}
+use Rattle.sh_pass.specs.declared.next_key.NextKey.{NextKey}
+use Rattle.sh_readers.specs.OwnKeys.{NextOwnKeyDoes, StepsForPlaces}
 use Rattle.sh_shard.specs.Pages.{Paged}
 use Rattle.sh_shard.specs.Shards.{Sharded, StaysOwner, InsertServes, AdoptServes, LeaveServes, PrepareServes}
 use Rattle.sh_shard.specs.Shards.{value_class, HoldsShard, shard_heeded}
@@ -106,6 +108,15 @@ abbrev pub SideCounts : (Paged → ℕ) → SeenSide → Result ℕ Refusal → 
 SideCounts count (Pass v) answer new = (answer ≡ Err refusal.NoShard) × (new ≡ Pass v)
 SideCounts count (Shard o) answer new = (answer ≡ Ok (count o.pages)) × (new ≡ Shard o)
 SideCounts count Moving answer new = ⊥
+
+-- the next live key of the shard that it owns, which it still owns; a pass that owns none is refused
+abbrev pub SideNextKey : Layout → (from : ℕ) → SeenSide → Result (Option NextKey) Refusal → SeenSide → Type 0
+SideNextKey layout from (Pass v) answer new = (answer ≡ Err refusal.NoShard) × (new ≡ Pass v)
+SideNextKey layout from (Shard o) answer (Shard n) = NextOwnKeyDoes layout from o.pages answer n.pages
+    × StepsForPlaces from o.pages n.pages × StaysOwner layout o n
+SideNextKey layout from (Shard o) answer (Pass w) = ⊥
+SideNextKey layout from (Shard o) answer Moving = ⊥
+SideNextKey layout from Moving answer new = ⊥
 
 -- ---- receipts
 

@@ -8,6 +8,7 @@ mod calls;
 mod counting;
 pub mod member;
 mod moving;
+mod own_keys;
 mod receipts;
 mod taking;
 mod warming;

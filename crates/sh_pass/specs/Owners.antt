@@ -11,7 +11,7 @@ use Rattle.sh_slots.specs.declared.hand.Hand.{Hand}
 use Rattle.sh_slots.specs.declared.hand.Hand.TheVariants.{Idle}
 use Rattle.sh_slots.specs.declared.hand.Name.{Name}
 use Rattle.sh_slots.specs.declared.hand.Spot.{Spot}
-use Rattle.sh_slots.specs.Slots.{same_spot, published_name}
+use Rattle.sh_slots.specs.Slots.{same_spot, published_name, spot_of}
 use Rattle.sh_stack.specs.Stack.{top_item, link_item}
 use Rattle.sh_step.specs.declared.action.Action.{Action}
 use Rattle.sh_step.specs.declared.action.PageName.{PageName}
@@ -23,7 +23,7 @@ use Rattle.sh_step.specs.Fits.{RowFits}
 use Rattle.sh_step.specs.Footsteps.{takes, met, bell_takes, bell_met, owner_met, puts, arms}
 use Rattle.sh_step.specs.Moves.{place_named}
 use Rattle.sh_step.specs.Operations.{answer}
-use Rattle.sh_step.specs.Plans.{plan_of, home}
+use Rattle.sh_step.specs.Plans.{Plan, plan_of, home}
 use Rattle.sh_table.specs.declared.view.View.{View}
 use Rattle.sh_table.specs.Seats.{Heap, IsSeat}
 use Rattle.sh_table.specs.Steps.{WordSays, row_by, did}
@@ -250,6 +250,14 @@ IsKeyIn layout v n key = (x : Name) × (place_named (plan_of layout v.view.shape
 -- the key names a slot of page q of the heap
 abbrev pub IsKeyOn : Layout → Caller → (q key : ℕ) → Type 0
 IsKeyOn layout v q key = (x : Name) × (place_named (plan_of layout v.view.shape) key ≡ Some x) × (x.page ≡ q)
+
+-- the key names this slot
+abbrev pub IsKeyOfSpot : Plan → Spot → (key : ℕ) → Type 0
+IsKeyOfSpot plan spot key = (x : Name) × (place_named plan key ≡ Some x) × (spot_of x ≡ spot)
+
+-- the same in the heap of the pass
+abbrev pub IsKeyAt : Layout → Caller → Spot → (key : ℕ) → Type 0
+IsKeyAt layout v spot key = IsKeyOfSpot (plan_of layout v.view.shape) spot key
 
 -- ---- calls
 

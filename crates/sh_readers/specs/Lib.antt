@@ -1,3 +1,4 @@
 pub mod Batches
+pub mod OwnKeys
 pub mod Readers
 pub mod Telling

@@ -4,6 +4,7 @@
 
 pub mod batches;
 pub mod fetching;
+pub mod own_keys;
 mod pass;
 pub mod reader;
 mod shard;
@@ -11,5 +12,6 @@ pub mod taking;
 pub mod taking_into;
 pub mod telling;
 
+pub use own_keys::next_own_key;
 pub use reader::Reader;
 pub use telling::{ToldKey, fetch_told, insert_told};

@@ -11,6 +11,7 @@ mod calls;
 mod collecting;
 mod counting;
 mod departing;
+mod hinting;
 mod insert;
 mod leaving;
 pub mod pages;

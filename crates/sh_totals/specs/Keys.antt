@@ -3,7 +3,7 @@ use Rattle.std.specs.Prelude.{◌≡◌, ◌+◌, ◌<◌, ◌≤◌, ℕ, Optio
 use Rattle.sh_key.specs.Layout.{Layout}
 use Rattle.sh_pass.specs.Passes.{Caller}
 use Rattle.sh_gather.specs.LiveKeys.{IsLiveAt, NoneLiveAt, all_places}
-use Rattle.sh_totals.specs.declared.keys.NextKey.{NextKey}
+use Rattle.sh_pass.specs.declared.next_key.NextKey.{NextKey}
 
 -- from this place on and before that one no key is live
 abbrev pub NoneLiveBetween : Layout → Caller → (from before : ℕ) → Type 0

@@ -6,17 +6,8 @@ ghost use Rattle.sh_totals.specs.Keys.{IsNextKey};
 use crate::pages::page_count;
 use sh_gather::view::Whole;
 use sh_key::KeyLayout;
-use sh_pass::KeepsHeap;
+use sh_pass::{KeepsHeap, NextKey};
 use sh_shape::SLOT_PLACES;
-
-/// A live key, and the place at which to continue.
-#[derive(Clone, Copy, Debug, PartialEq, Eq)]
-pub struct NextKey {
-    /// The key.
-    pub key: u64,
-    /// The place after that of its slot: the next call continues there.
-    pub behind: u64,
-}
 
 /// The first live key from a place on: a heap has 48 places for each page, in the order of its pages. `None` if no key
 /// from there on is live. So a loop that begins at place 0, and continues after each key, gets each live key once, in

@@ -6,6 +6,6 @@ pub mod keys;
 pub mod pages;
 pub mod totals;
 
-pub use keys::{NextKey, next_key};
+pub use keys::next_key;
 pub use pages::{PageAccounts, all_accounts, page_accounts};
 pub use totals::{Totals, total};

@@ -12,7 +12,7 @@ use Rattle.sh_totals.specs.declared.pages.PageAccounts.{PageAccounts}
 use Rattle.sh_totals.specs.declared.totals.Totals.{Totals}
 use Rattle.sh_totals.specs.Pages.{AreFirst}
 use Rattle.sh_totals.specs.Sums.{sums}
-use Rattle.sh_totals.specs.declared.keys.NextKey.{NextKey}
+use Rattle.sh_pass.specs.declared.next_key.NextKey.{NextKey}
 use Rattle.sh_totals.specs.Keys.{IsNextKey}
 use Rattle.sh_whole.specs.declared.refusal.NotTold.{NotTold}
 use Rattle.sh_whole.specs.declared.refusal.NotTold.TheVariants as untold

@@ -4,8 +4,9 @@ ghost use Rattle.sh_whole.specs.Homes.{TellsNextKey};
 use crate::refusal::NotTold;
 use crate::whole::{go_home, pool_whole};
 use sh_key::KeyLayout;
+use sh_pass::NextKey;
 use sh_pool::Pool;
-use sh_totals::{NextKey, next_key};
+use sh_totals::next_key;
 
 /// The first live key from a place on, by the pass that carries the tales of all, which `gather_pool` left in its
 /// berth. `None` if no key from there on is live. It takes no memory. Refused as `Away` if no such pass is found.
